@@ -12,9 +12,9 @@ use Rattle.ppm_cells.specs.Limits.{most_pool_words}
 use Rattle.ppm_cli.specs.Application.{ppm_application}
 use Rattle.ppm_cli.specs.CommandLine.{Number, OptionRule, processors, turns, room, slots, looks, seed, faults, schedule}
 use Rattle.ppm_cli.specs.CommandLine.{few_processors, after, small_room, few_slots}
-use Rattle.ppm_cli.specs.Words.{number_in, number_given, value_of_digits, run_options, serial_in, replay_options, stop_options, text_given}
+use Rattle.ppm_cli.specs.Words.{number_in, number_given, value_of_digits, run_options, serial_in, replay_options, resume_options, stop_options, text_given}
 use Rattle.ppm_cli.specs.Words.{takeover_given, idle_given, command_named, command_in, without_fault, command_of}
-use Rattle.ppm_cli.specs.Words.{fitting_room, room_given, with_text, AreReplayed, AreRun, AreStopped, DoPoolsFit, IsInRange, IsOfForm}
+use Rattle.ppm_cli.specs.Words.{fitting_room, room_given, with_text, AreReplayed, AreResumed, AreRun, AreStopped, DoPoolsFit, IsInRange, IsOfForm}
 use Rattle.ppm_cli.specs.declared.command.Command.{Command}
 use Rattle.ppm_cli.specs.declared.command.Command.TheVariants as commands
 use Rattle.ppm_cli.specs.declared.replay.ReplayOptions.{ReplayOptions}
@@ -128,6 +128,13 @@ stop_are rows =
     bound AreStopped (number_given few_slots rows) _ (λ s d.
     (given few_processors _ _ p rows refl a, given after _ _ n rows refl b, given small_room _ _ w rows refl c, given few_slots _ _ s rows refl d)))))
 
+resume_are : (rows : List Row) → IfSome (resume_options rows) AreResumed
+resume_are rows =
+    bound AreResumed (number_given turns rows) _ (λ n a.
+    bound AreResumed (number_given looks rows) _ (λ l b.
+    bound AreResumed (number_given seed rows) _ (λ s c.
+    (given turns _ _ n rows refl a, given looks _ _ l rows refl b, given seed _ _ s rows refl c))))
+
 -- ---- any command
 
 named_are : (name : Text) (rows : List Row) → IfSome (command_named name rows) IsInRange
@@ -138,7 +145,8 @@ named_are name rows =
     (either IsInRange (bytes_eq name (codes "check")) _ _ tt
     (either IsInRange (bytes_eq name (codes "replay")) _ _ (with_text_are commands.Replay schedule (replay_options rows) rows (replay_are rows))
     (either IsInRange (bytes_eq name (codes "stop")) _ _ (with_text_are commands.Stop schedule (stop_options rows) rows (stop_are rows))
-    tt)))))
+    (either IsInRange (bytes_eq name (codes "resume")) _ _ (with_text_are commands.Resume faults (resume_options rows) rows (resume_are rows))
+    tt))))))
 
 -- the options of a command that words give
 pub is_in_range : (words : List Text) (command : Command) → command_of words ≡ Some command → IsInRange command

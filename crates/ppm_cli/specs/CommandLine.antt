@@ -128,7 +128,7 @@ command_line =
     ∷ command "replay" (processors ∷ turns ∷ room ∷ slots ∷ takeover ∷ schedule ∷ [])
     ∷ later_command "self" (few_processors ∷ number "size" 1 4096 64 ∷ seed ∷ number "count" 0 4096 0 ∷ [])
     ∷ command "stop" (few_processors ∷ after ∷ small_room ∷ few_slots ∷ schedule ∷ [])
-    ∷ later_command "resume" (turns ∷ looks ∷ seed ∷ faults ∷ [])
+    ∷ command "resume" (turns ∷ looks ∷ seed ∷ faults ∷ [])
     ∷ later_command "ram" (processors ∷ turns ∷ room ∷ slots ∷ looks ∷ seed ∷ faults ∷ takeover ∷ idle ∷ [])
     ∷ []
 

@@ -17,6 +17,7 @@ use Rattle.ppm_cli.specs.declared.command.Command.{Command}
 use Rattle.ppm_cli.specs.declared.command.Command.TheVariants as commands
 use Rattle.ppm_cli.specs.declared.serial.SerialOptions.{SerialOptions}
 use Rattle.ppm_cli.specs.declared.replay.ReplayOptions.{ReplayOptions}
+use Rattle.ppm_cli.specs.declared.resume.ResumeOptions.{ResumeOptions}
 use Rattle.ppm_cli.specs.declared.run.RunOptions.{RunOptions}
 use Rattle.ppm_cli.specs.declared.stop.StopOptions.{StopOptions}
 
@@ -132,6 +133,18 @@ stop_options rows =
 abbrev pub stop_in : List Row → Option Command
 stop_in rows = with_text commands.Stop schedule (stop_options rows) rows
 
+-- the options of `resume` but for its plan, if each has a value of its form
+abbrev pub resume_options : List Row → Option ResumeOptions
+resume_options rows =
+    and_then (number_given turns rows) (λ n.
+    and_then (number_given looks rows) (λ l.
+    and_then (number_given seed rows) (λ s.
+    Some (record { turns = n; looks = l; seed = s }))))
+
+-- the command `resume` with its options and its plan
+abbrev pub resume_in : List Row → Option Command
+resume_in rows = with_text commands.Resume faults (resume_options rows) rows
+
 -- the command of this name, with the options in its matches
 abbrev pub command_named : Text → List Row → Option Command
 command_named name rows =
@@ -141,6 +154,7 @@ command_named name rows =
     else if bytes_eq name (codes "check") then Some commands.Check
     else if bytes_eq name (codes "replay") then replay_in rows
     else if bytes_eq name (codes "stop") then stop_in rows
+    else if bytes_eq name (codes "resume") then resume_in rows
     else None
 
 -- the command of the subcommand that was met, with its options
@@ -184,6 +198,11 @@ AreStopped options =
     IsOfForm few_processors.form options.processors × IsOfForm after.form options.after × IsOfForm small_room.form options.room
     × IsOfForm few_slots.form options.slots
 
+-- each option of a resumption is in its range
+abbrev pub AreResumed : ResumeOptions → Type 0
+AreResumed options =
+    IsOfForm turns.form options.turns × IsOfForm looks.form options.looks × IsOfForm seed.form options.seed
+
 -- each option of the command is in its range
 abbrev pub IsInRange : Command → Type 0
 IsInRange (commands.Run options _) = AreRun options
@@ -192,3 +211,4 @@ IsInRange commands.Code = ⊤
 IsInRange commands.Check = ⊤
 IsInRange (commands.Replay options _) = AreReplayed options
 IsInRange (commands.Stop options _) = AreStopped options
+IsInRange (commands.Resume options _) = AreResumed options

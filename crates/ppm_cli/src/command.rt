@@ -4,6 +4,7 @@ ghost use Rattle.clap.specs.Words.{found_of, rows_of, subcommand_rows_of};
 ghost use Rattle.ppm_cli.specs.Words.{IsInRange, command_in, command_named as named_by};
 
 use crate::replay::{ReplayOptions, replay_from};
+use crate::resume::{ResumeOptions, resume_from};
 use crate::run::{RunOptions, run_from};
 use crate::serial::{SerialOptions, serial_from};
 use crate::stop::{StopOptions, stop_from};
@@ -27,6 +28,9 @@ pub enum Command {
     /// To stop the source that is read in mid-run, by a schedule, of which these are the bytes, and
     /// to save the machine's words.
     Stop(StopOptions, Items<u8>),
+    /// To go on from the words of the saved text that is read, under a plan of faults, of which
+    /// these are the bytes.
+    Resume(ResumeOptions, Items<u8>),
 }
 
 /// The command of the subcommand that was met, with its options.
@@ -59,6 +63,7 @@ fn command_named(
         "check" => Ok(Some(Command::Check)),
         "replay" => replay_from(alloc, matches),
         "stop" => stop_from(alloc, matches),
+        "resume" => resume_from(alloc, matches),
         _ => Ok(None),
     }
 }

@@ -174,7 +174,7 @@ pub(crate) const SCHEDULE: TextOption = TextOption {
 };
 
 /// The commands that are admitted, in the order of the help page.
-pub const COMMANDS: [CommandRow; 6] = [
+pub const COMMANDS: [CommandRow; 7] = [
     CommandRow {
         name: "run",
         options: &[
@@ -220,6 +220,15 @@ pub const COMMANDS: [CommandRow; 6] = [
             OptionRow::Number(SMALL_ROOM),
             OptionRow::Number(FEW_SLOTS),
             OptionRow::Text(SCHEDULE),
+        ],
+    },
+    CommandRow {
+        name: "resume",
+        options: &[
+            OptionRow::Number(TURNS),
+            OptionRow::Number(LOOKS),
+            OptionRow::Number(SEED),
+            OptionRow::Text(FAULTS),
         ],
     },
 ];

@@ -51,10 +51,10 @@ fn meaning_of(status: Status) -> &'static str {
              processor is spared, as by a hard fault where there is one processor"
         }
         Status::OutOfTurns => {
-            "of `run` `out of turns: processor C`, which spent --turns; of `replay`\n       \
+            "of `run` and `resume` `out of turns: processor C`, which spent --turns; of `replay`\n       \
              `unfinished after N turns`"
         }
-        Status::OutOfRoom => "out of room: `run` or `replay` needed more than --room at that place",
+        Status::OutOfRoom => "out of room: the run needed more than --room at that place",
         Status::ReadFault => "read fault: standard input failed",
         Status::WriteFault => "write fault: standard output or standard error failed",
         Status::NoMemory => "out of memory",
@@ -63,6 +63,6 @@ fn meaning_of(status: Status) -> &'static str {
         }
         Status::NotWithin => "not within: `serial` did not end within --turns",
         Status::Broken =>
-            "saved words broken: of `run` and `replay`; no run is known to come to it",
+            "saved words broken: of `resume`, where no run left the saved text; no other is known",
     }
 }

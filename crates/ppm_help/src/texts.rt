@@ -9,13 +9,14 @@ Ppm: a small fork-join language, its capsules, and the machine that runs them wh
   ./ppm help [COMMAND]                 this page, or what it says of a command; also --help and -h
   ./ppm --version                      the kit, the sum of the sources, and whether they are built
 
-Input is standard input alone: a source (docs/LANGUAGE.md), of `check` a listing (docs/CODE.md).
-It has at most 1,048,576 bytes, a listing 536,870,912. An option is given as `--turns 5` or
-`--turns=5`, at most once. A value never begins with `-`.
+Input is standard input alone: a source (docs/LANGUAGE.md), of `check` a listing (docs/CODE.md), of
+`resume` a saved text (docs/SAVED.md). It has at most 1,048,576 bytes, a listing 536,870,912, a
+saved text 671,088,640. An option is given as `--turns 5` or `--turns=5`, at most once. A value
+never begins with `-`.
 ";
 
 /// What stands behind the commands.
-pub(crate) const BEHIND: &str = "to come: self, resume, ram\n";
+pub(crate) const BEHIND: &str = "to come: self, ram\n";
 
 /// What a command is for.
 pub(crate) fn purpose_of(command: &str) -> &'static str {
@@ -26,6 +27,7 @@ pub(crate) fn purpose_of(command: &str) -> &'static str {
         "check" => "whether the capsules of a listing may be run again; races are not asked",
         "replay" => "compiles a source, and processors run its capsules along a schedule",
         "stop" => "stops such a run after so many acts, and writes its words as a saved text",
+        "resume" => "fresh processors go on from a saved text, under a plan of faults",
         _ => NO_WORDS,
     }
 }
@@ -39,6 +41,7 @@ pub(crate) fn example_of(command: &str) -> &'static str {
         "check" => "< examples/conflict.listing",
         "replay" => "--processors 3 --schedule '0*200,1*30,1!h' < examples/sum.ppm",
         "stop" => "--processors 3 --after 300 < examples/sum.ppm > sum.saved",
+        "resume" => "--faults 0@5s,1@9h < sum.saved",
         _ => NO_WORDS,
     }
 }
@@ -64,7 +67,7 @@ pub(crate) fn meaning_of(command: &str, option: &str) -> &'static str {
 /// What the turns of a command are.
 fn turns_of(command: &str) -> &'static str {
     match command {
-        "run" => "work turns that each processor may make",
+        "run" | "resume" => "work turns that each processor may make",
         "serial" => "turns of the meaning (docs/LANGUAGE.md)",
         "replay" => "acts that all processors may make together",
         _ => NO_WORDS,

@@ -1,8 +1,8 @@
 //! The words that clap's documentation takes and refuses.
 use ppm_cells::Takeover;
 use ppm_cli::{
-    Command, ReplayOptions, RunOptions, SerialOptions, StopOptions, any_rule_may_be_admitted,
-    read_words,
+    Command, ReplayOptions, ResumeOptions, RunOptions, SerialOptions, StopOptions,
+    any_rule_may_be_admitted, read_words,
 };
 use ppm_words::Idle;
 use std::alloc::Global;
@@ -38,6 +38,13 @@ const STOP: StopOptions = StopOptions {
     slots: 256,
 };
 
+/// The options of a resumption of which the words give none.
+const RESUME: ResumeOptions = ResumeOptions {
+    turns: 16_777_216,
+    looks: 1_000,
+    seed: 1,
+};
+
 /// A command without its texts.
 #[derive(Clone, Copy, Debug, PartialEq, Eq)]
 enum Plain {
@@ -47,6 +54,7 @@ enum Plain {
     Check,
     Replay(ReplayOptions),
     Stop(StopOptions),
+    Resume(ResumeOptions),
 }
 
 fn shown(command: &Command) -> Plain {
@@ -57,6 +65,7 @@ fn shown(command: &Command) -> Plain {
         Command::Check => Plain::Check,
         Command::Replay(options, _) => Plain::Replay(*options),
         Command::Stop(options, _) => Plain::Stop(*options),
+        Command::Resume(options, _) => Plain::Resume(*options),
     }
 }
 
@@ -363,6 +372,50 @@ fn words_give_a_stop(rt: HostRuntime) -> Result<(), Fail> {
     Ok(())
 }
 
+#[test]
+fn words_give_a_resumption(rt: HostRuntime) -> Result<(), Fail> {
+    let least = ResumeOptions {
+        turns: 1,
+        looks: 1,
+        seed: 0,
+    };
+    let most = ResumeOptions {
+        turns: 268_435_456,
+        looks: 1_048_576,
+        seed: 4_294_967_295,
+    };
+    let cases: [(&[&str], ResumeOptions, &str); 3] = [
+        (&["--faults", "0@5s,1@9h"], RESUME, "0@5s,1@9h"),
+        (
+            &["--turns=1", "--looks=1", "--seed=0", "--faults="],
+            least,
+            "",
+        ),
+        (
+            &[
+                "--seed",
+                "4294967295",
+                "--looks",
+                "1048576",
+                "--turns",
+                "268435456",
+            ],
+            most,
+            "none",
+        ),
+    ];
+    for (words, options, plan) in cases {
+        match command_with(rt.alloc(), "resume", words)? {
+            Some(Command::Resume(got, bytes)) => {
+                assert_eq!(rt; got, options, "{words:?}");
+                assert_eq!(rt; bytes.as_slice(), plan.as_bytes());
+            }
+            _ => return Err(Fail::from("another command")),
+        }
+    }
+    Ok(())
+}
+
 /// A command, one of its options, a value of it, and words that are none.
 type OptionCase = (
     &'static str,
@@ -388,7 +441,7 @@ fn values_are_refused(
 
 #[test]
 fn values_out_of_form_are_refused(rt: HostRuntime) -> Result<(), Fail> {
-    let cases: [OptionCase; 20] = [
+    let cases: [OptionCase; 24] = [
         ("run", "--processors", "1", &["0", "65", "one", "+", ""]),
         ("run", "--turns", "1", &["0", "268435457"]),
         ("run", "--room", "16777216", &["63", "16777217"]),
@@ -409,6 +462,10 @@ fn values_out_of_form_are_refused(rt: HostRuntime) -> Result<(), Fail> {
         ("stop", "--room", "64", &["63", "65537"]),
         ("stop", "--slots", "2", &["1", "4097"]),
         ("stop", "--schedule", "0", &["-1"]),
+        ("resume", "--turns", "1", &["0", "268435457"]),
+        ("resume", "--looks", "1", &["0", "1048577"]),
+        ("resume", "--seed", "0", &["-1", "4294967296"]),
+        ("resume", "--faults", "none", &["-1"]),
     ];
     for (name, option, value, others) in cases {
         let once = command_with(rt.alloc(), name, &[option, value])?;
@@ -424,7 +481,7 @@ fn values_out_of_form_are_refused(rt: HostRuntime) -> Result<(), Fail> {
 
 #[test]
 fn words_that_are_no_options_are_refused(rt: HostRuntime) -> Result<(), Fail> {
-    let cases: [(&str, &[&str]); 16] = [
+    let cases: [(&str, &[&str]); 18] = [
         ("run", &["--processors", "2", "--room", "67108864"]),
         ("run", &["--processors", "1", "--room", "67108865"]),
         ("replay", &["--processors", "64", "--room", "1048577"]),
@@ -441,6 +498,8 @@ fn words_that_are_no_options_are_refused(rt: HostRuntime) -> Result<(), Fail> {
         ("replay", &["0"]),
         ("stop", &["--turns", "1"]),
         ("stop", &["--takeover", "place"]),
+        ("resume", &["--processors", "1"]),
+        ("resume", &["--idle", "leave"]),
     ];
     for (name, words) in cases {
         let refused = command_with(rt.alloc(), name, words)?;
