@@ -11,12 +11,13 @@ use Rattle.clap.proofs.ValueTestLemmas.{accepts-Accepts}
 use Rattle.ppm_cells.specs.Limits.{most_pool_words}
 use Rattle.ppm_cli.specs.Application.{ppm_application}
 use Rattle.ppm_cli.specs.CommandLine.{Number, OptionRule, processors, turns, room, slots, looks, seed, faults, schedule}
-use Rattle.ppm_cli.specs.CommandLine.{few_processors, after, small_room, few_slots}
-use Rattle.ppm_cli.specs.Words.{number_in, number_given, value_of_digits, run_options, serial_in, replay_options, resume_options, stop_options, text_given}
+use Rattle.ppm_cli.specs.CommandLine.{few_processors, after, small_room, few_slots, size, count}
+use Rattle.ppm_cli.specs.Words.{number_in, number_given, value_of_digits, run_options, serial_in, replay_options, resume_options, self_in, self_options, stop_options, text_given}
 use Rattle.ppm_cli.specs.Words.{takeover_given, idle_given, command_named, command_in, without_fault, command_of}
-use Rattle.ppm_cli.specs.Words.{fitting_room, room_given, with_text, AreReplayed, AreResumed, AreRun, AreStopped, DoPoolsFit, IsInRange, IsOfForm}
+use Rattle.ppm_cli.specs.Words.{fitting_room, room_given, with_text, AreReplayed, AreResumed, AreRun, AreSelf, AreStopped, DoPoolsFit, IsInRange, IsOfForm}
 use Rattle.ppm_cli.specs.declared.command.Command.{Command}
 use Rattle.ppm_cli.specs.declared.command.Command.TheVariants as commands
+use Rattle.ppm_cli.specs.declared.example.SelfOptions.{SelfOptions}
 use Rattle.ppm_cli.specs.declared.replay.ReplayOptions.{ReplayOptions}
 use Rattle.ppm_cli.specs.declared.run.RunOptions.{RunOptions}
 
@@ -135,6 +136,20 @@ resume_are rows =
     bound AreResumed (number_given seed rows) _ (λ s c.
     (given turns _ _ n rows refl a, given looks _ _ l rows refl b, given seed _ _ s rows refl c))))
 
+self_are : (rows : List Row) → IfSome (self_options rows) AreSelf
+self_are rows =
+    bound AreSelf (number_given few_processors rows) _ (λ p a.
+    bound AreSelf (number_given size rows) _ (λ n b.
+    bound AreSelf (number_given seed rows) _ (λ s c.
+    bound AreSelf (number_given count rows) _ (λ f d.
+    (given few_processors _ _ p rows refl a, given size _ _ n rows refl b, given seed _ _ s rows refl c, given count _ _ f rows refl d)))))
+
+example_are : (rows : List Row) → IfSome (self_in rows) IsInRange
+example_are rows = go (self_options rows) (self_are rows) where
+  go : (o : Option SelfOptions) → IfSome o AreSelf → IfSome (option_map (λ o. commands.Example o) o) IsInRange
+  go None h = tt
+  go (Some o) h = h
+
 -- ---- any command
 
 named_are : (name : Text) (rows : List Row) → IfSome (command_named name rows) IsInRange
@@ -144,9 +159,10 @@ named_are name rows =
     (either IsInRange (bytes_eq name (codes "code")) _ _ tt
     (either IsInRange (bytes_eq name (codes "check")) _ _ tt
     (either IsInRange (bytes_eq name (codes "replay")) _ _ (with_text_are commands.Replay schedule (replay_options rows) rows (replay_are rows))
+    (either IsInRange (bytes_eq name (codes "self")) _ _ (example_are rows)
     (either IsInRange (bytes_eq name (codes "stop")) _ _ (with_text_are commands.Stop schedule (stop_options rows) rows (stop_are rows))
     (either IsInRange (bytes_eq name (codes "resume")) _ _ (with_text_are commands.Resume faults (resume_options rows) rows (resume_are rows))
-    tt))))))
+    tt)))))))
 
 -- the options of a command that words give
 pub is_in_range : (words : List Text) (command : Command) → command_of words ≡ Some command → IsInRange command

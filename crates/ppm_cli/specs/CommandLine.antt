@@ -99,6 +99,14 @@ looks = number "looks" 1 1048576 1000
 abbrev pub seed : OptionRule
 seed = number "seed" 0 4294967295 1
 
+-- the values that are made and summed
+abbrev pub size : OptionRule
+size = number "size" 1 4096 64
+
+-- the faults that are drawn
+abbrev pub count : OptionRule
+count = number "count" 0 4096 0
+
 -- the plan of faults
 abbrev pub faults : OptionRule
 faults = text "faults" "none"
@@ -126,7 +134,7 @@ command_line =
     ∷ command "code" []
     ∷ command "check" []
     ∷ command "replay" (processors ∷ turns ∷ room ∷ slots ∷ takeover ∷ schedule ∷ [])
-    ∷ later_command "self" (few_processors ∷ number "size" 1 4096 64 ∷ seed ∷ number "count" 0 4096 0 ∷ [])
+    ∷ command "self" (few_processors ∷ size ∷ seed ∷ count ∷ [])
     ∷ command "stop" (few_processors ∷ after ∷ small_room ∷ few_slots ∷ schedule ∷ [])
     ∷ command "resume" (turns ∷ looks ∷ seed ∷ faults ∷ [])
     ∷ later_command "ram" (processors ∷ turns ∷ room ∷ slots ∷ looks ∷ seed ∷ faults ∷ takeover ∷ idle ∷ [])

@@ -12,9 +12,10 @@ use Rattle.ppm_cells.specs.declared.shape.Takeover.TheVariants.{ByPlaces, ByEntr
 use Rattle.ppm_cli.specs.Application.{ppm_application}
 use Rattle.ppm_cli.specs.CommandLine.{Form, Number, Choice, AnyText, OptionRule, is_free_text}
 use Rattle.ppm_cli.specs.CommandLine.{processors, turns, room, slots, looks, seed, faults, schedule, takeover, idle}
-use Rattle.ppm_cli.specs.CommandLine.{few_processors, after, small_room, few_slots}
+use Rattle.ppm_cli.specs.CommandLine.{few_processors, after, small_room, few_slots, size, count}
 use Rattle.ppm_cli.specs.declared.command.Command.{Command}
 use Rattle.ppm_cli.specs.declared.command.Command.TheVariants as commands
+use Rattle.ppm_cli.specs.declared.example.SelfOptions.{SelfOptions}
 use Rattle.ppm_cli.specs.declared.serial.SerialOptions.{SerialOptions}
 use Rattle.ppm_cli.specs.declared.replay.ReplayOptions.{ReplayOptions}
 use Rattle.ppm_cli.specs.declared.resume.ResumeOptions.{ResumeOptions}
@@ -145,6 +146,19 @@ resume_options rows =
 abbrev pub resume_in : List Row → Option Command
 resume_in rows = with_text commands.Resume faults (resume_options rows) rows
 
+-- the options of `self`, if each has a value of its form
+abbrev pub self_options : List Row → Option SelfOptions
+self_options rows =
+    and_then (number_given few_processors rows) (λ p.
+    and_then (number_given size rows) (λ n.
+    and_then (number_given seed rows) (λ s.
+    and_then (number_given count rows) (λ c.
+    Some (record { processors = p; size = n; seed = s; count = c })))))
+
+-- the command `self` with its options
+abbrev pub self_in : List Row → Option Command
+self_in rows = option_map (λ o. commands.Example o) (self_options rows)
+
 -- the command of this name, with the options in its matches
 abbrev pub command_named : Text → List Row → Option Command
 command_named name rows =
@@ -153,6 +167,7 @@ command_named name rows =
     else if bytes_eq name (codes "code") then Some commands.Code
     else if bytes_eq name (codes "check") then Some commands.Check
     else if bytes_eq name (codes "replay") then replay_in rows
+    else if bytes_eq name (codes "self") then self_in rows
     else if bytes_eq name (codes "stop") then stop_in rows
     else if bytes_eq name (codes "resume") then resume_in rows
     else None
@@ -192,6 +207,12 @@ AreReplayed options =
     IsOfForm processors.form options.processors × IsOfForm turns.form options.turns × IsOfForm room.form options.room
     × IsOfForm slots.form options.slots × DoPoolsFit options.processors options.room
 
+-- each option of a run of the program's own example is in its range
+abbrev pub AreSelf : SelfOptions → Type 0
+AreSelf options =
+    IsOfForm few_processors.form options.processors × IsOfForm size.form options.size × IsOfForm seed.form options.seed
+    × IsOfForm count.form options.count
+
 -- each option of a stop is in its range
 abbrev pub AreStopped : StopOptions → Type 0
 AreStopped options =
@@ -210,5 +231,6 @@ IsInRange (commands.Serial options) = IsOfForm turns.form options.turns
 IsInRange commands.Code = ⊤
 IsInRange commands.Check = ⊤
 IsInRange (commands.Replay options _) = AreReplayed options
+IsInRange (commands.Example options) = AreSelf options
 IsInRange (commands.Stop options _) = AreStopped options
 IsInRange (commands.Resume options _) = AreResumed options

@@ -3,6 +3,7 @@ ghost use Rattle.std.specs.Prelude.{◌≡◌, IfOk, IfSome};
 ghost use Rattle.clap.specs.Words.{found_of, rows_of, subcommand_rows_of};
 ghost use Rattle.ppm_cli.specs.Words.{IsInRange, command_in, command_named as named_by};
 
+use crate::example::{SelfOptions, self_from};
 use crate::replay::{ReplayOptions, replay_from};
 use crate::resume::{ResumeOptions, resume_from};
 use crate::run::{RunOptions, run_from};
@@ -25,6 +26,8 @@ pub enum Command {
     Check,
     /// To replay the source that is read, by a schedule, of which these are the bytes.
     Replay(ReplayOptions, Items<u8>),
+    /// To run the program's own example.
+    Example(SelfOptions),
     /// To stop the source that is read in mid-run, by a schedule, of which these are the bytes, and
     /// to save the machine's words.
     Stop(StopOptions, Items<u8>),
@@ -62,6 +65,7 @@ fn command_named(
         "code" => Ok(Some(Command::Code)),
         "check" => Ok(Some(Command::Check)),
         "replay" => replay_from(alloc, matches),
+        "self" => Ok(self_from(matches)),
         "stop" => stop_from(alloc, matches),
         "resume" => resume_from(alloc, matches),
         _ => Ok(None),

@@ -9,6 +9,7 @@
 
 mod application;
 mod command;
+mod example;
 mod getters;
 mod laws;
 mod line;
@@ -22,6 +23,7 @@ mod table;
 mod takeover;
 
 pub use command::Command;
+pub use example::SelfOptions;
 pub use laws::any_rule_may_be_admitted;
 pub use line::read_words;
 pub use replay::ReplayOptions;

@@ -8,6 +8,9 @@ const FEW: u32 = 16;
 /// The most words of a pool where all words are written out.
 const MOST_WRITTEN_WORDS: u32 = 65_536;
 
+/// The most values that are made, and the most faults that are drawn.
+const MOST_MADE: u32 = 4_096;
+
 /// The most entries of a deque where all words are written out.
 const MOST_WRITTEN_ENTRIES: u32 = 4_096;
 
@@ -147,6 +150,22 @@ pub(crate) const SEED: NumberOption = NumberOption {
     default: "1",
 };
 
+/// How many values are made and summed.
+pub(crate) const SIZE: NumberOption = NumberOption {
+    name: "size",
+    low: 1,
+    high: MOST_MADE,
+    default: "64",
+};
+
+/// How many faults are drawn.
+pub(crate) const COUNT: NumberOption = NumberOption {
+    name: "count",
+    low: 0,
+    high: MOST_MADE,
+    default: "0",
+};
+
 /// The plan of faults.
 pub(crate) const FAULTS: TextOption = TextOption {
     name: "faults",
@@ -174,7 +193,7 @@ pub(crate) const SCHEDULE: TextOption = TextOption {
 };
 
 /// The commands that are admitted, in the order of the help page.
-pub const COMMANDS: [CommandRow; 7] = [
+pub const COMMANDS: [CommandRow; 8] = [
     CommandRow {
         name: "run",
         options: &[
@@ -210,6 +229,15 @@ pub const COMMANDS: [CommandRow; 7] = [
             OptionRow::Number(SLOTS),
             OptionRow::Choice(TAKEOVER),
             OptionRow::Text(SCHEDULE),
+        ],
+    },
+    CommandRow {
+        name: "self",
+        options: &[
+            OptionRow::Number(FEW_PROCESSORS),
+            OptionRow::Number(SIZE),
+            OptionRow::Number(SEED),
+            OptionRow::Number(COUNT),
         ],
     },
     CommandRow {

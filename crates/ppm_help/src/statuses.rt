@@ -36,7 +36,8 @@ fn meaning_of(status: Status) -> &'static str {
     match status {
         Status::Ended => {
             "ended: the arrays, and of `replay` its forks and takes; of `code` the listing; of\n       \
-             `check` the line `ok`; of `stop` the saved text (docs/SAVED.md)"
+             `check` the line `ok`; of `stop` the saved text (docs/SAVED.md); of `self` the line\n       \
+             `size n forks g sum s last l`"
         }
         Status::Trapped => {
             "trapped: `trap K line N`, K being overflow, divzero, index or split; of `replay`\n       \

@@ -1,7 +1,7 @@
 //! The words that clap's documentation takes and refuses.
 use ppm_cells::Takeover;
 use ppm_cli::{
-    Command, ReplayOptions, ResumeOptions, RunOptions, SerialOptions, StopOptions,
+    Command, ReplayOptions, ResumeOptions, RunOptions, SelfOptions, SerialOptions, StopOptions,
     any_rule_may_be_admitted, read_words,
 };
 use ppm_words::Idle;
@@ -30,6 +30,14 @@ const REPLAY: ReplayOptions = ReplayOptions {
     takeover: Takeover::ByPlaces,
 };
 
+/// The options of the program's own example of which the words give none.
+const EXAMPLE: SelfOptions = SelfOptions {
+    processors: 4,
+    size: 64,
+    seed: 1,
+    count: 0,
+};
+
 /// The options of a stop of which the words give none.
 const STOP: StopOptions = StopOptions {
     processors: 4,
@@ -53,6 +61,7 @@ enum Plain {
     Code,
     Check,
     Replay(ReplayOptions),
+    Example(SelfOptions),
     Stop(StopOptions),
     Resume(ResumeOptions),
 }
@@ -64,6 +73,7 @@ fn shown(command: &Command) -> Plain {
         Command::Code => Plain::Code,
         Command::Check => Plain::Check,
         Command::Replay(options, _) => Plain::Replay(*options),
+        Command::Example(options) => Plain::Example(*options),
         Command::Stop(options, _) => Plain::Stop(*options),
         Command::Resume(options, _) => Plain::Resume(*options),
     }
@@ -318,6 +328,51 @@ fn words_give_a_replay(rt: HostRuntime) -> Result<(), Fail> {
 }
 
 #[test]
+fn words_give_an_example(rt: HostRuntime) -> Result<(), Fail> {
+    let least = SelfOptions {
+        processors: 1,
+        size: 1,
+        seed: 0,
+        count: 0,
+    };
+    let most = SelfOptions {
+        processors: 16,
+        size: 4_096,
+        seed: 4_294_967_295,
+        count: 4_096,
+    };
+    let cases: [(&[&str], SelfOptions); 3] = [
+        (&[], EXAMPLE),
+        (
+            &["--processors=1", "--size=1", "--seed=0", "--count=0"],
+            least,
+        ),
+        (
+            &[
+                "--count",
+                "4096",
+                "--seed",
+                "4294967295",
+                "--size",
+                "4096",
+                "--processors",
+                "16",
+            ],
+            most,
+        ),
+    ];
+    for (words, options) in cases {
+        let got = command_with(rt.alloc(), "self", words)?;
+        assert_eq!(rt;
+            got.as_ref().map(shown),
+            Some(Plain::Example(options)),
+            "{words:?}"
+        );
+    }
+    Ok(())
+}
+
+#[test]
 fn words_give_a_stop(rt: HostRuntime) -> Result<(), Fail> {
     let least = StopOptions {
         processors: 1,
@@ -441,7 +496,7 @@ fn values_are_refused(
 
 #[test]
 fn values_out_of_form_are_refused(rt: HostRuntime) -> Result<(), Fail> {
-    let cases: [OptionCase; 24] = [
+    let cases: [OptionCase; 28] = [
         ("run", "--processors", "1", &["0", "65", "one", "+", ""]),
         ("run", "--turns", "1", &["0", "268435457"]),
         ("run", "--room", "16777216", &["63", "16777217"]),
@@ -457,6 +512,10 @@ fn values_out_of_form_are_refused(rt: HostRuntime) -> Result<(), Fail> {
         ("replay", "--slots", "2", &["1", "65537"]),
         ("replay", "--takeover", "place", &["leave", "entries", ""]),
         ("replay", "--schedule", "0", &["-1", "--room"]),
+        ("self", "--processors", "16", &["0", "17"]),
+        ("self", "--size", "1", &["0", "4097"]),
+        ("self", "--seed", "0", &["-1", "4294967296"]),
+        ("self", "--count", "0", &["-1", "4097"]),
         ("stop", "--processors", "16", &["0", "17"]),
         ("stop", "--after", "0", &["-1", "268435457"]),
         ("stop", "--room", "64", &["63", "65537"]),
@@ -481,7 +540,7 @@ fn values_out_of_form_are_refused(rt: HostRuntime) -> Result<(), Fail> {
 
 #[test]
 fn words_that_are_no_options_are_refused(rt: HostRuntime) -> Result<(), Fail> {
-    let cases: [(&str, &[&str]); 18] = [
+    let cases: [(&str, &[&str]); 20] = [
         ("run", &["--processors", "2", "--room", "67108864"]),
         ("run", &["--processors", "1", "--room", "67108865"]),
         ("replay", &["--processors", "64", "--room", "1048577"]),
@@ -496,6 +555,8 @@ fn words_that_are_no_options_are_refused(rt: HostRuntime) -> Result<(), Fail> {
         ("replay", &["--faults", "none"]),
         ("replay", &["--idle", "leave"]),
         ("replay", &["0"]),
+        ("self", &["--turns", "1"]),
+        ("self", &["--faults", "none"]),
         ("stop", &["--turns", "1"]),
         ("stop", &["--takeover", "place"]),
         ("resume", &["--processors", "1"]),
