@@ -75,13 +75,13 @@ either P true x y h k = h
 either P false x y h k = k
 
 -- a command with options and a text is in range where the options are
-with_text_are : {O : Type 0} (make : O → Text → Command) (text : OptionRule) (options : Option O) (rows : List Row) →
-    IfSome options (λ o. (t : Text) → IsInRange (make o t)) → IfSome (with_text make text options rows) IsInRange
-with_text_are make text None rows h = tt
-with_text_are make text (Some o) rows h = go (text_given text rows) where
+with_text_are : {O : Type 0} (P : O → Type 0) (make : O → Text → Command) (text : OptionRule) (options : Option O) (rows : List Row) →
+    ((o : O) (t : Text) → P o → IsInRange (make o t)) → IfSome options P → IfSome (with_text make text options rows) IsInRange
+with_text_are P make text None rows in_range h = tt
+with_text_are P make text (Some o) rows in_range h = go (text_given text rows) where
   go : (t : Option Text) → IfSome (option_map (make o) t) IsInRange
   go None = tt
-  go (Some t) = h t
+  go (Some t) = in_range o t h
 
 -- ---- the options of each command
 
@@ -154,14 +154,18 @@ example_are rows = go (self_options rows) (self_are rows) where
 
 named_are : (name : Text) (rows : List Row) → IfSome (command_named name rows) IsInRange
 named_are name rows =
-    either IsInRange (bytes_eq name (codes "run")) _ _ (with_text_are commands.Run faults (run_options rows) rows (run_are rows))
+    either IsInRange (bytes_eq name (codes "run")) _ _
+    (with_text_are AreRun commands.Run faults (run_options rows) rows (λ o t h. h) (run_are rows))
     (either IsInRange (bytes_eq name (codes "serial")) _ _ (serial_are rows)
     (either IsInRange (bytes_eq name (codes "code")) _ _ tt
     (either IsInRange (bytes_eq name (codes "check")) _ _ tt
-    (either IsInRange (bytes_eq name (codes "replay")) _ _ (with_text_are commands.Replay schedule (replay_options rows) rows (replay_are rows))
+    (either IsInRange (bytes_eq name (codes "replay")) _ _
+    (with_text_are AreReplayed commands.Replay schedule (replay_options rows) rows (λ o t h. h) (replay_are rows))
     (either IsInRange (bytes_eq name (codes "self")) _ _ (example_are rows)
-    (either IsInRange (bytes_eq name (codes "stop")) _ _ (with_text_are commands.Stop schedule (stop_options rows) rows (stop_are rows))
-    (either IsInRange (bytes_eq name (codes "resume")) _ _ (with_text_are commands.Resume faults (resume_options rows) rows (resume_are rows))
+    (either IsInRange (bytes_eq name (codes "stop")) _ _
+    (with_text_are AreStopped commands.Stop schedule (stop_options rows) rows (λ o t h. h) (stop_are rows))
+    (either IsInRange (bytes_eq name (codes "resume")) _ _
+    (with_text_are AreResumed commands.Resume faults (resume_options rows) rows (λ o t h. h) (resume_are rows))
     tt)))))))
 
 -- the options of a command that words give
