@@ -1,0 +1,3 @@
+-- How the law is shown. From a place reading goes on in one way or stops in one (`PlaceLemmas`); so two ways to a wrong line are one.
+
+pub mod PlaceLemmas

@@ -1,0 +1,5 @@
+use Rattle.ppm_saved_reader.proofs.PlaceLemmas.{one_fault}
+use Rattle.ppm_saved_reader.proofs.laws.faults_tell_saved_texts.Goals as goal
+
+pub returns : goal.returns
+returns c = record { law = record { excludes = ?; one = one_fault } }
