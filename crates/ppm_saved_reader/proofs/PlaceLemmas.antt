@@ -1,5 +1,5 @@
 -- From a place reading goes on in one way, or stops in one.
-use Rattle.std.proofs.Common.{◌≡◌, ◌≢◌, ◌∙◌, ℕ, ◌+◌, ◌<◌, ◌≤◌, Bool, true, false, List, [], ◌∷◌, ◌++◌, length, take, drop, Option, Some, None, is_some, refl, sym, ap, subst, arith}
+use Rattle.std.proofs.Common.{◌≡◌, ◌≢◌, ◌∙◌, ℕ, ◌+◌, ◌<◌, ◌≤◌, Bool, true, false, List, [], ◌∷◌, ◌++◌, length, take, drop, Option, Some, None, refl, sym, ap, subst, arith}
 use Rattle.std.proofs.lemmas.Bool.{both_ways}
 use Rattle.ppm_code.specs.Free.{IsFree}
 use Rattle.ppm_code.specs.Tidy.{IsTidy}
@@ -10,30 +10,15 @@ use Rattle.ppm_saved.specs.declared.names.NamedLength.{NamedLength}
 use Rattle.ppm_saved.specs.declared.run.Run.{Run}
 use Rattle.ppm_saved_reader.specs.declared.lines.Sizes.{Sizes}
 use Rattle.ppm_saved_reader.specs.declared.saved_error.Fault.{Fault}
-use Rattle.ppm_saved_reader.specs.Rules.{line_feeds, sizes_fit, is_twice, is_past, is_other_count, ends_with}
+use Rattle.ppm_saved_reader.specs.Rules.{text_limit, line_feeds, sizes_fit, is_twice, is_past, is_other_count, ends_with}
 use Rattle.ppm_saved_reader.specs.Places.{Place, AtVersion, AtSizes, AtArrays, AtWords, AtRuns, array_of}
 use Rattle.ppm_saved_reader.specs.Places.{Goes, Version, Shaped, Array, Coded, Counted, Repeated, LeadsTo, Stays, Then}
 use Rattle.ppm_saved_reader.specs.Places.{IsWrong, NoVersion, NoSizes, NoFit, NoArray, BadArray, BadCode, NoCount, OtherCount, NoRun, Same, NoWord}
 use Rattle.ppm_saved_reader.specs.Places.{IsBadArray, Twice, TooMany, IsBadCode, Short, NoListing, Conflicting}
-use Rattle.ppm_saved_reader.specs.Correct.{IsWrongAt, Breaks, TooLong}
-
-abbrev or_else : {A : Type 0} → A → Option A → A
-or_else d None = d
-or_else d (Some a) = a
-
--- what is there is one
-some_one : {A : Type 0} {a b : A} {o : Option A} → o ≡ Some a → o ≡ Some b → a ≡ b
-some_one {A} {a = a} e f = ap (λ (o : Option A). or_else a o) (sym e ∙ f)
-
--- and is not missing
-not_both : {A : Type 0} {a : A} {o : Option A} → o ≡ None → o ≡ Some a → ⊥
-not_both {A} e f = both_ways false refl (ap (λ (o : Option A). is_some o) (sym e ∙ f))
-
-first_part : {A B : Type 0} {a b : A × B} → a ≡ b → a.0 ≡ b.0
-first_part {A} {B} e = ap (λ (k : A × B). k.0) e
-
-second_part : {A B : Type 0} {a b : A × B} → a ≡ b → a.1 ≡ b.1
-second_part {A} {B} e = ap (λ (k : A × B). k.1) e
+use Rattle.ppm_saved_reader.specs.Correct.{IsRead, IsWrongAt, Breaks, TooLong, IsRefusal}
+use Rattle.ppm_saved_reader.specs.ErrorNumbers.{refusal_at}
+use Rattle.ppm_saved_reader.specs.declared.saved_error.Fault.TheVariants as fault
+use Rattle.ppm_saved_reader.proofs.OptionLemmas.{or_else, some_one, not_both, first_part, second_part}
 
 -- a listing is that of one code
 one_code : (text : List ℕ) (c d : CodeParts) → IsListing text c → IsListing text d → c ≡ d
@@ -167,3 +152,44 @@ one_fault text f g line later (Breaks r w) (Breaks s v) =
 one_fault text f g line later (Breaks r w) (TooLong long) = absurd (omega (arith, r.short, long))
 one_fault text f g line later (TooLong long) (Breaks r w) = absurd (omega (arith, r.short, long))
 one_fault text f g line later (TooLong long) (TooLong more) = (refl, refl)
+
+-- two ways in a row are one
+pub leads_on : {p q s : Place} {t r x : List ℕ} {n m : ℕ} → LeadsTo p t n q r → LeadsTo q r m s x → LeadsTo p t (n + m) s x
+leads_on {p = p} {s = s} {t = t} {x = x} {m = m} Stays g =
+    let same : m ≡ 0 + m = omega arith in
+    subst (λ k. LeadsTo p t k s x) same g
+leads_on {p = p} {s = s} {t = t} {x = x} {m = m} (Then {n = a} {m = b} c d) g =
+    let sums : a + (b + m) ≡ a + b + m = omega arith in
+    subst (λ k. LeadsTo p t k s x) sums (Then c (leads_on d g))
+
+-- a text that was read up to a place is read on
+pub reads_on : {text : List ℕ} {p q : Place} {t r : List ℕ} {line n : ℕ} → IsRead text p line t → Goes p t n q r → IsRead text q (line + n) r
+reads_on {n = n} k g = record {
+  short = k.short;
+  lines = k.lines + (n + 0);
+  leads = leads_on k.leads (Then g Stays);
+  counted = omega (arith, k.counted);
+}
+
+-- nothing was read yet
+pub reads_all : (text : List ℕ) → length text ≤ text_limit → IsRead text AtVersion 1 text
+reads_all text h = record { short = h; lines = 0; leads = Stays; counted = refl }
+
+-- what is wrong at a place that was reached is the refusal of the text
+pub refused : (text : List ℕ) {p : Place} {t : List ℕ} (line : ℕ) (f : Fault) → IsRead text p line t → IsWrong p t f → IsRefusal text (refusal_at f line)
+refused text line fault.NoSuchForm k w = Breaks k w
+refused text line fault.OutOfRange k w = Breaks k w
+refused text line fault.BadListing k w = Breaks k w
+refused text line fault.BadCode k w = Breaks k w
+refused text line fault.WrongCount k w = Breaks k w
+
+-- where reading is at its end, and nothing is wrong, no other way leads to a wrong line
+pub none_wrong : {p q u : Place} {t r x : List ℕ} {n m : ℕ} {f : Fault} → ((v : Place) (y : List ℕ) (k : ℕ) → Goes q r k v y → ⊥)
+    → ((g : Fault) → IsWrong q r g → ⊥) → LeadsTo p t n q r → LeadsTo p t m u x → IsWrong u x f → ⊥
+none_wrong {f = f} stuck fine Stays Stays v = fine f v
+none_wrong stuck fine Stays (Then {mid = mid} {n = k} {between = between} a b) v = stuck mid between k a
+none_wrong stuck fine (Then a b) Stays v = goes_wrong a v
+none_wrong stuck fine (Then {mid = mid} a b) (Then {last = last} {m = m} {between = between} {rest = rest} c d) v =
+    let k = goes_one a c in
+    let there = subst (λ l. LeadsTo mid l m last rest) (sym k.2) (subst (λ place. LeadsTo place between m last rest) (sym k.1) d) in
+    none_wrong stuck fine b there v

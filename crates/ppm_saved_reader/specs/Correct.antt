@@ -9,15 +9,17 @@ use Rattle.ppm_code.specs.declared.code.CodeParts.{CodeParts}
 use Rattle.ppm_saved.specs.Correct.{StateFits}
 use Rattle.ppm_saved.specs.Saved.{IsWhole}
 use Rattle.ppm_saved.specs.Names.{lengths_of}
+use Rattle.ppm_saved.specs.Runs.{words_of}
 use Rattle.ppm_saved.specs.Text.{saved_text}
 use Rattle.ppm_saved.specs.declared.names.NamedLength.{NamedLength}
+use Rattle.ppm_saved.specs.declared.run.Run.{Run}
 use Rattle.ppm_saved_reader.specs.declared.lines.Sizes.{Sizes}
 use Rattle.ppm_saved_reader.specs.declared.saved_error.Fault.{Fault}
 use Rattle.ppm_saved_reader.specs.declared.saved_error.Fault.TheVariants as fault
 use Rattle.ppm_saved_reader.specs.declared.saved_error.SavedError.{SavedError}
 use Rattle.ppm_saved_reader.specs.declared.saved_error.SavedError.TheVariants as error
 use Rattle.ppm_saved_reader.specs.Rules.{text_limit, sizes_fit}
-use Rattle.ppm_saved_reader.specs.Places.{Place, AtVersion, LeadsTo, IsWrong}
+use Rattle.ppm_saved_reader.specs.Places.{Place, AtVersion, AtRuns, LeadsTo, IsWrong}
 
 -- a text that is not too long was read up to a place
 pub record IsRead (text : List ℕ) (place : Place) (line : ℕ) (rest : List ℕ) : Type 0 where
@@ -25,6 +27,15 @@ pub record IsRead (text : List ℕ) (place : Place) (line : ℕ) (rest : List �
   pub lines : ℕ
   pub leads : LeadsTo AtVersion text lines place rest
   pub counted : line ≡ 1 + lines
+
+-- words are those of all runs of a text that stands at a line, as many as were asked for
+pub record AreRunsRead (text : List ℕ) (line count : ℕ) (words : List ℕ) : Type 0 where
+  pub runs : List Run
+  pub last : ℕ
+  pub words_are : words ≡ words_of runs
+  pub many : length words ≡ count
+  pub leads : (whole : List ℕ) (z : Sizes) (arrays : List NamedLength) (code : CodeParts) → IsRead whole (AtRuns z arrays code []) line text
+      → IsRead whole (AtRuns z arrays code runs) last []
 
 -- a text is wrong at a line: reading leads there, and its line breaks a rule, this one the first; or the text is too long, which is a fault of its
 -- first line

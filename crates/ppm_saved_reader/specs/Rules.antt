@@ -74,3 +74,8 @@ abbrev pub ends_with : List Run → (word : ℕ) → Bool
 ends_with [] word = false
 ends_with (r ∷ []) word = r.word == word
 ends_with (r ∷ q ∷ rs) word = ends_with (q ∷ rs) word
+
+-- whether the last word is this one, if there is one
+abbrev pub is_last : Option ℕ → (word : ℕ) → Bool
+is_last None word = false
+is_last (Some w) word = w == word

@@ -1,10 +1,9 @@
 //! Reads what stands in front of the words: the version, the sizes, the arrays and the code.
-ghost use Rattle.std.specs.Prelude.{◌≡◌, ◌≤◌, ◌<◌, ◌+◌, ◌^◌, ℕ, List, [], true, None, length, ◌↔◌};
-ghost use Rattle.std.specs.Prelude.{IfOk, IfErr};
-ghost use Rattle.ppm_code.specs.Free.{IsFree};
-ghost use Rattle.ppm_code.specs.Tidy.{IsTidy};
-ghost use Rattle.ppm_listing.specs.Correct.{NumbersFit};
-ghost use Rattle.ppm_saved.specs.Names.{AreNames};
+ghost use Rattle.std.specs.Prelude.{◌≡◌, ◌≤◌, ◌<◌, ◌+◌, ◌^◌, ℕ, nat_lt, List, [], None, length, take, drop};
+ghost use Rattle.std.specs.Prelude.{◌↔◌, IsTrue, IfOk, IfErr};
+ghost use Rattle.std.specs.List.{list_all, sum};
+ghost use Rattle.ppm_code.specs.Code.{IsCode};
+ghost use Rattle.ppm_saved.specs.Names.{lengths_of};
 ghost use Rattle.ppm_saved_reader.specs.Lines.{first_line, array_in as array};
 ghost use Rattle.ppm_saved_reader.specs.Rules.{line_feeds as feeds};
 ghost use Rattle.ppm_saved_reader.specs.Places.{Place, AtVersion, AtSizes, AtArrays, AtWords};
@@ -15,7 +14,7 @@ use crate::lines::{Sizes, array_in, count_in, same_bytes, sizes_in};
 use crate::rules::{is_past, is_twice, sizes_fit};
 use crate::saved_error::{Fault, SavedError};
 use ppm_code::Code;
-use ppm_listing_reader::read_listing;
+use ppm_listing_reader::{ListingError, read_listing};
 use ppm_pieces::split_once;
 use ppm_saved::NamedLength;
 use ppm_war::{check, tidy};
@@ -77,7 +76,7 @@ pub(crate) fn read_arrays<'a>(
     ensures ok { (whole : List ℕ) (z : Sizes) → IsRead whole (AtArrays z []) line text.now
         → IfOk result (λ r. IsRead whole (AtArrays z r.arrays.items) r.line r.rest.now) }
     ensures none { IfOk result (λ r. first_line array r.rest.now ≡ None) }
-    ensures names { IfOk result (λ r. AreNames r.arrays.items) }
+    ensures words { IfOk result (λ r. r.words ≡ sum (lengths_of r.arrays.items)) }
     ensures bound { IfOk result (λ r. r.line + length r.rest.now < 2 ^ 32) }
     ensures err { (whole : List ℕ) (z : Sizes) → IsRead whole (AtArrays z []) line text.now
         → IfErr result (IsRefusal whole) }
@@ -134,18 +133,43 @@ fn line_feeds(bytes: &[u8]) -> u32
     count
 }
 
-/// Whether the root of a code names none but so many arrays.
-fn names_arrays(code: &Code, arrays: usize) -> bool
-    ensures { (result ≡ true) ↔ NamesArrays arrays code.now }
+/// Whether all numbers are below a limit.
+fn are_below(numbers: &[u32], limit: usize) -> bool
+    ensures { result ≡ list_all (λ number. nat_lt number limit) numbers.now }
 {
-    let mut left = code.parts().arrays.as_slice();
+    let mut left = numbers;
     while let [number, rest @ ..] = left {
-        if *number as usize >= arrays {
+        if !((*number as usize) < limit) {
             return false;
         }
         left = rest;
     }
     true
+}
+
+/// Whether the root of a code names none but so many arrays.
+fn names_arrays(code: &Code, arrays: usize) -> bool
+    ensures exactly { IsTrue result ↔ NamesArrays arrays code.now }
+    ensures code { IsCode code.now }
+{
+    are_below(code.parts().arrays.as_slice(), arrays)
+}
+
+/// The bytes in front of those behind the first n.
+fn front(bytes: &[u8], n: usize) -> &[u8]
+    requires { n ≤ length bytes.now }
+    ensures { result.now ≡ take n bytes.now }
+{
+    &bytes[..n]
+}
+
+/// The bytes behind the first n.
+#[tactic(auto, using(std::proofs::lemmas::List::take_rest))]
+fn behind(bytes: &[u8], n: usize) -> &[u8]
+    requires { n ≤ length bytes.now }
+    ensures { result.now ≡ drop n bytes.now }
+{
+    &bytes[n..]
 }
 
 /// A code that was read, and the text behind it with its line.
@@ -167,10 +191,6 @@ pub(crate) fn read_code<'a>(
     requires bound { line + length text.now < 2 ^ 32 }
     ensures ok { (whole : List ℕ) (z : Sizes) → IsRead whole (AtArrays z arrays.now) line text.now
         → IfOk result (λ r. IsRead whole (AtWords z arrays.now r.code) r.line r.rest.now) }
-    ensures named { IfOk result (λ r. NamesArrays (length arrays.now) r.code) }
-    ensures fits { IfOk result (λ r. NumbersFit r.code) }
-    ensures free { IfOk result (λ r. IsFree r.code) }
-    ensures tidy { IfOk result (λ r. IsTidy r.code) }
     ensures bound { IfOk result (λ r. r.line + length r.rest.now < 2 ^ 32) }
     ensures err { (whole : List ℕ) (z : Sizes) → IsRead whole (AtArrays z arrays.now) line text.now
         → IfErr result (IsRefusal whole) }
@@ -184,10 +204,10 @@ pub(crate) fn read_code<'a>(
     if (rest.len() as u64) < count {
         return Err(SavedError::NoSuchForm(line));
     }
-    let listing = &rest[..count as usize];
+    let listing = front(rest, count as usize);
     let code = match read_listing(alloc, listing) {
         Ok(code) => code,
-        Err(ppm_listing_reader::ListingError::NoMemory) => return Err(SavedError::NoMemory),
+        Err(ListingError::NoMemory) => return Err(SavedError::NoMemory),
         Err(_) => return Err(SavedError::BadListing(line)),
     };
     if !names_arrays(&code, arrays.len()) {
@@ -201,7 +221,7 @@ pub(crate) fn read_code<'a>(
     }
     Ok(Coded {
         code,
-        rest: &rest[count as usize..],
+        rest: behind(rest, count as usize),
         line: line + 1 + line_feeds(listing),
     })
 }

@@ -1,6 +1,9 @@
 //! Reads saved texts.
-ghost use Rattle.std.specs.Prelude.{IfOk, IfErr, ◌≡◌, map, ℕ};
+ghost use Rattle.std.specs.Prelude.{◌≡◌, ◌≤◌, true, IsSome, IfSome, IfOk, IfErr};
+ghost use Rattle.ppm_words.specs.Limits.{word_limit};
+ghost use Rattle.ppm_cells.specs.Shape.{HasSizes};
 ghost use Rattle.ppm_saved.specs.Names.{lengths_of as lengths_in};
+ghost use Rattle.ppm_saved_reader.specs.Rules.{sizes_fit as fit};
 ghost use Rattle.ppm_saved_reader.specs.Correct.{IsRefusal, IsSavedText};
 
 use crate::heading::{read_arrays, read_code, read_sizes, read_version};
@@ -27,7 +30,12 @@ fn lengths_of(alloc: Global, arrays: &[NamedLength]) -> Result<Vec<u32>, NoMemor
 }
 
 /// The shape of sizes that fit, with so many array words.
-fn shape_of(sizes: Sizes, words: u64) -> Option<Shape> {
+fn shape_of(sizes: Sizes, words: u64) -> Option<Shape>
+    requires fit { fit sizes ≡ true }
+    requires few { words ≤ word_limit }
+    ensures some { IsSome result }
+    ensures value { IfSome result (HasSizes sizes.processors sizes.room sizes.slots words) }
+{
     Shape::new(
         sizes.processors as u32,
         sizes.room as u32,

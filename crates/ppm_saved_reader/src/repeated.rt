@@ -1,15 +1,13 @@
 //! Reads the words: how many there are to be, and their runs.
-ghost use Rattle.std.specs.Prelude.{◌≡◌, ◌+◌, ◌<◌, ◌^◌, ◌++◌, ℕ, List, [], false, length, OnOk};
-ghost use Rattle.std.specs.Prelude.{IfOk, IfErr};
-ghost use Rattle.std.specs.List.{sum};
+ghost use Rattle.std.specs.Prelude.{◌≡◌, ◌+◌, ◌<◌, ◌^◌, ◌++◌, ℕ, List, [], false, length, replicate};
+ghost use Rattle.std.specs.Prelude.{OnOk, IfOk, IfErr};
 ghost use Rattle.ppm_code.specs.declared.code.CodeParts.{CodeParts};
-ghost use Rattle.ppm_saved.specs.Names.{lengths_of};
-ghost use Rattle.ppm_saved.specs.Runs.{words_of};
 ghost use Rattle.ppm_saved.specs.declared.names.NamedLength.{NamedLength};
-ghost use Rattle.ppm_saved.specs.declared.run.Run.{Run};
-ghost use Rattle.ppm_saved_reader.specs.Rules.{sizes_fit, words_for as count_for, is_other_count as other_count};
+ghost use Rattle.ppm_saved_reader.specs.declared.saved_error.SavedError.TheVariants.{NoMemory};
+ghost use Rattle.ppm_saved_reader.specs.Rules.{words_for as count_for, is_other_count as other_count};
+ghost use Rattle.ppm_saved_reader.specs.Rules.{is_last as last_is};
 ghost use Rattle.ppm_saved_reader.specs.Places.{AtWords, AtRuns};
-ghost use Rattle.ppm_saved_reader.specs.Correct.{IsRead, IsRefusal};
+ghost use Rattle.ppm_saved_reader.specs.Correct.{IsRead, AreRunsRead, IsRefusal};
 
 use crate::lines::{Sizes, count_in, run_in};
 use crate::rules::is_other_count;
@@ -45,13 +43,23 @@ pub(crate) fn read_count(text: &[u8], count: u64, line: u32) -> Result<&[u8], Sa
 
 /// Appends a word so many times.
 fn push_run(words: &mut Vec<u64>, word: u64, times: u64) -> Result<(), SavedError>
-    ensures { OnOk result (words.new.items
-        ≡ words.old.items ++ words_of (record { word = word; times = times } ∷ [])) }
+    ensures ok { OnOk result (words.new.items ≡ words.old.items ++ replicate times word) }
+    ensures err { IfErr result (λ e. e ≡ NoMemory) }
 {
     for _ in 0..times {
         words.push(word)?;
     }
     Ok(())
+}
+
+/// Whether the last word, if there is one, is this one.
+fn is_last(last: Option<u64>, word: u64) -> bool
+    ensures { result ≡ last_is last word }
+{
+    match last {
+        Some(other) => other == word,
+        None => false,
+    }
 }
 
 /// Reads the runs of so many words, the first of which stands at a line.
@@ -63,10 +71,7 @@ pub(crate) fn read_runs(
 ) -> Result<Vec<u64>, SavedError>
     requires count { other_count count text.now ≡ false }
     requires bound { line + length text.now < 2 ^ 32 }
-    ensures ok { (whole : List ℕ) (z : Sizes) (arrays : List NamedLength) (code : CodeParts)
-        → IsRead whole (AtRuns z arrays code []) line text.now
-        → IfOk result (λ words. (rs : List Run) × (last : ℕ) × IsRead whole (AtRuns z arrays code rs) last []
-        × (words.items ≡ words_of rs) × (length words.items ≡ count)) }
+    ensures ok { IfOk result (AreRunsRead text.now line count) }
     ensures err { (whole : List ℕ) (z : Sizes) (arrays : List NamedLength) (code : CodeParts)
         → IsRead whole (AtRuns z arrays code []) line text.now → IfErr result (IsRefusal whole) }
 {
@@ -81,7 +86,7 @@ pub(crate) fn read_runs(
         let Some(word) = word else {
             return Err(SavedError::OutOfRange(number));
         };
-        if last == Some(word) {
+        if is_last(last, word) {
             return Err(SavedError::NoSuchForm(number));
         }
         push_run(&mut words, word, times)?;
