@@ -1,4 +1,4 @@
-use Rattle.std.proofs.Common.{sym, subst, arith}
+use Rattle.std.proofs.Common.{[], sym, subst, arith}
 use Rattle.ppm_answers.specs.Reading.{TextMay}
 use Rattle.ppm_saved_reader.specs.Correct.{IsRefusal, IsSavedText}
 use Rattle.ppm_driver.specs.Resumes.{TextHas, state_of}
@@ -8,7 +8,7 @@ use Rattle.ppm_driver.proofs.resuming.text_answer.Goals as goal
 
 -- a text that is too long
 pub returns-then-len-gt-TEXT_LIMIT-clause-may : goal.returns-then-len-gt-TEXT_LIMIT-clause-may
-returns-then-len-gt-TEXT_LIMIT-clause-may g c = long_text c.args.options c.args.faults.now _ _ c.args.text.items (omega arith)
+returns-then-len-gt-TEXT_LIMIT-clause-may g c = long_text c.args.options c.args.faults.now [] [] c.args.text.items (omega arith)
 
 pub returns-then-len-gt-TEXT_LIMIT-clause-kept : goal.returns-then-len-gt-TEXT_LIMIT-clause-kept
 returns-then-len-gt-TEXT_LIMIT-clause-kept g c = fronts_stay _
