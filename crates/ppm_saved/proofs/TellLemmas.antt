@@ -50,7 +50,7 @@ span_one p (b ∷ ds) (c ∷ es) x y g h r s e =
     (cons_path (same_head e) same, left)
 
 -- a number's digits
-digits : (n : ℕ) → IsWord n → list_all is_digit (decimal n) ≡ true
+pub digits : (n : ℕ) → IsWord n → list_all is_digit (decimal n) ≡ true
 digits n h = (numeral_parts (decimal n) (numeral-decimal n h)).0
 
 -- a number is cut off where its digits end
@@ -61,7 +61,7 @@ number_one n m x y g h r s e =
     (decimal_injective n m g h same, left)
 
 -- numbers in front of more
-numbers_split : (n : ℕ) (ns z : List ℕ) → numbers_text (n ∷ ns) ++ z ≡ 32 ∷ (decimal n ++ (numbers_text ns ++ z))
+pub numbers_split : (n : ℕ) (ns z : List ℕ) → numbers_text (n ∷ ns) ++ z ≡ 32 ∷ (decimal n ++ (numbers_text ns ++ z))
 numbers_split n ns z =
     ap (λ l. l ++ z) (append_assoc (spaced n) (flat_map spaced ns) (10 ∷ []))
     ∙ append_assoc (spaced n) (flat_map spaced ns ++ 10 ∷ []) z
@@ -118,7 +118,7 @@ times_one n m x y g h e = by (n == 1) (m == 1) (eqb_tells n 1) (eqb_tells m 1) e
         (same, same_tail left)
 
 -- the line of a run in front of more
-run_split : (r : Run) (z : List ℕ) → run_line r ++ z ≡ decimal r.word ++ (times_text r.times ++ 10 ∷ z)
+pub run_split : (r : Run) (z : List ℕ) → run_line r ++ z ≡ decimal r.word ++ (times_text r.times ++ 10 ∷ z)
 run_split r z =
     append_assoc (decimal r.word ++ times_text r.times) (10 ∷ []) z ∙ append_assoc (decimal r.word) (times_text r.times) (10 ∷ z)
 
@@ -149,7 +149,7 @@ runs_one (r ∷ rs) (q ∷ qs) g h e =
     cons_path first (runs_one rs qs g.1 h.1 left)
 
 -- the bytes of a name
-name_bytes : (name : List ℕ) → IsName name → list_all is_name_byte name ≡ true
+pub name_bytes : (name : List ℕ) → IsName name → list_all is_name_byte name ≡ true
 name_bytes [] h = absurd h
 name_bytes (b ∷ cs) h =
     and_from (is_name_byte b) (list_all is_name_byte cs) (first (is_letter b) h.0) (all cs (recursion_from_All (λ c. is_name_byte c ≡ true) cs h.1))
@@ -163,7 +163,7 @@ name_bytes (b ∷ cs) h =
     first false k = absurd (both_ways false refl k)
 
 -- the line of an array in front of more
-array_split : (a : NamedLength) (z : List ℕ) → array_line a ++ z ≡ codes "array " ++ (a.name ++ (numbers_text (a.len ∷ []) ++ z))
+pub array_split : (a : NamedLength) (z : List ℕ) → array_line a ++ z ≡ codes "array " ++ (a.name ++ (numbers_text (a.len ∷ []) ++ z))
 array_split a z =
     append_assoc (codes "array " ++ a.name) (numbers_text (a.len ∷ [])) z
     ∙ append_assoc (codes "array ") a.name (numbers_text (a.len ∷ []) ++ z)
@@ -214,7 +214,7 @@ behind_arrays listing words = code_line (length listing) ++ (listing ++ words_te
 abbrev behind_version : (s : Shape) (xs : List NamedLength) (listing words : List ℕ) → List ℕ
 behind_version s xs listing words = shape_line s.processors s.room s.slots ++ (flat_map array_line xs ++ behind_arrays listing words)
 
-text_split : (s : Shape) (xs : List NamedLength) (listing words : List ℕ)
+pub text_split : (s : Shape) (xs : List NamedLength) (listing words : List ℕ)
     → head_text s xs ++ code_text listing ++ words_text words
     ≡ version_line ++ behind_version s xs listing words
 text_split s xs listing words =
@@ -231,7 +231,7 @@ shape_one p q m n i j x y a b c d f g e =
     (sym (append_assoc (codes "shape") (numbers_text (p ∷ m ∷ i ∷ [])) x) ∙ e ∙ append_assoc (codes "shape") (numbers_text (q ∷ n ∷ j ∷ [])) y))
 
 -- the room of a place is no more than that of all
-room_fits : (s : Shape) → IsWord s.room
+pub room_fits : (s : Shape) → IsWord s.room
 room_fits s =
     let m : 1 * s.room ≤ s.processors * s.room = mul-le-mul_right s.room s.within.processors_least in
     omega (arith, m, s.within.pools_most)

@@ -1,0 +1,76 @@
+//! The rules that a line of a saved text keeps beside its form.
+ghost use Rattle.std.specs.Prelude.{◌≡◌, ◌≤◌, ◌^◌, ◌<◌, ◌+◌, length};
+ghost use Rattle.std.specs.List.{sum};
+ghost use Rattle.ppm_saved.specs.Names.{lengths_of};
+ghost use Rattle.ppm_saved_reader.specs.Rules.{is_from_to as from_to, sizes_fit as fit};
+ghost use Rattle.ppm_saved_reader.specs.Rules.{is_twice as twice, is_past as past};
+ghost use Rattle.ppm_saved_reader.specs.Rules.{is_other_count as other_count};
+
+use crate::lines::{Sizes, run_in, same_bytes};
+use ppm_pieces::split_once;
+use ppm_saved::NamedLength;
+use ppm_words::{ARRAY_LIMIT, WORD_LIMIT};
+
+/// Whether a number is from one to another.
+fn is_from_to(least: u64, most: u64, n: u64) -> bool
+    ensures { result ≡ from_to least most n }
+{
+    least <= n && n <= most
+}
+
+/// Whether a machine of these sizes may be stopped.
+pub(crate) fn sizes_fit(sizes: Sizes) -> bool
+    ensures { result ≡ fit sizes }
+{
+    is_from_to(1, 16, sizes.processors)
+        && (is_from_to(64, 65536, sizes.room) && is_from_to(2, 4096, sizes.slots))
+}
+
+/// Whether an array has this name.
+pub(crate) fn is_twice(arrays: &[NamedLength], name: &[u8]) -> bool
+    ensures { result ≡ twice arrays.now name.now }
+{
+    let mut left = arrays;
+    while let [array, rest @ ..] = left {
+        if same_bytes(array.name.as_bytes(), name) {
+            return true;
+        }
+        left = rest;
+    }
+    false
+}
+
+/// Whether an array of so many words is one too many behind others of so many words in all, or one
+/// with too many words.
+pub(crate) fn is_past(arrays: &[NamedLength], words: u64, len: u64) -> bool
+    requires words { words ≡ sum (lengths_of arrays.now) }
+    requires few { words < 2 ^ 32 }
+    ensures { result ≡ past arrays.now len }
+{
+    if arrays.len() >= ARRAY_LIMIT {
+        return true;
+    }
+    if len > u64::from(WORD_LIMIT) {
+        return true;
+    }
+    words + len > u64::from(WORD_LIMIT)
+}
+
+/// Whether lines have another number of words than this: more in front, or fewer in all.
+pub(crate) fn is_other_count(count: u64, text: &[u8]) -> bool
+    ensures { result ≡ other_count count text.now }
+{
+    let mut left = text;
+    let mut rest_count = count;
+    while let Some((line, rest)) = split_once(left, b'\n') {
+        let Some((_, times)) = run_in(line) else {
+            return false;
+        };
+        if times > rest_count {
+            return true;
+        }
+        rest_count -= times;
+        left = rest;
+    }
+    rest_count > 0
+}
