@@ -98,7 +98,7 @@ in_none : (p : ℕ) (x : Standing) → (x ≡ IsLost) ⊎ (x ≡ IsDone) → is_
 in_none p x (inl e) = ap (is_in p) e
 in_none p x (inr e) = ap (is_in p) e
 
-resting : (f : ℕ → Standing) → ((d : ℕ) → (f d ≡ IsLost) ⊎ (f d ≡ IsDone)) → (n p : ℕ) → doing_in f n p ≡ Resting
+pub resting : (f : ℕ → Standing) → ((d : ℕ) → (f d ≡ IsLost) ⊎ (f d ≡ IsDone)) → (n p : ℕ) → doing_in f n p ≡ Resting
 resting f lost zero p = refl
 resting f lost (suc n) p = ap (λ (b : Bool). if b then doing_of (f n) else doing_in f n p) (in_none p (f n) (lost n)) ∙ resting f lost n p
 

@@ -1,17 +1,18 @@
--- The work of whole runs is bounded, turn by turn.
-use Rattle.std.proofs.Common.{◌≡◌, ◌≢◌, ◌⊎◌, ◌≤◌, ◌<◌, ℕ, zero, suc, ◌+◌, ◌*◌, Bool, true, false, if◌then◌else◌, List, [], ◌∷◌, ◌++◌, length, replicate, inl, inr, refl, sym, ap, ◌∙◌, subst, arith}
+-- The work of runs is bounded, turn by turn.
+use Rattle.std.proofs.Common.{◌≡◌, ◌≢◌, ◌⊎◌, ◌≤◌, ◌<◌, ℕ, zero, suc, ◌+◌, ◌*◌, Bool, true, false, if◌then◌else◌, List, [], ◌∷◌, ◌++◌, length, replicate, inl, inr, refl, sym, ap, ◌∙◌, subst, subst₂, arith}
 use Rattle.std.specs.Prelude.{slice_get, slice_index, nat_lt}
 use Rattle.std.specs.List.{AllByRecursion}
 use Rattle.std.proofs.lemmas.Bool.{cases_eq, eq-eqb, ne_eqb}
 use Rattle.ppm_strands.specs.Tree.{Words, Tree}
+use Rattle.ppm_strands.specs.Calm.{Calm}
 use Rattle.ppm_strands.specs.Run.{End, Ends as EndsSo}
-use Rattle.ppm_strands.proofs.ToComeLemmas.{strands_are_counted}
+use Rattle.ppm_words.specs.declared.named_array.NamedArray.{NamedArray}
 use Rattle.ppm_cells.specs.Cells.{address, place_size, pool_at}
 use Rattle.ppm_cells.specs.Memory.{AreWordsOf}
 use Rattle.ppm_cells.specs.declared.cell.Cell.TheVariants.{FinishWord, CarryWord}
 use Rattle.ppm_cells.specs.declared.link.LinkKind.TheVariants.{Root}
 use Rattle.ppm_cells.specs.declared.restart.RestartKind.{RestartKind}
-use Rattle.ppm_cells.specs.declared.restart.RestartKind.TheVariants.{Run, Seek}
+use Rattle.ppm_cells.specs.declared.restart.RestartKind.TheVariants.{Run, Bump, Push1, Push2, Unwind, Arrive, Join, Pop1, Pop2, Seek, Steal, Check, Take, Take2}
 use Rattle.ppm_cells.specs.declared.shape.Shape.{Shape}
 use Rattle.ppm_cells.specs.declared.shape.Takeover.TheVariants.{ByPlaces}
 use Rattle.ppm_capsules.specs.Strand.{Frame}
@@ -19,7 +20,9 @@ use Rattle.ppm_code.specs.Sizes.{slots_of}
 use Rattle.ppm_code.specs.Strands.{Point, Result}
 use Rattle.ppm_code.specs.declared.code.CodeParts.{CodeParts}
 use Rattle.ppm_code.specs.declared.location.FrameWord.{FrameWord}
+use Rattle.ppm_layout.specs.Correct.{Opens}
 use Rattle.ppm_layout.specs.Root.{root_strand}
+use Rattle.ppm_layout.specs.declared.images.Image.{Image as RealImage}
 use Rattle.ppm_step.specs.Among.{IsTurnAmong}
 use Rattle.ppm_step.specs.Laws.{finish_at, reached}
 use Rattle.ppm_step.specs.Frames.{Installs}
@@ -27,7 +30,7 @@ use Rattle.ppm_step.specs.Standings.{Standing, IsLost, IsPlaced, IsAt, IsWithin,
 use Rattle.ppm_step.specs.declared.row.Row.TheVariants.{Now}
 use Rattle.ppm_step.specs.declared.row.Seat.{Seat}
 use Rattle.ppm_step.specs.declared.row.Then.TheVariants.{Install, Fork, Begin, Move}
-use Rattle.ppm_step.specs.State.{State as RunState, stand_in, stand_of, found_in, words_after, want_of, stand_after, acts, happens, along, opening, is_done_at, is_step, is_work_turn, forks_of, takes_of, work_of}
+use Rattle.ppm_step.specs.State.{State as RunState, stand_in, stand_of, found_in, words_after, want_of, stand_after, acts, happens, after, along, opening, is_done_at, is_step, is_work_turn, forks_of, takes_of, work_of}
 use Rattle.ppm_step.proofs.FinishLemmas.{finish_stays}
 use Rattle.ppm_step.proofs.WordLemmas.{exchanged_to}
 use Rattle.ppm_step.specs.declared.ask.Want.TheVariants.{Exchanges as WantsExchange}
@@ -38,7 +41,7 @@ use Rattle.ppm_paces.specs.Costs.{cost, due}
 use Rattle.ppm_paces.specs.Paces.{Paces, is_in_row, is_broken_at, keeps_row, made_then, made_behind, is_strike, strikes_of}
 use Rattle.ppm_paces.proofs.PaceLemmas.{one, most, Sets, Halts, Keeps, before_none, made_few}
 use Rattle.ppm_paces.proofs.RunLemmas.{stand_own, turn_keeps, turn_else, paces_behind}
-use Rattle.ppm_tickets.specs.Along.{by_act}
+use Rattle.ppm_tickets.specs.Along.{by_act, homes, forked as forked_in, taken as taken_in}
 use Rattle.ppm_tickets.specs.Homes.{Home, Unborn}
 use Rattle.ppm_tickets.specs.Lawful.{IsAlive}
 use Rattle.ppm_tickets.specs.Saw.{Sees, Sits}
@@ -58,7 +61,6 @@ use Rattle.ppm_kept.proofs.CountLemmas.{capsules_are_counted}
 use Rattle.ppm_kept.proofs.PayingLemmas.{credit_stays}
 use Rattle.ppm_kept.proofs.PutLemmas.{put_here as set_here, put_else as set_else}
 use Rattle.ppm_runs.specs.Run.{image, IsRun}
-use Rattle.ppm_runs.specs.Work.{WorkIsBounded, WorkIsWithin256}
 use Rattle.ppm_runs.proofs.StandLemmas.{kinds_same}
 use Rattle.ppm_runs.proofs.SumLemmas.{sum, sum_at, sum_le, sum_zero}
 use Rattle.ppm_runs.proofs.WorkLemmas.{Installed, step_kinds, act_kinds, Moves, act_carries, At, one_at, Claim, rows_within, few_capsules}
@@ -163,6 +165,36 @@ module _ (s : Shape) (code : CodeParts) (state : RunState) (c : ℕ) where
   none_begins act (IsRunning seat rest) e some out = absurd (cc)
   none_begins act (IsBroken p) e some out = ap is_in_row (live_stands s code state c act (IsBroken p) e refl) ∙ acts_out act (IsBroken p) some out
 
+-- no row makes more than 172 word steps
+few_steps : (k : RestartKind) → cost k ≤ 172
+few_steps (Run f y) = omega arith
+few_steps (Bump r) = omega arith
+few_steps (Push1 r) = omega arith
+few_steps (Push2 r) = omega arith
+few_steps (Unwind f) = omega arith
+few_steps (Arrive r d) = omega arith
+few_steps (Join r d) = omega arith
+few_steps Pop1 = omega arith
+few_steps (Pop2 r) = omega arith
+few_steps Seek = omega arith
+few_steps (Steal v x) = omega arith
+few_steps (Check v x) = omega arith
+few_steps (Take v x) = omega arith
+few_steps (Take2 v) = omega arith
+
+most_few : (s : Shape) (made : ℕ) (x : Standing) → Paces s made x → most made x ≤ 172
+most_few s made (IsWithin seat row) p = few_steps seat.restart.kind
+most_few s made (IsRunning seat rest) p = few_steps seat.restart.kind
+most_few s made (IsBroken place) few = omega (arith, few)
+most_few s made IsLost p = omega arith
+most_few s made (IsPlaced place) p = omega arith
+most_few s made (IsAt place r) p = omega arith
+most_few s made IsDone p = omega arith
+
+sum_const : (n : ℕ) → sum n (λ d. 172) ≡ 172 * n
+sum_const zero = refl
+sum_const (suc n) = let e = sum_const n in omega (arith, e)
+
 module _ (s : Shape) (code : CodeParts) (places : s.takeover ≡ ByPlaces) (fair : IsFair code) (root : Tree (Frame FrameWord Point) Result) (input : Words) (end : End Result) (ends : EndsSo (strands s code) root input end) where
   abbrev N : ℕ
   N = s.processors
@@ -175,35 +207,37 @@ module _ (s : Shape) (code : CodeParts) (places : s.takeover ≡ ByPlaces) (fair
 
   -- What holds at each moment: processors keep their pace, and what those have made that met broken words is set aside at their
   -- places. While the finish word is 0 the work, what is set aside at places and what the tree owes are paid by the capsules that are
-  -- counted, by what was struck, and by what rows under way have made. And always the work, with all that rows under way may come to,
-  -- is within the bound.
-  pub record Stage (state : RunState) (h : ℕ → Home) (forked taken : List ℕ) (t : Skeleton) (work strikes : ℕ) (made : ℕ → ℕ) : Type 0 where
+  -- counted, by what was struck and what was lost where words came back, and by what rows under way have made. With all that those may
+  -- come to they always are, if each processor may lose one row more. And always the work, with all that rows under way may come to, is
+  -- within the bound.
+  pub record Stage (lost : ℕ) (state : RunState) (h : ℕ → Home) (forked taken : List ℕ) (t : Skeleton) (work strikes : ℕ) (made : ℕ → ℕ) : Type 0 where
     pub run : IsRun s code root input state h forked taken t
     pub paces : (c : ℕ) → Paces s (made c) (stand_of state c)
     pub claims : (c : ℕ) → Claim s code places fair root input state h forked taken t run c (made c) (stand_of state c)
-    pub paid : finish_at s state ≡ 0 → work + dues state.words + owed Root t ≤ 218 * run.kept.ahead.0.capsules + 171 * strikes + sum N made + 6
-    pub bound : work + mosts state made ≤ 218 * end.counts.capsules + 171 * strikes + sum N made + 6
+    pub paid : finish_at s state ≡ 0 → work + dues state.words + owed Root t ≤ 218 * run.kept.ahead.0.capsules + 171 * strikes + sum N made + lost + 6
+    pub held : work + mosts state made + dues state.words + owed Root t ≤ 218 * run.kept.ahead.0.capsules + 171 * strikes + sum N made + 172 * N + lost + 6
+    pub bound : work + mosts state made ≤ 218 * end.counts.capsules + 171 * strikes + sum N made + lost + 6
 
   -- the bound follows from the payment
-  bound_of : (state : RunState) (h : ℕ → Home) (forked taken : List ℕ) (t : Skeleton) (work strikes : ℕ) (made : ℕ → ℕ) (run : IsRun s code root input state h forked taken t)
+  bound_of : (lost : ℕ) (state : RunState) (h : ℕ → Home) (forked taken : List ℕ) (t : Skeleton) (work strikes : ℕ) (made : ℕ → ℕ) (run : IsRun s code root input state h forked taken t)
       → ((c : ℕ) → Claim s code places fair root input state h forked taken t run c (made c) (stand_of state c))
-      → work + dues state.words + owed Root t ≤ 218 * run.kept.ahead.0.capsules + 171 * strikes + sum N made + 6
-      → work + mosts state made ≤ 218 * end.counts.capsules + 171 * strikes + sum N made + 6
-  bound_of state h forked taken t work strikes made run claims paid =
+      → work + dues state.words + owed Root t ≤ 218 * run.kept.ahead.0.capsules + 171 * strikes + sum N made + lost + 6
+      → work + mosts state made ≤ 218 * end.counts.capsules + 171 * strikes + sum N made + lost + 6
+  bound_of lost state h forked taken t work strikes made run claims paid =
       let rows = rows_within s code places fair root input state h forked taken t run made claims end ends in
       let few = few_capsules s code places fair root input state h forked taken t run end ends in
       omega (arith, paid, rows, few)
 
   -- behind all turns
-  work_of_stage : (state : RunState) (h : ℕ → Home) (forked taken : List ℕ) (t : Skeleton) (work strikes : ℕ) (made : ℕ → ℕ) → Stage state h forked taken t work strikes made
-      → work ≤ 218 * end.counts.capsules + 171 * strikes + 6
-  work_of_stage state h forked taken t work strikes made stage =
+  pub work_of_stage : (lost : ℕ) (state : RunState) (h : ℕ → Home) (forked taken : List ℕ) (t : Skeleton) (work strikes : ℕ) (made : ℕ → ℕ) → Stage lost state h forked taken t work strikes made
+      → work ≤ 218 * end.counts.capsules + 171 * strikes + lost + 6
+  work_of_stage lost state h forked taken t work strikes made stage =
       let less = sum_le N made (λ c. most (made c) (stand_of state c)) (λ c lt. (made_few s code fair.code_is c (made c) (stand_of state c) (stage.paces c)).0) in
       let bound = stage.bound in
       omega (arith, less, bound)
 
   -- one turn
-  module _ (state : RunState) (h : ℕ → Home) (forked taken : List ℕ) (t : Skeleton) (work strikes : ℕ) (made : ℕ → ℕ) (stage : Stage state h forked taken t work strikes made)
+  module _ (lost : ℕ) (state : RunState) (h : ℕ → Home) (forked taken : List ℕ) (t : Skeleton) (work strikes : ℕ) (made : ℕ → ℕ) (stage : Stage lost state h forked taken t work strikes made)
       (c : ℕ) (act : Act) (among : IsTurnAmong s.processors (record { processor = c; act = act }))
       (stays : finish_at s state ≢ 0 → finish_at s (happens s code state (record { processor = c; act = act })) ≢ 0) where
     abbrev turn : Turn
@@ -281,7 +315,7 @@ module _ (s : Shape) (code : CodeParts) (places : s.takeover ≡ ByPlaces) (fair
     strike_is = told_one (is_strike act x) c
 
     -- where the finish word is set, no row begins
-    bound_set : finish_at s n ≢ 0 → work' + mosts n made' ≤ 218 * end.counts.capsules + 171 * strikes' + sum N made' + 6
+    bound_set : finish_at s n ≢ 0 → work' + mosts n made' ≤ 218 * end.counts.capsules + 171 * strikes' + sum N made' + lost + 6
     bound_set some =
         let spends = keeps.spends (none_begins s code state c act x refl some) in
         let bound = stage.bound in let w = work_is in let z = strike_is in let a = made_sum in let b = most_sum in
@@ -410,7 +444,10 @@ module _ (s : Shape) (code : CodeParts) (places : s.takeover ≡ ByPlaces) (fair
     ]
 
     abbrev Paid : Type 0
-    Paid = work' + dues n.words + owed Root (tree_after (image s code) state turn t) ≤ 218 * run_then.kept.ahead.0.capsules + 171 * strikes' + sum N made' + 6
+    Paid = work' + dues n.words + owed Root (tree_after (image s code) state turn t) ≤ 218 * run_then.kept.ahead.0.capsules + 171 * strikes' + sum N made' + lost + 6
+
+    abbrev Held : Type 0
+    Held = work' + mosts n made' + dues n.words + owed Root (tree_after (image s code) state turn t) ≤ 218 * run_then.kept.ahead.0.capsules + 171 * strikes' + sum N made' + 172 * N + lost + 6
 
     -- where no place is at another kind
     still_paid : finish_at s state ≡ 0 → finish_at s n ≡ 0 → spots.kinds s n.words ≡ spots.kinds s state.words → ((is_step act ≡ true) × Sets x → ⊥) → Paid
@@ -427,8 +464,11 @@ module _ (s : Shape) (code : CodeParts) (places : s.takeover ≡ ByPlaces) (fair
 
     -- where one is
     module _ (v : ℕ) (is : act ≡ Step v) where
-      set_paid : finish_at s state ≡ 0 → (put_ : Installed s code places fair root input state h forked taken t run c v (made c) x) → Paid
-      set_paid unset put_ =
+      -- what an install makes of the work, of what is set aside and of what the tree owes
+      set_pays : (put_ : Installed s code places fair root input state h forked taken t run c v (made c) x)
+          → one (is_work_turn act x) + made c + dues n.words + owed Root (tree_after (image s code) state turn t)
+          ≤ dues state.words + owed Root t + 218 * by_step ended_by act x
+      set_pays put_ =
           let acts_ : n.words ≡ (acts s code state c (Step v) x).words = ap (λ (a : Act). (acts s code state c a x).words) is in
           let kinds_ : spots.kinds s n.words ≡ put (spots.kinds s state.words) put_.place put_.kind = ap (spots.kinds s) acts_ ∙ put_.kinds in
           let dues_ = sum_at N (λ p. due (spots.kinds s state.words p)) (λ p. due (put (spots.kinds s state.words) put_.place put_.kind p)) put_.place put_.there
@@ -438,8 +478,19 @@ module _ (s : Shape) (code : CodeParts) (places : s.takeover ≡ ByPlaces) (fair
           let w0 : one (is_work_turn act x) ≡ one (is_work_turn (Step v) x) = ap (λ (a : Act). one (is_work_turn a x)) is in
           let p0 : by_step paid_by act x ≡ paid_by x = ap (λ (a : Act). by_step paid_by a x) is in
           let e0 : by_step ended_by act x ≡ ended_by x = ap (λ (a : Act). by_step ended_by a x) is in
-          let paid = stage.paid unset in let cr = credit in let mo = more in let w = work_is in let a = made_sum in let p1 = put_.paid in
-          omega (arith, dues_, own, now_, w0, p0, e0, paid, cr, mo, w, a, p1)
+          let cr = credit in let p1 = put_.paid in
+          omega (arith, dues_, own, now_, w0, p0, e0, cr, p1)
+
+      set_paid : finish_at s state ≡ 0 → (put_ : Installed s code places fair root input state h forked taken t run c v (made c) x) → Paid
+      set_paid unset put_ =
+          let pays_ = set_pays put_ in let paid = stage.paid unset in let mo = more in let w = work_is in let a = made_sum in let z = strike_is in
+          omega (arith, pays_, paid, mo, w, a, z)
+
+      set_held : finish_at s n ≢ 0 → (put_ : Installed s code places fair root input state h forked taken t run c v (made c) x) → Held
+      set_held some put_ =
+          let pays_ = set_pays put_ in let spends = keeps.spends (none_begins s code state c act x refl some) in
+          let held = stage.held in let mo = more in let w = work_is in let a = made_sum in let b = most_sum in let z = strike_is in
+          omega (arith, pays_, spends, held, mo, w, a, b, z)
 
     step_paid : (v : ℕ) → act ≡ Step v → finish_at s state ≡ 0 → finish_at s n ≡ 0 → Paid
     step_paid v is unset then_ = elim (step_kinds s code places fair root input state h forked taken t run c v (made c) x refl (stage.paces c)) [
@@ -457,6 +508,26 @@ module _ (s : Shape) (code : CodeParts) (places : s.takeover ≡ ByPlaces) (fair
     all_paid Hard e unset then_ = other_paid (ap is_step e) unset then_
     all_paid (Quit why) e unset then_ = other_paid (ap is_step e) unset then_
 
+    -- what holds behind the finish word
+    still_held : finish_at s n ≢ 0 → spots.kinds s n.words ≡ spots.kinds s state.words → Held
+    still_held some same =
+        let dues_ : dues n.words ≡ dues state.words = ap (λ (f : ℕ → RestartKind). sum N (λ p. due (f p))) same in
+        let spends = keeps.spends (none_begins s code state c act x refl some) in
+        let held = stage.held in let cr = credit in let mo = more in let w = work_is in let z = strike_is in let a = made_sum in let b = most_sum in
+        omega (arith, dues_, spends, held, cr, mo, w, z, a, b)
+
+    held_set : finish_at s n ≢ 0 → Held
+    held_set some = by act refl
+      where
+        by : (a : Act) → act ≡ a → Held
+        by (Step v) is = elim (step_kinds s code places fair root input state h forked taken t run c v (made c) x refl (stage.paces c)) [
+          | inl still ↦ still_held some (ap (λ (a : Act). spots.kinds s (acts s code state c a x).words) is ∙ still.0)
+          | inr put_ ↦ set_held v is some put_
+        ]
+        by Soft is = still_held some (act_kinds s code places fair root input state h forked taken t run c among.processor act x (ap is_step is))
+        by Hard is = still_held some (act_kinds s code places fair root input state h forked taken t run c among.processor act x (ap is_step is))
+        by (Quit why) is = still_held some (act_kinds s code places fair root input state h forked taken t run c among.processor act x (ap is_step is))
+
     -- a finish word that is 0 was 0
     was_unset : finish_at s n ≡ 0 → finish_at s state ≡ 0
     was_unset then_ = elim (cases_eq (finish_at s state) 0) [ inl e ↦ e | inr ne ↦ absurd (stays ne then_) ]
@@ -464,48 +535,79 @@ module _ (s : Shape) (code : CodeParts) (places : s.takeover ≡ ByPlaces) (fair
     paid_then : finish_at s n ≡ 0 → Paid
     paid_then then_ = all_paid act refl (was_unset then_) then_
 
-    pub goes_on : Stage n (by_act s state.words act x h) (forks_of state turn ++ forked) (takes_of state turn ++ taken) (tree_after (image s code) state turn t) work' strikes' made'
+    paces_then : (d : ℕ) → Paces s (made' d) (stand_of n d)
+    paces_then d = paces_behind s code fair.code_is state turn d (made d) (stage.paces d)
+
+    -- no row may come to more than 172
+    held_then : Held
+    held_then = elim (cases_eq (finish_at s n) 0) [
+      | inl e ↦
+          let few = sum_le N (λ d. most (made' d) (stand_of n d)) (λ d. 172) (λ d lt. most_few s (made' d) (stand_of n d) (paces_then d)) in
+          let all = sum_const N in
+          let paid_ = paid_then e in
+          omega (arith, few, all, paid_)
+      | inr ne ↦ held_set ne
+    ]
+
+    pub goes_on : Stage lost n (by_act s state.words act x h) (forks_of state turn ++ forked) (takes_of state turn ++ taken) (tree_after (image s code) state turn t) work' strikes' made'
     goes_on = record {
       run = run_then;
-      paces = λ d. paces_behind s code fair.code_is state turn d (made d) (stage.paces d);
+      paces = paces_then;
       claims = claims_then;
       paid = paid_then;
+      held = held_then;
       bound = elim (cases_eq (finish_at s n) 0) [
-        | inl e ↦ bound_of n (by_act s state.words act x h) (forks_of state turn ++ forked) (takes_of state turn ++ taken) (tree_after (image s code) state turn t) work' strikes' made' run_then claims_then (paid_then e)
+        | inl e ↦ bound_of lost n (by_act s state.words act x h) (forks_of state turn ++ forked) (takes_of state turn ++ taken) (tree_after (image s code) state turn t) work' strikes' made' run_then claims_then (paid_then e)
         | inr ne ↦ bound_set ne
       ];
     }
 
+  -- what was made behind turns
+  abbrev made_all : (ℕ → ℕ) → RunState → List Turn → ℕ → ℕ
+  made_all made state [] = made
+  made_all made state (turn ∷ more) = made_all (λ d. made_behind s code d (made d) state turn) (happens s code state turn) more
+
+  -- what holds then
+  abbrev pub StageBehind : (lost : ℕ) (state : RunState) (h : ℕ → Home) (forked taken : List ℕ) (work strikes : ℕ) (made : ℕ → ℕ) → List Turn → Type 0
+  StageBehind lost state h forked taken work strikes made more =
+      (t : Skeleton) × Stage lost (after s code state more) (homes s code state h more) (forked_in s code state forked more) (taken_in s code state taken more) t
+      (work + length (along s code work_of state more)) (strikes + length (along s code strikes_of state more)) (made_all made state more)
+
   -- all turns
-  all_bounded : (words : List ℕ) (first more : List Turn) (state : RunState) → state ≡ reached s code words first → (h : ℕ → Home) (forked taken : List ℕ) (t : Skeleton) (work strikes : ℕ) (made : ℕ → ℕ)
-      → AllByRecursion (IsTurnAmong s.processors) more → Stage state h forked taken t work strikes made
-      → work + length (along s code work_of state more) ≤ 218 * end.counts.capsules + 171 * (strikes + length (along s code strikes_of state more)) + 6
-  all_bounded words first [] state is h forked taken t work strikes made all stage = let le = work_of_stage state h forked taken t work strikes made stage in omega (arith, le)
-  all_bounded words first (turn ∷ more) state is h forked taken t work strikes made all stage =
+  pub all_stay : (lost : ℕ) (words : List ℕ) (first more : List Turn) (state : RunState) → state ≡ reached s code words first → (h : ℕ → Home) (forked taken : List ℕ) (t : Skeleton) (work strikes : ℕ) (made : ℕ → ℕ)
+      → AllByRecursion (IsTurnAmong s.processors) more → Stage lost state h forked taken t work strikes made
+      → StageBehind lost state h forked taken work strikes made more
+  all_stay lost words first [] state is h forked taken t work strikes made all stage =
+      let w : work ≡ work + 0 = omega arith in
+      let z : strikes ≡ strikes + 0 = omega arith in
+      (t, subst₂ (λ (a b : ℕ). Stage lost state h forked taken t a b made) w z stage)
+  all_stay lost words first (turn ∷ more) state is h forked taken t work strikes made all stage =
       let next : happens s code state turn ≡ reached s code words (first ++ turn ∷ []) = ap (λ (z : RunState). happens s code z turn) is ∙ sym (in_two s code (opening words s.processors) first (turn ∷ [])) in
       let stays : finish_at s state ≢ 0 → finish_at s (happens s code state turn) ≢ 0 = λ some zero_.
       (let was : finish_at s (reached s code words first) ≢ 0 = λ z. some (ap (finish_at s) is ∙ z) in
       was (sym (finish_stays s code fair.code_is words first (turn ∷ []) was) ∙ sym (ap (finish_at s) next) ∙ zero_)) in
-      let rest = all_bounded words (first ++ turn ∷ []) more (happens s code state turn) next
+      let rest = all_stay lost words (first ++ turn ∷ []) more (happens s code state turn) next
       (by_act s state.words turn.act (stand_of state turn.processor) h) (forks_of state turn ++ forked) (takes_of state turn ++ taken) (tree_after (image s code) state turn t)
       (work + length (work_of state turn)) (strikes + length (strikes_of state turn)) (λ d. made_behind s code d (made d) state turn) all.1
-      (goes_on state h forked taken t work strikes made stage turn.processor turn.act all.0 stays) in
+      (goes_on lost state h forked taken t work strikes made stage turn.processor turn.act all.0 stays) in
       let a = length_both (work_of state turn) (along s code work_of (happens s code state turn) more) in
       let b = length_both (strikes_of state turn) (along s code strikes_of (happens s code state turn) more) in
-      omega (arith, rest, a, b)
+      let w : work + length (work_of state turn) + length (along s code work_of (happens s code state turn) more) ≡ work + length (along s code work_of state (turn ∷ more)) = omega (arith, a) in
+      let z : strikes + length (strikes_of state turn) + length (along s code strikes_of (happens s code state turn) more) ≡ strikes + length (along s code strikes_of state (turn ∷ more)) = omega (arith, b) in
+      (rest.0, subst₂ (λ (x y : ℕ). Stage lost (after s code state (turn ∷ more)) (homes s code state h (turn ∷ more)) (forked_in s code state forked (turn ∷ more)) (taken_in s code state taken (turn ∷ more)) rest.0 x y (made_all made state (turn ∷ more))) w z rest.1)
 
 -- processors begin lost
-lost_paces : (s : Shape) (n c : ℕ) → Paces s 0 (stand_in (slice_get (replicate n IsLost) c))
+pub lost_paces : (s : Shape) (n c : ℕ) → Paces s 0 (stand_in (slice_get (replicate n IsLost) c))
 lost_paces s zero c = refl
 lost_paces s (suc n) zero = refl
 lost_paces s (suc n) (suc c) = lost_paces s n c
 
-lost_claims : (s : Shape) (code : CodeParts) (places : s.takeover ≡ ByPlaces) (fair : IsFair code) (root : Tree (Frame FrameWord Point) Result) (input : Words) (state : RunState) (h : ℕ → Home) (forked taken : List ℕ) (t : Skeleton) (run : IsRun s code root input state h forked taken t)
+pub lost_claims : (s : Shape) (code : CodeParts) (places : s.takeover ≡ ByPlaces) (fair : IsFair code) (root : Tree (Frame FrameWord Point) Result) (input : Words) (state : RunState) (h : ℕ → Home) (forked taken : List ℕ) (t : Skeleton) (run : IsRun s code root input state h forked taken t)
     (c : ℕ) (x : Standing) → Claim s code places fair root input state h forked taken t run c 0 x
 lost_claims s code places fair root input state h forked taken t is c (IsBroken p) = inl refl
 lost_claims s code places fair root input state h forked taken t is c _ = tt
 
-lost_most : (n c : ℕ) → most 0 (stand_in (slice_get (replicate n IsLost) c)) ≡ 0
+pub lost_most : (n c : ℕ) → most 0 (stand_in (slice_get (replicate n IsLost) c)) ≡ 0
 lost_most zero c = refl
 lost_most (suc n) zero = refl
 lost_most (suc n) (suc c) = lost_most n c
@@ -517,28 +619,28 @@ opening_free p f q = elim (cases_eq q p) [
   | inr ne ↦ ap due (set_else (λ q. Seek) p (Run f 0) q ne)
 ]
 
-pub work_is_bounded : WorkIsBounded
-unfolding view
-work_is_bounded code input s keeper im places fair opens calm turns all end ends =
-    let root = root_strand code input in
-    let arrays = arrays_at (view s im.words) in
-    let first = Leaf (InPlace keeper) (Begins 0) (pool_at s keeper) (slots_of code code.root) in
-    let run = runs_open code input s keeper im opens calm in
-    let opened = (machines_open code input s keeper im opens calm).0 in
-    let free = sum_zero s.processors (λ p. due (spots.kinds s im.words p)) (λ p.
-    ap due (sym (kinds_same s im.words p) ∙ ap (λ (z : State). z.kind p) opened) ∙ opening_free keeper (pool_at s keeper) p) in
-    let still = sum_zero s.processors (λ c. most 0 (stand_in (slice_get (replicate s.processors IsLost) c))) (lost_most s.processors) in
-    let none = sum_zero s.processors (λ c. 0) (λ c. refl) in
-    let le = all_bounded s code places fair root arrays end ends im.words [] turns (opening im.words s.processors) refl (λ r. Unborn) [] [] first 0 0 (λ c. 0) all (record {
-      run = run;
-      paces = lost_paces s s.processors;
-      claims = λ c. lost_claims s code places fair root arrays (opening im.words s.processors) (λ r. Unborn) [] [] first run c (stand_of (opening im.words s.processors) c);
-      paid = λ unset. omega (arith, free, none);
-      bound = omega (arith, still, none);
-    }) in omega (arith, le)
+-- a machine that opens an image is at the first moment
+module _ (code : CodeParts) (input : List NamedArray) (s : Shape) (keeper : ℕ) (im : RealImage) (places : s.takeover ≡ ByPlaces) (fair : IsFair code) (opens : Opens code input s keeper im)
+    (calm : Calm (strands s code) (root_strand code input) (arrays_at (view s im.words))) (end : End Result) (ends : EndsSo (strands s code) (root_strand code input) (arrays_at (view s im.words)) end) where
+  abbrev pub first_tree : Skeleton
+  first_tree = Leaf (InPlace keeper) (Begins 0) (pool_at s keeper) (slots_of code code.root)
 
-pub work_is_within_256 : WorkIsWithin256
-work_is_within_256 code input s keeper im places fair opens calm turns all end ends =
-    let le = work_is_bounded code input s keeper im places fair opens calm turns all end ends in
-    let some = strands_are_counted (strands s code) (root_strand code input) (arrays_at (view s im.words)) end ends in
-    omega (arith, le, some)
+  pub first_stage : Stage s code places fair (root_strand code input) (arrays_at (view s im.words)) end ends 0 (opening im.words s.processors) (λ r. Unborn) [] [] first_tree 0 0 (λ c. 0)
+  unfolding view
+  first_stage =
+      let root = root_strand code input in
+      let arrays = arrays_at (view s im.words) in
+      let run = runs_open code input s keeper im opens calm in
+      let opened = (machines_open code input s keeper im opens calm).0 in
+      let free = sum_zero s.processors (λ p. due (spots.kinds s im.words p)) (λ p.
+      ap due (sym (kinds_same s im.words p) ∙ ap (λ (z : State). z.kind p) opened) ∙ opening_free keeper (pool_at s keeper) p) in
+      let still = sum_zero s.processors (λ c. most 0 (stand_in (slice_get (replicate s.processors IsLost) c))) (lost_most s.processors) in
+      let none = sum_zero s.processors (λ c. 0) (λ c. refl) in
+      record {
+        run = run;
+        paces = lost_paces s s.processors;
+        claims = λ c. lost_claims s code places fair root arrays (opening im.words s.processors) (λ r. Unborn) [] [] first_tree run c (stand_of (opening im.words s.processors) c);
+        paid = λ unset. omega (arith, free, none);
+        held = omega (arith, free, still, none);
+        bound = omega (arith, still, none);
+      }

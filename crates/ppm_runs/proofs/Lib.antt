@@ -4,7 +4,8 @@
 -- (`TakerLemmas`), so a turn leads on (`GoingLemmas`, `BearingLemmas`, `BrokenLemmas`); a run's
 -- beginning (`OpenLemmas`) and its end (`OutcomeLemmas`). What a row makes of the tree and of homes, kind by
 -- kind, is `AgreeLemmas`; that both halves join again is `JoinLemmas`, and whole runs are `WholeLemmas`; each of their moments is
--- `MomentLemmas`, a pool that was found full `SpentLemmas`, and words that come back `BackLemmas`.
+-- `MomentLemmas`, a pool that was found full `SpentLemmas`, and words that come back `BackLemmas`. Runs in legs
+-- are `LegLemmas`; their work is `BoundLemmas`, turn by turn, and `LegWork`, leg by leg.
 -- That nothing breaks has two halves. Of deques, places and processors: each load of a row
 -- (`SoundRows`), each write (`SoundLemmas`), each act (`SoundTurns`, `SoundJoin`). Of frames: headers are
 -- numbers of capsules and what is over has an outcome (`WellWords`), so rows and capsules of strands
@@ -30,6 +31,7 @@ pub mod WholeLemmas
 pub mod MomentLemmas
 pub mod SpentLemmas
 pub mod BackLemmas
+pub mod LegLemmas
 pub mod SoundRows
 pub mod SoundLemmas
 pub mod SoundTurns
@@ -44,6 +46,7 @@ pub mod WellTurns
 pub mod SumLemmas
 pub mod RaisedLemmas
 pub mod UnbrokenLemmas
+pub mod TagLemmas
 pub mod BegunLemmas
 pub mod WorkLemmas
 pub mod BoundLemmas
@@ -51,3 +54,4 @@ pub mod FollowLemmas
 pub mod HalvesLemmas
 pub mod HeirJoinLemmas
 pub mod HeiredLemmas
+pub mod LegWork

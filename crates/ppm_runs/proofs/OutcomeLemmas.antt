@@ -75,7 +75,7 @@ pub unset_is : finish_word Unset ≡ 0
 unfolding number_of
 unset_is = refl
 
-unset_stands : finish_of 0 ≡ Some Unset
+pub unset_stands : finish_of 0 ≡ Some Unset
 unset_stands = subst (λ (w : ℕ). finish_of w ≡ Some Unset) unset_is (finish_back Unset tt)
 
 abbrev pub finish_in : Finish → Option Finish → Finish

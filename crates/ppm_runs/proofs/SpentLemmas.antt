@@ -130,7 +130,7 @@ module _ (s : Shape) (code : CodeParts) (fair : IsFair code) (root : Tree (Frame
   by_kind (Take v x) ke go = absurd go
   by_kind (Take2 v) ke go = absurd go
 
-  spent_at : s.room < frame_size code code.root + end.counts.block_words
+  pub spent_at : s.room < frame_size code code.root + end.counts.block_words
   spent_at = by_kind (z.kind place) refl going
 
 pub room_is_spent_so : RoomIsSpentSo

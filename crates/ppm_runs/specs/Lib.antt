@@ -6,10 +6,12 @@ pub mod Whole
 pub mod Moments
 pub mod Spent
 pub mod Renewals
+pub mod Legs
 pub mod Sound
 pub mod Deques
 pub mod Well
 pub mod Unbroken
+pub mod Tags
 pub mod Work
 pub mod Follow
 pub mod Joint

@@ -1,4 +1,4 @@
-use Rattle.ppm_runs.proofs.BoundLemmas.{work_is_bounded, work_is_within_256}
+use Rattle.ppm_runs.proofs.LegWork.{work_is_bounded, work_is_within_256}
 use Rattle.ppm_runs.proofs.laws.work_is_bounded.Goals as goal
 
 pub returns : goal.returns

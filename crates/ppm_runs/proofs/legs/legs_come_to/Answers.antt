@@ -1,0 +1,5 @@
+use Rattle.ppm_runs.proofs.LegLemmas.{legs_stay, once_over_legs, legs_come_to}
+use Rattle.ppm_runs.proofs.legs.legs_come_to.Goals as goal
+
+pub returns : goal.returns
+returns c = record { stay = legs_stay; once = once_over_legs; law = legs_come_to }

@@ -1,0 +1,34 @@
+//! Runs in legs, shown by calls that do nothing.
+ghost use Rattle.ppm_runs.specs.Legs.{LegsComeTo, LegsStay, OnceOverLegs, RoomOverLegs};
+ghost use Rattle.ppm_runs.specs.Legs.{WorkOverLegs, WorkOverLegsIsWithin256};
+ghost use Rattle.ppm_runs.specs.Tags.{TagsStayLow};
+
+/// With takeover by places, from an image of a sound code, whatever the legs, which are turns and
+/// the words that then came back, and whatever the turns behind them: a run's state is come to. No
+/// right branch is forked or taken twice over all of it, and an outcome is the depth-first run's.
+pub fn legs_come_to()
+    ensures stay { LegsStay }
+    ensures once { OnceOverLegs }
+    ensures law { LegsComeTo }
+{}
+
+/// Where the finish word says that a pool is full, then or when words came back, and the depth-first
+/// run of the root comes to an end, that run takes more words than a pool has.
+pub fn room_over_legs()
+    ensures law { RoomOverLegs }
+{}
+
+/// Where the depth-first run of the root ends, all work turns of all legs are fewer than 256 for each
+/// of its capsules, for each fault that strikes a row of work, and for each processor whenever words
+/// come back, since the row that it was in begins again.
+pub fn work_over_legs()
+    ensures law { WorkOverLegs }
+    ensures within { WorkOverLegsIsWithin256 }
+{}
+
+/// With takeover by places, from an image of a sound code, whatever the turns, as long as at most
+/// 2^34 of them are work: the tag of each place's holder is at most the number of processors. So
+/// words that are saved then may come back.
+pub fn tags_stay_low()
+    ensures law { TagsStayLow }
+{}
