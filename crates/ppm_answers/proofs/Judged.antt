@@ -7,7 +7,7 @@ use Rattle.std.specs.declared.alloc.Global.{Global}
 use Rattle.ppm_ports.specs.declared.read_error.ReadError.{ReadError}
 use Rattle.ppm_ports.specs.declared.read_error.ReadError.TheVariants as errors
 use Rattle.ppm_ports.specs.Ports.{Port, Fails, Holds}
-use Rattle.ppm_ports.specs.Outside.{Ports}
+use Rattle.ppm_ports.specs.Outside.{ToldLists, Ports, Outside}
 use Rattle.ppm_ports.specs.Whole.{ReadsTo, CountsFaults}
 use Rattle.ppm_answers.specs.declared.answer.Answer.{Answer}
 use Rattle.ppm_answers.specs.declared.answer.Answer.TheVariants as answers
@@ -16,7 +16,7 @@ use Rattle.ppm_answers.specs.declared.status.Status.TheVariants as statuses
 use Rattle.ppm_answers.specs.Texts.{IsFixed}
 use Rattle.ppm_answers.specs.Statuses.{status_of}
 use Rattle.ppm_answers.specs.Delivery.{IsWritten, Delivers}
-use Rattle.ppm_answers.specs.Reading.{Reads, ReadsSome, IsUnread, unread_answer, ReadHas, TextMay, JudgingMay, FrontsDecide, DeliversAnswer}
+use Rattle.ppm_answers.specs.Reading.{Reads, ReadsSome, IsUnread, unread_answer, ReadHas, TextMay, JudgingMay, FrontsDecide, DeliversAnswer, Answers}
 use Rattle.ppm_answers.specs.Rows.{TextRows}
 use Rattle.ppm_answers.proofs.RowsLemmas.{AreCauses, SaysOfPorts}
 use Rattle.ppm_answers.proofs.RowsLemmas as rows_lemmas
@@ -77,6 +77,15 @@ module _ (limit : ℕ) (Has : List ℕ → Answer → Type 0) where
   judging_delivered o a status h (inl d) = record { answer = a; cause = h; delivered = d }
   judging_delivered o a status h (inr d) =
       record { answer = answers.NoMemory; cause = memory_may o.source a h d.0; delivered = d.1 }
+
+  -- the same of a command with watchers, which were told what belongs to both
+  pub judging_told : (Tells : Answer → ToldLists → ToldLists → Type 0) (o : Outside) (a : Answer) (status : Status)
+      → Tells a o.told_before o.told_now → Tells answers.NoMemory o.told_before o.told_now → JudgingMay limit Has o.source a
+      → Delivers o.out o.err a status ⊎ ((¬ IsFixed a) × Delivers o.out o.err answers.NoMemory status)
+      → Answers (JudgingMay limit Has o.source) Tells o status
+  judging_told Tells o a status told wanting h (inl d) = record { answer = a; cause = h; delivered = d; told = told }
+  judging_told Tells o a status told wanting h (inr d) =
+      record { answer = answers.NoMemory; cause = memory_may o.source a h d.0; delivered = d.1; told = wanting }
 
   -- the rows of the command, where what stands behind the limit changes no answer
   pub text_rows : FrontsDecide limit Has → (Says : Status → Type 0) (o : Ports) (status : Status) →

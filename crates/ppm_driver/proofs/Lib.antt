@@ -4,6 +4,8 @@
 -- A law of a run reaches a command's rows as a field of what the program has (`ProgramHas`); an
 -- answer that no run gives is left out of the kinds of answers, and all rows above close by their
 -- last case.
+-- That a run in legs is as its program does (`LegsMeant`) is shown as of a run without legs (`MeantLemmas`). A resumed run is the latest leg of each
+-- run that left its state (`OfResume`).
 
 pub mod EndLemmas
 pub mod AllLemmas
@@ -15,7 +17,11 @@ pub mod WatchLemmas
 pub mod TakenLemmas
 pub mod WorkLemmas
 pub mod MeantLemmas
+pub mod LegsMeant
 pub mod MeantRows
 pub mod RunLemmas
 pub mod OneRun
 pub mod OfRun
+pub mod ResumeLemmas
+pub mod OfResume
+pub mod LeftLemmas

@@ -96,7 +96,7 @@ module _ (s : Shape) (code : CodeParts) where
   act_length state p act (IsBroken place) = length_stays state.words (want_of s code p act (IsBroken place))
   act_length state p act IsDone = refl
 
-  run_length : (state : State) (turns : List Turn) → length (after s code state turns).words ≡ length state.words
+  pub run_length : (state : State) (turns : List Turn) → length (after s code state turns).words ≡ length state.words
   run_length state [] = refl
   run_length state (turn ∷ turns) =
       run_length (happens s code state turn) turns
@@ -105,12 +105,12 @@ module _ (s : Shape) (code : CodeParts) where
 -- strands, a tree and words that are the same
 module _ {c d : Code (Frame FrameWord Point) Result} {t u : Tree (Frame FrameWord Point) Result} {a b : Words}
     (strands_are : c ≡ d) (tree_is : t ≡ u) (words_are : a ≡ b) where
-  calm_as : Calm d u b → Calm c t a
+  pub calm_as : Calm d u b → Calm c t a
   calm_as h =
       subst (λ (x : Code (Frame FrameWord Point) Result). Calm x t a) (sym strands_are)
       (subst (λ (x : Tree (Frame FrameWord Point) Result). Calm d x a) (sym tree_is) (subst (λ (x : Words). Calm d u x) (sym words_are) h))
 
-  ends_as : (e : End Result) → Ends c t a e → Ends d u b e
+  pub ends_as : (e : End Result) → Ends c t a e → Ends d u b e
   ends_as e h =
       subst (λ (x : Words). Ends d u x e) words_are
       (subst (λ (x : Tree (Frame FrameWord Point) Result). Ends d x a e) tree_is
@@ -118,14 +118,14 @@ module _ {c d : Code (Frame FrameWord Point) Result} {t u : Tree (Frame FrameWor
 
 -- the outcome that a finish is
 module _ (input : List NamedArray) (w : Words) where
-  ended_said : (r : Result) → finishes.Ended ≡ finish_by r → said_of input w r ≡ outcome.Ended (arrays_by w 0 input)
+  pub ended_said : (r : Result) → finishes.Ended ≡ finish_by r → said_of input w r ≡ outcome.Ended (arrays_by w 0 input)
   ended_said (Gave value) e = refl
   ended_said (Trapped trap line) e = absurd (different e)
     where
       different : finishes.Ended ≡ finishes.Trapped trap line → ⊥
       different k = cc
 
-  trapped_said : (trap : Trap) (line : ℕ) (r : Result) → finishes.Trapped trap line ≡ finish_by r
+  pub trapped_said : (trap : Trap) (line : ℕ) (r : Result) → finishes.Trapped trap line ≡ finish_by r
       → said_of input w r ≡ outcome.Trapped trap line
   trapped_said trap line (Gave value) e = absurd (different e)
     where
@@ -137,25 +137,25 @@ module _ (input : List NamedArray) (w : Words) where
       ap₂ (λ (x : Trap) (n : ℕ). outcome.Trapped x n) same_trap same_line
 
 module _ (laws : Laws) (text : List ℕ) (t : ProgramTree) (has : HasProgram text t) where
-  abbrev code : CodeParts
+  abbrev pub code : CodeParts
   code = code_of t
 
-  abbrev input : List NamedArray
+  abbrev pub input : List NamedArray
   input = initial_arrays t
 
-  inside : IsWithin t
+  pub inside : IsWithin t
   inside = tree_within laws.within text t has.admitted.tree
 
-  is_code : IsCode code
+  pub is_code : IsCode code
   is_code = laws.rules t inside has.admitted.admitted has.bounded
 
-  starts : IsInputOf t input
+  pub starts : IsInputOf t input
   starts = laws.starts t inside has.admitted.admitted
 
-  is_sound : IsSound code input
+  pub is_sound : IsSound code input
   is_sound = laws.sound t inside has.admitted.admitted has.bounded input starts
 
-  fair : IsFair code
+  pub fair : IsFair code
   fair = record { code_is = is_code; tidy = is_sound.tidy; free = is_sound.free }
 
   module _ (sizes : Sizes) (keeper : ℕ) (m : Situation) (b : Opens sizes code input keeper m) where
@@ -168,7 +168,7 @@ module _ (laws : Laws) (text : List ℕ) (t : ProgramTree) (has : HasProgram tex
     abbrev start : Situation
     start = loaded s code b.image.lengths words
 
-    opened : IsOpened code input s keeper b.image
+    pub opened : IsOpened code input s keeper b.image
     opened = record {
       code_is = is_code;
       input_is = input_fits t inside has.admitted.admitted;
@@ -176,10 +176,10 @@ module _ (laws : Laws) (text : List ℕ) (t : ProgramTree) (has : HasProgram tex
       image_is = b.opens;
     }
 
-    shown : ShowsTheRun code input s words
+    pub shown : ShowsTheRun code input s words
     shown = laws.shown code input s keeper b.image opened (laws.names t has.admitted.admitted input starts)
 
-    calm : Calm (strands s code) (strand_of_image code input) (arrays_at (view s words))
+    pub calm : Calm (strands s code) (strand_of_image code input) (arrays_at (view s words))
     calm = calm_as shown.strands shown.root shown.arrays is_sound.calm
 
     module _ (turns : List Turn) (among : AllByRecursion (IsTurnAmong s.processors) turns) where

@@ -50,7 +50,7 @@ module _ (s : Shape) (lengths words : List ℕ) (input : List NamedArray) where
   abbrev read_off : List NamedArray
   read_off = arrays_from s lengths words 0 input
 
-  ended_run : (finish : Finish) (arrays : List NamedArray) → OfRun finish (answers.Ended arrays)
+  pub ended_run : (finish : Finish) (arrays : List NamedArray) → OfRun finish (answers.Ended arrays)
       → (finish ≡ finishes.Ended) × (arrays ≡ read_off)
   ended_run finishes.Ended arrays h = let same : arrays ≡ read_off = cc in (refl, same)
   ended_run (finishes.Trapped trap line) arrays h = absurd (let no : ⊥ = cc in no)
@@ -60,7 +60,7 @@ module _ (s : Shape) (lengths words : List ℕ) (input : List NamedArray) where
   ended_run finishes.Stopped arrays h = absurd h
   ended_run finishes.Unset arrays h = absurd h
 
-  trapped_run : (finish : Finish) (trap : Trap) (line : ℕ) → OfRun finish (answers.Trapped trap line) → finish ≡ finishes.Trapped trap line
+  pub trapped_run : (finish : Finish) (trap : Trap) (line : ℕ) → OfRun finish (answers.Trapped trap line) → finish ≡ finishes.Trapped trap line
   trapped_run finishes.Ended trap line h = cc
   trapped_run (finishes.Trapped other at) trap line h = cc
   trapped_run (finishes.OutOfRoom place) trap line h = cc
@@ -69,7 +69,7 @@ module _ (s : Shape) (lengths words : List ℕ) (input : List NamedArray) where
   trapped_run finishes.Stopped trap line h = absurd h
   trapped_run finishes.Unset trap line h = absurd h
 
-  full_run : (finish : Finish) (place : ℕ) → OfRun finish (answers.OutOfRoom place) → finish ≡ finishes.OutOfRoom place
+  pub full_run : (finish : Finish) (place : ℕ) → OfRun finish (answers.OutOfRoom place) → finish ≡ finishes.OutOfRoom place
   full_run finishes.Ended place h = cc
   full_run (finishes.Trapped trap line) place h = cc
   full_run (finishes.OutOfRoom other) place h = cc

@@ -98,7 +98,7 @@ module _ (s : Shape) (lengths words : List ℕ) (arrays : List NamedArray) where
 
   module _ (processors : ℕ) where
     -- the answer of a finish that steps propose is such an answer
-    of_finish : (finish : Finish) → IsProposed processors finish → (a : Answer) → Of finish a → IsOfProgram processors a
+    pub of_finish : (finish : Finish) → IsProposed processors finish → (a : Answer) → Of finish a → IsOfProgram processors a
     of_finish finishes.Ended p a h = subst (IsOfProgram processors) (sym h) tt
     of_finish (finishes.Trapped trap line) p a h = subst (IsOfProgram processors) (sym h) tt
     of_finish (finishes.OutOfRoom place) p a h = subst (IsOfProgram processors) (sym h) p
@@ -108,7 +108,7 @@ module _ (s : Shape) (lengths words : List ℕ) (arrays : List NamedArray) where
     of_finish finishes.Unset p a h = absurd p
 
     -- it isn't that turns are made
-    not_spent : (finish : Finish) → IsProposed processors finish → (processor : ℕ) → Of finish (answers.OutOfTurns processor) → ⊥
+    pub not_spent : (finish : Finish) → IsProposed processors finish → (processor : ℕ) → Of finish (answers.OutOfTurns processor) → ⊥
     not_spent finishes.Ended p processor h = cc
     not_spent (finishes.Trapped trap line) p processor h = cc
     not_spent (finishes.OutOfRoom place) p processor h = cc
@@ -118,7 +118,7 @@ module _ (s : Shape) (lengths words : List ℕ) (arrays : List NamedArray) where
     not_spent finishes.Unset p processor h = absurd p
 
     -- and it is that a pool is full only where the finish is
-    room_finish : (finish : Finish) → IsProposed processors finish → (place : ℕ) → Of finish (answers.OutOfRoom place)
+    pub room_finish : (finish : Finish) → IsProposed processors finish → (place : ℕ) → Of finish (answers.OutOfRoom place)
         → finish ≡ finishes.OutOfRoom place
     room_finish finishes.Ended p place h = cc
     room_finish (finishes.Trapped trap line) p place h = cc
@@ -129,15 +129,15 @@ module _ (s : Shape) (lengths words : List ℕ) (arrays : List NamedArray) where
     room_finish finishes.Unset p place h = absurd p
 
     -- what a proposed word says is of its finish
-    proposed_of : (w : IsProposedWord processors word) (a : Answer) → IsSaid s lengths arrays words a → Of w.finish a
+    pub proposed_of : (w : IsProposedWord processors word) (a : Answer) → IsSaid s lengths arrays words a → Of w.finish a
     proposed_of w a h =
         of_proposed answers.Ended answers.Trapped IsOutOfTurns HasNoEnd s lengths words arrays processors word w a h
 
   -- where it is that a processor has made its turns, the answer is
-  spent_ending : (processor : ℕ) → finish_of word ≡ Some (finishes.OutOfTurns processor) → ending_of word ≡ With (finishes.OutOfTurns processor)
+  pub spent_ending : (processor : ℕ) → finish_of word ≡ Some (finishes.OutOfTurns processor) → ending_of word ≡ With (finishes.OutOfTurns processor)
   spent_ending processor stands = ending_is word (finishes.OutOfTurns processor) stands (λ e. cc)
 
-  spent_answer : (processor : ℕ) → finish_of word ≡ Some (finishes.OutOfTurns processor) → (a : Answer)
+  pub spent_answer : (processor : ℕ) → finish_of word ≡ Some (finishes.OutOfTurns processor) → (a : Answer)
       → IsSaid s lengths arrays words a → a ≡ answers.OutOfTurns processor
   spent_answer processor stands a = subst (λ (e : Ending). At e a) (spent_ending processor stands)
 

@@ -34,7 +34,7 @@ fronts_stay [] = tt
 fronts_stay (l ∷ ls) = (front_stays l, fronts_stay ls)
 
 -- where nobody was told anything, that belongs to each answer
-told_none : (a : Answer) (lists : ToldLists) → TellsOfRun (λ answer before now. ⊤) a lists lists
+pub told_none : (a : Answer) (lists : ToldLists) → TellsOfRun (λ answer before now. ⊤) a lists lists
 told_none answers.NoMemory lists = fronts_stay lists
 told_none answers.ReadFault lists = refl
 told_none answers.WordsRefused lists = refl

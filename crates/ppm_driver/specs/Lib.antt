@@ -5,3 +5,6 @@ pub mod Runs
 pub mod RunRows
 pub mod Replays
 pub mod ReplayRows
+pub mod Legs
+pub mod Resumes
+pub mod ResumeRows

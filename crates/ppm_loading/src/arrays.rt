@@ -27,7 +27,7 @@ pub(crate) fn count_of(arrays: &[NamedArray]) -> u32
 }
 
 /// The values of words.
-fn to_values(alloc: Global, words: &[u64]) -> Result<Vec<i64>, NoMemory>
+pub fn to_values(alloc: Global, words: &[u64]) -> Result<Vec<i64>, NoMemory>
     ensures { IfOk result (λ values. values.items ≡ map value_of words.now) }
 {
     let mut values = Vec::new(alloc);

@@ -15,7 +15,7 @@ mod loading;
 mod planned;
 mod programs;
 
-pub use arrays::{arrays_of, arrays_of_closed};
+pub use arrays::{arrays_of, arrays_of_closed, to_values};
 pub use loading::{Sizes, load, share};
 pub use planned::refusal_answer;
 pub use programs::read_program;

@@ -2,7 +2,10 @@
 use ppm_answers::Status;
 use ppm_cells::{Takeover, pools_fit};
 use ppm_cli::RunOptions;
-use ppm_driver::{WATCHERS, answers_are_one, run_command, runs_are_as_programs};
+use ppm_driver::{
+    WATCHERS, answers_are_one, run_command, runs_are_as_programs, runs_in_legs_are_as_programs,
+    runs_leave_states,
+};
 use ppm_ports::{MemorySink, MemorySource, Silent};
 use ppm_words::Idle;
 use std::alloc::Global;
@@ -324,6 +327,8 @@ fn sources_are_run(rt: HostRuntime) -> Result<(), Fail> {
     }
     answers_are_one();
     runs_are_as_programs();
+    runs_in_legs_are_as_programs();
+    runs_leave_states();
     Ok(())
 }
 

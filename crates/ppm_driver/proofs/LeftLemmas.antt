@@ -1,0 +1,62 @@
+-- What a run of a program leaves: its state, whatever the turns are, is one that the program's source left.
+use Rattle.std.proofs.Common.{◌≡◌, ◌≤◌, ℕ, ◌^◌, List, [], length, refl, sym, ◌∙◌, subst, arith}
+use Rattle.std.specs.List.{AllByRecursion}
+use Rattle.ppm_cells.specs.declared.shape.Takeover.TheVariants.{ByPlaces}
+use Rattle.ppm_tree.specs.Tree.{ProgramTree}
+use Rattle.ppm_tree.specs.Program.{initial_arrays}
+use Rattle.ppm_program.specs.Programs.{HasProgram}
+use Rattle.ppm_cut_code.specs.Routines.{code_of}
+use Rattle.ppm_step.specs.Among.{IsTurnAmong}
+use Rattle.ppm_step.specs.State.{after, along, opening, work_of}
+use Rattle.ppm_step.specs.declared.turn.Turn.{Turn}
+use Rattle.ppm_runs.specs.Tags.{TagsStayLow}
+use Rattle.ppm_resumed.specs.Resumed.{TagsMayRise}
+use Rattle.ppm_core.specs.Situation.{Situation, loaded}
+use Rattle.ppm_loading.specs.declared.loading.Sizes.{Sizes}
+use Rattle.ppm_loading.specs.Loading.{Opens}
+use Rattle.ppm_driver.specs.RunOf.{words_behind}
+use Rattle.ppm_driver.specs.Resumes.{state_behind, IsLeftBy, RunsLeaveStates}
+use Rattle.ppm_driver.proofs.MeantLemmas.{Laws, calm, fair, opened}
+use Rattle.ppm_driver.proofs.WorkLemmas.{works_are}
+
+module _ (laws : Laws) (low : TagsStayLow) (text : List ℕ) (t : ProgramTree) (has : HasProgram text t) (sizes : Sizes) (places : sizes.takeover ≡ ByPlaces)
+    (keeper : ℕ) (m : Situation) (b : Opens sizes (code_of t) (initial_arrays t) keeper m) (turns : List Turn) where
+  abbrev begun : Situation
+  begun = loaded b.shape (code_of t) b.image.lengths b.image.words
+
+  -- no tag is the last
+  may_rise : AllByRecursion (IsTurnAmong b.shape.processors) turns → length (along begun.shape begun.code work_of begun.state turns) ≤ 2 ^ 34
+      → TagsMayRise begun.shape (words_behind begun turns)
+  may_rise among few place there =
+      let count = works_are b.shape (code_of t) (opening b.image.words b.shape.processors) turns in
+      let k = low (code_of t) (initial_arrays t) b.shape keeper b.image (b.sized.takeover ∙ places) (fair laws text t has)
+      (opened laws text t has sizes keeper m b) (calm laws text t has sizes keeper m b) turns among (omega (arith, few, count)) place there in
+      let most = b.shape.within.processors_most in
+      let tag = k.2 in
+      (k.0, k.1, omega (arith, tag, most))
+
+  left : AllByRecursion (IsTurnAmong m.shape.processors) turns → length (along m.shape m.code work_of m.state turns) ≤ 2 ^ 34
+      → IsLeftBy text (state_behind m (initial_arrays t) turns)
+  left among few = record {
+    tree = t;
+    has = has;
+    sizes = sizes;
+    places = places;
+    keeper = keeper;
+    start = m;
+    opens = b;
+    legs = [];
+    are = tt;
+    turns = turns;
+    among = among;
+    shape_is = refl;
+    code_is = refl;
+    arrays_are = refl;
+    words_are = subst (λ (x : Situation). words_behind x turns ≡ (after x.shape x.code (opening x.state.words x.shape.processors) turns).words) (sym b.loads) refl;
+    tags = subst (λ (x : Situation). AllByRecursion (IsTurnAmong x.shape.processors) turns → length (along x.shape x.code work_of x.state turns) ≤ 2 ^ 34
+        → TagsMayRise x.shape (words_behind x turns)) (sym b.loads) may_rise among few;
+  }
+
+-- so it is with each text's program
+pub runs_leave_states : Laws → TagsStayLow → RunsLeaveStates
+runs_leave_states laws low text t has sizes places keeper m b turns among few = left laws low text t has sizes places keeper m b turns among few

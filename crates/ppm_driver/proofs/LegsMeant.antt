@@ -1,0 +1,165 @@
+-- With takeover by places runs in legs end as their programs do: as of a run without legs, an outcome is the depth-first run's, and that is the
+-- program's.
+use Rattle.std.proofs.Common.{◌≡◌, ℕ, ◌≤◌, List, [], ◌∷◌, length, map, Some, refl, sym, ap, ◌∙◌, subst, arith}
+use Rattle.std.specs.List.{AllByRecursion, sum}
+use Rattle.ppm_words.specs.declared.named_array.NamedArray.{NamedArray}
+use Rattle.ppm_words.specs.declared.outcome.Outcome.{Outcome}
+use Rattle.ppm_words.specs.declared.outcome.Outcome.TheVariants as outcome
+use Rattle.ppm_words.specs.declared.trap.Trap.{Trap}
+use Rattle.ppm_cells.specs.Finish.{finish_of, IsOutcome}
+use Rattle.ppm_cells.specs.Memory.{read, AreWordsOf}
+use Rattle.ppm_cells.specs.declared.cell.Cell.TheVariants.{FinishWord}
+use Rattle.ppm_cells.specs.declared.finish.Finish.{Finish}
+use Rattle.ppm_cells.specs.declared.finish.Finish.TheVariants as finishes
+use Rattle.ppm_cells.specs.declared.shape.Shape.{Shape}
+use Rattle.ppm_cells.specs.declared.shape.Takeover.TheVariants.{ByPlaces}
+use Rattle.ppm_code.specs.declared.code.CodeParts.{CodeParts}
+use Rattle.ppm_tree.specs.Tree.{ProgramTree}
+use Rattle.ppm_tree.specs.Program.{initial_arrays}
+use Rattle.ppm_program.specs.Programs.{HasProgram}
+use Rattle.ppm_depth.specs.Run.{arrays_at as arrays_by, said_of}
+use Rattle.ppm_layout.specs.Root.{root_strand as strand_of_image}
+use Rattle.ppm_cut_code.specs.Routines.{code_of}
+use Rattle.ppm_step.specs.Among.{IsTurnAmong}
+use Rattle.ppm_step.specs.State.{State}
+use Rattle.ppm_step.specs.declared.turn.Turn.{Turn}
+use Rattle.ppm_frames.specs.Seen.{arrays_at}
+use Rattle.ppm_frames.specs.Skeletons.{Skeleton}
+use Rattle.ppm_frames.specs.Views.{view}
+use Rattle.ppm_runs.specs.Legs.{Leg, words_then, state_then, AreLegs, last_state, all_forked, all_taken, all_work, OnceOverLegs, LegsComeTo, RoomOverLegs, WorkOverLegsIsWithin256}
+use Rattle.ppm_runs.specs.Moments.{AreOnce}
+use Rattle.ppm_runs.specs.Outcomes.{EndsWell}
+use Rattle.ppm_core.specs.Situation.{Situation, loaded}
+use Rattle.ppm_loading.specs.declared.loading.Sizes.{Sizes}
+use Rattle.ppm_loading.specs.Loading.{Opens}
+use Rattle.ppm_loading.specs.Says.{arrays_from}
+use Rattle.ppm_loading.proofs.ArrayLemmas.{same_arrays}
+use Rattle.ppm_driver.specs.Legs.{struck_in_all, EachIsTakenOnceInAll, EndsAsProgramInAll, IsAsProgramInAll, RunsInLegsAreAsPrograms}
+use Rattle.ppm_driver.specs.Meant.{HasOutcome, NeedsMoreRoom, NeedsMoreTurns}
+use Rattle.ppm_driver.proofs.EndLemmas.{words_opened}
+use Rattle.ppm_driver.proofs.MeantLemmas as meant
+use Rattle.ppm_driver.proofs.MeantLemmas.{run_length, ends_as, ended_said, trapped_said}
+use Rattle.ppm_driver.proofs.TakenLemmas.{as_long}
+
+-- what the crates below show of every run, and of every run in legs
+pub record Laws : Type 0 where
+  pub base : meant.Laws
+  pub legs : LegsComeTo
+  pub once : OnceOverLegs
+  pub room : RoomOverLegs
+  pub work : WorkOverLegsIsWithin256
+
+module _ (laws : Laws) (text : List ℕ) (t : ProgramTree) (has : HasProgram text t) where
+  abbrev code : CodeParts
+  code = code_of t
+
+  abbrev input : List NamedArray
+  input = initial_arrays t
+
+  module _ (sizes : Sizes) (keeper : ℕ) (m : Situation) (b : Opens sizes code input keeper m) (places : sizes.takeover ≡ ByPlaces) where
+    abbrev s : Shape
+    s = b.shape
+
+    abbrev words : List ℕ
+    words = b.image.words
+
+    abbrev start : Situation
+    start = loaded s code b.image.lengths words
+
+    -- words that come back are as many
+    words_then_fit : (legs : List Leg) → AreLegs s code words legs → AreWordsOf s (words_then s code words legs)
+    words_then_fit [] are = words_opened sizes code input keeper m b
+    words_then_fit (leg ∷ legs) are = are.2.renewal.fit
+
+    module _ (legs : List Leg) (are : AreLegs s code words legs) (turns : List Turn) (among : AllByRecursion (IsTurnAmong s.processors) turns) where
+      abbrev last : State
+      last = last_state s code words legs turns
+
+      abbrev forks : List ℕ
+      forks = all_forked s code words legs turns
+
+      abbrev takes : List ℕ
+      takes = all_taken s code words legs turns
+
+      abbrev Says : Finish → Type 0
+      Says v = finish_of (read s last.words FinishWord) ≡ Some v
+
+      abbrev Well : Skeleton → Finish → Type 0
+      Well tree v = EndsWell s code (strand_of_image code input) (arrays_at (view s words)) last forks takes tree v
+
+      ends : (v : Finish) → Says v → IsOutcome v → (tree : Skeleton) × Well tree v
+      ends v says out = laws.legs code input s keeper b.image (b.sized.takeover ∙ places) (meant.fair laws.base text t has) (meant.opened laws.base text t has sizes keeper m b) (meant.calm laws.base text t has sizes keeper m b) legs are turns among v says out
+
+      -- the arrays of the words then
+      fit : AreWordsOf s last.words
+      fit = run_length s code (state_then s code words legs) turns ∙ words_then_fit legs are
+
+      arrays_then : (tree : Skeleton) (v : Finish) (h : Well tree v)
+          → arrays_from s b.image.lengths last.words 0 input ≡ arrays_by h.answer.end.words 0 input
+      arrays_then tree v h =
+          let all : sum (map (λ (a : NamedArray). length a.values) input) ≤ s.arrays = omega (arith, b.sized.arrays) in
+          same_arrays s b.image.lengths last.words fit h.answer.end.words h.answer.arrays input b.opens.lengths_are all
+
+      -- the outcome is the program's
+      outcome_then : (tree : Skeleton) (v : Finish) (h : Well tree v) → HasOutcome t (said_of input h.answer.end.words h.answer.end.outcome)
+      outcome_then tree v h =
+          (laws.base.serially t (meant.inside laws.base text t has) has.admitted.admitted has.bounded).serially h.answer.end
+          (ends_as (meant.shown laws.base text t has sizes keeper m b).strands (meant.shown laws.base text t has sizes keeper m b).root (meant.shown laws.base text t has sizes keeper m b).arrays h.answer.end h.answer.ends)
+
+      none_twice : AreOnce forks takes
+      none_twice = laws.once code input s keeper b.image (b.sized.takeover ∙ places) (meant.fair laws.base text t has) (meant.opened laws.base text t has sizes keeper m b) (meant.calm laws.base text t has sizes keeper m b) legs are turns among
+
+      each : (tree : Skeleton) (v : Finish) → Well tree v → EachIsTakenOnceInAll start legs turns
+      each tree v h = record {
+        once = none_twice;
+        all = h.all;
+        alike = as_long forks takes h.forked_once h.taken_once h.all;
+      }
+
+      -- a full pool is one that the program needs more of
+      needs_more : (place : ℕ) → Says (finishes.OutOfRoom place) → NeedsMoreRoom t s.room
+      needs_more place says k z means =
+          let e = (laws.base.meant t (meant.inside laws.base text t has) has.admitted.admitted has.bounded input (meant.starts laws.base text t has)).ends k z means in
+          let ends_here = ends_as (sym (meant.shown laws.base text t has sizes keeper m b).strands) (sym (meant.shown laws.base text t has sizes keeper m b).root) (sym (meant.shown laws.base text t has sizes keeper m b).arrays) e.0 e.1 in
+          let less = laws.room code input s keeper b.image (b.sized.takeover ∙ places) (meant.fair laws.base text t has) (meant.opened laws.base text t has sizes keeper m b) (meant.calm laws.base text t has sizes keeper m b) legs are turns among place says e.0 ends_here in
+          let words_are = e.2.pool_words in
+          omega (arith, less, words_are)
+
+      -- the work of all turns is within its bound
+      works : NeedsMoreTurns t (struck_in_all start legs turns) (all_work s code words legs turns)
+      works e comes =
+          laws.work code input s keeper b.image (b.sized.takeover ∙ places) (meant.fair laws.base text t has) (meant.opened laws.base text t has sizes keeper m b) (meant.calm laws.base text t has sizes keeper m b) legs are turns among e
+          (ends_as (sym (meant.shown laws.base text t has sizes keeper m b).strands) (sym (meant.shown laws.base text t has sizes keeper m b).root) (sym (meant.shown laws.base text t has sizes keeper m b).arrays) e comes)
+
+      as_program : IsAsProgramInAll start legs turns t
+      as_program = record { once = none_twice; ended = when_ended; trapped = when_trapped; work = works; full = needs_more }
+        where
+          when_ended : Says finishes.Ended → EndsAsProgramInAll start legs turns t (outcome.Ended (arrays_from s b.image.lengths last.words 0 input))
+          when_ended says =
+              let r = ends finishes.Ended says tt in
+              let said = ended_said input r.1.answer.end.words r.1.answer.end.outcome r.1.answer.outcome
+              ∙ ap (λ (l : List NamedArray). outcome.Ended l) (sym (arrays_then r.0 finishes.Ended r.1)) in
+              record {
+                serially = subst (λ (o : Outcome). HasOutcome t o) said (outcome_then r.0 finishes.Ended r.1);
+                branches = each r.0 finishes.Ended r.1;
+              }
+
+          when_trapped : (trap : Trap) (line : ℕ) → Says (finishes.Trapped trap line) → EndsAsProgramInAll start legs turns t (outcome.Trapped trap line)
+          when_trapped trap line says =
+              let r = ends (finishes.Trapped trap line) says tt in
+              record {
+                serially = subst (λ (o : Outcome). HasOutcome t o)
+                    (trapped_said input r.1.answer.end.words trap line r.1.answer.end.outcome r.1.answer.outcome)
+                    (outcome_then r.0 (finishes.Trapped trap line) r.1);
+                branches = each r.0 (finishes.Trapped trap line) r.1;
+              }
+
+    pub as_programs : (legs : List Leg) → AreLegs m.shape m.code m.state.words legs
+        → (turns : List Turn) → AllByRecursion (IsTurnAmong m.shape.processors) turns → IsAsProgramInAll m legs turns t
+    as_programs legs are turns among =
+        subst (λ (x : Situation). AreLegs x.shape x.code x.state.words legs → AllByRecursion (IsTurnAmong x.shape.processors) turns → IsAsProgramInAll x legs turns t) (sym b.loads)
+        (λ are among. as_program legs are turns among) are among
+
+-- so it is with each text's program
+pub runs_in_legs_are_as_programs : Laws → RunsInLegsAreAsPrograms
+runs_in_legs_are_as_programs laws text t has sizes places keeper m b legs are turns among = as_programs laws text t has sizes keeper m b places legs are turns among

@@ -1,0 +1,28 @@
+use Rattle.ppm_driver.proofs.LegsMeant.{runs_in_legs_are_as_programs}
+use Rattle.ppm_driver.proofs.legs.runs_in_legs_are_as_programs.Goals as goal
+
+-- from the laws of texts, of codes, of images, of runs and of runs in legs
+pub returns : goal.returns
+returns c = record {
+  law = runs_in_legs_are_as_programs (record {
+    base = record {
+      within = c.trees_are_within.ensures.law;
+      rules = c.keeps_the_rules.ensures.law;
+      sound = c.code_is_sound.ensures.law;
+      starts = c.start_with_input.ensures.law;
+      names = c.name_arrays.ensures.law;
+      serially = c.ends_serially.ensures.law;
+      meant = c.end_as_meant.ensures.law;
+      shown = c.images_begin_the_depth_first_run.ensures.shown;
+      runs = c.runs_end_so.ensures.ends;
+      once = c.runs_end_so.ensures.once;
+      room = c.room_is_spent.ensures.so;
+      work = c.work_is_bounded.ensures.within;
+      whole = c.nothing_breaks.ensures.law;
+    };
+    legs = c.legs_come_to.ensures.law;
+    once = c.legs_come_to.ensures.once;
+    room = c.room_over_legs.ensures.law;
+    work = c.work_over_legs.ensures.within;
+  });
+}

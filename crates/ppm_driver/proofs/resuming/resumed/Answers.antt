@@ -1,0 +1,39 @@
+use Rattle.std.proofs.Common.{◌<◌, ◌≤◌, ◌∙◌, refl, sym, subst, arith, length}
+use Rattle.ppm_code.specs.Code.{IsCode}
+use Rattle.ppm_cells.specs.declared.shape.Shape.{Shape}
+use Rattle.ppm_threads.specs.Driven.{OthersStay}
+use Rattle.ppm_driver.specs.Resumes.{state_of}
+use Rattle.ppm_driver.proofs.ResumeLemmas.{renewed_has}
+use Rattle.ppm_driver.proofs.WatchLemmas.{first_of, fronts_stay, keep_fronts}
+use Rattle.ppm_driver.proofs.resuming.resumed.Goals as goal
+
+-- what is said of the words behind the run, in which all processors obey, and what watchers were told of it
+pub returns-clause-has : goal.returns-clause-has
+returns-clause-has g c =
+    let some : 0 < length c.args.watch.now.items = omega (arith, c.requires.watchers) in
+    let most = c.args.saved.shape.within.processors_most in
+    let enough : c.args.saved.shape.processors ≤ length c.args.watch.now.items = omega (arith, c.requires.watchers, most) in
+    let below : c.keeper.result < c.args.saved.shape.processors = omega (arith, c.keeper.ensures.below, c.requires.processors) in
+    renewed_has g.W.Watch.told c.args.options (state_of c.args.saved) c.args.plan.now c.args.saved refl c.keeper.result c.renew-image.result
+    c.in_ok-table.table.0 _ _ _ _ (first_of c.args.watch.now.items some) _ _ c.requires.stands c.renew-image.ensures c.in_ok-table.ensures.opens
+    c.in_ok-table.ensures.arrays (subst IsCode (sym c.in_ok-table.table.0.told.1) c.parts.ensures.code) c.limits_of.ensures c.requires.processors
+    c.keeper.ensures.keeper below (omega (arith, c.in_ok-closed.ensures.kept.0, c.args.watch.now.ok.0, c.drive.new.watch.ok.0)) enough
+    (c.in_ok-closed.ensures.sizes.0 ∙ sym c.in_ok-table.table.0.told.0) c.in_ok-closed.ensures.sizes.1
+    (subst (λ (s : Shape). OthersStay s.processors c.args.watch.now.items c.drive.new.watch.items) (sym c.in_ok-table.table.0.told.0) c.in_ok-closed.ensures.others)
+    c.in_ok-closed.ensures.run refl c.in_ok-answer.ensures
+
+-- each list keeps what it had in front
+pub returns-clause-kept : goal.returns-clause-kept
+returns-clause-kept g c = keep_fronts g.W.Watch.told c.args.watch.now.items c.drive.new.watch.items
+    (omega (arith, c.in_ok-closed.ensures.kept.0, c.args.watch.now.ok.0, c.drive.new.watch.ok.0)) c.in_ok-closed.ensures.kept.1
+
+pub returns-in_err-table-clause-kept : goal.returns-in_err-table-clause-kept
+returns-in_err-table-clause-kept g c = fronts_stay _
+
+pub returns-in_err-closed-clause-kept : goal.returns-in_err-closed-clause-kept
+returns-in_err-closed-clause-kept g c = keep_fronts g.W.Watch.told c.args.watch.now.items c.drive.new.watch.items
+    (omega (arith, c.in_err-closed.ensures.kept.0, c.args.watch.now.ok.0, c.drive.new.watch.ok.0)) c.in_err-closed.ensures.kept.1
+
+pub returns-in_err-answer-clause-kept : goal.returns-in_err-answer-clause-kept
+returns-in_err-answer-clause-kept g c = keep_fronts g.W.Watch.told c.args.watch.now.items c.drive.new.watch.items
+    (omega (arith, c.in_ok-closed.ensures.kept.0, c.args.watch.now.ok.0, c.drive.new.watch.ok.0)) c.in_ok-closed.ensures.kept.1

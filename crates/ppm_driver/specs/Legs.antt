@@ -1,0 +1,84 @@
+-- What runs in legs of a program's machine come to, in the words of the program's serial meaning: turns, the words behind them that came back,
+-- turns of fresh processors, and so on.
+use Rattle.std.specs.Prelude.{◌≡◌, ℕ, ◌+◌, ◌*◌, List, Some, length}
+use Rattle.std.specs.List.{AllByRecursion}
+use Rattle.ppm_words.specs.declared.outcome.Outcome.{Outcome}
+use Rattle.ppm_words.specs.declared.outcome.Outcome.TheVariants as outcome
+use Rattle.ppm_words.specs.declared.trap.Trap.{Trap}
+use Rattle.ppm_cells.specs.Finish.{finish_of}
+use Rattle.ppm_cells.specs.Memory.{read}
+use Rattle.ppm_cells.specs.declared.cell.Cell.TheVariants.{FinishWord}
+use Rattle.ppm_cells.specs.declared.finish.Finish.TheVariants as finishes
+use Rattle.ppm_cells.specs.declared.shape.Takeover.TheVariants.{ByPlaces}
+use Rattle.ppm_tree.specs.Tree.{ProgramTree}
+use Rattle.ppm_tree.specs.Program.{initial_arrays}
+use Rattle.ppm_program.specs.Programs.{HasProgram}
+use Rattle.ppm_cut_code.specs.Routines.{code_of}
+use Rattle.ppm_step.specs.Among.{IsTurnAmong}
+use Rattle.ppm_step.specs.declared.turn.Turn.{Turn}
+use Rattle.ppm_tickets.specs.Words.{has}
+use Rattle.ppm_runs.specs.Legs.{Leg, AreLegs, last_state, all_forked, all_taken, all_work, all_strikes}
+use Rattle.ppm_runs.specs.Moments.{AreOnce}
+use Rattle.ppm_core.specs.Situation.{Situation}
+use Rattle.ppm_loading.specs.Loading.{Opens}
+use Rattle.ppm_loading.specs.Says.{arrays_from}
+use Rattle.ppm_loading.specs.declared.loading.Sizes.{Sizes}
+use Rattle.ppm_driver.specs.Meant.{HasOutcome, NeedsMoreRoom, NeedsMoreTurns}
+
+-- the legs of a run from a machine, the latest first, and the turns behind them
+module _ (m : Situation) (legs : List Leg) (turns : List Turn) where
+  -- the words behind all of them, and the finish word
+  abbrev pub words_at_last : List ℕ
+  words_at_last = (last_state m.shape m.code m.state.words legs turns).words
+
+  abbrev pub finish_at_last : ℕ
+  finish_at_last = read m.shape words_at_last FinishWord
+
+  -- the blocks whose right branches were forked in all of them, and those whose right branches were taken, newest first
+  abbrev pub forked_in_all : List ℕ
+  forked_in_all = all_forked m.shape m.code m.state.words legs turns
+
+  abbrev pub taken_in_all : List ℕ
+  taken_in_all = all_taken m.shape m.code m.state.words legs turns
+
+  -- the work turns of all of them; and how many faults struck a row of work, with one for each fresh processor, whose place's row began again
+  abbrev pub worked_in_all : ℕ
+  worked_in_all = all_work m.shape m.code m.state.words legs turns
+
+  abbrev pub struck_in_all : ℕ
+  struck_in_all = all_strikes m.shape m.code m.state.words legs turns + m.shape.processors * length legs
+
+  -- over all of them no right branch is forked twice, none is taken twice, and each that is taken was forked
+  abbrev pub NoneIsTakenTwiceInAll : Type 0
+  NoneIsTakenTwiceInAll = AreOnce forked_in_all taken_in_all
+
+  -- so it is, and each that is forked is taken
+  pub record EachIsTakenOnceInAll : Type 0 where
+    pub once : NoneIsTakenTwiceInAll
+    pub all : (block : ℕ) → has forked_in_all block ≡ has taken_in_all block
+    pub alike : length forked_in_all ≡ length taken_in_all
+
+  -- such a run ends as the program does: with its serial outcome, and with each branch that was forked taken once
+  pub record EndsAsProgramInAll (t : ProgramTree) (o : Outcome) : Type 0 where
+    pub serially : HasOutcome t o
+    pub branches : EachIsTakenOnceInAll
+
+  -- What holds behind them. No branch is taken twice. Where the finish word says an outcome the run ends as the program does, with the arrays
+  -- of the words then, or this trap; where it says that a pool is full, the program takes more words. All work turns are fewer than 256 for
+  -- each capsule of the program's code, each fault that strikes a row of work, and each fresh processor.
+  pub record IsAsProgramInAll (t : ProgramTree) : Type 0 where
+    pub once : NoneIsTakenTwiceInAll
+    pub ended : finish_of finish_at_last ≡ Some finishes.Ended
+        → EndsAsProgramInAll t (outcome.Ended (arrays_from m.shape m.array_lengths words_at_last 0 (initial_arrays t)))
+    pub trapped : (trap : Trap) (line : ℕ) → finish_of finish_at_last ≡ Some (finishes.Trapped trap line)
+        → EndsAsProgramInAll t (outcome.Trapped trap line)
+    pub work : NeedsMoreTurns t struck_in_all worked_in_all
+    pub full : (place : ℕ) → finish_of finish_at_last ≡ Some (finishes.OutOfRoom place) → NeedsMoreRoom t m.shape.room
+
+-- With takeover by places, from the machine with which a run of a text's program begins, however often its words came back, and whatever the
+-- turns are, in whatever order, faults and quits among them. A run in which no words came back has no legs.
+abbrev pub RunsInLegsAreAsPrograms : Type 0
+RunsInLegsAreAsPrograms = (text : List ℕ) (t : ProgramTree) → HasProgram text t → (sizes : Sizes) → sizes.takeover ≡ ByPlaces
+    → (keeper : ℕ) (m : Situation) → Opens sizes (code_of t) (initial_arrays t) keeper m
+    → (legs : List Leg) → AreLegs m.shape m.code m.state.words legs
+    → (turns : List Turn) → AllByRecursion (IsTurnAmong m.shape.processors) turns → IsAsProgramInAll m legs turns t

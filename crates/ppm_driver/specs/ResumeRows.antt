@@ -1,0 +1,124 @@
+-- What follows from each status of `resume`. What is said of programs is said of each source whose program left the state: a run of it came to
+-- the saved words, whatever was stopped and resumed how often before.
+use Rattle.std.specs.Prelude.{◌≡◌, ◌⊎◌, ℕ, ◌<◌, List, Some}
+use Rattle.ppm_words.specs.declared.named_array.NamedArray.{NamedArray}
+use Rattle.ppm_words.specs.declared.outcome.Outcome.TheVariants as outcome
+use Rattle.ppm_words.specs.declared.trap.Trap.{Trap}
+use Rattle.ppm_cells.specs.Finish.{finish_of}
+use Rattle.ppm_cells.specs.declared.finish.Finish.TheVariants as finishes
+use Rattle.ppm_ports.specs.Ports.{Gets}
+use Rattle.ppm_ports.specs.Outside.{Outside, ports_of}
+use Rattle.ppm_answers.specs.declared.answer.Answer.{Answer}
+use Rattle.ppm_answers.specs.declared.answer.Answer.TheVariants as answers
+use Rattle.ppm_answers.specs.declared.saved.SavedRefusal.{SavedRefusal}
+use Rattle.ppm_answers.specs.declared.status.Status.{Status}
+use Rattle.ppm_answers.specs.declared.status.Status.TheVariants as statuses
+use Rattle.ppm_answers.specs.Texts.{arrays_text, trap_text, turns_text, room_text, broken_text, plan_text, saved_line}
+use Rattle.ppm_answers.specs.Reading.{ReadHas}
+use Rattle.ppm_answers.specs.Rows.{PortsSay, TextRows}
+use Rattle.ppm_choice.specs.Deeds.{work_made}
+use Rattle.ppm_cli.specs.declared.resume.ResumeOptions.{ResumeOptions}
+use Rattle.ppm_saved_reader.specs.Rules.{text_limit}
+use Rattle.ppm_step.specs.Laws.{IsFilledBehind}
+use Rattle.ppm_driver.specs.Meant.{NeedsMoreRoom, NeedsMoreTurns}
+use Rattle.ppm_driver.specs.Legs.{struck_in_all, NoneIsTakenTwiceInAll, EndsAsProgramInAll}
+use Rattle.ppm_driver.specs.Resumes.{SavedState, saved_finish, ResumedHas, TextHas, IsLeftBy, legs_with}
+use Rattle.ppm_plan.specs.declared.plan_item.PlanItem.{PlanItem}
+
+module _ (options : ResumeOptions) (plan : List ℕ) (o : Outside) where
+  -- the answers of texts, with what the watchers were told
+  abbrev pub Has : List ℕ → Answer → Type 0
+  Has text answer = TextHas options plan o.told_before o.told_now text answer
+
+  -- the text that was read has this answer
+  abbrev pub HasRead : Answer → Type 0
+  HasRead answer = ReadHas text_limit Has o.source answer
+
+  -- the run of a state
+  abbrev pub Resumed : List PlanItem → SavedState → Answer → Type 0
+  Resumed items z answer = ResumedHas options o.told_before o.told_now items z answer
+
+  module _ {items : List PlanItem} {z : SavedState} {answer : Answer} (run : Resumed items z answer) where
+    -- behind it no right branch was forked or taken twice, over all of the run of each program that left the state
+    abbrev pub IsOnce : Type 0
+    IsOnce = (source : List ℕ) (left : IsLeftBy source z) → NoneIsTakenTwiceInAll left.start (legs_with left run.start.state.words) run.run.turns
+
+    -- it ends as each such program does
+    abbrev pub IsMeant : List NamedArray → Type 0
+    IsMeant arrays = (source : List ℕ) (left : IsLeftBy source z)
+        → EndsAsProgramInAll left.start (legs_with left run.start.state.words) run.run.turns left.tree (outcome.Ended arrays)
+
+    abbrev pub IsMeantTrap : Trap → (line : ℕ) → Type 0
+    IsMeantTrap trap line = (source : List ℕ) (left : IsLeftBy source z)
+        → EndsAsProgramInAll left.start (legs_with left run.start.state.words) run.run.turns left.tree (outcome.Trapped trap line)
+
+    -- its turns are fewer than 256 for each capsule that the code of each such program runs depth first, for each fault of all its legs that
+    -- struck a row of work, and for each processor whenever its words came back; or that run has no end
+    abbrev pub AreTooFew : Type 0
+    AreTooFew = (source : List ℕ) (left : IsLeftBy source z)
+        → NeedsMoreTurns left.tree (struck_in_all left.start (legs_with left run.start.state.words) run.run.turns) options.turns
+
+  -- the run ends with arrays, those with which each program that left the state ends serially, and out got exactly their text
+  pub record WritesArrays : Type 0 where
+    pub arrays : List NamedArray
+    pub read : HasRead (answers.Ended arrays)
+    pub meant : IsMeant read.2.has.has arrays
+    pub gets : Gets o.out (arrays_text arrays)
+
+  -- the run ends in a trap, in which each such program ends serially, and out got exactly its text
+  pub record WritesTrap : Type 0 where
+    pub trap : Trap
+    pub line : ℕ
+    pub read : HasRead (answers.Trapped trap line)
+    pub meant : IsMeantTrap read.2.has.has trap line
+    pub gets : Gets o.out (trap_text trap line)
+
+  -- the text that was read is that of no state, for this fault, and err got exactly its line
+  abbrev pub WritesFault : Type 0
+  WritesFault = (r : SavedRefusal) × HasRead (answers.SavedRefused r) × Gets o.err (saved_line r)
+
+  -- it is that of a state, and the plan is refused for its processors, by a number; err got exactly the line with the number
+  abbrev pub RefusesPlan : Type 0
+  RefusesPlan = (number : ℕ) × HasRead (answers.PlanRefused number) × Gets o.err (plan_text number)
+
+  -- A processor has made exactly as many work turns as it may make, in this run, and err got exactly the line that says so. So many are too
+  -- few for each program that left the state, and no branch of it was taken twice.
+  pub record WritesOutOfTurns : Type 0 where
+    pub processor : ℕ
+    pub read : HasRead (answers.OutOfTurns processor)
+    pub spent : let r = read.2.has.has in
+        (processor < read.2.state.shape.processors) × (work_made r.start.shape r.start.code processor r.start.state r.run.turns ≡ options.turns)
+    pub needs : AreTooFew read.2.has.has
+    pub once : IsOnce read.2.has.has
+    pub gets : Gets o.err (turns_text processor)
+
+  -- A turn of this run found the pool of a place full, or the saved words said so; and err got exactly the line that says so. Each program
+  -- that left the state takes more words than a pool has, or has no end; and no branch of it was taken twice.
+  pub record WritesOutOfRoom : Type 0 where
+    pub place : ℕ
+    pub read : HasRead (answers.OutOfRoom place)
+    pub full : let r = read.2.has.has in IsFilledBehind r.start.shape r.start.code place r.start.state.words r.run.turns
+        ⊎ (finish_of (saved_finish read.2.state) ≡ Some (finishes.OutOfRoom place))
+    pub needs : (source : List ℕ) (left : IsLeftBy source read.2.state) → NeedsMoreRoom left.tree read.2.state.shape.room
+    pub once : IsOnce read.2.has.has
+    pub gets : Gets o.err (room_text place)
+
+  -- the words are broken, and err got exactly the line that says so
+  abbrev pub WritesBroken : Type 0
+  WritesBroken = (place : ℕ) × HasRead (answers.Broken place) × Gets o.err (broken_text place)
+
+  -- what each status says
+  abbrev pub ResumeSays : Status → Type 0
+  ResumeSays statuses.Ended = WritesArrays
+  ResumeSays statuses.Trapped = WritesTrap
+  ResumeSays statuses.SavedRefused = WritesFault
+  ResumeSays statuses.WordsRefused = RefusesPlan
+  ResumeSays statuses.OutOfTurns = WritesOutOfTurns
+  ResumeSays statuses.OutOfRoom = WritesOutOfRoom
+  ResumeSays statuses.Broken = WritesBroken
+  ResumeSays status = PortsSay (ports_of o) status
+
+  -- The rows of `resume` with such options and such a plan: what each status says; and where all goes well, something is judged, and the
+  -- answer that the text has is written.
+  abbrev pub ResumeRows : Status → Type 0
+  ResumeRows status = TextRows text_limit Has ResumeSays (ports_of o) status

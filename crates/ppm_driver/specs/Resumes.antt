@@ -1,0 +1,205 @@
+-- What `resume` answers, and when it may.
+use Rattle.std.specs.Prelude.{◌≡◌, ◌≢◌, ◌⊎◌, ◌≤◌, ℕ, ◌^◌, List, [], ◌∷◌, None, length, map, ⊤}
+use Rattle.std.specs.List.{AllByRecursion}
+use Rattle.ppm_words.specs.declared.idle.Idle.TheVariants.{Leave}
+use Rattle.ppm_words.specs.declared.named_array.NamedArray.{NamedArray}
+use Rattle.ppm_ports.specs.Ports.{Port}
+use Rattle.ppm_ports.specs.Outside.{ToldLists}
+use Rattle.ppm_cells.specs.Finish.{finish_of}
+use Rattle.ppm_cells.specs.Memory.{read}
+use Rattle.ppm_cells.specs.declared.cell.Cell.TheVariants.{FinishWord}
+use Rattle.ppm_cells.specs.declared.shape.Shape.{Shape}
+use Rattle.ppm_cells.specs.declared.shape.Takeover.TheVariants.{ByPlaces}
+use Rattle.ppm_code.specs.declared.code.CodeParts.{CodeParts}
+use Rattle.ppm_core.specs.Situation.{Situation, loaded}
+use Rattle.ppm_choice.specs.declared.limits.Limits.{Limits}
+use Rattle.ppm_plan.specs.declared.plan_item.PlanItem.{PlanItem}
+use Rattle.ppm_plan.specs.Forms.{plan_form}
+use Rattle.ppm_plan.specs.Refusals.{IsAccepted}
+use Rattle.ppm_plan.specs.Schedules.{Planned}
+use Rattle.ppm_step.specs.Among.{IsTurnAmong}
+use Rattle.ppm_step.specs.Standings.{unknown_place}
+use Rattle.ppm_step.specs.State.{along, work_of}
+use Rattle.ppm_step.specs.declared.turn.Turn.{Turn}
+use Rattle.ppm_tree.specs.Tree.{ProgramTree}
+use Rattle.ppm_tree.specs.Program.{initial_arrays}
+use Rattle.ppm_program.specs.Programs.{HasProgram}
+use Rattle.ppm_cut_code.specs.Routines.{code_of}
+use Rattle.ppm_runs.specs.Legs.{Leg, AreLegs}
+use Rattle.ppm_saved.specs.Names.{lengths_of}
+use Rattle.ppm_saved.specs.Renewal.{AreRenewed}
+use Rattle.ppm_saved.specs.declared.names.NamedLength.{NamedLength}
+use Rattle.ppm_saved.specs.declared.saved.Saved.{Saved}
+use Rattle.ppm_saved_reader.specs.Correct.{IsRefusal, IsSavedText}
+use Rattle.ppm_saved_reader.specs.ErrorNumbers.{line_of, number_of}
+use Rattle.ppm_saved_reader.specs.Rules.{text_limit}
+use Rattle.ppm_saved_reader.specs.declared.saved_error.SavedError.{SavedError}
+use Rattle.ppm_saved_reader.specs.declared.saved_error.SavedError.TheVariants as errors
+use Rattle.ppm_resumed.specs.Resumed.{TagsMayRise}
+use Rattle.ppm_answers.specs.declared.answer.Answer.{Answer}
+use Rattle.ppm_answers.specs.declared.answer.Answer.TheVariants as answers
+use Rattle.ppm_answers.specs.declared.saved.SavedRefusal.{SavedRefusal}
+use Rattle.ppm_answers.specs.Reading.{JudgingMay, FrontsDecide, TellsOfRun}
+use Rattle.ppm_cli.specs.declared.resume.ResumeOptions.{ResumeOptions}
+use Rattle.ppm_loading.specs.Loading.{Opens}
+use Rattle.ppm_loading.specs.Planned.{IsRefusedBy}
+use Rattle.ppm_loading.specs.declared.loading.Sizes.{Sizes}
+use Rattle.ppm_driver.specs.Legs.{words_at_last}
+use Rattle.ppm_driver.specs.RunOf.{RunOf, words_behind}
+use Rattle.ppm_driver.specs.Runs.{IsSaid}
+use Rattle.ppm_driver.specs.Watchers.{AreTold}
+
+-- what a saved text tells: sizes, arrays without their values, code and words
+pub record SavedState : Type 0 where
+  pub shape : Shape
+  pub arrays : List NamedLength
+  pub code : CodeParts
+  pub words : List ℕ
+
+-- what a state that was read tells
+abbrev pub state_of : Saved → SavedState
+state_of s = record { shape = s.shape; arrays = s.names; code = s.code; words = s.words }
+
+-- the finish word of a state
+abbrev pub saved_finish : SavedState → ℕ
+saved_finish z = read z.shape z.words FinishWord
+
+-- the text of a state
+pub record IsTextOf (text : List ℕ) (z : SavedState) : Type 0 where
+  pub short : length text ≤ text_limit
+  pub saved : IsSavedText text z.shape z.arrays z.code z.words
+
+-- a text is that of no state, for this fault: of the first line that is wrong the rule of the least number
+pub record IsNoText (text : List ℕ) (r : SavedRefusal) : Type 0 where
+  pub error : SavedError
+  pub of_text : error ≢ errors.NoMemory
+  pub refused : IsRefusal text error
+  pub number_is : r.number ≡ number_of error
+  pub line_is : r.line ≡ line_of error
+
+-- the answer where a text is that of no state; and want of memory, which is no fault of it
+abbrev pub refused_for : SavedError → Answer
+refused_for e = answers.SavedRefused (record { number = number_of e; line = line_of e })
+
+abbrev pub refusal_of : SavedError → Answer
+refusal_of errors.NoMemory = answers.NoMemory
+refusal_of (errors.NoSuchForm line) = refused_for (errors.NoSuchForm line)
+refusal_of (errors.OutOfRange line) = refused_for (errors.OutOfRange line)
+refusal_of (errors.BadListing line) = refused_for (errors.BadListing line)
+refusal_of (errors.BadCode line) = refused_for (errors.BadCode line)
+refusal_of (errors.WrongCount line) = refused_for (errors.WrongCount line)
+
+-- the machine with which fresh processors go on from a state: one for each place, with the words that they find
+pub record GoesOnFrom (z : SavedState) (start : Situation) : Type 0 where
+  pub words : List ℕ
+  pub renewed : AreRenewed z.shape z.words words
+  pub loads : start ≡ loaded z.shape z.code (lengths_of z.arrays) words
+
+-- arrays by their names alone
+abbrev pub named : List NamedLength → List NamedArray
+named arrays = map (λ a. record { name = a.name; values = [] }) arrays
+
+-- of arrays their names and how many values they have
+abbrev pub names_of : List NamedArray → List NamedLength
+names_of arrays = map (λ a. record { name = a.name; len = length a.values }) arrays
+
+-- the limits, as the options say them; who finds nothing to do leaves
+abbrev pub limits_of : ResumeOptions → Limits
+limits_of o = record { turns = o.turns; looks = o.looks; seed = o.seed; idle = Leave }
+
+-- the plan with these items
+abbrev pub plan_of : SavedState → List PlanItem → Planned
+plan_of z items = record { processors = z.shape.processors; items = items }
+
+-- The answer of a state by the items of a plan, where watchers were told such lists before the run and after it: that of a run from the machine
+-- with which fresh processors go on. The answer is what the words say behind it, with the arrays that they have for the state's names.
+pub record ResumedHas (options : ResumeOptions) (before now : ToldLists) (items : List PlanItem) (z : SavedState) (answer : Answer) : Type 0 where
+  pub stands : finish_of (saved_finish z) ≢ None
+  pub start : Situation
+  pub goes_on : GoesOnFrom z start
+  pub run : RunOf (plan_of z items) (limits_of options) start
+      (AreTold z.shape.processors (plan_of z items) (limits_of options) before now start)
+      (IsSaid start.shape start.array_lengths (named z.arrays)) answer
+
+-- the saved finish word stands for nothing, and nobody was told anything
+pub record IsBrokenBefore (before now : ToldLists) (z : SavedState) : Type 0 where
+  pub none : finish_of (saved_finish z) ≡ None
+  pub still : now ≡ before
+
+-- a text is that of a state, of which this holds
+pub record OfState (P : SavedState → Type 0) (text : List ℕ) : Type 0 where
+  pub state : SavedState
+  pub is : IsTextOf text state
+  pub has : P state
+
+-- so it does by the items of a plan that may be obeyed
+pub record ByItems (plan : List ℕ) (P : List PlanItem → SavedState → Type 0) (z : SavedState) : Type 0 where
+  pub items : List PlanItem
+  pub accepted : IsAccepted plan_form plan z.shape.processors items
+  pub has : P items z
+
+-- The answer of a state by the items of a plan: that of a run from it. The words are broken where the run says so, at a place; and at one that
+-- isn't known where the saved finish word stands for nothing.
+abbrev pub ItemsHave : ResumeOptions → (before now : ToldLists) → List PlanItem → SavedState → Answer → Type 0
+ItemsHave options before now items z (answers.Broken place) =
+    (IsBrokenBefore before now z × (place ≡ unknown_place)) ⊎ ResumedHas options before now items z (answers.Broken place)
+ItemsHave options before now items z answer = ResumedHas options before now items z answer
+
+-- its answer with a plan: that the plan is refused for its processors, or that by the items
+abbrev pub StateHas : ResumeOptions → (plan : List ℕ) → (before now : ToldLists) → SavedState → Answer → Type 0
+StateHas options plan before now z (answers.PlanRefused number) = IsRefusedBy plan_form plan z.shape.processors number
+StateHas options plan before now z answer = ByItems plan (λ items z. ItemsHave options before now items z answer) z
+
+-- the answer of a text, with such options and such a plan: that it is refused, or that of its state
+abbrev pub TextHas : ResumeOptions → (plan : List ℕ) → (before now : ToldLists) → List ℕ → Answer → Type 0
+TextHas options plan before now text (answers.SavedRefused r) = IsNoText text r
+TextHas options plan before now text answer = OfState (λ z. StateHas options plan before now z answer) text
+
+-- the answers of `resume` with such options and such a plan, where watchers were told such lists
+abbrev pub ResumeMay : ResumeOptions → (plan : List ℕ) → (before now : ToldLists) → Port → Answer → Type 0
+ResumeMay options plan before now source answer = JudgingMay text_limit (TextHas options plan before now) source answer
+
+-- what watchers were told where an answer comes: nothing where the text or the plan is refused; the causes of an answer of a run say which turns
+abbrev pub ResumeTells : Answer → ToldLists → ToldLists → Type 0
+ResumeTells answer before now = TellsOfRun (λ answer before now. ⊤) answer before now
+
+-- what stands behind more bytes than a saved text may have changes no answer, with all options and all plans
+abbrev pub FrontsDecideResumed : Type 0
+FrontsDecideResumed = (options : ResumeOptions) (plan : List ℕ) (before now : ToldLists)
+    → FrontsDecide text_limit (TextHas options plan before now)
+
+-- A state is that of a run of a source's program, with takeover by places, from its opening words, whatever turns its processors made, and
+-- however often its words came back. No place's holder has the last tag.
+pub record IsLeftBy (source : List ℕ) (z : SavedState) : Type 0 where
+  pub tree : ProgramTree
+  pub has : HasProgram source tree
+  pub sizes : Sizes
+  pub places : sizes.takeover ≡ ByPlaces
+  pub keeper : ℕ
+  pub start : Situation
+  pub opens : Opens sizes (code_of tree) (initial_arrays tree) keeper start
+  pub legs : List Leg
+  pub are : AreLegs start.shape start.code start.state.words legs
+  pub turns : List Turn
+  pub among : AllByRecursion (IsTurnAmong start.shape.processors) turns
+  pub shape_is : z.shape ≡ start.shape
+  pub code_is : z.code ≡ start.code
+  pub arrays_are : z.arrays ≡ names_of (initial_arrays tree)
+  pub words_are : z.words ≡ words_at_last start legs turns
+  pub tags : TagsMayRise z.shape z.words
+
+-- the legs of such a run with the one behind which these words come back
+abbrev pub legs_with : {source : List ℕ} {z : SavedState} → IsLeftBy source z → (back : List ℕ) → List Leg
+legs_with left back = record { turns = left.turns; back = back } ∷ left.legs
+
+-- the state behind turns of a machine with arrays of these names and lengths
+abbrev pub state_behind : Situation → List NamedArray → List Turn → SavedState
+state_behind m arrays turns = record { shape = m.shape; arrays = names_of arrays; code = m.code; words = words_behind m turns }
+
+-- With takeover by places, whatever turns are made from the machine with which a run of a text's program begins, as long as at most 2^34 of them
+-- are work: the state behind them is left by that text.
+abbrev pub RunsLeaveStates : Type 0
+RunsLeaveStates = (text : List ℕ) (t : ProgramTree) → HasProgram text t → (sizes : Sizes) → sizes.takeover ≡ ByPlaces
+    → (keeper : ℕ) (m : Situation) → Opens sizes (code_of t) (initial_arrays t) keeper m
+    → (turns : List Turn) → AllByRecursion (IsTurnAmong m.shape.processors) turns
+    → length (along m.shape m.code work_of m.state turns) ≤ 2 ^ 34 → IsLeftBy text (state_behind m (initial_arrays t) turns)

@@ -1,0 +1,63 @@
+//! That runs in legs end as their programs do, shown by a call that does nothing.
+ghost use Rattle.ppm_driver.specs.Legs.{RunsInLegsAreAsPrograms};
+ghost use Rattle.ppm_driver.specs.Resumes.{RunsLeaveStates};
+
+use ppm_cut_code::keeps_the_rules;
+use ppm_cut_correct::{end_as_meant, ends_serially, name_arrays, start_with_input};
+use ppm_cut_sound::code_is_sound;
+use ppm_opening::images_begin_the_depth_first_run;
+use ppm_rows::trees_are_within;
+use ppm_runs::{
+    legs_come_to, nothing_breaks, room_is_spent, room_over_legs, runs_end_so, tags_stay_low,
+    work_is_bounded, work_over_legs,
+};
+
+/// With takeover by places, from the machine with which a run of a text's program begins, whatever
+/// the turns are that its processors make, and however often the words come back behind them: over
+/// all of it no right branch is forked or taken twice. Where the finish word says an outcome, it is
+/// the program's serial outcome, with the arrays of the words then, or its trap; and each right branch
+/// that was forked was taken. Where it says that a pool is full, the program, run whole, takes more
+/// words than a pool has, or has no end. All work turns are fewer than 256 for each capsule that its
+/// code runs depth first, each fault that strikes a row of work, and each fresh processor.
+pub fn runs_in_legs_are_as_programs()
+    ensures law { RunsInLegsAreAsPrograms }
+{
+    // The law rests on these; the calls do nothing.
+    trees_are_within();
+    keeps_the_rules();
+    code_is_sound();
+    start_with_input();
+    name_arrays();
+    ends_serially();
+    end_as_meant();
+    images_begin_the_depth_first_run();
+    runs_end_so();
+    room_is_spent();
+    work_is_bounded();
+    nothing_breaks();
+    legs_come_to();
+    room_over_legs();
+    work_over_legs();
+}
+
+/// With takeover by places, whatever turns are made from the machine with which a run of a text's
+/// program begins, as long as at most 2^34 of them are work: the state behind them is left by
+/// that text, so what the rows of `resume` say of it holds of the program.
+pub fn runs_leave_states()
+    ensures law { RunsLeaveStates }
+{
+    // The law rests on these; the calls do nothing.
+    trees_are_within();
+    keeps_the_rules();
+    code_is_sound();
+    start_with_input();
+    name_arrays();
+    ends_serially();
+    end_as_meant();
+    images_begin_the_depth_first_run();
+    runs_end_so();
+    room_is_spent();
+    work_is_bounded();
+    nothing_breaks();
+    tags_stay_low();
+}
