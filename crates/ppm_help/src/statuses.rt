@@ -4,7 +4,7 @@ use ppm_answers::Status;
 use std::io;
 
 /// All statuses of the program, by their numbers.
-const STATUSES: [Status; 12] = [
+const STATUSES: [Status; 13] = [
     Status::Ended,
     Status::Trapped,
     Status::SourceRefused,
@@ -16,6 +16,7 @@ const STATUSES: [Status; 12] = [
     Status::NoMemory,
     Status::CodeRefused,
     Status::NotWithin,
+    Status::SavedRefused,
     Status::Broken,
 ];
 
@@ -63,6 +64,9 @@ fn meaning_of(status: Status) -> &'static str {
             "code refused by `check`: the first conflict, or why it is no listing (docs/CODE.md)"
         }
         Status::NotWithin => "not within: `serial` did not end within --turns",
+        Status::SavedRefused => {
+            "saved text refused by `resume`: the fault and its line (docs/SAVED.md)"
+        }
         Status::Broken =>
             "saved words broken: of `resume`, where no run left the saved text; no other is known",
     }

@@ -85,7 +85,7 @@ pub(crate) const NONE: Failing<'static> = Failing {
 };
 
 /// A call over memory whose ports move at most `most` bytes at a time.
-fn ppm_over_memory(
+pub(crate) fn ppm_over_memory(
     rt: &(impl Threads + Wait + Sync),
     alloc: Global,
     text: &[u8],

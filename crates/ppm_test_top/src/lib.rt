@@ -20,6 +20,8 @@ mod meaning;
 #[cfg(test)]
 mod programs;
 #[cfg(test)]
+mod resumes;
+#[cfg(test)]
 mod stops;
 #[cfg(test)]
 mod watching;

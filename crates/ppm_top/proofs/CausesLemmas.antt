@@ -18,9 +18,12 @@ use Rattle.ppm_cli.specs.Words.{command_of}
 use Rattle.ppm_top.specs.Causes.{CommandMay, CommandTells, IsAnswered}
 use Rattle.ppm_plan.specs.Forms.{plan_form, schedule_form}
 use Rattle.ppm_driver.specs.Replays.{TextHas as ReplayTextHas}
+use Rattle.ppm_driver.specs.Resumes.{TextHas as ResumeTextHas}
 use Rattle.ppm_driver.specs.Runs.{TextHas as RunTextHas}
 use Rattle.ppm_loading.proofs.PlannedLemmas as planned
+use Rattle.ppm_driver.proofs.ResumeLemmas.{still_told}
 use Rattle.ppm_driver.proofs.WatchLemmas.{untold}
+use Rattle.ppm_saved_reader.specs.Rules.{text_limit as saved_limit}
 
 -- where nothing was read, out of memory may be the answer, whatever the command is
 pub memory_before : (command : Option Command) (o : Outside) → IsUnread o.source → CommandMay command o answers.NoMemory
@@ -32,6 +35,8 @@ memory_before (Some commands.Code) o h = judged.memory_before text_limit CodeRea
 memory_before (Some commands.Check) o h = judged.memory_before listing_limit CheckHas o.source h
 memory_before (Some (commands.Replay options schedule)) o h =
     planned.memory_before schedule_form schedule options.processors (ReplayTextHas options) text_limit o.source h
+memory_before (Some (commands.Resume options plan)) o h =
+    judged.memory_before saved_limit (ResumeTextHas options plan o.told_before o.told_now) o.source h
 
 -- an answer of the command that the words give answers the words
 pub by_command : (words : List (List ℕ)) (o : Outside) (status : Status) (command : Option Command) → command_of words ≡ command →
@@ -55,3 +60,4 @@ told_nothing (Some (commands.Serial options)) answer lists = refl
 told_nothing (Some commands.Code) answer lists = refl
 told_nothing (Some commands.Check) answer lists = refl
 told_nothing (Some (commands.Replay options schedule)) answer lists = refl
+told_nothing (Some (commands.Resume options plan)) answer lists = still_told answer lists

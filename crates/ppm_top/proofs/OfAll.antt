@@ -14,6 +14,7 @@ use Rattle.ppm_answers.specs.Delivery.{IsWritten}
 use Rattle.ppm_cli.specs.declared.command.Command.{Command}
 use Rattle.ppm_cli.specs.declared.command.Command.TheVariants as commands
 use Rattle.ppm_cli.specs.declared.replay.ReplayOptions.{ReplayOptions}
+use Rattle.ppm_cli.specs.declared.resume.ResumeOptions.{ResumeOptions}
 use Rattle.ppm_cli.specs.declared.run.RunOptions.{RunOptions}
 use Rattle.ppm_cli.specs.Words.{command_of}
 use Rattle.ppm_cli.proofs.RangeLemmas.{is_in_range}
@@ -27,17 +28,23 @@ use Rattle.ppm_plan.specs.Correct.{HaveOneAnswer as PlansHaveOneAnswer}
 use Rattle.ppm_plan.specs.Forms.{Form, plan_form, schedule_form}
 use Rattle.ppm_loading.specs.Planned.{PlannedMay}
 use Rattle.ppm_loading.specs.MachineRows.{RefusesPlan}
+use Rattle.ppm_driver.specs.Legs.{RunsInLegsAreAsPrograms}
 use Rattle.ppm_driver.specs.Meant.{RunsAreAsPrograms}
 use Rattle.ppm_driver.specs.Replays.{TextHas as ReplayTextHas, HaveOneAnswer as ReplaysHaveOneAnswer}
+use Rattle.ppm_driver.specs.Resumes.{TextHas as ResumeTextHas}
+use Rattle.ppm_driver.specs.ResumeRows.{RefusesPlan as RefusesResumed}
 use Rattle.ppm_driver.specs.Runs.{TextHas as RunTextHas, AnswersAreOne, FrontsDecideAnswers}
 use Rattle.ppm_driver.proofs.OfReplay as of_replay
+use Rattle.ppm_driver.proofs.OfResume as of_resume
 use Rattle.ppm_driver.proofs.OfRun as of_run
+use Rattle.ppm_resumed.specs.Resumed.{RenewedWordsComeBack}
+use Rattle.ppm_saved_reader.specs.Rules.{text_limit as saved_limit}
 use Rattle.ppm_loading.proofs.PlannedLemmas as planned
 use Rattle.ppm_answers.specs.Reading.{IsUnread, JudgingMay, DeliversAnswer}
 use Rattle.ppm_answers.proofs.Delivered.{of_answers}
 use Rattle.ppm_answers.specs.Rows.{IsOneOf}
 use Rattle.ppm_top.specs.Causes.{NoCommandMay, CommandMay, CommandTells, IsAnswered}
-use Rattle.ppm_top.specs.Rows.{HasRefusedPlan, OfRun, OfReplay, RefusesWords, ReportsFaults, ProgramRows}
+use Rattle.ppm_top.specs.Rows.{HasRefusedPlan, OfRun, OfReplay, OfResume, RefusesWords, ReportsFaults, ProgramRows}
 use Rattle.ppm_answers.proofs.Delivered as delivered
 use Rattle.ppm_answers.proofs.Judged as judged
 
@@ -71,6 +78,7 @@ command_reports o (Some commands.Code) = judging_reports text_limit CodeReads o
 command_reports o (Some commands.Check) = judging_reports listing_limit CheckHas o
 command_reports o (Some (commands.Replay options schedule)) =
     planned_reports schedule_form schedule options.processors (ReplayTextHas options) o
+command_reports o (Some (commands.Resume options plan)) = judging_reports saved_limit (ResumeTextHas options plan o.told_before o.told_now) o
 
 -- an answer of status 7 is a read fault
 read_answer : (may : Answer → Type 0) (answer : Answer) → may answer → status_of answer ≡ statuses.ReadFault → may answers.ReadFault
@@ -110,12 +118,14 @@ faults words o status a =
 data IsPlanned (command : Option Command) : Type 0 where
   IsRun : (options : RunOptions) (plan : List ℕ) → command ≡ Some (commands.Run options plan) → IsPlanned command
   IsReplay : (options : ReplayOptions) (schedule : List ℕ) → command ≡ Some (commands.Replay options schedule) → IsPlanned command
+  IsResume : (options : ResumeOptions) (plan : List ℕ) → command ≡ Some (commands.Resume options plan) → IsPlanned command
 
 no_command : (command : Option Command) (o : Outside) (answer : Answer) → CommandMay command o answer →
     status_of answer ≡ statuses.WordsRefused → (command ≡ None) ⊎ IsPlanned command
 no_command None o answer h e = inl refl
 no_command (Some (commands.Run options plan)) o answer h e = inr (IsRun options plan refl)
 no_command (Some (commands.Replay options schedule)) o answer h e = inr (IsReplay options schedule refl)
+no_command (Some (commands.Resume options plan)) o answer h e = inr (IsResume options plan refl)
 no_command (Some (commands.Serial options)) o answers.WordsRefused h e = absurd h.2
 no_command (Some commands.Code) o answers.WordsRefused h e = absurd h.2
 no_command (Some commands.Check) o answers.WordsRefused h e = absurd h.2
@@ -131,8 +141,8 @@ refusal o answers.WordsRefused h = (h, inl refl)
 refusal o answers.NoMemory h = (h, inr refl)
 refusal o answer h = absurd h
 
-refuses_words : RunsAreAsPrograms → (words : List (List ℕ)) (o : Outside) (status : Status) → IsAnswered words o status → RefusesWords words o status
-refuses_words meant words o status a = record {
+refuses_words : RunsAreAsPrograms → RunsInLegsAreAsPrograms → RenewedWordsComeBack → (words : List (List ℕ)) (o : Outside) (status : Status) → IsAnswered words o status → RefusesWords words o status
+refuses_words meant legs comes words o status a = record {
   only = only;
   unread = λ e. (refusal o a.answer (cause e)).0;
   always = λ e. always (refusal o a.answer (cause e)).1 (delivered.own_or_fault o.out o.err a.answer status a.delivered);
@@ -155,10 +165,16 @@ refuses_words meant words o status a = record {
         refuses_plan options plan c = of_run.plan_refused meant options options.processors plan o status
             (subst (λ x. DeliversAnswer (CommandMay x o) (ports_of o) status) c (delivers words o status a)) e
 
+        refuses_resumed : (options : ResumeOptions) (plan : List ℕ) → command_of words ≡ Some (commands.Resume options plan) →
+            RefusesResumed options plan o
+        refuses_resumed options plan c = of_resume.plan_refused legs comes options plan o status
+            (subst (λ x. DeliversAnswer (CommandMay x o) (ports_of o) status) c (delivers words o status a)) e
+
         by_words : (command_of words ≡ None) ⊎ IsPlanned (command_of words) → (command_of words ≡ None) ⊎ HasRefusedPlan words o
         by_words (inl n) = inl n
         by_words (inr (IsRun options plan c)) = inr (OfRun options plan c (refuses_plan options plan c))
         by_words (inr (IsReplay options schedule c)) = inr (OfReplay options schedule c (refuses options schedule c))
+        by_words (inr (IsResume options plan c)) = inr (OfResume options plan c (refuses_resumed options plan c))
 
   always : (status_of a.answer ≡ statuses.WordsRefused) ⊎ (status_of a.answer ≡ statuses.NoMemory) →
       (status ≡ statuses.WriteFault) ⊎ IsWritten o.out o.err a.answer status →
@@ -172,6 +188,8 @@ pub record Laws : Type 0 where
   pub runs : AnswersAreOne
   pub fronts : FrontsDecideAnswers
   pub meant : RunsAreAsPrograms
+  pub legs : RunsInLegsAreAsPrograms
+  pub comes : RenewedWordsComeBack
   pub outcomes : OutcomesHaveOneAnswer
   pub codes : CodesHaveOneAnswer
   pub faithful : CodesAreFaithful
@@ -193,7 +211,11 @@ program_rows laws words o status a = record {
     is_in_range words (commands.Replay options schedule) e,
     of_replay.replay_rows laws.meant options schedule (ports_of o) status (by_words (Some (commands.Replay options schedule)) e) laws.plans laws.replays,
   );
-  words_refused = refuses_words laws.meant words o status a;
+  resume = λ options plan e. (
+    is_in_range words (commands.Resume options plan) e,
+    of_resume.resume_rows laws.legs laws.comes options plan o status (by_words (Some (commands.Resume options plan)) e),
+  );
+  words_refused = refuses_words laws.meant laws.legs laws.comes words o status a;
   faults = faults words o status a;
   nothing_on_out = delivered.nothing_on_out o.out o.err a.answer status a.delivered;
 } where

@@ -15,10 +15,12 @@ use ppm_commands::{
 };
 use ppm_driver::{
     answers_are_one as runs_have_one_answer, have_one_answer as replays_have_one_answer,
-    replay_command, run_command, runs_are_as_programs,
+    replay_command, resume_command, run_command, runs_are_as_programs,
+    runs_in_legs_are_as_programs,
 };
 use ppm_plan::have_one_answer as plans_have_one_answer;
 use ppm_ports::{Sink, Source, Watch};
+use ppm_resumed::renewed_words_come_back;
 use ppm_words::NoMemory;
 use std::alloc::Global;
 use std::sync::Wait;
@@ -54,6 +56,8 @@ pub fn ppm<R: Threads + Wait + Sync, S: Source, K: Sink, E: Sink, W: Watch>(
     // The rows rest on these laws; the calls do nothing.
     runs_have_one_answer();
     runs_are_as_programs();
+    runs_in_legs_are_as_programs();
+    renewed_words_come_back();
     outcomes_have_one_answer();
     codes_have_one_answer();
     codes_are_faithful();
@@ -106,6 +110,16 @@ fn answer_words<R: Threads + Wait + Sync, S: Source, K: Sink, E: Sink, W: Watch>
             source,
             out,
             err,
+        ),
+        Ok(Some(Command::Resume(options, plan))) => resume_command(
+            rt,
+            alloc,
+            options,
+            plan.as_slice(),
+            source,
+            out,
+            err,
+            watch,
         ),
         Ok(None) => deliver(alloc, &Answer::WordsRefused, out, err),
         Err(NoMemory) => deliver(alloc, &Answer::NoMemory, out, err),
