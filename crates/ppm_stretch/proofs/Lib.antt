@@ -10,4 +10,5 @@ mod EnteringLemmas
 mod RoundLemmas
 mod RowLemmas
 mod EndingLemmas
+mod AskingLemmas
 mod WaitingLemmas

@@ -10,7 +10,7 @@ use Rattle.ppm_table.specs.declared.view.Opening.{Opening}
 use Rattle.ppm_table.specs.Run.{Mine}
 use Rattle.ppm_words.specs.declared.event.Event.{Event}
 use Rattle.ppm_stretch.specs.declared.way.Halt.{Halt}
-use Rattle.ppm_stretch.specs.declared.way.Halt.TheVariants.{Done, Broken, Midway, Stopped}
+use Rattle.ppm_stretch.specs.declared.way.Halt.TheVariants.{Done, Broken, Midway, Stopped, Full}
 use Rattle.ppm_stretch.specs.declared.way.Way.{Way}
 use Rattle.ppm_stretch.specs.declared.way.Way.TheVariants.{Made, Stops, Breaks, Refused}
 use Rattle.ppm_stretch.specs.Entering.{Circled, halt_behind, looks_at}
@@ -46,3 +46,4 @@ looks_few Done = omega arith
 looks_few Broken = omega arith
 looks_few (Midway number at) = omega arith
 looks_few (Stopped number next what) = omega arith
+looks_few (Full number) = omega arith

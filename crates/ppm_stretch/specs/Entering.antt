@@ -10,7 +10,7 @@ use Rattle.ppm_step.specs.declared.row.Then.TheVariants.{Load}
 use Rattle.ppm_cells.specs.declared.restart.Restart.{Restart}
 use Rattle.ppm_step.specs.declared.ask.Want.TheVariants.{Stores as WantsStore}
 use Rattle.ppm_step.specs.declared.frame.Home.{Home}
-use Rattle.ppm_step.specs.Frames.{Rest, other_copy, rest_of}
+use Rattle.ppm_step.specs.Frames.{Rest, Full, other_copy, rest_of}
 use Rattle.ppm_code.specs.Capsules.{capsule_from, reached}
 use Rattle.ppm_code.specs.declared.code.Capsule.{Capsule}
 use Rattle.ppm_stretch.specs.declared.way.Stretch.{Stretch}
@@ -61,6 +61,7 @@ looks_at halts.Done = 1
 looks_at halts.Broken = 0
 looks_at (halts.Midway number at) = 0
 looks_at (halts.Stopped number next what) = 0
+looks_at (halts.Full number) = 0
 
 -- where it stands that halts there, with these registers
 abbrev pub HaltsAt : Shape → CodeParts → Seat → Home → List ℕ → Halt → Standing → Type 0
@@ -73,6 +74,8 @@ HaltsAt s code seat home registers (halts.Stopped number next what) standing =
     (capsule : Capsule) × (slice_get code.capsules number ≡ Some capsule)
     × (HasReached s capsule.instrs next what registers
     × (standing ≡ running s seat (rest_of s code seat.place home (reached s.arrays capsule.instrs next what registers))))
+HaltsAt s code seat home registers (halts.Full number) standing =
+    (capsule : Capsule) × (slice_get code.capsules number ≡ Some capsule) × (standing ≡ running s seat Full)
 
 -- the frame goes on with the other copy of its header
 abbrev pub goes_round : Seat → Home → Restart

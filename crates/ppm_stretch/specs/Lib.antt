@@ -2,3 +2,4 @@ pub mod Steady
 pub mod Entering
 pub mod Rows
 pub mod Ending
+pub mod Asking

@@ -344,7 +344,7 @@ pub(crate) fn round<W: Watch>(
 
 /// Where a round halts in the capsule with this number, by what came of its instructions.
 #[inline(always)]
-fn halt_behind(number: u64, way: Way) -> RoundEnd
+pub(crate) fn halt_behind(number: u64, way: Way) -> RoundEnd
     ensures { result ≡ halt_behind number way }
 {
     match way {

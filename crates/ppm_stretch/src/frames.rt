@@ -119,7 +119,7 @@ fn looks_at(halt: Halt) -> u64
 {
     match halt {
         Halt::Done => 1,
-        Halt::Broken | Halt::Midway(..) | Halt::Stopped(..) => 0,
+        Halt::Broken | Halt::Midway(..) | Halt::Stopped(..) | Halt::Full(_) => 0,
     }
 }
 

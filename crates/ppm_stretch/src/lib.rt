@@ -7,6 +7,7 @@
 //! After the parallel persistent memory of Blelloch et al., SPAA 2018.
 #![tactic(auto)]
 
+mod asking;
 mod capsule;
 mod ending;
 mod entering;

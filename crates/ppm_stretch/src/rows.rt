@@ -13,12 +13,13 @@ ghost use Rattle.ppm_table.specs.Telling.{Keeps};
 ghost use Rattle.ppm_stretch.specs.Rows.{IsChoosing, IsFree, Makes, Stops};
 ghost use Rattle.ppm_stretch.specs.Steady.{Moves, Refuses, is_exchange, looks_behind};
 
+use crate::asking::fills;
 use crate::frames::{ends, rounds};
 use crate::refusing::give_way;
 use crate::way::{NONE, OneStep, REFUSED, Steps, row};
 use atomic_table::Seat;
 use ppm_cells::{RestartKind, Shape};
-use ppm_code::Code;
+use ppm_code::{Code, Step};
 use ppm_ports::Watch;
 use ppm_step::{Local, Next, Point, Row, Stage, Stand, Then, Want};
 use ppm_table::{Processor, Shared, View, Words, tell};
@@ -92,8 +93,8 @@ fn one<W: Watch>(
     }
 }
 
-/// Goes on by the capsules of frames before which the processor stands, or by the stores of an end;
-/// where it stands elsewhere, by no step.
+/// Goes on by the capsules of frames before which the processor stands, by the block that one asks
+/// for, or by the stores of an end; where it stands elsewhere, by no step.
 #[inline(always)]
 fn frame_steps<W: Watch>(
     local: &mut Local,
@@ -131,6 +132,13 @@ fn frame_steps<W: Watch>(
             return ends(
                 local, words, mine, watch, shape, code, under_way, end, n, most,
             );
+        }
+        if let Stage::Before(step) = under_way.stage {
+            if let Step::Asks(asked) = step {
+                return fills(
+                    local, words, mine, watch, shape, code, under_way, asked, most,
+                );
+            }
         }
     }
     NONE

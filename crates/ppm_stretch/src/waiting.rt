@@ -4,7 +4,7 @@ ghost use Rattle.ppm_cells.specs.Restart.{IsRestart};
 ghost use Rattle.ppm_code.specs.Capsules.{capsule_from, reached};
 ghost use Rattle.ppm_code.specs.declared.code.Capsule.{Capsule};
 ghost use Rattle.ppm_step.specs.Facts.{IsEnd, IsHome, IsSeat as IsPlace};
-ghost use Rattle.ppm_step.specs.Frames.{ending, rest_of};
+ghost use Rattle.ppm_step.specs.Frames.{Full, ending, rest_of};
 ghost use Rattle.ppm_step.specs.Locals.{IsLocal, standing_of};
 ghost use Rattle.ppm_step.specs.Standings.{IsAt, running, rest_is_there};
 ghost use Rattle.ppm_step.specs.Stages.{IsStage, rest_at};
@@ -132,6 +132,21 @@ fn wait_stopped(
     }
 }
 
+/// Stands before a full pool.
+#[inline(always)]
+fn wait_full(local: &mut Local, shape: &Shape, code: &Code, seat: Place, home: Home, number: u64)
+    requires seat { IsPlace shape.now seat }
+    requires own { seat.own ≡ local.old.own }
+    requires home { IsHome home }
+    requires is { (capsule : Capsule) × (slice_get code.now.capsules number ≡ Some capsule) }
+    ensures stands { standing_of shape.now code.now local.new ≡ running shape.now seat Full }
+    ensures holds { IsLocal shape.now code.now local.new }
+    ensures own_stays { local.new.own ≡ local.old.own }
+{
+    let _ = (shape.slots, code.parts().root);
+    local.stand = Stand::Runs(running_at(code, seat, home, number, 0, Stage::Filled));
+}
+
 /// Stands before the n-th store of an end.
 #[inline(never)]
 pub(crate) fn wait_ending(
@@ -195,6 +210,7 @@ pub(crate) fn wait_halted(
         Halt::Stopped(number, next, what) => {
             wait_stopped(local, shape, code, seat, home, number, next, what);
         }
+        Halt::Full(number) => wait_full(local, shape, code, seat, home, number),
     }
 }
 

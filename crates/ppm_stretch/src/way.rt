@@ -88,6 +88,19 @@ pub enum Halt {
     /// In the capsule with this number, at an end or where it asks for words; behind that comes
     /// this instruction.
     Stopped(u64, usize, Reached),
+    /// In the capsule with this number, which asks for more words than its pool has.
+    Full(u64),
+}
+
+/// What came of the load of a room counter.
+#[derive(Clone, Copy, Debug, PartialEq, Eq)]
+pub enum Room {
+    /// The words lie at this address.
+    Block(u32),
+    /// The pool hasn't so many.
+    Full,
+    /// The counter isn't in the pool.
+    Broken,
 }
 
 /// How a round of a frame ended.
