@@ -30,7 +30,7 @@ pub(crate) fn count_of(arrays: &[NamedArray]) -> u32
 pub fn to_values(alloc: Global, words: &[u64]) -> Result<Vec<i64>, NoMemory>
     ensures { IfOk result (λ values. values.items ≡ map value_of words.now) }
 {
-    let mut values = Vec::new(alloc);
+    let mut values = Vec::with_capacity(alloc, words.len())?;
     for word in words {
         values.push(of_word(*word))?;
     }

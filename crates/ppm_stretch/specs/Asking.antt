@@ -11,7 +11,7 @@ use Rattle.ppm_step.specs.declared.frame.Home.{Home}
 use Rattle.ppm_step.specs.declared.row.Seat.{Seat}
 use Rattle.ppm_step.specs.Facts.{IsAddress}
 use Rattle.ppm_step.specs.Frames.{Rest, Loads, Full as FullRest, Breaks, asks, at_counter, rest_of}
-use Rattle.ppm_step.specs.Standings.{IsBroken, running}
+use Rattle.ppm_step.specs.Standings.{running}
 use Rattle.ppm_table.specs.declared.view.Opening.{Opening}
 use Rattle.ppm_table.specs.Run.{stands_by, deeds_in, Mine}
 use Rattle.ppm_stretch.specs.declared.way.Room.{Room}

@@ -100,8 +100,8 @@ fn fill_along<W: Watch>(
     ensures table { mine.new.table_id ≡ mine.old.table_id }
     ensures home { IsHome home.new }
     ensures few { result.made ≤ most }
-    ensures filled { HasFilled W.told words.now.shared.key shape.now code.now place.now home.new registers.new mine.old.me mine.new.me watch.old watch.new
-        most result.made result.end }
+    ensures filled { HasFilled W.told words.now.shared.key shape.now code.now place.now home.new registers.new
+        mine.old.me mine.new.me watch.old watch.new most result.made result.end }
 {
     let Some(found) = code.capsule(number) else {
         unreachable!()

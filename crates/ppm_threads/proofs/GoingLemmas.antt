@@ -18,7 +18,7 @@ use Rattle.ppm_choice.proofs.ParkLemmas.{stays_awake}
 use Rattle.ppm_table.specs.declared.view.Deed.{Deed}
 use Rattle.ppm_table.specs.declared.view.Deed.TheVariants.{Quitted}
 use Rattle.ppm_table.specs.declared.view.Opening.{Opening}
-use Rattle.ppm_table.specs.Run.{act_by, behind, stood, stands_by, deeds_in, Mine}
+use Rattle.ppm_table.specs.Run.{act_by, stood, stands_by, deeds_in, Mine}
 use Rattle.ppm_table.specs.Telling.{event_of_deed, shown, shown_by, Shows}
 use Rattle.ppm_table.proofs.TellingLemmas.{shown_both, since_is}
 use Rattle.ppm_stretch.specs.Steady.{looks_behind, Goes}

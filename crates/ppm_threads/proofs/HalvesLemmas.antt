@@ -74,6 +74,16 @@ module _ {W : Type 0} (told : W → Option (List Event)) (plan : Planned) (limit
     end_append h.1 y ps ws qs vs ps' ws' qs' vs' (omega (arith, e)) h.4 k,
   )
 
+  -- what two halves come to, by the lists that they are halves of
+  pub end_joined : (x y taken : Bool) (ps : List Processor) (ws : List W) (qs : List Processor) (vs : List W) (ps' : List Processor) (ws' : List W) (qs' : List Processor) (vs' : List W)
+      (processors : List Processor) (watch : List W) → length ps ≡ length ws → taken ≡ (x && y) → processors ≡ ps ++ ps' → watch ≡ ws ++ ws'
+      → AllEnd told plan limits s x ps ws qs vs → AllEnd told plan limits s y ps' ws' qs' vs' → AllEnd told plan limits s taken processors watch (qs ++ qs') (vs ++ vs')
+  end_joined x y taken ps ws qs vs ps' ws' qs' vs' processors watch e both halves watchers h k =
+      subst (λ (b : Bool). AllEnd told plan limits s b processors watch (qs ++ qs') (vs ++ vs')) (sym both)
+      (subst (λ (l : List Processor). AllEnd told plan limits s (x && y) l watch (qs ++ qs') (vs ++ vs')) (sym halves)
+      (subst (λ (l : List W). AllEnd told plan limits s (x && y) (ps ++ ps') l (qs ++ qs') (vs ++ vs')) (sym watchers)
+      (end_append x y ps ws qs vs ps' ws' qs' vs' e h k)))
+
   -- watchers behind the last processor stay
   pub end_rest : (x : Bool) (ps : List Processor) (ws : List W) (qs : List Processor) (vs rest : List W) → length ps ≡ length ws → AllEnd told plan limits s x ps ws qs vs → AllEnd told plan limits s x ps (ws ++ rest) qs (vs ++ rest)
   end_rest x ps ws qs vs rest e h =
@@ -81,6 +91,17 @@ module _ {W : Type 0} (told : W → Option (List Event)) (plan : Planned) (limit
       (subst (λ (l : List Processor). AllEnd told plan limits s x (ps ++ []) (ws ++ rest) l (vs ++ rest)) (append-nil qs)
       (subst (λ (b : Bool). AllEnd told plan limits s b (ps ++ []) (ws ++ rest) (qs ++ []) (vs ++ rest)) (sym (and_true x))
       (end_append x true ps ws qs vs [] rest [] rest e h (refl, refl))))
+
+  -- the same of vectors whose slices these were
+  pub end_lent : (x : Bool) (ps : List Processor) (ws : List W) (qs : List Processor) (vs rest : List W) (processors : List Processor) (watch : List W) (processors' : List Processor) (watch' : List W)
+      → length ps ≡ length ws → ps ≡ processors → ws ++ rest ≡ watch → processors' ≡ qs → watch' ≡ vs ++ rest
+      → AllEnd told plan limits s x ps ws qs vs → AllEnd told plan limits s x processors watch processors' watch'
+  end_lent x ps ws qs vs rest processors watch processors' watch' e old old_watch new new_watch h =
+      subst (λ (l : List Processor). AllEnd told plan limits s x l watch processors' watch') old
+      (subst (λ (l : List W). AllEnd told plan limits s x ps l processors' watch') old_watch
+      (subst (λ (l : List Processor). AllEnd told plan limits s x ps (ws ++ rest) l watch') (sym new)
+      (subst (λ (l : List W). AllEnd told plan limits s x ps (ws ++ rest) qs l) (sym new_watch)
+      (end_rest x ps ws qs vs rest e h))))
 
   pub end_lengths : (x : Bool) (ps : List Processor) (ws : List W) (qs : List Processor) (vs : List W) → AllEnd told plan limits s x ps ws qs vs → (length qs ≡ length ps) × (length vs ≡ length ws)
   end_lengths x [] ws [] vs h = (refl, ap length (sym h.0))

@@ -21,7 +21,7 @@ use Rattle.ppm_choice.proofs.ParkLemmas.{parks_where_it_rests}
 use Rattle.ppm_table.specs.declared.view.Deed.{Deed}
 use Rattle.ppm_table.specs.declared.view.Deed.TheVariants.{Quitted}
 use Rattle.ppm_table.specs.declared.view.Opening.{Opening}
-use Rattle.ppm_table.specs.Run.{behind, stood, stands_by}
+use Rattle.ppm_table.specs.Run.{stood, stands_by}
 use Rattle.ppm_table.proofs.TellingLemmas.{appended}
 use Rattle.ppm_table.specs.Telling.{event_of_deed}
 use Rattle.ppm_threads.specs.Going.{Grows, GaveUp, HasQuit, told_of_deeds, told_so_far, Resting, Acting}
