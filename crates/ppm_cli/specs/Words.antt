@@ -78,6 +78,10 @@ fitting_room processors words = if nat_le (processors * words) most_pool_words t
 abbrev pub room_given : ℕ → List Row → Option ℕ
 room_given processors rows = and_then (number_given room rows) (fitting_room processors)
 
+-- a command that has options and a text, if each has a value of its form
+abbrev pub with_text : {O : Type 0} → (O → Text → Command) → OptionRule → Option O → List Row → Option Command
+with_text make text options rows = and_then options (λ o. option_map (make o) (text_given text rows))
+
 -- the options of `run` but for its plan, if each has a value of its form
 abbrev pub run_options : List Row → Option RunOptions
 run_options rows =
@@ -93,7 +97,7 @@ run_options rows =
 
 -- the command `run` with its options and its plan
 abbrev pub run_in : List Row → Option Command
-run_in rows = and_then (run_options rows) (λ o. option_map (λ plan. commands.Run o plan) (text_given faults rows))
+run_in rows = with_text commands.Run faults (run_options rows) rows
 
 -- the command `serial` with its options
 abbrev pub serial_in : List Row → Option Command
@@ -111,7 +115,7 @@ replay_options rows =
 
 -- the command `replay` with its options and its schedule
 abbrev pub replay_in : List Row → Option Command
-replay_in rows = and_then (replay_options rows) (λ o. option_map (λ acts. commands.Replay o acts) (text_given schedule rows))
+replay_in rows = with_text commands.Replay schedule (replay_options rows) rows
 
 -- the command of this name, with the options in its matches
 abbrev pub command_named : Text → List Row → Option Command
