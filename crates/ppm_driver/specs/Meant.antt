@@ -1,5 +1,5 @@
 -- What runs of a program's machine come to, in the words of the program's serial meaning.
-use Rattle.std.specs.Prelude.{◌≡◌, ◌<◌, ◌≤◌, ℕ, ◌+◌, ◌*◌, ◌^◌, ℤ, List, [], Some, length}
+use Rattle.std.specs.Prelude.{◌≡◌, ◌<◌, ℕ, ◌+◌, ◌*◌, ◌^◌, ℤ, List, [], Some, length}
 use Rattle.std.specs.List.{AllByRecursion}
 use Rattle.ppm_strands.specs.Run.{End as CapsuleEnd}
 use Rattle.ppm_words.specs.declared.outcome.Outcome.{Outcome}
@@ -71,8 +71,8 @@ module _ (m : Situation) (turns : List Turn) where
 
   -- What holds behind these turns. No branch is taken twice. Where the finish word says an outcome the run ends as the program does, with the
   -- arrays of the words then, or this trap; where it says that a pool is full, the program takes more words; and that words are broken it
-  -- says only behind more work turns than a tag counts. All work turns are fewer than 256 for each capsule of the program's code and each
-  -- fault that strikes a row of work.
+  -- says only behind more than 2^34 work turns. All work turns are fewer than 256 for each capsule of the program's code and each fault that
+  -- strikes a row of work.
   pub record IsAsProgram (t : ProgramTree) : Type 0 where
     pub once : NoneIsTakenTwice
     pub ended : finish_of (finish_behind m turns) ≡ Some finishes.Ended
@@ -80,7 +80,7 @@ module _ (m : Situation) (turns : List Turn) where
     pub trapped : (trap : Trap) (line : ℕ) → finish_of (finish_behind m turns) ≡ Some (finishes.Trapped trap line)
         → EndsAsProgram t (outcome.Trapped trap line)
     pub unbroken : (place : ℕ) → finish_of (finish_behind m turns) ≡ Some (finishes.Broken place)
-        → 2 ^ 34 ≤ length (along m.shape m.code work_of m.state turns) + 1
+        → 2 ^ 34 < length (along m.shape m.code work_of m.state turns)
     pub work : NeedsMoreTurns t struck_in (length (along m.shape m.code work_of m.state turns))
     pub full : (place : ℕ) → finish_of (finish_behind m turns) ≡ Some (finishes.OutOfRoom place) → NeedsMoreRoom t m.shape.room
 

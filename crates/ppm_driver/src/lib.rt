@@ -4,11 +4,12 @@
 //! Contract: `replay_command` delivers the one answer of a text (`specs/Replays`); `run_command`, if
 //! it returns, one that it has: that of a run in which each processor obeys, of which its watcher was
 //! told (`specs/RunOf`, `specs/Runs`). What follows from each status: `specs/RunRows`,
-//! `specs/ReplayRows`.
+//! `specs/ReplayRows`; where turns and room are enough, the run ends (`specs/Completeness`).
 //! Stands on `ppm_threads`, `ppm_following`, `ppm_loading` and `ppm_answers`; `ppm_top` calls it. The
 //! schedules and limits and their rules are this project's.
 #![tactic(auto)]
 
+mod complete;
 mod meant;
 mod one_replay;
 mod one_run;
@@ -16,6 +17,7 @@ mod replay;
 mod run;
 mod saying;
 
+pub use complete::runs_complete;
 pub use meant::runs_are_as_programs;
 pub use one_replay::have_one_answer;
 pub use one_run::answers_are_one;

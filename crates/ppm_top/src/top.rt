@@ -15,7 +15,7 @@ use ppm_commands::{
 };
 use ppm_driver::{
     answers_are_one as runs_have_one_answer, have_one_answer as replays_have_one_answer,
-    replay_command, run_command, runs_are_as_programs,
+    replay_command, run_command, runs_are_as_programs, runs_complete,
 };
 use ppm_plan::have_one_answer as plans_have_one_answer;
 use ppm_ports::{Sink, Source, Watch};
@@ -54,6 +54,7 @@ pub fn ppm<R: Threads + Wait + Sync, S: Source, K: Sink, E: Sink, W: Watch>(
     // The rows rest on these laws; the calls do nothing.
     runs_have_one_answer();
     runs_are_as_programs();
+    runs_complete();
     outcomes_have_one_answer();
     codes_have_one_answer();
     codes_are_faithful();
