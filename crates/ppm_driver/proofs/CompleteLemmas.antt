@@ -18,7 +18,7 @@ use Rattle.ppm_answers.specs.declared.answer.Answer.{Answer}
 use Rattle.ppm_answers.specs.declared.answer.Answer.TheVariants as answers
 use Rattle.ppm_cli.specs.declared.run.RunOptions.{RunOptions}
 use Rattle.ppm_cli.specs.Words.{AreRun}
-use Rattle.ppm_loading.specs.Planned.{HasByItems, PlannedHas}
+use Rattle.ppm_loading.specs.Planned.{PlannedHas}
 use Rattle.ppm_driver.specs.Meant.{NeedsMoreRoom, NeedsMoreTurns, struck_in, RunsAreAsPrograms}
 use Rattle.ppm_driver.specs.Runs.{ProgramHas, TextHas, plan_of, limits_of}
 use Rattle.ppm_driver.specs.Strikes.{fault_count}
@@ -62,9 +62,6 @@ module _ (laws : Laws) (options : RunOptions) (are : AreRun options) (places : o
   same_items : (others : List PlanItem) → IsAccepted plan_form plan options.processors others → others ≡ items
   same_items others also = laws.plans.plans.items plan others items also.has accepted.has
 
-  abbrev Of : Answer → Type 0
-  Of a = HasByItems plan_form plan options.processors (TextHas options watching before now) text a
-
   ends : (a : Answer) → PlannedHas plan_form plan options.processors (TextHas options watching before now) text a → IsEnd a
   ends (answers.PlanRefused number) h = absurd (laws.plans.plans.apart plan options.processors items h.error h.of_text accepted h.refused)
   ends (answers.SourceRefused r) h = absurd ((laws.texts text).either r h.has t has)
@@ -75,7 +72,8 @@ module _ (laws : Laws) (options : RunOptions) (are : AreRun options) (places : o
       let spent = spent_has options watching before now h.items h.has.0 c p in
       let needs = run_needs_turns laws.runs text h.has.0 h.has.1 options places watching before now h.items c p spent.1 in
       let less = strikes_are_planned (plan_of options h.items) (limits_of options) p.start p.run.turns p.run.obey in
-      let counted : struck_in p.start p.run.turns ≤ fault_count items = subst (λ (l : List PlanItem). struck_in p.start p.run.turns ≤ fault_count l) (same_items h.items h.accepted) less in
+      let counted : struck_in p.start p.run.turns ≤ fault_count items =
+      subst (λ (l : List PlanItem). struck_in p.start p.run.turns ≤ fault_count l) (same_items h.items h.accepted) less in
       absurd (not_few t (fault_count items) (struck_in p.start p.run.turns) options.turns options.room counted enough
       (subst (λ (u : ProgramTree). NeedsMoreTurns u (struck_in p.start p.run.turns) options.turns) (same_tree h.has.0 h.has.1) needs))
   ends (answers.OutOfRoom place) h =

@@ -72,7 +72,8 @@ any_hard c turn (item ∷ items) e = by (is_at c turn item) refl (any_hard c tur
         → (b || list_any (is_at c turn) items) ≡ true
     by true is more = refl
     by false is more = elim (or_cases (is_hard_at c turn item) (list_any (is_hard_at c turn) items) e) [
-      | inl hard ↦ absurd (let z : true ≡ false = sym (hard_is (item.processor == c) (item.turn == turn) (is_hard item.fault) hard) ∙ is in cc)
+      | inl hard ↦ absurd (
+          let z : true ≡ false = sym (hard_is (item.processor == c) (item.turn == turn) (is_hard item.fault) hard) ∙ is in cc)
       | inr rest ↦ more rest
     ]
 
@@ -88,8 +89,10 @@ module _ (plan : Planned) (limits : Limits) (c : ℕ) where
       none : (b full : Bool) (v : ℕ) → one_if (is_fault (if full then Quit Turns else Step v)) ≤ one_if b
       none b full v = let z = free full v in omega (arith, z)
 
-      by : (less hard any : Bool) → list_any (is_hard_at c past.acts) plan.items ≡ hard → list_any (is_at c past.acts) plan.items ≡ any → (full : Bool) (v : ℕ)
-          → one_if (is_fault (faulted (if less then (if hard then Some faults.Hard else (if any then Some faults.Soft else None)) else None) (if full then Quit Turns else Step v))) ≤ one_if any
+      by : (less hard any : Bool) → list_any (is_hard_at c past.acts) plan.items ≡ hard → list_any (is_at c past.acts) plan.items ≡ any
+          → (full : Bool) (v : ℕ)
+          → one_if (is_fault (faulted (if less then (if hard then Some faults.Hard else (if any then Some faults.Soft else None)) else None)
+          (if full then Quit Turns else Step v))) ≤ one_if any
       by true true true h a full v = omega arith
       by true true false h a full v = absurd (let z : true ≡ false = sym (any_hard c past.acts plan.items h) ∙ a in cc)
       by true false true h a full v = omega arith
@@ -98,7 +101,9 @@ module _ (plan : Planned) (limits : Limits) (c : ℕ) where
 
   pub faults_planned : (past : Past) (deeds : List Deed) (stands : Standing) → Obeys plan limits c past deeds stands
       → faults_among deeds + sum past.acts (has_at plan.items c) ≤ sum (past.acts + length deeds) (has_at plan.items c)
-  faults_planned past [] stands obeys = let same : sum (past.acts + 0) (has_at plan.items c) ≡ sum past.acts (has_at plan.items c) = ap (λ (n : ℕ). sum n (has_at plan.items c)) (plus_none past.acts) in omega (arith, same)
+  faults_planned past [] stands obeys =
+      let same : sum (past.acts + 0) (has_at plan.items c) ≡ sum past.acts (has_at plan.items c) =
+      ap (λ (n : ℕ). sum n (has_at plan.items c)) (plus_none past.acts) in omega (arith, same)
     where
       plus_none : (n : ℕ) → n + 0 ≡ n
       plus_none n = omega arith
@@ -106,7 +111,8 @@ module _ (plan : Planned) (limits : Limits) (c : ℕ) where
       let next = behind (awake plan limits c past deed.stood) deed in
       let acts : next.acts ≡ suc past.acts = ap (λ (n : ℕ). n + 1) (awake_acts plan limits c past deed.stood) ∙ plus_one past.acts in
       let rest = faults_planned next deeds stands obeys.2 in
-      let here : sum next.acts (has_at plan.items c) ≡ has_at plan.items c past.acts + sum past.acts (has_at plan.items c) = ap (λ (n : ℕ). sum n (has_at plan.items c)) acts in
+      let here : sum next.acts (has_at plan.items c) ≡ has_at plan.items c past.acts + sum past.acts (has_at plan.items c) =
+      ap (λ (n : ℕ). sum n (has_at plan.items c)) acts in
       let there : sum (next.acts + length deeds) (has_at plan.items c) ≡ sum (past.acts + suc (length deeds)) (has_at plan.items c) =
       ap (λ (n : ℕ). sum n (has_at plan.items c)) (ap (λ (n : ℕ). n + length deeds) acts ∙ plus_suc past.acts (length deeds)) in
       let one = subst (λ (a : Act). one_if (is_fault a) ≤ has_at plan.items c past.acts) (sym obeys.1) (fault_planned past deed.stood) in
@@ -124,7 +130,11 @@ sum_most zero m f le = omega arith
 sum_most (suc n) zero f le = absurd (omega (arith, le))
 sum_most (suc n) (suc m) f le = elim (cases_lt n m) [
   | inl less ↦ let rest = sum_most (suc n) m f (omega (arith, less)) in omega (arith, rest)
-  | inr least ↦ let e : n ≡ m = omega (arith, le, least) in let same : sum n f ≡ sum m f = ap (λ (k : ℕ). sum k f) e in let one : f n ≡ f m = ap f e in omega (arith, same, one)
+  | inr least ↦
+      let e : n ≡ m = omega (arith, le, least) in
+      let same : sum n f ≡ sum m f = ap (λ (k : ℕ). sum k f) e in
+      let one : f n ≡ f m = ap f e in
+      omega (arith, same, one)
 ]
 
 -- Of all: the plan's faults, counted by processors and turns, are as many as it has.
@@ -146,7 +156,8 @@ module _ (p turn : ℕ) where
 
       by : (b : Bool) → (turn == n) ≡ b → sum n (λ at. one_if (true && (turn == at))) ≤ 1 → one_if b + sum n (λ at. one_if (true && (turn == at))) ≤ 1
       by false is le = omega (arith, le)
-      by true is le = let none = sum_same n (λ at. 0) (λ at. one_if (turn == at)) (λ at less. other at less (eqb-true turn n is)) in
+      by true is le =
+          let none = sum_same n (λ at. 0) (λ at. one_if (turn == at)) (λ at less. other at less (eqb-true turn n is)) in
           let zero_ = sum_zero n (λ at. 0) (λ at. refl) in omega (arith, none, zero_)
 
   places_one : (n : ℕ) → sum n (λ c. one_if (p == c)) ≤ 1
@@ -162,7 +173,8 @@ module _ (p turn : ℕ) where
 
       by : (b : Bool) → (p == n) ≡ b → sum n (λ c. one_if (p == c)) ≤ 1 → one_if b + sum n (λ c. one_if (p == c)) ≤ 1
       by false is le = omega (arith, le)
-      by true is le = let none = sum_same n (λ c. 0) (λ c. one_if (p == c)) (λ c less. other c less (eqb-true p n is)) in
+      by true is le =
+          let none = sum_same n (λ c. 0) (λ c. one_if (p == c)) (λ c less. other c less (eqb-true p n is)) in
           let zero_ = sum_zero n (λ c. 0) (λ c. refl) in omega (arith, none, zero_)
 
   pub here_once : (n m : ℕ) → sum n (λ c. sum m (λ at. one_if (here c at))) ≤ 1
@@ -188,7 +200,8 @@ planned_count (item ∷ items) n m = by (list_any (is_at item.processor item.tur
       where
         go : (a b : Bool) → (item.processor == c) ≡ a → (item.turn == at) ≡ b → one_if ((a && b) || list_any (is_at c at) items) ≤ has_at items c at
         go true true x y =
-            let there : list_any (is_at c at) items ≡ true = ap (λ (q : ℕ). list_any (is_at q at) items) (sym (eqb-true item.processor c x)) ∙ ap (λ (q : ℕ). list_any (is_at item.processor q) items) (sym (eqb-true item.turn at y)) ∙ is in
+            let there : list_any (is_at c at) items ≡ true = ap (λ (q : ℕ). list_any (is_at q at) items) (sym (eqb-true item.processor c x))
+            ∙ ap (λ (q : ℕ). list_any (is_at item.processor q) items) (sym (eqb-true item.turn at y)) ∙ is in
             let one : has_at items c at ≡ 1 = ap one_if there in
             omega (arith, one)
         go true false x y = omega arith
@@ -197,11 +210,13 @@ planned_count (item ∷ items) n m = by (list_any (is_at item.processor item.tur
     by : (b : Bool) → list_any (is_at item.processor item.turn) items ≡ b → sum n (λ c. sum m (has_at items c)) ≤ fault_count items
         → sum n (λ c. sum m (has_at (item ∷ items) c)) ≤ (if b then 0 else 1) + fault_count items
     by true is rest =
-        let le = sum_le n (λ c. sum m (has_at (item ∷ items) c)) (λ c. sum m (has_at items c)) (λ c less. sum_le m (has_at (item ∷ items) c) (has_at items c) (λ at few. again c at is)) in
+        let le = sum_le n (λ c. sum m (has_at (item ∷ items) c)) (λ c. sum m (has_at items c)) (λ c less.
+        sum_le m (has_at (item ∷ items) c) (has_at items c) (λ at few. again c at is)) in
         omega (arith, le, rest)
     by false is rest =
         let le = sum_le n (λ c. sum m (has_at (item ∷ items) c)) (λ c. sum m (has_at items c) + sum m (Here c)) (λ c less.
-        (let one = sum_le m (has_at (item ∷ items) c) (λ at. has_at items c at + Here c at) (λ at few. or_less (is_at c at item) (list_any (is_at c at) items)) in
+        (let one = sum_le m (has_at (item ∷ items) c) (λ at. has_at items c at + Here c at) (λ at few.
+        or_less (is_at c at item) (list_any (is_at c at) items)) in
         let two = sum_plus m (has_at items c) (Here c) in omega (arith, one, two))) in
         let two = sum_plus n (λ c. sum m (has_at items c)) (λ c. sum m (Here c)) in
         let once = here_once item.processor item.turn n m in
@@ -222,13 +237,15 @@ one_there p (suc n) b less = by (p == n) refl (one_there p n b)
 
 module _ (s : Shape) (code : CodeParts) where
   deeds_first : (c : ℕ) (state : State) (turn : Turn) (turns : List Turn)
-      → faults_among (deeds_of s code c state (turn ∷ turns)) ≡ one_if ((turn.processor == c) && is_fault turn.act) + faults_among (deeds_of s code c (happens s code state turn) turns)
+      → faults_among (deeds_of s code c state (turn ∷ turns))
+      ≡ one_if ((turn.processor == c) && is_fault turn.act) + faults_among (deeds_of s code c (happens s code state turn) turns)
   deeds_first c state turn turns = by (turn.processor == c)
     where
       rest : List Deed
       rest = deeds_of s code c (happens s code state turn) turns
 
-      by : (b : Bool) → faults_among ((if b then record { stood = stand_of state c; act = turn.act } ∷ [] else []) ++ rest) ≡ one_if (b && is_fault turn.act) + faults_among rest
+      by : (b : Bool) → faults_among ((if b then record { stood = stand_of state c; act = turn.act } ∷ [] else []) ++ rest)
+          ≡ one_if (b && is_fault turn.act) + faults_among rest
       by true = refl
       by false = omega arith
 
@@ -239,7 +256,8 @@ module _ (s : Shape) (code : CodeParts) where
       rest : List Deed
       rest = deeds_of s code c (happens s code state turn) turns
 
-      by : (b : Bool) → length rest ≤ length turns → length ((if b then record { stood = stand_of state c; act = turn.act } ∷ [] else []) ++ rest) ≤ suc (length turns)
+      by : (b : Bool) → length rest ≤ length turns
+          → length ((if b then record { stood = stand_of state c; act = turn.act } ∷ [] else []) ++ rest) ≤ suc (length turns)
       by true le = omega (arith, le)
       by false le = omega (arith, le)
 
@@ -251,23 +269,28 @@ module _ (s : Shape) (code : CodeParts) where
       let both = length-append (strikes_of state turn) (along s code strikes_of (happens s code state turn) turns) in
       let one = strike_faults turn.act (stand_of state turn.processor) turn.processor in
       let mine = one_there turn.processor n (is_fault turn.act) among.0.processor in
-      let all = sum_same n (λ c. one_if ((turn.processor == c) && is_fault turn.act) + faults_among (deeds_of s code c (happens s code state turn) turns))
+      let all = sum_same n
+      (λ c. one_if ((turn.processor == c) && is_fault turn.act) + faults_among (deeds_of s code c (happens s code state turn) turns))
       (λ c. faults_among (deeds_of s code c state (turn ∷ turns))) (λ c less. deeds_first c state turn turns) in
-      let two = sum_plus n (λ c. one_if ((turn.processor == c) && is_fault turn.act)) (λ c. faults_among (deeds_of s code c (happens s code state turn) turns)) in
+      let two = sum_plus n (λ c. one_if ((turn.processor == c) && is_fault turn.act))
+      (λ c. faults_among (deeds_of s code c (happens s code state turn) turns)) in
       omega (arith, rest, both, one, mine, all, two)
 
 pub strikes_are_planned : StrikesArePlanned
 strikes_are_planned plan limits m turns obey =
-    let n = m.shape.processors in
-    let few = strikes_within m.shape m.code m.shape.processors m.state turns (recursion_from_All (IsTurnAmong m.shape.processors) turns obey.among) in
-    let each = sum_le m.shape.processors (λ c. faults_among (deeds_of m.shape m.code c m.state turns)) (λ c. sum (length turns) (has_at plan.items c)) (λ c less.
-    (let some = faults_planned plan limits c nothing_done (deeds_of m.shape m.code c m.state turns) (stand_of (after m.shape m.code m.state turns) c) (obey.obeys c less) in
-    let more = sum_most (length (deeds_of m.shape m.code c m.state turns)) (length turns) (has_at plan.items c) (deeds_few m.shape m.code c m.state turns) in
-    let same : sum (0 + length (deeds_of m.shape m.code c m.state turns)) (has_at plan.items c) ≡ sum (length (deeds_of m.shape m.code c m.state turns)) (has_at plan.items c) =
-    ap (λ (k : ℕ). sum k (has_at plan.items c)) (none_plus (length (deeds_of m.shape m.code c m.state turns))) in
+    let few = strikes_within m.shape m.code m.shape.processors m.state turns
+    (recursion_from_All (IsTurnAmong m.shape.processors) turns obey.among) in
+    let each = sum_le m.shape.processors (λ c. faults_among (deeds c)) (λ c. sum (length turns) (has_at plan.items c)) (λ c less.
+    (let some = faults_planned plan limits c nothing_done (deeds c) (stand_of (after m.shape m.code m.state turns) c) (obey.obeys c less) in
+    let more = sum_most (length (deeds c)) (length turns) (has_at plan.items c) (deeds_few m.shape m.code c m.state turns) in
+    let same : sum (0 + length (deeds c)) (has_at plan.items c) ≡ sum (length (deeds c)) (has_at plan.items c) =
+    ap (λ (k : ℕ). sum k (has_at plan.items c)) (none_plus (length (deeds c))) in
     omega (arith, some, more, same))) in
     let count = planned_count plan.items m.shape.processors (length turns) in
     omega (arith, few, each, count)
   where
+    deeds : ℕ → List Deed
+    deeds c = deeds_of m.shape m.code c m.state turns
+
     none_plus : (n : ℕ) → 0 + n ≡ n
     none_plus n = omega arith
