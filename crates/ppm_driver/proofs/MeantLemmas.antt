@@ -1,6 +1,6 @@
 -- With takeover by places runs end as their programs do. What the machine begins with is what the depth-first run of the program's code does
 -- (`ShowsTheRun`), and that code is sound: so an outcome of the run is the depth-first run's, and that is the program's.
-use Rattle.std.proofs.Common.{◌≡◌, ℕ, ◌+◌, ◌^◌, ◌≤◌, List, [], ◌∷◌, length, map, Some, refl, sym, ap, ap₂, ◌∙◌, subst, arith, inl, inr}
+use Rattle.std.proofs.Common.{◌≡◌, ℕ, ◌+◌, ◌^◌, ◌<◌, ◌≤◌, List, [], ◌∷◌, length, map, Some, refl, sym, ap, ap₂, ◌∙◌, subst, arith, inl, inr}
 use Rattle.std.proofs.lemmas.Bool.{cases_lt}
 use Rattle.std.specs.List.{AllByRecursion, sum}
 use Rattle.ppm_strands.specs.Tree.{Words, Tree, Code}
@@ -236,14 +236,14 @@ module _ (laws : Laws) (text : List ℕ) (t : ProgramTree) (has : HasProgram tex
           let words_are = e.2.pool_words in
           omega (arith, less, words_are)
 
-      -- words are broken only behind more work turns than a tag counts
-      breaks : sizes.takeover ≡ ByPlaces → (place : ℕ) → Says (finishes.Broken place) → 2 ^ 34 ≤ length (along s code work_of (opening words s.processors) turns) + 1
+      -- words are broken only behind more than 2^34 work turns
+      breaks : sizes.takeover ≡ ByPlaces → (place : ℕ) → Says (finishes.Broken place) → 2 ^ 34 < length (along s code work_of (opening words s.processors) turns)
       breaks places place says =
           let count = works_are s code (opening words s.processors) turns in
-          elim (cases_lt (length (along s code work_of (opening words s.processors) turns) + 1) (2 ^ 34)) [
-            | inl few ↦ absurd ((laws.whole code input s keeper b.image (b.sized.takeover ∙ places) fair opened calm turns among
+          elim (cases_lt (2 ^ 34) (length (along s code work_of (opening words s.processors) turns))) [
+            | inl many ↦ many
+            | inr few ↦ absurd ((laws.whole code input s keeper b.image (b.sized.takeover ∙ places) fair opened calm turns among
                 (omega (arith, few, count))).finish (finishes.Broken place) says)
-            | inr many ↦ many
           ]
 
       -- the work of all turns is within its bound

@@ -1,6 +1,7 @@
 -- What rows say of runs and replays that end: with takeover by places they end as their programs do.
 use Rattle.std.proofs.Common.{◌≡◌, ◌<◌, ◌≤◌, ◌+◌, ◌*◌, ◌^◌, ℕ, List, [], length, Some, refl, sym, ap, ◌∙◌, subst, arith}
 use Rattle.std.proofs.lemmas.List.Elements.{recursion_from_All}
+use Rattle.std.proofs.lemmas.Nat.{mul-le}
 use Rattle.ppm_words.specs.declared.named_array.NamedArray.{NamedArray}
 use Rattle.ppm_words.specs.declared.outcome.Outcome.TheVariants as outcome
 use Rattle.ppm_words.specs.declared.trap.Trap.{Trap}
@@ -8,7 +9,8 @@ use Rattle.ppm_ports.specs.Outside.{ToldLists}
 use Rattle.ppm_cells.specs.declared.finish.Finish.{Finish}
 use Rattle.ppm_cells.specs.declared.finish.Finish.TheVariants as finishes
 use Rattle.ppm_cells.specs.declared.shape.Shape.{Shape}
-use Rattle.ppm_cells.specs.declared.shape.Takeover.TheVariants.{ByPlaces}
+use Rattle.ppm_cells.specs.declared.shape.Takeover.{Takeover}
+use Rattle.ppm_cells.specs.declared.shape.Takeover.TheVariants.{ByPlaces, ByEntries}
 use Rattle.ppm_plan.specs.declared.plan_item.PlanItem.{PlanItem}
 use Rattle.ppm_plan.specs.declared.schedule_item.ScheduleItem.{ScheduleItem}
 use Rattle.ppm_plan.specs.Forms.{schedule_form}
@@ -28,6 +30,7 @@ use Rattle.ppm_answers.specs.declared.answer.Answer.TheVariants as answers
 use Rattle.ppm_answers.specs.declared.tally.Tally.{Tally}
 use Rattle.ppm_cli.specs.declared.run.RunOptions.{RunOptions}
 use Rattle.ppm_cli.specs.declared.replay.ReplayOptions.{ReplayOptions}
+use Rattle.ppm_cli.specs.Words.{AreReplayed, AreRun}
 use Rattle.ppm_following.specs.Followed.{followed}
 use Rattle.ppm_driver.specs.Meant.{NeedsMoreRoom, NeedsMoreTurns, struck_in, NoneIsTakenTwice, EachIsTakenOnce, EndsAsProgram, IsAsProgram, IsWithinProgram, RunsAreAsPrograms}
 use Rattle.ppm_driver.specs.RunOf.{words_behind, finish_behind}
@@ -146,8 +149,17 @@ no_other_broken turns place e = cc
 no_other_room : (turns place : ℕ) → answers.OutOfRoom place ≡ answers.Unfinished turns → ⊥
 no_other_room turns place e = cc
 
-past_most : {some most : ℕ} → 2 ^ 34 ≤ some + 1 → some ≤ most → 2 ^ 34 ≤ most + 1
-past_most many few = omega (arith, many, few)
+past_most : {some most : ℕ} → 2 ^ 34 < some → some ≤ most → most ≤ 2 ^ 34 → ⊥
+past_most many few most = omega (arith, many, few, most)
+
+-- a takeover that isn't by places
+pub other_takeover : (how : Takeover) → (how ≡ ByPlaces → ⊥) → how ≡ ByEntries
+other_takeover ByPlaces not = absurd (not refl)
+other_takeover ByEntries not = refl
+
+-- in their ranges so many processors make no more work turns of all than tags can count
+few_turns : (processors turns : ℕ) → processors ≤ 64 → turns ≤ 268435456 → processors * turns ≤ 2 ^ 34
+few_turns processors turns few most = let all = mul-le processors turns 64 268435456 few most in omega (arith, all)
 
 module _ (law : RunsAreAsPrograms) (text : List ℕ) (t : ProgramTree) (has : HasProgram text t) where
   -- of `run`
@@ -155,7 +167,7 @@ module _ (law : RunsAreAsPrograms) (text : List ℕ) (t : ProgramTree) (has : Ha
     abbrev Has : Answer → Type 0
     Has a = runs.ProgramHas options watching before now items t a
 
-    run_is : (a : Answer) (h : Has a) → IsAsProgram h.start h.run.turns t × (options.takeover ≡ ByPlaces → IsWithinProgram h.start h.run.turns t)
+    pub run_is : (a : Answer) (h : Has a) → IsAsProgram h.start h.run.turns t × (options.takeover ≡ ByPlaces → IsWithinProgram h.start h.run.turns t)
     run_is a h =
         law text t has (runs.sizes_of options) h.keeper h.start h.opens h.run.turns
         (recursion_from_All (IsTurnAmong h.start.shape.processors) h.run.turns h.run.obey.among)
@@ -187,9 +199,9 @@ module _ (law : RunsAreAsPrograms) (text : List ℕ) (t : ProgramTree) (has : Ha
         subst (NeedsMoreRoom t) (opens_room (runs.sizes_of options) (code_of t) (initial_arrays t) h.keeper h.start h.opens)
         ((run_is (answers.OutOfRoom place) h).0.full place (k.1 ∙ ap (λ (f : Finish). Some f) e))
 
-    -- with so many work turns that tags could not count them
-    pub run_many : options.takeover ≡ ByPlaces → (place : ℕ) (h : Has (answers.Broken place)) → 2 ^ 34 ≤ options.processors * options.turns + 1
-    run_many places place h =
+    -- with takeover by places and options in their ranges it is never that words are broken
+    pub run_unbroken : options.takeover ≡ ByPlaces → AreRun options → (place : ℕ) → Has (answers.Broken place) → ⊥
+    run_unbroken places are place h =
         let w = words_behind h.start h.run.turns in
         let k = said_of_word answers.Ended answers.Trapped (λ processor x. x ≡ answers.OutOfTurns processor) (λ x. ⊥) h.start.shape
         h.start.array_lengths w (initial_arrays t) (finish_behind h.start h.run.turns) (answers.Broken place) (λ none. none) h.run.says in
@@ -197,9 +209,8 @@ module _ (law : RunsAreAsPrograms) (text : List ℕ) (t : ProgramTree) (has : Ha
         let many = ((run_is (answers.Broken place) h).1 places).unbroken place (k.1 ∙ ap (λ (f : Finish). Some f) e) in
         let most = obeyed_work h.start.shape h.start.code (runs.plan_of options items) (runs.limits_of options) h.start.state h.run.turns h.run.obey
         (recursion_from_All (IsTurnAmong h.start.shape.processors) h.run.turns h.run.obey.among) in
-        subst (λ (n : ℕ). 2 ^ 34 ≤ n * options.turns + 1)
-        (opens_processors (runs.sizes_of options) (code_of t) (initial_arrays t) h.keeper h.start h.opens)
-        (past_most many most)
+        let count = opens_processors (runs.sizes_of options) (code_of t) (initial_arrays t) h.keeper h.start h.opens in
+        past_most many most (subst (λ (n : ℕ). n * options.turns ≤ 2 ^ 34) (sym count) (few_turns options.processors options.turns are.0.1 are.1.1))
 
     -- what one processor made of its turns is within the work of all
     pub run_needs_turns : options.takeover ≡ ByPlaces → (c : ℕ) (h : Has (answers.OutOfTurns c))
@@ -222,7 +233,7 @@ module _ (law : RunsAreAsPrograms) (text : List ℕ) (t : ProgramTree) (has : Ha
     abbrev turns_in : Situation → List Turn
     turns_in m = schedule_turns m.shape m.code m.state items options.turns
 
-    replay_is : (a : Answer) (h : HasReplay a) → IsAsProgram h.start (turns_in h.start) t × (options.takeover ≡ ByPlaces → IsWithinProgram h.start (turns_in h.start) t)
+    pub replay_is : (a : Answer) (h : HasReplay a) → IsAsProgram h.start (turns_in h.start) t × (options.takeover ≡ ByPlaces → IsWithinProgram h.start (turns_in h.start) t)
     replay_is a h =
         law text t has (replays.sizes_of options) h.keeper h.start h.opens (turns_in h.start)
         (scheduled_among h.start.shape h.start.code (some h) schedule options.processors items (count h) accepted h.start.state options.turns)
@@ -282,15 +293,15 @@ module _ (law : RunsAreAsPrograms) (text : List ℕ) (t : ProgramTree) (has : Ha
         subst (NeedsMoreRoom t) (opens_room (replays.sizes_of options) (code_of t) (initial_arrays t) h.keeper h.start h.opens)
         ((replay_is (answers.OutOfRoom place) h).0.full place (k.1 ∙ ap (λ (f : Finish). Some f) e))
 
-    pub replay_many : options.takeover ≡ ByPlaces → (place : ℕ) (h : HasReplay (answers.Broken place)) → 2 ^ 34 ≤ options.turns + 1
-    replay_many places place h =
+    pub replay_unbroken : options.takeover ≡ ByPlaces → AreReplayed options → (place : ℕ) → HasReplay (answers.Broken place) → ⊥
+    replay_unbroken places are place h =
         let m = last h.start in
         let k = said_of_word (λ values. answers.EndedWith values (tally_of m)) (λ trap line. answers.TrappedWith trap line (tally_of m))
         (λ processor x. ⊥) (λ x. x ≡ answers.Unfinished options.turns) m.shape m.array_lengths m.state.words (initial_arrays t) (finish_in m)
         (answers.Broken place) (no_other_broken options.turns place) h.says in
         let e = broken_replay m.shape m.array_lengths m.state.words (initial_arrays t) options.turns (tally_of m) k.0 place k.2 in
         let many = ((replay_is (answers.Broken place) h).1 places).unbroken place (k.1 ∙ ap (λ (f : Finish). Some f) e) in
-        past_most many (scheduled_work h.start.shape h.start.code h.start.state items options.turns)
+        past_most many (scheduled_work h.start.shape h.start.code h.start.state items options.turns) (let few = are.1.1 in omega (arith, few))
 
     pub replay_once : (a : Answer) (h : HasReplay a) → NoneIsTakenTwice h.start (turns_in h.start)
     replay_once a h = (replay_is a h).0.once

@@ -15,16 +15,17 @@ use Rattle.ppm_answers.specs.Rows.{PlannedRows, ReadOrRefused}
 use Rattle.ppm_answers.specs.Statuses.{status_of}
 use Rattle.ppm_answers.proofs.RowsLemmas as rows_lemmas
 use Rattle.ppm_cli.specs.declared.replay.ReplayOptions.{ReplayOptions}
+use Rattle.ppm_cli.specs.Words.{AreReplayed}
 use Rattle.ppm_loading.specs.MachineRows.{RefusesPlan}
 use Rattle.ppm_driver.specs.Meant.{RunsAreAsPrograms}
 use Rattle.ppm_loading.specs.Planned.{IsRefusedBy, HasByItems}
 use Rattle.ppm_driver.specs.Replays.{TextHas, ReplayMay, HaveOneAnswer}
 use Rattle.ppm_driver.specs.ReplayRows.{HasRead, WritesUnfinished, ReplaySays, ReplayRows}
-use Rattle.ppm_driver.proofs.MeantRows.{replay_ends, replay_traps, replay_needs, replay_many, replay_once}
+use Rattle.ppm_driver.proofs.MeantRows.{replay_is, replay_ends, replay_traps, replay_needs, replay_unbroken, replay_once, other_takeover}
 use Rattle.ppm_loading.proofs.PlannedLemmas as planned
 use Rattle.ppm_driver.proofs.ReplayLemmas.{of_program, filled_has}
 
-module _ (law : RunsAreAsPrograms) (options : ReplayOptions) (schedule : List ℕ) (o : Ports) where
+module _ (law : RunsAreAsPrograms) (options : ReplayOptions) (are : AreReplayed options) (schedule : List ℕ) (o : Ports) where
   abbrev Read : Port → Answer → Type 0
   Read source answer = ReadOrRefused (IsRefusedBy schedule_form schedule options.processors)
       (HasByItems schedule_form schedule options.processors (TextHas options)) text_limit source answer
@@ -83,7 +84,8 @@ module _ (law : RunsAreAsPrograms) (options : ReplayOptions) (schedule : List �
   }
   by (answers.Broken place) h w = record {
     broken = (place, of_program options h.2.items h.2.has.0 (answers.Broken place) h.2.has.2, h, w.err_takes.0);
-    many = λ places. replay_many law h.0 h.2.has.0 h.2.has.1 options schedule h.2.items h.2.accepted places place h.2.has.2;
+      by = other_takeover options.takeover (λ places.
+          replay_unbroken law h.0 h.2.has.0 h.2.has.1 options schedule h.2.items h.2.accepted places are place h.2.has.2);
   }
   by answer h w = absurd (of_program options h.2.items h.2.has.0 answer h.2.has.2)
 
@@ -110,4 +112,5 @@ module _ (law : RunsAreAsPrograms) (options : ReplayOptions) (schedule : List �
       shown = λ all e well answer h.
           let k = (planned_rows plans one).rows.known all e well in
           subst (λ (x : Answer). IsWritten o.out o.err x status) (one.one options schedule all k.0 answer k.1 h) k.2;
+      meant = λ items accepted text t has answer h. (replay_is law text t has options schedule items accepted answer h).0;
     }

@@ -1,5 +1,5 @@
 -- The rows of `run`.
-use Rattle.std.proofs.Common.{◌≡◌, ℕ, List, subst}
+use Rattle.std.proofs.Common.{◌≡◌, ◌∙◌, ℕ, List, [], ◌∷◌, inl, inr, refl, sym, subst}
 use Rattle.ppm_ports.specs.Ports.{Port}
 use Rattle.ppm_ports.specs.Outside.{Outside, ports_of}
 use Rattle.ppm_text.specs.Limits.{text_limit}
@@ -11,21 +11,24 @@ use Rattle.ppm_answers.specs.declared.status.Status.{Status}
 use Rattle.ppm_answers.specs.declared.status.Status.TheVariants as statuses
 use Rattle.ppm_answers.specs.Delivery.{IsWritten}
 use Rattle.ppm_answers.specs.Reading.{DeliversAnswer}
-use Rattle.ppm_answers.specs.Rows.{PlannedRows, ReadOrRefused, IsShown}
+use Rattle.ppm_answers.specs.Rows.{PlannedRows, ReadOrRefused, IsShown, IsOneOf}
 use Rattle.ppm_answers.specs.Statuses.{status_of}
 use Rattle.ppm_answers.proofs.RowsLemmas.{SaysOfPorts}
 use Rattle.ppm_answers.proofs.RowsLemmas as rows_lemmas
 use Rattle.ppm_cli.specs.declared.run.RunOptions.{RunOptions}
+use Rattle.ppm_cli.specs.Words.{AreRun}
 use Rattle.ppm_loading.specs.MachineRows.{RefusesPlan}
 use Rattle.ppm_driver.specs.Meant.{RunsAreAsPrograms}
 use Rattle.ppm_loading.specs.Planned.{IsRefusedBy, HasByItems}
-use Rattle.ppm_driver.specs.Runs.{RunHas, RunMay, AnswersAreOne, FrontsDecideAnswers}
-use Rattle.ppm_driver.specs.RunRows.{Has, RunSays, RunRows}
-use Rattle.ppm_driver.proofs.MeantRows.{run_ends, run_traps, run_needs, run_needs_turns, run_many, run_once}
+use Rattle.ppm_driver.specs.Runs.{RunHas, RunMay, plan_of, limits_of, AnswersAreOne, FrontsDecideAnswers}
+use Rattle.ppm_driver.specs.Completeness.{IsEnd, RunsComplete}
+use Rattle.ppm_driver.specs.RunRows.{Has, RunSays, Completes, RunRows}
+use Rattle.ppm_driver.proofs.MeantRows.{run_is, run_ends, run_traps, run_needs, run_needs_turns, run_unbroken, run_once, other_takeover}
 use Rattle.ppm_loading.proofs.PlannedLemmas as planned
 use Rattle.ppm_driver.proofs.RunLemmas.{of_program, spent_has, filled_has, run_forgets}
+use Rattle.ppm_driver.proofs.StrikeLemmas.{strikes_are_planned}
 
-module _ (law : RunsAreAsPrograms) (options : RunOptions) (watching : ℕ) (plan : List ℕ) (o : Outside) where
+module _ (law : RunsAreAsPrograms) (options : RunOptions) (are : AreRun options) (watching : ℕ) (plan : List ℕ) (o : Outside) where
   abbrev Read : Port → Answer → Type 0
   Read source answer = ReadOrRefused (IsRefusedBy plan_form plan options.processors)
       (HasByItems plan_form plan options.processors (Has options watching plan o)) text_limit source answer
@@ -60,8 +63,9 @@ module _ (law : RunsAreAsPrograms) (options : RunOptions) (watching : ℕ) (plan
     needs = λ places.
         run_needs_turns law h.0 h.2.has.0 h.2.has.1 options watching o.told_before o.told_now h.2.items places processor h.2.has.2
         (spent_has options watching o.told_before o.told_now h.2.items h.2.has.0 processor h.2.has.2).1;
-    once =
-        run_once law h.0 h.2.has.0 h.2.has.1 options watching o.told_before o.told_now h.2.items (answers.OutOfTurns processor) h.2.has.2;
+      struck = strikes_are_planned (plan_of options h.2.items) (limits_of options) h.2.has.2.start h.2.has.2.run.turns h.2.has.2.run.obey;
+      once =
+          run_once law h.0 h.2.has.0 h.2.has.1 options watching o.told_before o.told_now h.2.items (answers.OutOfTurns processor) h.2.has.2;
     gets = w.err_takes.0;
   }
   by (answers.OutOfRoom place) h w = record {
@@ -84,7 +88,8 @@ module _ (law : RunsAreAsPrograms) (options : RunOptions) (watching : ℕ) (plan
           h,
           w.err_takes.0,
         );
-        many = λ places. run_many law h.0 h.2.has.0 h.2.has.1 options watching o.told_before o.told_now h.2.items places place h.2.has.2;
+        by = other_takeover options.takeover (λ places.
+            run_unbroken law h.0 h.2.has.0 h.2.has.1 options watching o.told_before o.told_now h.2.items places are place h.2.has.2);
       }
   by answer h w = absurd (of_program options watching o.told_before o.told_now h.2.items h.2.has.0 answer h.2.has.2)
 
@@ -114,5 +119,22 @@ module _ (law : RunsAreAsPrograms) (options : RunOptions) (watching : ℕ) (plan
         subst (λ (x : Answer). IsWritten o.out o.err x status)
         (one options plan alone all k.0 answer (run_forgets options watching o.told_before o.told_now plan all k.0 k.1) h) k.2
 
-    pub run_rows : PlansHaveOneAnswer → AnswersAreOne → FrontsDecideAnswers → RunRows options watching plan o status
-    run_rows plans one fronts = record { rows = planned_rows plans fronts; shown = shown (planned_rows plans fronts) one }
+    -- what is known to end is written with the status of an end
+    ended : (answer : Answer) → IsEnd answer → status ≡ status_of answer → IsOneOf status (statuses.Ended ∷ statuses.Trapped ∷ [])
+    ended (answers.Ended arrays) is own = inl own
+    ended (answers.Trapped trap line) is own = inr (inl own)
+    ended _ is own = absurd is
+
+    completes : Rows → RunsComplete → Completes options watching plan o status
+    completes rows complete places items accepted all e t has enough well =
+        let k = rows.rows.known all e well in
+        ended k.0 (complete options are places plan items accepted all t has enough watching o.told_before o.told_now k.0 k.1) k.2.own
+
+    pub run_rows : PlansHaveOneAnswer → AnswersAreOne → FrontsDecideAnswers → RunsComplete → RunRows options watching plan o status
+    run_rows plans one fronts complete = record {
+      rows = planned_rows plans fronts;
+      shown = shown (planned_rows plans fronts) one;
+      meant = λ items text t has answer h.
+          (run_is law text t has options watching o.told_before o.told_now items answer h).0;
+      completes = completes (planned_rows plans fronts) complete;
+    }

@@ -2,6 +2,8 @@ pub mod Watchers
 pub mod RunOf
 pub mod Meant
 pub mod Runs
+pub mod Strikes
+pub mod Completeness
 pub mod RunRows
 pub mod Replays
 pub mod ReplayRows

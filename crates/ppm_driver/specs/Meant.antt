@@ -1,5 +1,5 @@
 -- What runs of a program's machine come to, in the words of the program's serial meaning.
-use Rattle.std.specs.Prelude.{◌≡◌, ◌<◌, ◌≤◌, ℕ, ◌+◌, ◌*◌, ◌^◌, ℤ, List, [], Some, length}
+use Rattle.std.specs.Prelude.{◌≡◌, ◌<◌, ℕ, ◌+◌, ◌*◌, ◌^◌, ℤ, List, [], Some, length}
 use Rattle.std.specs.List.{AllByRecursion}
 use Rattle.ppm_strands.specs.Run.{End as CapsuleEnd}
 use Rattle.ppm_words.specs.declared.outcome.Outcome.{Outcome}
@@ -79,11 +79,11 @@ module _ (m : Situation) (turns : List Turn) where
         → EndsAsProgram t (outcome.Trapped trap line)
     pub full : (place : ℕ) → finish_of (finish_behind m turns) ≡ Some (finishes.OutOfRoom place) → NeedsMoreRoom t m.shape.room
 
-  -- How much work a run takes. That words are broken the finish word says only behind more work turns than a tag counts. All work turns are
+  -- How much work a run takes. That words are broken the finish word says only behind more than 2^34 work turns. All work turns are
   -- fewer than 256 for each capsule of the program's code and each fault that strikes a row of work.
   pub record IsWithinProgram (t : ProgramTree) : Type 0 where
     pub unbroken : (place : ℕ) → finish_of (finish_behind m turns) ≡ Some (finishes.Broken place)
-        → 2 ^ 34 ≤ length (along m.shape m.code work_of m.state turns) + 1
+        → 2 ^ 34 < length (along m.shape m.code work_of m.state turns)
     pub work : NeedsMoreTurns t struck_in (length (along m.shape m.code work_of m.state turns))
 
 -- From the machine with which a run of a text's program begins, whatever the turns are that its processors make, and in whatever order, faults

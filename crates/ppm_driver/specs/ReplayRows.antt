@@ -1,13 +1,16 @@
 -- What follows from each status of `replay`.
-use Rattle.std.specs.Prelude.{◌≡◌, ℕ, ◌<◌, ◌≤◌, ◌+◌, ◌^◌, List, ◌++◌}
+use Rattle.std.specs.Prelude.{◌≡◌, ℕ, ◌<◌, List, ◌++◌}
 use Rattle.ppm_words.specs.declared.named_array.NamedArray.{NamedArray}
 use Rattle.ppm_words.specs.declared.outcome.Outcome.TheVariants as outcome
 use Rattle.ppm_words.specs.declared.trap.Trap.{Trap}
-use Rattle.ppm_cells.specs.declared.shape.Takeover.TheVariants.{ByPlaces}
+use Rattle.ppm_cells.specs.declared.shape.Takeover.TheVariants.{ByPlaces, ByEntries}
 use Rattle.ppm_ports.specs.Ports.{Gets}
 use Rattle.ppm_ports.specs.Outside.{Ports}
 use Rattle.ppm_text.specs.Limits.{text_limit}
 use Rattle.ppm_plan.specs.Forms.{schedule_form}
+use Rattle.ppm_plan.specs.Refusals.{IsAccepted}
+use Rattle.ppm_tree.specs.Tree.{ProgramTree}
+use Rattle.ppm_program.specs.Programs.{HasProgram}
 use Rattle.ppm_answers.specs.declared.tally.Tally.{Tally}
 use Rattle.ppm_answers.specs.declared.answer.Answer.{Answer}
 use Rattle.ppm_answers.specs.declared.answer.Answer.TheVariants as answers
@@ -23,9 +26,9 @@ use Rattle.ppm_choice.specs.Schedules.{schedule_turns}
 use Rattle.ppm_loading.specs.MachineRows as machine
 use Rattle.ppm_core.specs.Situation.{Situation}
 use Rattle.ppm_plan.specs.declared.schedule_item.ScheduleItem.{ScheduleItem}
-use Rattle.ppm_driver.specs.Meant.{NeedsMoreRoom, NoneIsTakenTwice, EndsAsProgram}
+use Rattle.ppm_driver.specs.Meant.{NeedsMoreRoom, NoneIsTakenTwice, EndsAsProgram, IsAsProgram}
 use Rattle.ppm_loading.specs.Planned.{IsRefusedBy, HasByItems}
-use Rattle.ppm_driver.specs.Replays.{ReplayHas, ReplayMay, TextHas}
+use Rattle.ppm_driver.specs.Replays.{ProgramHas, ReplayHas, ReplayMay, TextHas}
 
 module _ (options : ReplayOptions) (schedule : List ℕ) (o : Ports) where
   -- the text that was read has this answer, with these options and this schedule
@@ -92,11 +95,10 @@ module _ (options : ReplayOptions) (schedule : List ℕ) (o : Ports) where
     pub once : IsOnce read.2.has.2.start read.2.items
     pub gets : Gets o.err (room_text place)
 
-  -- the words are broken at a place, and err got exactly the line that says so; with takeover by places only where more acts may be made than
-  -- a tag counts
+  -- the words are broken at a place, and err got exactly the line that says so: with takeover by places this never comes
   pub record WritesBroken : Type 0 where
     pub broken : machine.WritesBroken schedule_form schedule options.processors (TextHas options) o
-    pub many : options.takeover ≡ ByPlaces → 2 ^ 34 ≤ options.turns + 1
+    pub by : options.takeover ≡ ByEntries
 
   -- what each status says
   abbrev pub ReplaySays : Status → Type 0
@@ -109,11 +111,18 @@ module _ (options : ReplayOptions) (schedule : List ℕ) (o : Ports) where
   ReplaySays statuses.Broken = WritesBroken
   ReplaySays status = PortsSay o status
 
-  -- The rows of `replay` with such options and such a schedule. The answer that a text has is written, whichever it is.
+  -- each replay that an answer is of is as its program, at each status: also where the answer's text failed
+  abbrev pub AreAsPrograms : Type 0
+  AreAsPrograms = (items : List ScheduleItem) → IsAccepted schedule_form schedule options.processors items
+      → (text : List ℕ) (t : ProgramTree) → HasProgram text t → (answer : Answer) (h : ProgramHas options items t answer)
+      → IsAsProgram h.start (turns_by h.start items) t
+
+  -- The rows of `replay` with such options, in their ranges, and such a schedule. The answer that a text has is written, whichever it is.
   pub record ReplayRows (status : Status) : Type 0 where
     pub rows : PlannedRows (IsRefusedBy schedule_form schedule options.processors)
         (HasByItems schedule_form schedule options.processors (TextHas options)) text_limit ReplaySays o status
     pub shown : IsShown (ReplayHas options schedule) o status
+    pub meant : AreAsPrograms
 
 -- a replay with such options and such a schedule is done: an answer that may come was delivered, and its rows hold
 abbrev pub IsReplayed : ReplayOptions → (schedule : List ℕ) → Ports → Status → Type 0

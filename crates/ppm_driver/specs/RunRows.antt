@@ -1,30 +1,35 @@
 -- What follows from each status of `run`.
-use Rattle.std.specs.Prelude.{◌≡◌, ℕ, ◌<◌, ◌≤◌, ◌+◌, ◌*◌, ◌^◌, List}
+use Rattle.std.specs.Prelude.{◌≡◌, ℕ, ◌<◌, ◌≤◌, List, [], ◌∷◌, Some}
 use Rattle.ppm_words.specs.declared.named_array.NamedArray.{NamedArray}
 use Rattle.ppm_words.specs.declared.outcome.Outcome.TheVariants as outcome
 use Rattle.ppm_words.specs.declared.trap.Trap.{Trap}
-use Rattle.ppm_cells.specs.declared.shape.Takeover.TheVariants.{ByPlaces}
+use Rattle.ppm_cells.specs.declared.shape.Takeover.TheVariants.{ByPlaces, ByEntries}
 use Rattle.ppm_ports.specs.Ports.{Gets}
 use Rattle.ppm_ports.specs.Outside.{Outside, ports_of}
 use Rattle.ppm_text.specs.Limits.{text_limit}
 use Rattle.ppm_plan.specs.Forms.{plan_form}
 use Rattle.ppm_plan.specs.declared.plan_item.PlanItem.{PlanItem}
+use Rattle.ppm_plan.specs.Refusals.{IsAccepted}
 use Rattle.ppm_answers.specs.declared.answer.Answer.{Answer}
 use Rattle.ppm_answers.specs.declared.answer.Answer.TheVariants as answers
 use Rattle.ppm_answers.specs.declared.status.Status.{Status}
 use Rattle.ppm_answers.specs.declared.status.Status.TheVariants as statuses
 use Rattle.ppm_answers.specs.Texts.{arrays_text, trap_text, turns_text, room_text}
 use Rattle.ppm_answers.specs.Reading.{IsUnread}
-use Rattle.ppm_answers.specs.Rows.{PortsSay, PlannedRows, IsShown}
+use Rattle.ppm_answers.specs.Rows.{PortsSay, PlannedRows, IsShown, IsOneOf, GoesWell}
 use Rattle.ppm_cli.specs.declared.run.RunOptions.{RunOptions}
 use Rattle.ppm_step.specs.Laws.{IsFilledBehind}
+use Rattle.ppm_tree.specs.Tree.{ProgramTree}
+use Rattle.ppm_program.specs.Programs.{HasProgram}
 use Rattle.ppm_loading.specs.MachineRows as machine
 use Rattle.ppm_choice.specs.Deeds.{work_made}
 use Rattle.ppm_core.specs.Situation.{Situation}
 use Rattle.ppm_step.specs.declared.turn.Turn.{Turn}
-use Rattle.ppm_driver.specs.Meant.{NeedsMoreTurns, NeedsMoreRoom, struck_in, NoneIsTakenTwice, EndsAsProgram}
+use Rattle.ppm_driver.specs.Meant.{NeedsMoreTurns, NeedsMoreRoom, struck_in, NoneIsTakenTwice, EndsAsProgram, IsAsProgram}
 use Rattle.ppm_loading.specs.Planned.{IsRefusedBy, HasByItems}
-use Rattle.ppm_driver.specs.Runs.{RunHas, TextHas}
+use Rattle.ppm_driver.specs.Runs.{ProgramHas, RunHas, TextHas}
+use Rattle.ppm_driver.specs.Strikes.{fault_count}
+use Rattle.ppm_driver.specs.Completeness.{IsEnough}
 
 module _ (options : RunOptions) (watching : ℕ) (plan : List ℕ) (o : Outside) where
   -- the answers of texts by items of a plan, with what the watchers were told
@@ -76,12 +81,14 @@ module _ (options : RunOptions) (watching : ℕ) (plan : List ℕ) (o : Outside)
       let p = read.2.has in options.takeover ≡ ByPlaces → NeedsMoreTurns p.0 (struck_in p.2.start p.2.run.turns) options.turns
 
   -- So it is, and err got exactly the line that says so. With takeover by places so many turns are fewer than 256 for each capsule that the
-  -- program's code runs depth first and each fault that struck a row of work, or that run has no end.
+  -- program's code runs depth first and each fault that struck a row of work, or that run has no end; and no more faults struck one than the
+  -- plan has.
   pub record WritesOutOfTurns : Type 0 where
     pub processor : ℕ
     pub read : HasRead (answers.OutOfTurns processor)
     pub spent : IsSpent processor read
     pub needs : AreTooFew processor read
+    pub struck : let p = read.2.has.2 in struck_in p.start p.run.turns ≤ fault_count read.2.items
     pub once : let p = read.2.has.2 in IsOnce p.start p.run.turns
     pub gets : Gets o.err (turns_text processor)
 
@@ -101,11 +108,10 @@ module _ (options : RunOptions) (watching : ℕ) (plan : List ℕ) (o : Outside)
     pub once : let p = read.2.has.2 in IsOnce p.start p.run.turns
     pub gets : Gets o.err (room_text place)
 
-  -- the words are broken at a place, and err got exactly the line that says so; with takeover by places only where all processors together
-  -- may make more work turns than a tag counts
+  -- the words are broken at a place, and err got exactly the line that says so: with takeover by places this never comes
   pub record WritesBroken : Type 0 where
     pub broken : machine.WritesBroken plan_form plan options.processors Has (ports_of o)
-    pub many : options.takeover ≡ ByPlaces → 2 ^ 34 ≤ options.processors * options.turns + 1
+    pub by : options.takeover ≡ ByEntries
 
   -- what each status says
   abbrev pub RunSays : Status → Type 0
@@ -118,9 +124,24 @@ module _ (options : RunOptions) (watching : ℕ) (plan : List ℕ) (o : Outside)
   RunSays statuses.Broken = WritesBroken
   RunSays status = PortsSay (ports_of o) status
 
-  -- The rows of `run` with such options and such a plan, where so many watchers are told what their processors do. Where there is one processor, the answer that a text has is written, whichever it
-  -- is and whatever watchers were told.
+  -- each run that an answer is of is as its program, at each status: also where the answer's text failed
+  abbrev pub AreAsPrograms : Type 0
+  AreAsPrograms = (items : List PlanItem) (text : List ℕ) (t : ProgramTree) → HasProgram text t → (answer : Answer)
+      (h : ProgramHas options watching o.told_before o.told_now items t answer) → IsAsProgram h.start h.run.turns t
+
+  -- completeness: with takeover by places, a plan that is accepted, and turns and room enough for its faults and for the program of the
+  -- source's bytes, which are known, the run ends with arrays or in a trap, where the ports hold and memory is there
+  abbrev pub Completes : Status → Type 0
+  Completes status = options.takeover ≡ ByPlaces → (items : List PlanItem) → IsAccepted plan_form plan options.processors items
+      → (all : List ℕ) → o.source.before ≡ Some all → (t : ProgramTree) → HasProgram all t
+      → IsEnough t (fault_count items) options.turns options.room → GoesWell (ports_of o) status
+      → IsOneOf status (statuses.Ended ∷ statuses.Trapped ∷ [])
+
+  -- The rows of `run` with such options, in their ranges, and such a plan, where so many watchers are told what their processors do. Where
+  -- there is one processor, the answer that a text has is written, whichever it is and whatever watchers were told.
   pub record RunRows (status : Status) : Type 0 where
     pub rows : PlannedRows (IsRefusedBy plan_form plan options.processors) (HasByItems plan_form plan options.processors Has) text_limit RunSays
         (ports_of o) status
     pub shown : options.processors ≡ 1 → IsShown (RunHas options plan) (ports_of o) status
+    pub meant : AreAsPrograms
+    pub completes : Completes status

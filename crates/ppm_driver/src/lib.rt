@@ -5,11 +5,13 @@
 //! Contract: `replay_command` delivers the one answer of a text (`specs/Replays`); `run_command` and
 //! `resume_command`, if they return, one that it has: that of a run in which each processor obeys, of
 //! which its watcher was told (`specs/RunOf`, `specs/Runs`, `specs/Resumes`). What follows from each
-//! status: `specs/RunRows`, `specs/ReplayRows`, `specs/ResumeRows`.
+//! status: `specs/RunRows`, `specs/ReplayRows`, `specs/ResumeRows`; where turns and room are enough,
+//! a run ends (`specs/Completeness`).
 //! Stands on `ppm_threads`, `ppm_following`, `ppm_loading`, `ppm_saved_reader` and `ppm_answers`;
 //! `ppm_top` calls it. The schedules and limits and their rules are this project's.
 #![tactic(auto)]
 
+mod complete;
 mod legs;
 mod meant;
 mod names;
@@ -20,6 +22,7 @@ mod resuming;
 mod run;
 mod saying;
 
+pub use complete::runs_complete;
 pub use legs::{runs_in_legs_are_as_programs, runs_leave_states};
 pub use meant::runs_are_as_programs;
 pub use one_replay::have_one_answer;

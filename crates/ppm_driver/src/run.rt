@@ -13,6 +13,7 @@ ghost use Rattle.ppm_driver.specs.Runs.{sizes_of as sizes_in};
 ghost use Rattle.ppm_driver.specs.RunRows.{RunRows};
 ghost use Rattle.ppm_driver.specs.Watchers.{OthersKeep, watcher_count};
 
+use crate::complete::runs_complete;
 use crate::meant::runs_are_as_programs;
 use crate::one_run::answers_are_one;
 use crate::saying::run_answer;
@@ -69,6 +70,7 @@ pub fn run_command<R: Threads + Wait + Sync, S: Source, K: Sink, E: Sink, W: Wat
     answers_are_one();
     plans_have_one_answer();
     runs_are_as_programs();
+    runs_complete();
     let answer = read_answer(rt, alloc, options, faults, source, watch);
     deliver(alloc, &answer, out, err)
 }

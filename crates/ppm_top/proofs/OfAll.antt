@@ -28,6 +28,7 @@ use Rattle.ppm_plan.specs.Correct.{HaveOneAnswer as PlansHaveOneAnswer}
 use Rattle.ppm_plan.specs.Forms.{Form, plan_form, schedule_form}
 use Rattle.ppm_loading.specs.Planned.{PlannedMay}
 use Rattle.ppm_loading.specs.MachineRows.{RefusesPlan}
+use Rattle.ppm_driver.specs.Completeness.{RunsComplete}
 use Rattle.ppm_driver.specs.Legs.{RunsInLegsAreAsPrograms}
 use Rattle.ppm_driver.specs.Meant.{RunsAreAsPrograms}
 use Rattle.ppm_driver.specs.Replays.{TextHas as ReplayTextHas, HaveOneAnswer as ReplaysHaveOneAnswer}
@@ -157,12 +158,12 @@ refuses_words meant legs comes words o status a = record {
         refuses : (options : ReplayOptions) (schedule : List ℕ) → command_of words ≡ Some (commands.Replay options schedule) →
             RefusesPlan schedule_form schedule options.processors (ports_of o)
         refuses options schedule c =
-            of_replay.schedule_refused meant options schedule (ports_of o) status
+            of_replay.schedule_refused meant options (is_in_range words (commands.Replay options schedule) c) schedule (ports_of o) status
             (subst (λ x. DeliversAnswer (CommandMay x o) (ports_of o) status) c (delivers words o status a)) e
 
         refuses_plan : (options : RunOptions) (plan : List ℕ) → command_of words ≡ Some (commands.Run options plan) →
             RefusesPlan plan_form plan options.processors (ports_of o)
-        refuses_plan options plan c = of_run.plan_refused meant options options.processors plan o status
+        refuses_plan options plan c = of_run.plan_refused meant options (is_in_range words (commands.Run options plan) c) options.processors plan o status
             (subst (λ x. DeliversAnswer (CommandMay x o) (ports_of o) status) c (delivers words o status a)) e
 
         refuses_resumed : (options : ResumeOptions) (plan : List ℕ) → command_of words ≡ Some (commands.Resume options plan) →
@@ -188,6 +189,7 @@ pub record Laws : Type 0 where
   pub runs : AnswersAreOne
   pub fronts : FrontsDecideAnswers
   pub meant : RunsAreAsPrograms
+  pub complete : RunsComplete
   pub legs : RunsInLegsAreAsPrograms
   pub comes : RenewedWordsComeBack
   pub outcomes : OutcomesHaveOneAnswer
@@ -202,14 +204,16 @@ pub program_rows : Laws → (words : List (List ℕ)) (o : Outside) (status : St
 program_rows laws words o status a = record {
   run = λ options plan e. (
     is_in_range words (commands.Run options plan) e,
-    of_run.run_rows laws.meant options options.processors plan o status (by_words (Some (commands.Run options plan)) e) laws.plans laws.runs laws.fronts,
+    of_run.run_rows laws.meant options (is_in_range words (commands.Run options plan) e) options.processors plan o status
+        (by_words (Some (commands.Run options plan)) e) laws.plans laws.runs laws.fronts laws.complete,
   );
   serial = λ options e. serial_rows options.turns (ports_of o) (laws.outcomes options.turns) status (by_words (Some (commands.Serial options)) e);
   code = λ e. code_rows laws.codes laws.faithful (ports_of o) status (by_words (Some commands.Code) e);
   check = λ e. check_rows (ports_of o) laws.listings status (by_words (Some commands.Check) e);
   replay = λ options schedule e. (
     is_in_range words (commands.Replay options schedule) e,
-    of_replay.replay_rows laws.meant options schedule (ports_of o) status (by_words (Some (commands.Replay options schedule)) e) laws.plans laws.replays,
+    of_replay.replay_rows laws.meant options (is_in_range words (commands.Replay options schedule) e) schedule (ports_of o) status
+        (by_words (Some (commands.Replay options schedule)) e) laws.plans laws.replays,
   );
   resume = λ options plan e. (
     is_in_range words (commands.Resume options plan) e,

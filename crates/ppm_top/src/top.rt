@@ -15,7 +15,7 @@ use ppm_commands::{
 };
 use ppm_driver::{
     answers_are_one as runs_have_one_answer, have_one_answer as replays_have_one_answer,
-    replay_command, resume_command, run_command, runs_are_as_programs,
+    replay_command, resume_command, run_command, runs_are_as_programs, runs_complete,
     runs_in_legs_are_as_programs,
 };
 use ppm_plan::have_one_answer as plans_have_one_answer;
@@ -56,6 +56,7 @@ pub fn ppm<R: Threads + Wait + Sync, S: Source, K: Sink, E: Sink, W: Watch>(
     // The rows rest on these laws; the calls do nothing.
     runs_have_one_answer();
     runs_are_as_programs();
+    runs_complete();
     runs_in_legs_are_as_programs();
     renewed_words_come_back();
     outcomes_have_one_answer();

@@ -16,7 +16,7 @@ returns-clause-answers g c =
 
 -- and the rows follow from it
 pub returns-clause-rows : goal.returns-clause-rows
-returns-clause-rows g c = run_rows c.runs_are_as_programs.ensures.law c.args.options c.args.options.processors c.args.faults.now _ _
+returns-clause-rows g c = run_rows c.runs_are_as_programs.ensures.law c.args.options c.requires.options c.args.options.processors c.args.faults.now _ _
     (planned_done plan_form c.args.faults.now c.args.options.processors (TextHas c.args.options c.args.options.processors _ _) text_limit
     c.have_one_answer.ensures.law.plans _ _ _ c.read_answer-answer.ensures.may c.deliver.ensures)
-    c.have_one_answer.ensures.law c.answers_are_one.ensures.one c.answers_are_one.ensures.front
+    c.have_one_answer.ensures.law c.answers_are_one.ensures.one c.answers_are_one.ensures.front c.runs_complete.ensures.law
