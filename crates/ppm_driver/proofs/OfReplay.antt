@@ -84,8 +84,8 @@ module _ (law : RunsAreAsPrograms) (options : ReplayOptions) (are : AreReplayed 
   }
   by (answers.Broken place) h w = record {
     broken = (place, of_program options h.2.items h.2.has.0 (answers.Broken place) h.2.has.2, h, w.err_takes.0);
-      by = other_takeover options.takeover (λ places.
-          replay_unbroken law h.0 h.2.has.0 h.2.has.1 options schedule h.2.items h.2.accepted places are place h.2.has.2);
+    by = other_takeover options.takeover (λ places.
+        replay_unbroken law h.0 h.2.has.0 h.2.has.1 options schedule h.2.items h.2.accepted places are place h.2.has.2);
   }
   by answer h w = absurd (of_program options h.2.items h.2.has.0 answer h.2.has.2)
 

@@ -63,9 +63,9 @@ module _ (law : RunsAreAsPrograms) (options : RunOptions) (are : AreRun options)
     needs = λ places.
         run_needs_turns law h.0 h.2.has.0 h.2.has.1 options watching o.told_before o.told_now h.2.items places processor h.2.has.2
         (spent_has options watching o.told_before o.told_now h.2.items h.2.has.0 processor h.2.has.2).1;
-      struck = strikes_are_planned (plan_of options h.2.items) (limits_of options) h.2.has.2.start h.2.has.2.run.turns h.2.has.2.run.obey;
-      once =
-          run_once law h.0 h.2.has.0 h.2.has.1 options watching o.told_before o.told_now h.2.items (answers.OutOfTurns processor) h.2.has.2;
+    struck = strikes_are_planned (plan_of options h.2.items) (limits_of options) h.2.has.2.start h.2.has.2.run.turns h.2.has.2.run.obey;
+    once =
+        run_once law h.0 h.2.has.0 h.2.has.1 options watching o.told_before o.told_now h.2.items (answers.OutOfTurns processor) h.2.has.2;
     gets = w.err_takes.0;
   }
   by (answers.OutOfRoom place) h w = record {
