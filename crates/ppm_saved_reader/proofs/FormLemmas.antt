@@ -4,7 +4,7 @@ use Rattle.std.specs.List.{list_all, AllByRecursion}
 use Rattle.std.specs.Str.{bytes_eq}
 use Rattle.std.specs.Int.{IsInRange}
 use Rattle.std.specs.Cmp.Derive.{both_true}
-use Rattle.std.proofs.lemmas.Bool.{both_ways, and_parts, and_from, cond-true, cond-false, ltb-true, lt-ltb, leb-true, le-leb, ne_eqb}
+use Rattle.std.proofs.lemmas.Bool.{both_ways, and_parts, and_from, cond-true, cond-false, cases_lt, ltb-true, lt-ltb, le-ltb, leb-true, le-leb, ne_eqb}
 use Rattle.std.proofs.lemmas.Fmt.{decimal-digits_value, digits_value-decimal}
 use Rattle.std.proofs.lemmas.List.{append-nil}
 use Rattle.std.proofs.lemmas.List.Elements.{All-from_recursion}
@@ -304,3 +304,15 @@ run_back line w n e h = between_runs line w n h (halves_of 42 line) refl e
 pub run_spelled : (line rest : List ℕ) (w n : ℕ) → IsRunLine line w n → line ++ 10 ∷ rest ≡ run_line (run w n) ++ rest
 run_spelled line rest w n h =
     ap (λ (l : List ℕ). l ++ 10 ∷ rest) h.same ∙ append_assoc (decimal w) (times_text n) (10 ∷ rest) ∙ sym (run_split (run w n) rest)
+
+-- digits past the last word, which are not those of it, spell none
+pub word_large : (ds last : List ℕ) → is_numeral ds ≡ true → value_limit ≤ value ds → last ≡ decimal value_limit → bytes_eq ds last ≡ false
+    → None ≡ word_in ds
+word_large ds last h most e other =
+    sym (cond-false (nat_lt (value_from 0 ds) (2 ^ 64)) (Some (value_from 0 ds)) None (le-ltb (value_from 0 ds) (2 ^ 64) (by (cases_lt (value_from 0 ds) (2 ^ 64)))))
+  where
+    by : (value_from 0 ds < 2 ^ 64) ⊎ (2 ^ 64 ≤ value_from 0 ds) → 2 ^ 64 ≤ value_from 0 ds
+    by (inl small) =
+        let v : value_from 0 ds ≡ value_limit = omega (arith, most, small) in
+        absurd (both_ways (bytes_eq ds last) other ((bytes_eq-Decides ds last).1 (sym (word_spelled ds h small) ∙ ap decimal v ∙ sym e)))
+    by (inr large) = large

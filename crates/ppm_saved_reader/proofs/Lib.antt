@@ -8,3 +8,5 @@ pub mod CountLemmas
 pub mod NameLemmas
 pub mod SpelledLemmas
 pub mod WrittenLemmas
+pub mod LoopLemmas
+pub mod HeadLemmas

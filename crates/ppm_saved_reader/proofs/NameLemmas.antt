@@ -32,7 +32,7 @@ distinct_more (x ∷ xs) a h k =
     (differs_more x.name xs a h.0 parts.0, distinct_more xs a h.1 parts.1)
 
 -- within the limits
-past_parts : (xs : List NamedLength) (len : ℕ) → is_past xs len ≡ false → (length xs < array_limit) × (sum (lengths_of xs) + len ≤ word_limit)
+pub past_parts : (xs : List NamedLength) (len : ℕ) → is_past xs len ≡ false → (length xs < array_limit) × (sum (lengths_of xs) + len ≤ word_limit)
 past_parts xs len h =
     let parts = or_parts (nat_le array_limit (length xs)) (nat_lt word_limit (sum (lengths_of xs) + len)) h in
     (leb-false array_limit (length xs) parts.0, ltb-false word_limit (sum (lengths_of xs) + len) parts.1)

@@ -21,7 +21,7 @@ use Rattle.ppm_saved_reader.specs.declared.saved_error.Fault.TheVariants as faul
 use Rattle.ppm_saved_reader.proofs.OptionLemmas.{or_else, some_one, not_both, first_part, second_part}
 
 -- a listing is that of one code
-one_code : (text : List ℕ) (c d : CodeParts) → IsListing text c → IsListing text d → c ≡ d
+pub one_code : (text : List ℕ) (c d : CodeParts) → IsListing text c → IsListing text d → c ≡ d
 one_code text c d f g = listing_tells_code c d f.fits g.fits (sym f.same ∙ g.same)
 
 -- the run of a word that is there

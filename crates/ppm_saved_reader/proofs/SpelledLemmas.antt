@@ -7,6 +7,7 @@ use Rattle.std.proofs.lemmas.List.{take-append-drop, flat_map_more, append-nil}
 use Rattle.std.proofs.lemmas.List.Sums.{sum_by-cons}
 use Rattle.ppm_words.specs.Limits.{word_limit}
 use Rattle.ppm_pieces.specs.Numbers.{value_limit}
+use Rattle.ppm_cells.specs.Cells.{word_count}
 use Rattle.ppm_cells.specs.Shape.{HasSizes}
 use Rattle.ppm_cells.specs.declared.shape.Shape.{Shape}
 use Rattle.ppm_code.specs.Code.{IsCode}
@@ -287,6 +288,33 @@ read_at text k = leads_at text k.short k.leads (record { has = tt; same = refl }
 -- the arrays that were read keep the rules
 pub read_sizes_fit : (text : List ℕ) {z : Sizes} {arrays : List NamedLength} {r : List ℕ} {line : ℕ} → IsRead text (AtArrays z arrays) line r → sizes_fit z ≡ true
 read_sizes_fit text k = (read_at text k).has.sizes
+
+-- so does the code, and the rest is no longer than a text may be
+pub read_names : (text : List ℕ) {z : Sizes} {arrays : List NamedLength} {r : List ℕ} {line : ℕ} → IsRead text (AtArrays z arrays) line r → AreNames arrays
+read_names text k = (read_at text k).has.names
+
+pub read_named : (text : List ℕ) {z : Sizes} {arrays : List NamedLength} {code : CodeParts} {r : List ℕ} {line : ℕ} → IsRead text (AtWords z arrays code) line r
+    → NamesArrays (length arrays) code
+read_named text k = (read_at text k).has.named
+
+pub rest_within : (text : List ℕ) {q : Place} {r : List ℕ} {line : ℕ} → IsRead text q line r → length r ≤ text_limit
+rest_within text {q = q} {r = r} k = rest_short text (spelled q) r (read_at text k).same k.short
+
+-- how many words the machine has
+pub count_is : (s : Shape) (z : Sizes) (arrays : List NamedLength) → HasSizes z.processors z.room z.slots (sum (lengths_of arrays)) s
+    → word_count s ≡ words_for z arrays
+count_is s z arrays h = λ i. 1 + 2 * h.processors_are i + h.processors_are i * (5 + h.slots_are i + h.room_is i) + h.arrays_are i
+
+-- the state is whole
+pub whole_state : (text : List ℕ) (s : Shape) (z : Sizes) (arrays : List NamedLength) (lengths : List ℕ) (code : CodeParts) (words : List ℕ) {line : ℕ}
+    {r : List ℕ} → IsRead text (AtWords z arrays code) line r → HasSizes z.processors z.room z.slots (sum (lengths_of arrays)) s
+    → lengths ≡ lengths_of arrays → length words ≡ words_for z arrays → IsWhole s arrays lengths code words
+whole_state text s z arrays lengths code words k sizes same len = record {
+  words_are = len ∙ sym (count_is s z arrays sizes);
+  lengths_are = same;
+  arrays_are = ap (λ (l : List ℕ). sum l) same ∙ sym sizes.arrays_are;
+  named = read_named text k;
+}
 
 lens_fit : (arrays : List NamedLength) → sum (lengths_of arrays) ≤ word_limit → AllByRecursion LengthFits arrays
 lens_fit [] h = tt

@@ -43,12 +43,12 @@ pub(crate) fn read_count(text: &[u8], count: u64, line: u32) -> Result<&[u8], Sa
 
 /// Appends a word so many times.
 fn push_run(words: &mut Vec<u64>, word: u64, times: u64) -> Result<(), SavedError>
+    requires { times < 2 ^ 32 }
     ensures ok { OnOk result (words.new.items ≡ words.old.items ++ replicate times word) }
     ensures err { IfErr result (λ e. e ≡ NoMemory) }
 {
-    for _ in 0..times {
-        words.push(word)?;
-    }
+    let length = words.len() + times as usize;
+    words.resize(length, word)?;
     Ok(())
 }
 
@@ -69,6 +69,7 @@ pub(crate) fn read_runs(
     count: u64,
     line: u32,
 ) -> Result<Vec<u64>, SavedError>
+    requires few { count < 2 ^ 32 }
     requires count { other_count count text.now ≡ false }
     requires bound { line + length text.now < 2 ^ 32 }
     ensures ok { IfOk result (AreRunsRead text.now line count) }
