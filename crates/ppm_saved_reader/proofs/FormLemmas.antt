@@ -316,3 +316,6 @@ word_large ds last h most e other =
         let v : value_from 0 ds ≡ value_limit = omega (arith, most, small) in
         absurd (both_ways (bytes_eq ds last) other ((bytes_eq-Decides ds last).1 (sym (word_spelled ds h small) ∙ ap decimal v ∙ sym e)))
     by (inr large) = large
+
+pub last_word : codes "18446744073709551615" ≡ decimal value_limit
+last_word = sym (word_spelled (codes "18446744073709551615") refl (ltb-true (value_from 0 (codes "18446744073709551615")) (2 ^ 64) refl))

@@ -1,6 +1,7 @@
 -- What the loops over arrays and runs have read so far.
 use Rattle.std.proofs.Common.{◌≡◌, ◌≢◌, ◌∙◌, ℕ, ◌+◌, ◌-◌, ◌*◌, ◌^◌, ◌<◌, ◌≤◌, ◌==◌, Bool, true, false, List, [], ◌∷◌, ◌++◌, length, replicate, Option, Some, None, refl, sym, ap, subst, arith, append_assoc, length-append}
 use Rattle.std.specs.List.{flat_map, sum}
+use Rattle.std.proofs.lemmas.Bool.{both_ways}
 use Rattle.std.proofs.lemmas.List.{length-replicate, append-nil}
 use Rattle.std.proofs.lemmas.Grind.{flat_map-append}
 use Rattle.ppm_words.specs.Limits.{word_limit}
@@ -59,6 +60,15 @@ module _ {text : List ℕ} {line : ℕ} {arrays : List NamedLength} {words numbe
     array_past twice past whole z k =
         Breaks (h.leads whole z k) (BadArray (first_line_some array_in left bytes rest (name, len) cut says) (TooMany twice past))
 
+-- bytes are none, or some
+pub empty_is : (bytes : List ℕ) → true ≡ (length bytes == 0) → bytes ≡ []
+empty_is [] h = refl
+empty_is (b ∷ bytes) h = absurd (both_ways false refl (sym h))
+
+pub some_is : (bytes : List ℕ) → false ≡ (length bytes == 0) → bytes ≢ []
+some_is [] h e = both_ways false refl h
+some_is (b ∷ bytes) h e = omega (arith, ap (λ (l : List ℕ). length l) e)
+
 -- the last word of runs and one more
 ends_more : (rs : List Run) (w n v : ℕ) → ends_with (rs ++ run w n ∷ []) v ≡ (w == v)
 ends_more [] w n v = refl
@@ -98,6 +108,11 @@ no_runs text line count h other = record {
 module _ {text : List ℕ} {line count : ℕ} {words : List ℕ} {last : Option ℕ} {number : ℕ} {left : List ℕ}
     (h : RunsSoFar text line count words last number left) where
   module _ (bytes rest : List ℕ) (cut : halves_of 10 left ≡ Some (bytes, rest)) where
+    -- a run has no more words than there are
+    pub run_within : (w : Option ℕ) (n : ℕ) → run_in bytes ≡ Some (w, n) → n ≤ count
+    run_within w n says =
+        omega (arith, h.count_is, (counted_line h.to_come left bytes rest w n (split_some 10 left bytes rest cut) says h.others).within)
+
     -- one run more
     pub run_more : (w n : ℕ) → run_in bytes ≡ Some (Some w, n) → is_last last w ≡ false
         → RunsSoFar text line count (words ++ replicate n w) (Some w) (number + 1) rest

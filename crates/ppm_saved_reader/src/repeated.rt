@@ -72,7 +72,7 @@ pub(crate) fn read_runs(
     requires few { count < 2 ^ 32 }
     requires count { other_count count text.now ≡ false }
     requires bound { line + length text.now < 2 ^ 32 }
-    ensures ok { IfOk result (AreRunsRead text.now line count) }
+    ensures ok { IfOk result (λ words. AreRunsRead text.now line count words.items) }
     ensures err { (whole : List ℕ) (z : Sizes) (arrays : List NamedLength) (code : CodeParts)
         → IsRead whole (AtRuns z arrays code []) line text.now → IfErr result (IsRefusal whole) }
 {
@@ -81,10 +81,10 @@ pub(crate) fn read_runs(
     let mut number = line;
     let mut left = text;
     while let Some((bytes, rest)) = split_once(left, b'\n') {
-        let Some((word, times)) = run_in(bytes) else {
+        let Some((read, times)) = run_in(bytes) else {
             return Err(SavedError::NoSuchForm(number));
         };
-        let Some(word) = word else {
+        let Some(word) = read else {
             return Err(SavedError::OutOfRange(number));
         };
         if is_last(last, word) {
