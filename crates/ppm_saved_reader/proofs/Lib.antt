@@ -10,3 +10,4 @@ pub mod SpelledLemmas
 pub mod WrittenLemmas
 pub mod LoopLemmas
 pub mod HeadLemmas
+pub mod ExitLemmas

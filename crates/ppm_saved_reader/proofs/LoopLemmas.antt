@@ -1,7 +1,7 @@
 -- What the loops over arrays and runs have read so far.
 use Rattle.std.proofs.Common.{◌≡◌, ◌≢◌, ◌∙◌, ℕ, ◌+◌, ◌-◌, ◌*◌, ◌^◌, ◌<◌, ◌≤◌, ◌==◌, Bool, true, false, List, [], ◌∷◌, ◌++◌, length, replicate, Option, Some, None, refl, sym, ap, subst, arith, append_assoc, length-append}
 use Rattle.std.specs.List.{flat_map, sum}
-use Rattle.std.proofs.lemmas.Bool.{both_ways}
+use Rattle.std.proofs.lemmas.Bool.{eqb-true, eqb-false}
 use Rattle.std.proofs.lemmas.List.{length-replicate, append-nil}
 use Rattle.std.proofs.lemmas.Grind.{flat_map-append}
 use Rattle.ppm_words.specs.Limits.{word_limit}
@@ -62,12 +62,14 @@ module _ {text : List ℕ} {line : ℕ} {arrays : List NamedLength} {words numbe
 
 -- bytes are none, or some
 pub empty_is : (bytes : List ℕ) → true ≡ (length bytes == 0) → bytes ≡ []
-empty_is [] h = refl
-empty_is (b ∷ bytes) h = absurd (both_ways false refl (sym h))
+empty_is bytes h = none bytes (eqb-true (length bytes) 0 (sym h))
+  where
+    none : (l : List ℕ) → length l ≡ 0 → l ≡ []
+    none [] e = refl
+    none (b ∷ l) e = absurd (omega (arith, e))
 
 pub some_is : (bytes : List ℕ) → false ≡ (length bytes == 0) → bytes ≢ []
-some_is [] h e = both_ways false refl h
-some_is (b ∷ bytes) h e = omega (arith, ap (λ (l : List ℕ). length l) e)
+some_is bytes h e = eqb-false (length bytes) 0 (sym h) (ap (λ (l : List ℕ). length l) e)
 
 -- the last word of runs and one more
 ends_more : (rs : List Run) (w n v : ℕ) → ends_with (rs ++ run w n ∷ []) v ≡ (w == v)

@@ -30,11 +30,12 @@ use Rattle.ppm_saved_reader.specs.Lines.{first_line, version_in, sizes_in, array
 use Rattle.ppm_saved_reader.specs.Rules.{text_limit, is_from_to, sizes_fit, is_twice, is_past, words_for, is_other_count, ends_with, line_feeds}
 use Rattle.ppm_saved_reader.specs.Places.{Place, AtVersion, AtSizes, AtArrays, AtWords, AtRuns, array_of, NamesArrays}
 use Rattle.ppm_saved_reader.specs.Places.{Goes, Version, Shaped, Array, Coded, Counted, Repeated, LeadsTo, Stays, Then}
-use Rattle.ppm_saved_reader.specs.Correct.{IsRead, sizes_of, IsSavedText}
+use Rattle.ppm_saved_reader.specs.Correct.{IsRead, AreRunsRead, sizes_of, IsSavedText}
 use Rattle.ppm_saved_reader.proofs.LineLemmas.{first_line_back, halves_back, split_some}
 use Rattle.ppm_saved_reader.proofs.FormLemmas.{version_back, sizes_back, count_back, array_back, array_spelled, run_back, run_spelled, worded}
 use Rattle.ppm_saved_reader.proofs.NameLemmas.{names_more, no_names, len_within}
-use Rattle.ppm_saved_reader.proofs.CountLemmas.{IsCounted, counted_line, counted_end, times_sum, length-words_of}
+use Rattle.ppm_saved_reader.proofs.CountLemmas.{counted_line, counted_end, times_sum, length-words_of}
+use Rattle.ppm_saved_reader.proofs.PlaceLemmas.{reads_on, reads_all}
 
 -- sizes of `stop`
 pub record AreSizes (z : Sizes) : Type 0 where
@@ -356,3 +357,17 @@ read_text text s z arrays code rs words last k sizes e len whole =
       same = spelt
           ∙ ap (λ (z : Sizes). coded z arrays code ++ (words_line (length words) ++ flat_map run_line (runs_of words))) (sym same_sizes);
     }
+
+-- the version and the sizes were read
+pub front_read : (text : List ℕ) {rest behind : List ℕ} {z : Sizes} → length text ≤ text_limit → Goes AtVersion text 1 AtSizes rest
+    → Goes AtSizes rest 1 (AtArrays z []) behind → IsRead text (AtArrays z []) 3 behind
+front_read text short g k = reads_on (reads_on (reads_all text short) g) k
+
+-- the words were read, as many as the machine has
+pub state_read : (text : List ℕ) (s : Shape) (z : Sizes) (arrays : List NamedLength) (code : CodeParts) (words : List ℕ) {line count : ℕ} {r rest : List ℕ}
+    → IsRead text (AtWords z arrays code) line r → IsRead text (AtRuns z arrays code []) (line + 1) rest
+    → HasSizes z.processors z.room z.slots (sum (lengths_of arrays)) s → AreRunsRead rest (line + 1) count words → count ≡ words_for z arrays
+    → IsSavedText text s arrays code words
+state_read text s z arrays code words k l sizes runs count =
+    read_text text s z arrays code runs.runs words runs.last (runs.leads text z arrays code l) sizes runs.words_are (runs.many ∙ count)
+    (whole_state text s z arrays (lengths_of arrays) code words k sizes refl (runs.many ∙ count))
