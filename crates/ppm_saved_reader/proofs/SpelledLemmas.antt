@@ -371,3 +371,16 @@ pub state_read : (text : List ℕ) (s : Shape) (z : Sizes) (arrays : List NamedL
 state_read text s z arrays code words k l sizes runs count =
     read_text text s z arrays code runs.runs words runs.last (runs.leads text z arrays code l) sizes runs.words_are (runs.many ∙ count)
     (whole_state text s z arrays (lengths_of arrays) code words k sizes refl (runs.many ∙ count))
+
+-- a code was read behind arrays, which are the same
+pub coded_read : (text : List ℕ) (z : Sizes) (items arrays : List NamedLength) (code : CodeParts) {line later : ℕ} {r rest : List ℕ} → arrays ≡ items
+    → (IsRead text (AtArrays z arrays) line r → IsRead text (AtWords z arrays code) later rest) → IsRead text (AtArrays z items) line r
+    → IsRead text (AtWords z items code) later rest
+coded_read text z items arrays code {line = line} {later = later} {r = r} {rest = rest} e f k =
+    subst (λ (l : List NamedLength). IsRead text (AtWords z l code) later rest) e
+    (f (subst (λ (l : List NamedLength). IsRead text (AtArrays z l) line r) (sym e) k))
+
+-- the words that are asked for are those of the machine
+pub sizes_for : (s : Shape) (z : Sizes) (arrays : List NamedLength) (words : ℕ) → HasSizes z.processors z.room z.slots words s
+    → words ≡ sum (lengths_of arrays) → HasSizes z.processors z.room z.slots (sum (lengths_of arrays)) s
+sizes_for s z arrays words h e = subst (λ n. HasSizes z.processors z.room z.slots n s) e h
