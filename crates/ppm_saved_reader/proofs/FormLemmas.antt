@@ -1,5 +1,5 @@
 -- The forms of lines: what a line of a form is spelled like, and that each line that is written has its form.
-use Rattle.std.proofs.Common.{◌≡◌, ◌≢◌, ◌∙◌, ◌⊎◌, inl, inr, ℕ, ◌+◌, ◌*◌, ◌-◌, ◌^◌, ◌<◌, ◌≤◌, ◌==◌, Bool, true, false, ◌&&◌, cond, nat_le, nat_lt, is_none, List, [], ◌∷◌, ◌++◌, length, codes, decimal, Option, Some, None, refl, sym, ap, subst, arith, append_assoc}
+use Rattle.std.proofs.Common.{◌≡◌, ◌∙◌, ◌⊎◌, inl, inr, ℕ, ◌^◌, ◌<◌, ◌≤◌, ◌==◌, Bool, true, false, ◌&&◌, cond, nat_le, nat_lt, is_none, List, [], ◌∷◌, ◌++◌, length, codes, decimal, Option, Some, None, refl, sym, ap, subst, arith, append_assoc}
 use Rattle.std.specs.List.{list_all, AllByRecursion}
 use Rattle.std.specs.Str.{bytes_eq}
 use Rattle.std.specs.Int.{IsInRange}
@@ -18,18 +18,14 @@ use Rattle.ppm_pieces.proofs.NumberLemmas.{numeral_parts, numeral-decimal, value
 use Rattle.ppm_text.specs.Spelling.{keyword_of}
 use Rattle.ppm_saved.specs.Names.{IsArrayName}
 use Rattle.ppm_saved.specs.Runs.{run}
-use Rattle.ppm_saved.specs.Text.{numbers_text, version_line, shape_line, array_line, times_text, run_line}
-use Rattle.ppm_saved.specs.Correct.{RunFits}
-use Rattle.ppm_saved.specs.declared.names.NamedLength.{NamedLength}
-use Rattle.ppm_saved.specs.declared.run.Run.{Run}
-use Rattle.ppm_saved.proofs.TellLemmas.{digits, numbers_split, run_split, array_split, name_bytes}
+use Rattle.ppm_saved.specs.Text.{numbers_text, array_line, times_text, run_line}
+use Rattle.ppm_saved.proofs.TellLemmas.{numbers_split, run_split, array_split, name_bytes}
 use Rattle.ppm_saved_reader.specs.declared.lines.Sizes.{Sizes}
 use Rattle.ppm_saved_reader.specs.Lines.{behind_halves, behind_word, number_in, number_behind, count_in, version_in, three, last_two, three_between, sizes_behind}
 use Rattle.ppm_saved_reader.specs.Lines.{sizes_in, is_name, is_array_name, named, name_and_len, array_behind, array_in, word_in, times_in, run_between, run_in}
-use Rattle.ppm_saved_reader.specs.Lines.{first_line}
 use Rattle.ppm_saved_reader.specs.Places.{array_of}
 use Rattle.ppm_saved_reader.proofs.OptionLemmas.{some_same, not_both, first_part, second_part}
-use Rattle.ppm_saved_reader.proofs.LineLemmas.{halves_at, halves_off, halves_behind, halves_back, first_line_some, first_line_none}
+use Rattle.ppm_saved_reader.proofs.LineLemmas.{halves_back}
 
 -- any byte but one
 abbrev but : ℕ → ℕ → Bool

@@ -1,11 +1,10 @@
 -- What the lines in front of the words say, or what is wrong with them.
-use Rattle.std.proofs.Common.{◌≡◌, ◌≢◌, ◌∙◌, ℕ, ◌+◌, ◌<◌, ◌≤◌, Bool, true, false, nat_lt, List, [], ◌∷◌, ◌++◌, length, take, drop, codes, Option, Some, None, refl, sym, ap, subst, arith}
+use Rattle.std.proofs.Common.{◌≡◌, ◌≢◌, ◌∙◌, ℕ, ◌+◌, ◌<◌, ◌≤◌, true, false, nat_lt, List, [], ◌∷◌, length, take, drop, codes, Some, None, refl, sym, ap, subst}
 use Rattle.std.specs.List.{list_all, All, AllByRecursion}
 use Rattle.std.specs.Str.{bytes_eq}
 use Rattle.std.proofs.lemmas.Bool.{and_parts, and_from, cond-true, cond-false, ltb-true, lt-ltb}
 use Rattle.std.proofs.lemmas.List.Elements.{recursion_from_All, All-from_recursion}
 use Rattle.ppm_pieces.specs.Pieces.{halves_of}
-use Rattle.ppm_code.specs.Code.{IsCode}
 use Rattle.ppm_code.specs.Free.{IsFree}
 use Rattle.ppm_code.specs.Tidy.{IsTidy}
 use Rattle.ppm_code.specs.declared.code.CodeParts.{CodeParts}
@@ -22,7 +21,7 @@ use Rattle.ppm_saved_reader.specs.ErrorNumbers.{refusal_behind}
 use Rattle.ppm_saved_reader.specs.Lines.{first_line, version_in, sizes_in, array_in, count_in}
 use Rattle.ppm_saved_reader.specs.Rules.{sizes_fit, words_for, is_other_count, line_feeds}
 use Rattle.ppm_saved_reader.specs.Places.{AtVersion, AtSizes, AtArrays, AtWords, AtRuns, NamesArrays, Goes, Version, Shaped, Coded, Counted}
-use Rattle.ppm_saved_reader.specs.Places.{IsWrong, NoVersion, NoSizes, NoFit, NoArray, BadCode, NoCount, OtherCount, IsBadCode, Short, NoListing, Conflicting}
+use Rattle.ppm_saved_reader.specs.Places.{IsWrong, NoVersion, NoSizes, NoFit, NoArray, BadCode, NoCount, OtherCount, Short, NoListing, Conflicting}
 use Rattle.ppm_saved_reader.specs.Correct.{IsRead, IsWrongAt, Breaks, IsRefusal}
 use Rattle.ppm_saved_reader.proofs.LineLemmas.{first_line_some, first_line_none, first_line_missing}
 use Rattle.ppm_saved_reader.proofs.PlaceLemmas.{one_code, reads_on}

@@ -1,6 +1,6 @@
 -- What the loops over arrays and runs have read so far.
-use Rattle.std.proofs.Common.{◌≡◌, ◌≢◌, ◌∙◌, ℕ, ◌+◌, ◌-◌, ◌*◌, ◌^◌, ◌<◌, ◌≤◌, ◌==◌, Bool, true, false, List, [], ◌∷◌, ◌++◌, length, replicate, Option, Some, None, refl, sym, ap, subst, arith, append_assoc, length-append}
-use Rattle.std.specs.List.{flat_map, sum}
+use Rattle.std.proofs.Common.{◌≡◌, ◌≢◌, ◌∙◌, ℕ, ◌+◌, ◌-◌, ◌^◌, ◌<◌, ◌≤◌, ◌==◌, true, false, List, [], ◌∷◌, ◌++◌, length, replicate, Option, Some, None, refl, sym, ap, subst, arith, length-append}
+use Rattle.std.specs.List.{sum}
 use Rattle.std.proofs.lemmas.Bool.{eqb-true, eqb-false}
 use Rattle.std.proofs.lemmas.List.{length-replicate, append-nil}
 use Rattle.std.proofs.lemmas.Grind.{flat_map-append}
@@ -15,12 +15,12 @@ use Rattle.ppm_saved_reader.specs.declared.lines.Sizes.{Sizes}
 use Rattle.ppm_saved_reader.specs.declared.saved_error.Fault.TheVariants as fault
 use Rattle.ppm_saved_reader.specs.Lines.{array_in, run_in}
 use Rattle.ppm_saved_reader.specs.Rules.{is_twice, is_past, is_other_count, ends_with, is_last}
-use Rattle.ppm_saved_reader.specs.Places.{AtArrays, AtRuns, Goes, Array, Repeated, IsWrong, NoRun, Same, NoWord, BadArray, Twice, TooMany, array_of}
+use Rattle.ppm_saved_reader.specs.Places.{AtArrays, AtRuns, Array, Repeated, NoRun, Same, NoWord, BadArray, Twice, TooMany}
 use Rattle.ppm_saved_reader.specs.Correct.{IsRead, AreRunsRead, IsWrongAt, Breaks}
 use Rattle.ppm_saved_reader.proofs.OptionLemmas.{not_both}
 use Rattle.ppm_saved_reader.proofs.LineLemmas.{halves_back, split_some, first_line_some, first_line_none, first_line_missing}
 use Rattle.ppm_saved_reader.proofs.NameLemmas.{sum_more, past_parts}
-use Rattle.ppm_saved_reader.proofs.CountLemmas.{IsCounted, counted_line, counted_end}
+use Rattle.ppm_saved_reader.proofs.CountLemmas.{counted_line, counted_end}
 use Rattle.ppm_saved_reader.proofs.PlaceLemmas.{reads_on}
 
 -- a line is shorter than the text that it stands in front of, with its line feed

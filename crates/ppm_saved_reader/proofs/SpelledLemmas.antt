@@ -1,12 +1,11 @@
 -- What was read up to a place is what is written of it; so a text that was read to its end is that of its state.
-use Rattle.std.proofs.Common.{◌≡◌, ◌≢◌, ◌∙◌, ◌⊎◌, inl, inr, ℕ, ◌+◌, ◌-◌, ◌*◌, ◌^◌, ◌<◌, ◌≤◌, ◌==◌, Bool, true, false, ◌&&◌, nat_le, List, [], ◌∷◌, ◌++◌, length, take, drop, codes, decimal, Option, Some, None, refl, sym, ap, subst, arith, append_assoc, length-append, length-take}
-use Rattle.std.specs.List.{flat_map, sum, AllByRecursion, All}
+use Rattle.std.proofs.Common.{◌≡◌, ◌∙◌, ℕ, ◌+◌, ◌-◌, ◌*◌, ◌^◌, ◌<◌, ◌≤◌, true, false, ◌&&◌, nat_le, List, [], ◌∷◌, ◌++◌, length, take, drop, codes, decimal, Some, refl, sym, ap, subst, arith, append_assoc, length-append, length-take}
+use Rattle.std.specs.List.{flat_map, sum, AllByRecursion}
 use Rattle.std.proofs.Math.Nat.{mul-le-mul_right}
-use Rattle.std.proofs.lemmas.Bool.{both_ways, and_parts, leb-true, ne_eqb, eqb-false}
+use Rattle.std.proofs.lemmas.Bool.{and_parts, leb-true, eqb-false}
 use Rattle.std.proofs.lemmas.List.{take-append-drop, flat_map_more, append-nil}
 use Rattle.std.proofs.lemmas.List.Sums.{sum_by-cons}
 use Rattle.ppm_words.specs.Limits.{word_limit}
-use Rattle.ppm_pieces.specs.Numbers.{value_limit}
 use Rattle.ppm_cells.specs.Cells.{word_count}
 use Rattle.ppm_cells.specs.Shape.{HasSizes}
 use Rattle.ppm_cells.specs.declared.shape.Shape.{Shape}
@@ -17,24 +16,24 @@ use Rattle.ppm_code.specs.declared.code.CodeParts.{CodeParts}
 use Rattle.ppm_listing.specs.Listing.{listing_of}
 use Rattle.ppm_listing.specs.Correct.{NumbersFit}
 use Rattle.ppm_listing_reader.specs.Correct.{IsListing}
-use Rattle.ppm_saved.specs.Correct.{IsWord, LengthFits, RunFits, StateFits}
+use Rattle.ppm_saved.specs.Correct.{LengthFits, RunFits}
 use Rattle.ppm_saved.specs.Names.{AreNames, lengths_of}
 use Rattle.ppm_saved.specs.Runs.{run, runs_of, words_of, AreLongest}
 use Rattle.ppm_saved.specs.Saved.{IsWhole}
-use Rattle.ppm_saved.specs.Text.{version_line, shape_line, array_line, code_line, words_line, run_line, code_text, saved_text}
+use Rattle.ppm_saved.specs.Text.{version_line, shape_line, array_line, code_line, words_line, run_line, code_text}
 use Rattle.ppm_saved.specs.declared.names.NamedLength.{NamedLength}
 use Rattle.ppm_saved.specs.declared.run.Run.{Run}
 use Rattle.ppm_saved.proofs.RunLemmas.{runs_are_longest}
 use Rattle.ppm_saved_reader.specs.declared.lines.Sizes.{Sizes}
 use Rattle.ppm_saved_reader.specs.Lines.{first_line, version_in, sizes_in, array_in, count_in, run_in}
-use Rattle.ppm_saved_reader.specs.Rules.{text_limit, is_from_to, sizes_fit, is_twice, is_past, words_for, is_other_count, ends_with, line_feeds}
+use Rattle.ppm_saved_reader.specs.Rules.{text_limit, is_from_to, sizes_fit, is_twice, is_past, words_for, is_other_count, ends_with}
 use Rattle.ppm_saved_reader.specs.Places.{Place, AtVersion, AtSizes, AtArrays, AtWords, AtRuns, array_of, NamesArrays}
 use Rattle.ppm_saved_reader.specs.Places.{Goes, Version, Shaped, Array, Coded, Counted, Repeated, LeadsTo, Stays, Then}
 use Rattle.ppm_saved_reader.specs.Correct.{IsRead, AreRunsRead, sizes_of, IsSavedText}
 use Rattle.ppm_saved_reader.proofs.LineLemmas.{first_line_back, halves_back, split_some}
 use Rattle.ppm_saved_reader.proofs.FormLemmas.{version_back, sizes_back, count_back, array_back, array_spelled, run_back, run_spelled, worded}
 use Rattle.ppm_saved_reader.proofs.NameLemmas.{names_more, no_names, len_within}
-use Rattle.ppm_saved_reader.proofs.CountLemmas.{counted_line, counted_end, times_sum, length-words_of}
+use Rattle.ppm_saved_reader.proofs.CountLemmas.{counted_line, times_sum}
 use Rattle.ppm_saved_reader.proofs.PlaceLemmas.{reads_on, reads_all}
 
 -- sizes of `stop`

@@ -1,4 +1,4 @@
-use Rattle.std.proofs.Common.{◌≡◌, ◌∙◌, ℕ, nat_lt, List, sym, ap}
+use Rattle.std.proofs.Common.{◌∙◌, ℕ, nat_lt, List, sym, ap}
 use Rattle.std.specs.List.{list_all}
 use Rattle.ppm_code.specs.declared.code.CodeParts.{CodeParts}
 use Rattle.ppm_saved_reader.proofs.HeadLemmas.{named_from, named_back}

@@ -1,4 +1,4 @@
-use Rattle.std.proofs.Common.{◌≡◌, ◌∙◌, ℕ, ◌+◌, List, [], ◌∷◌, ◌++◌, sym, ap, subst, arith}
+use Rattle.std.proofs.Common.{◌∙◌, ℕ, ◌+◌, List, [], ◌∷◌, ◌++◌, sym, ap, subst, arith}
 use Rattle.ppm_words.specs.Names.{IsName}
 use Rattle.ppm_saved.specs.declared.names.NamedLength.{NamedLength}
 use Rattle.ppm_saved_reader.specs.Rules.{is_twice, is_past}

@@ -1,4 +1,4 @@
-use Rattle.std.proofs.Common.{◌≡◌, ◌∙◌, ℕ, ◌+◌, List, Option, Some, None, sym, ap, subst, arith}
+use Rattle.std.proofs.Common.{◌∙◌, ℕ, ◌+◌, List, Option, Some, None, sym, ap, subst, arith}
 use Rattle.ppm_saved_reader.proofs.LoopLemmas.{RunsSoFar, no_runs, run_within, run_more, run_same, run_large, run_none, run_unended, runs_end, empty_is, some_is}
 use Rattle.ppm_saved_reader.proofs.repeated.read_runs.Goals as goal
 
