@@ -79,9 +79,10 @@ pub next_keeps : (done : List NamedLength) (a : NamedLength) (xs : List NamedLen
     → (is_twice done a.name ≡ false) × (is_past done a.len ≡ false)
 next_keeps done a xs h =
     let lens : sum (lengths_of (done ++ a ∷ xs)) ≡ sum (lengths_of done) + (a.len + sum_by (λ (b : NamedLength). b.len) xs) =
-          sum-map (λ (b : NamedLength). b.len) (done ++ a ∷ xs) ∙ sum_by-append (λ (b : NamedLength). b.len) done (a ∷ xs)
-          ∙ (λ i. sym (sum-map (λ (b : NamedLength). b.len) done) i + sum_by-cons (λ (b : NamedLength). b.len) a xs i) in
-    (not_twice done a xs h.differ,
-    or_from (nat_le array_limit (length done)) (nat_lt word_limit (sum (lengths_of done) + a.len))
-    (lt-leb array_limit (length done) (omega (arith, h.most, length-append done (a ∷ xs))))
-    (le-ltb word_limit (sum (lengths_of done) + a.len) (omega (arith, h.words_most, lens))))
+    sum-map (λ (b : NamedLength). b.len) (done ++ a ∷ xs) ∙ sum_by-append (λ (b : NamedLength). b.len) done (a ∷ xs)
+    ∙ (λ i. sym (sum-map (λ (b : NamedLength). b.len) done) i + sum_by-cons (λ (b : NamedLength). b.len) a xs i) in (
+      not_twice done a xs h.differ,
+      or_from (nat_le array_limit (length done)) (nat_lt word_limit (sum (lengths_of done) + a.len))
+          (lt-leb array_limit (length done) (omega (arith, h.most, length-append done (a ∷ xs))))
+          (le-ltb word_limit (sum (lengths_of done) + a.len) (omega (arith, h.words_most, lens))),
+    )

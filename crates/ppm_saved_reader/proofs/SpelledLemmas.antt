@@ -172,14 +172,14 @@ at_code text t rest z arrays bytes code short h e within is named free tidy =
     let cut : t ≡ line ++ 10 ∷ rest = halves_back 10 t line rest halves in
     let few = rest_short text (heading z arrays) t h.same short in
     let left : length rest < length t =
-          omega (arith, ap (λ (l : List ℕ). length l) cut, length-append line (10 ∷ rest)) in
+    omega (arith, ap (λ (l : List ℕ). length l) cut, length-append line (10 ∷ rest)) in
     let spelt : line ≡ codes "code" ++ 32 ∷ decimal bytes = count_back (codes "code") line bytes form (omega (arith, within, few, left)) in
     let len : length (take bytes rest) ≡ bytes = omega (arith, length-take bytes rest, within) in
     let parts : t ≡ code_line bytes ++ (take bytes rest ++ drop bytes rest) =
-          cut ∙ ap (λ (l : List ℕ). l ++ 10 ∷ rest) spelt ∙ worded (codes "code") bytes [] rest
-          ∙ ap (λ (l : List ℕ). code_line bytes ++ l) (sym (take-append-drop bytes rest)) in
+    cut ∙ ap (λ (l : List ℕ). l ++ 10 ∷ rest) spelt ∙ worded (codes "code") bytes [] rest
+    ∙ ap (λ (l : List ℕ). code_line bytes ++ l) (sym (take-append-drop bytes rest)) in
     let listed : code_line bytes ++ take bytes rest ≡ code_text (listing_of code) =
-          ap (λ n. code_line n ++ take bytes rest) (sym len) ∙ ap code_text is.same in
+    ap (λ n. code_line n ++ take bytes rest) (sym len) ∙ ap code_text is.same in
     record {
       has = record {
         front = h.has;
@@ -206,7 +206,7 @@ at_count text t rest z arrays code count h e same other =
     let few = words_few z arrays h.has.front.sizes h.has.front.names.words_most in
     let spelt : line ≡ codes "words" ++ 32 ∷ decimal count = count_back (codes "words") line count form (omega (arith, few, same)) in
     let parts : t ≡ words_line (words_for z arrays) ++ rest =
-          cut ∙ ap (λ (l : List ℕ). l ++ 10 ∷ rest) spelt ∙ worded (codes "words") count [] rest ∙ ap (λ n. words_line n ++ rest) same in
+    cut ∙ ap (λ (l : List ℕ). l ++ 10 ∷ rest) spelt ∙ worded (codes "words") count [] rest ∙ ap (λ n. words_line n ++ rest) same in
     record {
       has = record {
         front = h.has;
@@ -262,7 +262,7 @@ goes_at text short (Shaped {text = t} {rest = r} {z = z} e fit) h =
     let s = sizes_are z fit in
     let spelt = sizes_back line z form (omega (arith, s.processors_most)) (omega (arith, s.room_most)) (omega (arith, s.slots_most)) in
     let parts : t ≡ shape_line z.processors z.room z.slots ++ r =
-          halves_back 10 t line r halves ∙ ap (λ (l : List ℕ). l ++ 10 ∷ r) spelt ∙ worded (codes "shape") z.processors (z.room ∷ z.slots ∷ []) r in
+    halves_back 10 t line r halves ∙ ap (λ (l : List ℕ). l ++ 10 ∷ r) spelt ∙ worded (codes "shape") z.processors (z.room ∷ z.slots ∷ []) r in
     record {
       has = record { sizes = fit; names = no_names };
       same = h.same
@@ -335,9 +335,9 @@ read_text text s z arrays code rs words last k sizes e len whole =
     let runs : runs_of words ≡ rs = ap runs_of e ∙ runs_are_longest.one rs h.longest in
     let front : List ℕ = coded z arrays code in
     let spelt : text ≡ front ++ (words_line (length words) ++ flat_map run_line (runs_of words)) =
-          at.same ∙ append-nil (front ++ words_line (words_for z arrays) ++ flat_map run_line rs)
-          ∙ append_assoc front (words_line (words_for z arrays)) (flat_map run_line rs)
-          ∙ (λ i. front ++ (words_line (sym len i) ++ flat_map run_line (sym runs i))) in
+    at.same ∙ append-nil (front ++ words_line (words_for z arrays) ++ flat_map run_line rs)
+    ∙ append_assoc front (words_line (words_for z arrays)) (flat_map run_line rs)
+    ∙ (λ i. front ++ (words_line (sym len i) ++ flat_map run_line (sym runs i))) in
     record {
       sizes = ap (λ (z : Sizes). sizes_fit z) same_sizes ∙ c.front.sizes;
       by_places = sizes.by_places;

@@ -231,7 +231,7 @@ module _ (s : Shape) (arrays : List NamedLength) (code : CodeParts) (words : Lis
       let longest = runs_are_longest.longest words in
       let counted : length words ≡ words_for (sizes_of s) arrays = h.whole.words_are ∙ ap (λ n. arrays_at s + n) (sym h.whole.arrays_are) in
       let summed : times_sum (runs_of words) ≡ length words =
-            sym (length-words_of (runs_of words)) ∙ ap (λ (l : List ℕ). length l) (runs_are_longest.words words) in
+      sym (length-words_of (runs_of words)) ∙ ap (λ (l : List ℕ). length l) (runs_are_longest.words words) in
       then_on
       (Counted (count_first (codes "words") (length words) (flat_map run_line (runs_of words)) refl refl h.fits.count) counted
       (ap (λ n. is_other_count n (flat_map run_line (runs_of words))) (sym summed) ∙ runs_counted (runs_of words) longest h.fits.runs))

@@ -40,8 +40,8 @@ loop-bytes-preserved c =
     let twice = ap (λ (l : List NamedLength). is_twice l name) (sym c.deref.ensures.value) ∙ sym c.is_twice.ensures ∙ c.if-is_twice.false in
     let past = ap (λ (l : List NamedLength). is_past l len) (sym c.deref-in-Some.ensures.value) ∙ sym c.is_past.ensures ∙ c.if-is_past.false in
     let more = array_more c.loop-bytes.invariant c.in-Some.bytes.now c.in-Some.rest.now c.in-Some.ensures.halves name len c.in-Some-array_in.ensures
-          twice past in
+    twice past in
     let pushed = c.in_ok-push.ensures.items
-          ∙ ap (λ (n : List ℕ). c.loop-bytes.arrays.items ++ record { name = n; len = len } ∷ []) (c.from_bytes.ensures ∙ c.in_ok-from_slice.ensures.items) in
+    ∙ ap (λ (n : List ℕ). c.loop-bytes.arrays.items ++ record { name = n; len = len } ∷ []) (c.from_bytes.ensures ∙ c.in_ok-from_slice.ensures.items) in
     subst (λ (l : List NamedLength). ArraysSoFar c.args.text.now c.args.line l (c.loop-bytes.words + len) (c.loop-bytes.number + 1) c.in-Some.rest.now)
     (sym pushed) more

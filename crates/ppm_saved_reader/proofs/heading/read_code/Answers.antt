@@ -34,10 +34,10 @@ returns-in-Err-clause-err c = λ whole z read.
 pub returns-then-not-names_arrays-clause-err : goal.returns-then-not-names_arrays-clause-err
 returns-then-not-names_arrays-clause-err c = λ whole z read.
     let is : IsListing (take c.in-Some-count_in.count c.in-Some.rest.now) c.in-Ok.code = record {
-          code = c.names_arrays.ensures.code;
-          fits = c.in-Ok.ensures.fits;
-          same = sym c.front-listing.ensures ∙ c.in-Ok.ensures.ok;
-        } in
+      code = c.names_arrays.ensures.code;
+      fits = c.in-Ok.ensures.fits;
+      same = sym c.front-listing.ensures ∙ c.in-Ok.ensures.ok;
+    } in
     code_unnamed c.args.text.now c.in-Some.bytes.now c.in-Some.rest.now c.in-Some.ensures.halves c.requires.none read c.in-Some-count_in.count
     (sym c.in-Some-count_in.ensures) c.if-rest-count.false c.in-Ok.code is
     (λ named. both_ways c.names_arrays.result c.if-not-names_arrays.true (c.names_arrays.ensures.exactly.1 named))
@@ -46,10 +46,10 @@ returns-then-not-names_arrays-clause-err c = λ whole z read.
 pub returns-then-not-is_free-clause-err : goal.returns-then-not-is_free-clause-err
 returns-then-not-is_free-clause-err c = λ whole z read.
     let is : IsListing (take c.in-Some-count_in.count c.in-Some.rest.now) c.in-Ok.code = record {
-          code = c.names_arrays.ensures.code;
-          fits = c.in-Ok.ensures.fits;
-          same = sym c.front-listing.ensures ∙ c.in-Ok.ensures.ok;
-        } in
+      code = c.names_arrays.ensures.code;
+      fits = c.in-Ok.ensures.fits;
+      same = sym c.front-listing.ensures ∙ c.in-Ok.ensures.ok;
+    } in
     code_unfit c.args.text.now c.in-Some.bytes.now c.in-Some.rest.now c.in-Some.ensures.halves c.requires.none read c.in-Some-count_in.count
     (sym c.in-Some-count_in.ensures) c.if-rest-count.false c.in-Ok.code is (c.names_arrays.ensures.exactly.0 c.if-not-names_arrays.false)
     (λ free tidy. both_ways c.is_free.result c.if-not-is_free.true (c.is_free.ensures.1 free))
@@ -57,10 +57,10 @@ returns-then-not-is_free-clause-err c = λ whole z read.
 pub returns-then-not-tidy-clause-err : goal.returns-then-not-tidy-clause-err
 returns-then-not-tidy-clause-err c = λ whole z read.
     let is : IsListing (take c.in-Some-count_in.count c.in-Some.rest.now) c.in-Ok.code = record {
-          code = c.names_arrays.ensures.code;
-          fits = c.in-Ok.ensures.fits;
-          same = sym c.front-listing.ensures ∙ c.in-Ok.ensures.ok;
-        } in
+      code = c.names_arrays.ensures.code;
+      fits = c.in-Ok.ensures.fits;
+      same = sym c.front-listing.ensures ∙ c.in-Ok.ensures.ok;
+    } in
     code_unfit c.args.text.now c.in-Some.bytes.now c.in-Some.rest.now c.in-Some.ensures.halves c.requires.none read c.in-Some-count_in.count
     (sym c.in-Some-count_in.ensures) c.if-rest-count.false c.in-Ok.code is (c.names_arrays.ensures.exactly.0 c.if-not-names_arrays.false)
     (λ free tidy. both_ways c.tidy.result c.if-not-tidy.true (c.tidy.ensures.1 tidy))
@@ -71,10 +71,10 @@ returns-clause-ok c = λ whole z read.
     let n = c.in-Some-count_in.count in
     let rest = c.in-Some.rest.now in
     let is : IsListing (take n rest) c.in-Ok.code = record {
-          code = c.names_arrays.ensures.code;
-          fits = c.in-Ok.ensures.fits;
-          same = sym c.front-listing.ensures ∙ c.in-Ok.ensures.ok;
-        } in
+      code = c.names_arrays.ensures.code;
+      fits = c.in-Ok.ensures.fits;
+      same = sym c.front-listing.ensures ∙ c.in-Ok.ensures.ok;
+    } in
     let feeds : c.line_feeds.result ≡ line_feeds (take n rest) = c.line_feeds.ensures.value ∙ ap line_feeds c.front-listing.ensures in
     let lines : c.args.line + (1 + line_feeds (take n rest)) ≡ c.args.line + 1 + c.line_feeds.result = omega (arith, feeds) in
     subst (λ (r : List ℕ). IsRead whole (AtWords z c.args.arrays.now c.in-Ok.code) (c.args.line + 1 + c.line_feeds.result) r) (sym c.behind.ensures)

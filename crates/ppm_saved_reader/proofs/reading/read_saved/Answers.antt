@@ -104,6 +104,6 @@ returns-clause-ok c =
     let sizes = sizes_for c.in-Some.shape z items arrays.words c.in-Some.ensures.value c.in_ok-arrays.ensures.words in
     let count = c.from-count.ensures ∙ c.word_count.ensures.value ∙ count_is c.in-Some.shape z items sizes in
     let same = state_read t c.in-Some.shape z items code c.in_ok-words.words.items read (c.in_ok-behind.ensures.ok t z items code count read) sizes
-          c.in_ok-words.ensures.ok count in
+    c.in_ok-words.ensures.ok count in
     subst (λ (n : List NamedLength). IsSavedText t c.in-Some.shape n code c.from_vec-3.result) (sym c.from_vec.ensures)
     (subst (λ (l : List ℕ). IsSavedText t c.in-Some.shape items code l) (sym c.from_vec-3.ensures) same)

@@ -30,15 +30,15 @@ returns-then-is_last-clause-err c =
 pub push_run-requires : goal.push_run-requires
 push_run-requires c =
     let within = run_within c.loop-bytes.invariant c.in-Some.bytes.now c.in-Some.rest.now c.in-Some.ensures.halves c.in-Some-run_in.read c.in-Some-run_in.times
-          (sym c.in-Some-run_in.ensures) in
+    (sym c.in-Some-run_in.ensures) in
     omega (arith, within, c.requires.few)
 
 -- one run more
 pub loop-bytes-preserved : goal.loop-bytes-preserved
 loop-bytes-preserved c =
     let more = run_more c.loop-bytes.invariant c.in-Some.bytes.now c.in-Some.rest.now c.in-Some.ensures.halves c.in-Some-read.word c.in-Some-run_in.times
-          (sym c.in-Some-run_in.ensures ∙ ap (λ (r : Option ℕ). Some (r, c.in-Some-run_in.times)) c.in-Some-read.is)
-          (sym c.is_last.ensures ∙ c.if-is_last.false) in
+    (sym c.in-Some-run_in.ensures ∙ ap (λ (r : Option ℕ). Some (r, c.in-Some-run_in.times)) c.in-Some-read.is)
+    (sym c.is_last.ensures ∙ c.if-is_last.false) in
     subst (λ (l : List ℕ). RunsSoFar c.args.text.now c.args.line c.args.count l (Some c.in-Some-read.word) (c.loop-bytes.number + 1) c.in-Some.rest.now)
     (sym c.in_ok-push_run.ensures.ok) more
 
