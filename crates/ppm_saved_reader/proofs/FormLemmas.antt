@@ -1,10 +1,10 @@
 -- The forms of lines: what a line of a form is spelled like, and that each line that is written has its form.
-use Rattle.std.proofs.Common.{◌≡◌, ◌≢◌, ◌∙◌, ◌⊎◌, inl, inr, ℕ, ◌+◌, ◌*◌, ◌-◌, ◌^◌, ◌<◌, ◌≤◌, ◌==◌, Bool, true, false, ◌&&◌, cond, nat_le, nat_lt, is_none, List, [], ◌∷◌, ◌++◌, length, codes, decimal, Option, Some, None, refl, sym, ap, subst, arith, append_assoc}
+use Rattle.std.proofs.Common.{◌≡◌, ◌∙◌, ◌⊎◌, inl, inr, ℕ, ◌^◌, ◌<◌, ◌≤◌, ◌==◌, Bool, true, false, ◌&&◌, cond, nat_le, nat_lt, is_none, List, [], ◌∷◌, ◌++◌, length, codes, decimal, Option, Some, None, refl, sym, ap, subst, arith, append_assoc}
 use Rattle.std.specs.List.{list_all, AllByRecursion}
 use Rattle.std.specs.Str.{bytes_eq}
 use Rattle.std.specs.Int.{IsInRange}
 use Rattle.std.specs.Cmp.Derive.{both_true}
-use Rattle.std.proofs.lemmas.Bool.{both_ways, and_parts, and_from, cond-true, cond-false, ltb-true, lt-ltb, leb-true, le-leb, ne_eqb}
+use Rattle.std.proofs.lemmas.Bool.{both_ways, and_parts, and_from, cond-true, cond-false, cases_lt, ltb-true, lt-ltb, le-ltb, leb-true, le-leb, ne_eqb}
 use Rattle.std.proofs.lemmas.Fmt.{decimal-digits_value, digits_value-decimal}
 use Rattle.std.proofs.lemmas.List.{append-nil}
 use Rattle.std.proofs.lemmas.List.Elements.{All-from_recursion}
@@ -18,18 +18,14 @@ use Rattle.ppm_pieces.proofs.NumberLemmas.{numeral_parts, numeral-decimal, value
 use Rattle.ppm_text.specs.Spelling.{keyword_of}
 use Rattle.ppm_saved.specs.Names.{IsArrayName}
 use Rattle.ppm_saved.specs.Runs.{run}
-use Rattle.ppm_saved.specs.Text.{numbers_text, version_line, shape_line, array_line, times_text, run_line}
-use Rattle.ppm_saved.specs.Correct.{RunFits}
-use Rattle.ppm_saved.specs.declared.names.NamedLength.{NamedLength}
-use Rattle.ppm_saved.specs.declared.run.Run.{Run}
-use Rattle.ppm_saved.proofs.TellLemmas.{digits, numbers_split, run_split, array_split, name_bytes}
+use Rattle.ppm_saved.specs.Text.{numbers_text, array_line, times_text, run_line}
+use Rattle.ppm_saved.proofs.TellLemmas.{numbers_split, run_split, array_split, name_bytes}
 use Rattle.ppm_saved_reader.specs.declared.lines.Sizes.{Sizes}
 use Rattle.ppm_saved_reader.specs.Lines.{behind_halves, behind_word, number_in, number_behind, count_in, version_in, three, last_two, three_between, sizes_behind}
 use Rattle.ppm_saved_reader.specs.Lines.{sizes_in, is_name, is_array_name, named, name_and_len, array_behind, array_in, word_in, times_in, run_between, run_in}
-use Rattle.ppm_saved_reader.specs.Lines.{first_line}
 use Rattle.ppm_saved_reader.specs.Places.{array_of}
 use Rattle.ppm_saved_reader.proofs.OptionLemmas.{some_same, not_both, first_part, second_part}
-use Rattle.ppm_saved_reader.proofs.LineLemmas.{halves_at, halves_off, halves_behind, halves_back, first_line_some, first_line_none}
+use Rattle.ppm_saved_reader.proofs.LineLemmas.{halves_back}
 
 -- any byte but one
 abbrev but : ℕ → ℕ → Bool
@@ -304,3 +300,18 @@ run_back line w n e h = between_runs line w n h (halves_of 42 line) refl e
 pub run_spelled : (line rest : List ℕ) (w n : ℕ) → IsRunLine line w n → line ++ 10 ∷ rest ≡ run_line (run w n) ++ rest
 run_spelled line rest w n h =
     ap (λ (l : List ℕ). l ++ 10 ∷ rest) h.same ∙ append_assoc (decimal w) (times_text n) (10 ∷ rest) ∙ sym (run_split (run w n) rest)
+
+-- digits past the last word, which are not those of it, spell none
+pub word_large : (ds last : List ℕ) → is_numeral ds ≡ true → value_limit ≤ value ds → last ≡ decimal value_limit → bytes_eq ds last ≡ false
+    → None ≡ word_in ds
+word_large ds last h most e other =
+    sym (cond-false (nat_lt (value_from 0 ds) (2 ^ 64)) (Some (value_from 0 ds)) None (le-ltb (value_from 0 ds) (2 ^ 64) (by (cases_lt (value_from 0 ds) (2 ^ 64)))))
+  where
+    by : (value_from 0 ds < 2 ^ 64) ⊎ (2 ^ 64 ≤ value_from 0 ds) → 2 ^ 64 ≤ value_from 0 ds
+    by (inl small) =
+        let v : value_from 0 ds ≡ value_limit = omega (arith, most, small) in
+        absurd (both_ways (bytes_eq ds last) other ((bytes_eq-Decides ds last).1 (sym (word_spelled ds h small) ∙ ap decimal v ∙ sym e)))
+    by (inr large) = large
+
+pub last_word : codes "18446744073709551615" ≡ decimal value_limit
+last_word = sym (word_spelled (codes "18446744073709551615") refl (ltb-true (value_from 0 (codes "18446744073709551615")) (2 ^ 64) refl))

@@ -1,8 +1,8 @@
 -- Arrays one by one: those in front keep the rules as long as each next one does.
-use Rattle.std.proofs.Common.{◌≡◌, ◌≢◌, ◌∙◌, ℕ, ◌+◌, ◌<◌, ◌≤◌, Bool, true, false, ◌||◌, nat_le, nat_lt, List, [], ◌∷◌, ◌++◌, length, map, refl, sym, ap, arith, length-append}
-use Rattle.std.specs.List.{All, AllByRecursion, IsDistinct, sum, sum_by, list_any}
+use Rattle.std.proofs.Common.{◌≡◌, ◌∙◌, ℕ, ◌+◌, ◌<◌, ◌≤◌, false, nat_le, nat_lt, List, [], ◌∷◌, ◌++◌, length, map, refl, sym, ap, arith, length-append}
+use Rattle.std.specs.List.{AllByRecursion, IsDistinct, sum, sum_by}
 use Rattle.std.specs.Str.{bytes_eq}
-use Rattle.std.proofs.lemmas.Bool.{both_ways, or_parts, or_from, leb-false, ltb-false, lt-leb, le-ltb}
+use Rattle.std.proofs.lemmas.Bool.{or_parts, or_from, leb-false, ltb-false, lt-leb, le-ltb}
 use Rattle.std.proofs.lemmas.List.Elements.{All-append, All-from_recursion}
 use Rattle.std.proofs.lemmas.List.Sums.{sum-map, sum_by_push, sum_by-append, sum_by-cons}
 use Rattle.ppm_words.specs.Limits.{array_limit, word_limit}
@@ -32,7 +32,7 @@ distinct_more (x ∷ xs) a h k =
     (differs_more x.name xs a h.0 parts.0, distinct_more xs a h.1 parts.1)
 
 -- within the limits
-past_parts : (xs : List NamedLength) (len : ℕ) → is_past xs len ≡ false → (length xs < array_limit) × (sum (lengths_of xs) + len ≤ word_limit)
+pub past_parts : (xs : List NamedLength) (len : ℕ) → is_past xs len ≡ false → (length xs < array_limit) × (sum (lengths_of xs) + len ≤ word_limit)
 past_parts xs len h =
     let parts = or_parts (nat_le array_limit (length xs)) (nat_lt word_limit (sum (lengths_of xs) + len)) h in
     (leb-false array_limit (length xs) parts.0, ltb-false word_limit (sum (lengths_of xs) + len) parts.1)
@@ -79,9 +79,10 @@ pub next_keeps : (done : List NamedLength) (a : NamedLength) (xs : List NamedLen
     → (is_twice done a.name ≡ false) × (is_past done a.len ≡ false)
 next_keeps done a xs h =
     let lens : sum (lengths_of (done ++ a ∷ xs)) ≡ sum (lengths_of done) + (a.len + sum_by (λ (b : NamedLength). b.len) xs) =
-          sum-map (λ (b : NamedLength). b.len) (done ++ a ∷ xs) ∙ sum_by-append (λ (b : NamedLength). b.len) done (a ∷ xs)
-          ∙ (λ i. sym (sum-map (λ (b : NamedLength). b.len) done) i + sum_by-cons (λ (b : NamedLength). b.len) a xs i) in
-    (not_twice done a xs h.differ,
-    or_from (nat_le array_limit (length done)) (nat_lt word_limit (sum (lengths_of done) + a.len))
-    (lt-leb array_limit (length done) (omega (arith, h.most, length-append done (a ∷ xs))))
-    (le-ltb word_limit (sum (lengths_of done) + a.len) (omega (arith, h.words_most, lens))))
+    sum-map (λ (b : NamedLength). b.len) (done ++ a ∷ xs) ∙ sum_by-append (λ (b : NamedLength). b.len) done (a ∷ xs)
+    ∙ (λ i. sym (sum-map (λ (b : NamedLength). b.len) done) i + sum_by-cons (λ (b : NamedLength). b.len) a xs i) in (
+      not_twice done a xs h.differ,
+      or_from (nat_le array_limit (length done)) (nat_lt word_limit (sum (lengths_of done) + a.len))
+          (lt-leb array_limit (length done) (omega (arith, h.most, length-append done (a ∷ xs))))
+          (le-ltb word_limit (sum (lengths_of done) + a.len) (omega (arith, h.words_most, lens))),
+    )

@@ -1,5 +1,5 @@
 -- Options and pairs by their parts.
-use Rattle.std.proofs.Common.{◌≡◌, ◌∙◌, Bool, true, false, Option, Some, None, is_some, refl, sym, ap}
+use Rattle.std.proofs.Common.{◌≡◌, ◌∙◌, false, Option, Some, None, is_some, refl, sym, ap}
 use Rattle.std.proofs.lemmas.Bool.{both_ways}
 
 abbrev pub or_else : {A : Type 0} → A → Option A → A

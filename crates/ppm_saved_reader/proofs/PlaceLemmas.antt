@@ -1,5 +1,5 @@
 -- From a place reading goes on in one way, or stops in one.
-use Rattle.std.proofs.Common.{◌≡◌, ◌≢◌, ◌∙◌, ℕ, ◌+◌, ◌<◌, ◌≤◌, Bool, true, false, List, [], ◌∷◌, ◌++◌, length, take, drop, Option, Some, None, refl, sym, ap, subst, arith}
+use Rattle.std.proofs.Common.{◌≡◌, ◌∙◌, ℕ, ◌+◌, ◌≤◌, List, [], ◌∷◌, ◌++◌, length, take, drop, Option, refl, sym, ap, subst, arith}
 use Rattle.std.proofs.lemmas.Bool.{both_ways}
 use Rattle.ppm_code.specs.Free.{IsFree}
 use Rattle.ppm_code.specs.Tidy.{IsTidy}
@@ -11,7 +11,7 @@ use Rattle.ppm_saved.specs.declared.run.Run.{Run}
 use Rattle.ppm_saved_reader.specs.declared.lines.Sizes.{Sizes}
 use Rattle.ppm_saved_reader.specs.declared.saved_error.Fault.{Fault}
 use Rattle.ppm_saved_reader.specs.Rules.{text_limit, line_feeds, sizes_fit, is_twice, is_past, is_other_count, ends_with}
-use Rattle.ppm_saved_reader.specs.Places.{Place, AtVersion, AtSizes, AtArrays, AtWords, AtRuns, array_of}
+use Rattle.ppm_saved_reader.specs.Places.{Place, AtVersion, AtArrays, AtWords, AtRuns, array_of}
 use Rattle.ppm_saved_reader.specs.Places.{Goes, Version, Shaped, Array, Coded, Counted, Repeated, LeadsTo, Stays, Then}
 use Rattle.ppm_saved_reader.specs.Places.{IsWrong, NoVersion, NoSizes, NoFit, NoArray, BadArray, BadCode, NoCount, OtherCount, NoRun, Same, NoWord}
 use Rattle.ppm_saved_reader.specs.Places.{IsBadArray, Twice, TooMany, IsBadCode, Short, NoListing, Conflicting}
@@ -21,7 +21,7 @@ use Rattle.ppm_saved_reader.specs.declared.saved_error.Fault.TheVariants as faul
 use Rattle.ppm_saved_reader.proofs.OptionLemmas.{or_else, some_one, not_both, first_part, second_part}
 
 -- a listing is that of one code
-one_code : (text : List ℕ) (c d : CodeParts) → IsListing text c → IsListing text d → c ≡ d
+pub one_code : (text : List ℕ) (c d : CodeParts) → IsListing text c → IsListing text d → c ≡ d
 one_code text c d f g = listing_tells_code c d f.fits g.fits (sym f.same ∙ g.same)
 
 -- the run of a word that is there

@@ -1,12 +1,12 @@
 -- What was read up to a place is what is written of it; so a text that was read to its end is that of its state.
-use Rattle.std.proofs.Common.{◌≡◌, ◌≢◌, ◌∙◌, ◌⊎◌, inl, inr, ℕ, ◌+◌, ◌-◌, ◌*◌, ◌^◌, ◌<◌, ◌≤◌, ◌==◌, Bool, true, false, ◌&&◌, nat_le, List, [], ◌∷◌, ◌++◌, length, take, drop, codes, decimal, Option, Some, None, refl, sym, ap, subst, arith, append_assoc, length-append, length-take}
-use Rattle.std.specs.List.{flat_map, sum, AllByRecursion, All}
+use Rattle.std.proofs.Common.{◌≡◌, ◌∙◌, ℕ, ◌+◌, ◌-◌, ◌*◌, ◌^◌, ◌<◌, ◌≤◌, true, false, ◌&&◌, nat_le, List, [], ◌∷◌, ◌++◌, length, take, drop, codes, decimal, Some, refl, sym, ap, subst, arith, append_assoc, length-append, length-take}
+use Rattle.std.specs.List.{flat_map, sum, AllByRecursion}
 use Rattle.std.proofs.Math.Nat.{mul-le-mul_right}
-use Rattle.std.proofs.lemmas.Bool.{both_ways, and_parts, leb-true, ne_eqb, eqb-false}
+use Rattle.std.proofs.lemmas.Bool.{and_parts, leb-true, eqb-false}
 use Rattle.std.proofs.lemmas.List.{take-append-drop, flat_map_more, append-nil}
 use Rattle.std.proofs.lemmas.List.Sums.{sum_by-cons}
 use Rattle.ppm_words.specs.Limits.{word_limit}
-use Rattle.ppm_pieces.specs.Numbers.{value_limit}
+use Rattle.ppm_cells.specs.Cells.{word_count}
 use Rattle.ppm_cells.specs.Shape.{HasSizes}
 use Rattle.ppm_cells.specs.declared.shape.Shape.{Shape}
 use Rattle.ppm_code.specs.Code.{IsCode}
@@ -16,24 +16,25 @@ use Rattle.ppm_code.specs.declared.code.CodeParts.{CodeParts}
 use Rattle.ppm_listing.specs.Listing.{listing_of}
 use Rattle.ppm_listing.specs.Correct.{NumbersFit}
 use Rattle.ppm_listing_reader.specs.Correct.{IsListing}
-use Rattle.ppm_saved.specs.Correct.{IsWord, LengthFits, RunFits, StateFits}
+use Rattle.ppm_saved.specs.Correct.{LengthFits, RunFits}
 use Rattle.ppm_saved.specs.Names.{AreNames, lengths_of}
 use Rattle.ppm_saved.specs.Runs.{run, runs_of, words_of, AreLongest}
 use Rattle.ppm_saved.specs.Saved.{IsWhole}
-use Rattle.ppm_saved.specs.Text.{version_line, shape_line, array_line, code_line, words_line, run_line, code_text, saved_text}
+use Rattle.ppm_saved.specs.Text.{version_line, shape_line, array_line, code_line, words_line, run_line, code_text}
 use Rattle.ppm_saved.specs.declared.names.NamedLength.{NamedLength}
 use Rattle.ppm_saved.specs.declared.run.Run.{Run}
 use Rattle.ppm_saved.proofs.RunLemmas.{runs_are_longest}
 use Rattle.ppm_saved_reader.specs.declared.lines.Sizes.{Sizes}
 use Rattle.ppm_saved_reader.specs.Lines.{first_line, version_in, sizes_in, array_in, count_in, run_in}
-use Rattle.ppm_saved_reader.specs.Rules.{text_limit, is_from_to, sizes_fit, is_twice, is_past, words_for, is_other_count, ends_with, line_feeds}
+use Rattle.ppm_saved_reader.specs.Rules.{text_limit, is_from_to, sizes_fit, is_twice, is_past, words_for, is_other_count, ends_with}
 use Rattle.ppm_saved_reader.specs.Places.{Place, AtVersion, AtSizes, AtArrays, AtWords, AtRuns, array_of, NamesArrays}
 use Rattle.ppm_saved_reader.specs.Places.{Goes, Version, Shaped, Array, Coded, Counted, Repeated, LeadsTo, Stays, Then}
-use Rattle.ppm_saved_reader.specs.Correct.{IsRead, sizes_of, IsSavedText}
+use Rattle.ppm_saved_reader.specs.Correct.{IsRead, AreRunsRead, sizes_of, IsSavedText}
 use Rattle.ppm_saved_reader.proofs.LineLemmas.{first_line_back, halves_back, split_some}
 use Rattle.ppm_saved_reader.proofs.FormLemmas.{version_back, sizes_back, count_back, array_back, array_spelled, run_back, run_spelled, worded}
 use Rattle.ppm_saved_reader.proofs.NameLemmas.{names_more, no_names, len_within}
-use Rattle.ppm_saved_reader.proofs.CountLemmas.{IsCounted, counted_line, counted_end, times_sum, length-words_of}
+use Rattle.ppm_saved_reader.proofs.CountLemmas.{counted_line, times_sum}
+use Rattle.ppm_saved_reader.proofs.PlaceLemmas.{reads_on, reads_all}
 
 -- sizes of `stop`
 pub record AreSizes (z : Sizes) : Type 0 where
@@ -171,14 +172,14 @@ at_code text t rest z arrays bytes code short h e within is named free tidy =
     let cut : t ≡ line ++ 10 ∷ rest = halves_back 10 t line rest halves in
     let few = rest_short text (heading z arrays) t h.same short in
     let left : length rest < length t =
-          omega (arith, ap (λ (l : List ℕ). length l) cut, length-append line (10 ∷ rest)) in
+    omega (arith, ap (λ (l : List ℕ). length l) cut, length-append line (10 ∷ rest)) in
     let spelt : line ≡ codes "code" ++ 32 ∷ decimal bytes = count_back (codes "code") line bytes form (omega (arith, within, few, left)) in
     let len : length (take bytes rest) ≡ bytes = omega (arith, length-take bytes rest, within) in
     let parts : t ≡ code_line bytes ++ (take bytes rest ++ drop bytes rest) =
-          cut ∙ ap (λ (l : List ℕ). l ++ 10 ∷ rest) spelt ∙ worded (codes "code") bytes [] rest
-          ∙ ap (λ (l : List ℕ). code_line bytes ++ l) (sym (take-append-drop bytes rest)) in
+    cut ∙ ap (λ (l : List ℕ). l ++ 10 ∷ rest) spelt ∙ worded (codes "code") bytes [] rest
+    ∙ ap (λ (l : List ℕ). code_line bytes ++ l) (sym (take-append-drop bytes rest)) in
     let listed : code_line bytes ++ take bytes rest ≡ code_text (listing_of code) =
-          ap (λ n. code_line n ++ take bytes rest) (sym len) ∙ ap code_text is.same in
+    ap (λ n. code_line n ++ take bytes rest) (sym len) ∙ ap code_text is.same in
     record {
       has = record {
         front = h.has;
@@ -205,7 +206,7 @@ at_count text t rest z arrays code count h e same other =
     let few = words_few z arrays h.has.front.sizes h.has.front.names.words_most in
     let spelt : line ≡ codes "words" ++ 32 ∷ decimal count = count_back (codes "words") line count form (omega (arith, few, same)) in
     let parts : t ≡ words_line (words_for z arrays) ++ rest =
-          cut ∙ ap (λ (l : List ℕ). l ++ 10 ∷ rest) spelt ∙ worded (codes "words") count [] rest ∙ ap (λ n. words_line n ++ rest) same in
+    cut ∙ ap (λ (l : List ℕ). l ++ 10 ∷ rest) spelt ∙ worded (codes "words") count [] rest ∙ ap (λ n. words_line n ++ rest) same in
     record {
       has = record {
         front = h.has;
@@ -261,7 +262,7 @@ goes_at text short (Shaped {text = t} {rest = r} {z = z} e fit) h =
     let s = sizes_are z fit in
     let spelt = sizes_back line z form (omega (arith, s.processors_most)) (omega (arith, s.room_most)) (omega (arith, s.slots_most)) in
     let parts : t ≡ shape_line z.processors z.room z.slots ++ r =
-          halves_back 10 t line r halves ∙ ap (λ (l : List ℕ). l ++ 10 ∷ r) spelt ∙ worded (codes "shape") z.processors (z.room ∷ z.slots ∷ []) r in
+    halves_back 10 t line r halves ∙ ap (λ (l : List ℕ). l ++ 10 ∷ r) spelt ∙ worded (codes "shape") z.processors (z.room ∷ z.slots ∷ []) r in
     record {
       has = record { sizes = fit; names = no_names };
       same = h.same
@@ -288,6 +289,33 @@ read_at text k = leads_at text k.short k.leads (record { has = tt; same = refl }
 pub read_sizes_fit : (text : List ℕ) {z : Sizes} {arrays : List NamedLength} {r : List ℕ} {line : ℕ} → IsRead text (AtArrays z arrays) line r → sizes_fit z ≡ true
 read_sizes_fit text k = (read_at text k).has.sizes
 
+-- so does the code, and the rest is no longer than a text may be
+pub read_names : (text : List ℕ) {z : Sizes} {arrays : List NamedLength} {r : List ℕ} {line : ℕ} → IsRead text (AtArrays z arrays) line r → AreNames arrays
+read_names text k = (read_at text k).has.names
+
+pub read_named : (text : List ℕ) {z : Sizes} {arrays : List NamedLength} {code : CodeParts} {r : List ℕ} {line : ℕ} → IsRead text (AtWords z arrays code) line r
+    → NamesArrays (length arrays) code
+read_named text k = (read_at text k).has.named
+
+pub rest_within : (text : List ℕ) {q : Place} {r : List ℕ} {line : ℕ} → IsRead text q line r → length r ≤ text_limit
+rest_within text {q = q} {r = r} k = rest_short text (spelled q) r (read_at text k).same k.short
+
+-- how many words the machine has
+pub count_is : (s : Shape) (z : Sizes) (arrays : List NamedLength) → HasSizes z.processors z.room z.slots (sum (lengths_of arrays)) s
+    → word_count s ≡ words_for z arrays
+count_is s z arrays h = λ i. 1 + 2 * h.processors_are i + h.processors_are i * (5 + h.slots_are i + h.room_is i) + h.arrays_are i
+
+-- the state is whole
+pub whole_state : (text : List ℕ) (s : Shape) (z : Sizes) (arrays : List NamedLength) (lengths : List ℕ) (code : CodeParts) (words : List ℕ) {line : ℕ}
+    {r : List ℕ} → IsRead text (AtWords z arrays code) line r → HasSizes z.processors z.room z.slots (sum (lengths_of arrays)) s
+    → lengths ≡ lengths_of arrays → length words ≡ words_for z arrays → IsWhole s arrays lengths code words
+whole_state text s z arrays lengths code words k sizes same len = record {
+  words_are = len ∙ sym (count_is s z arrays sizes);
+  lengths_are = same;
+  arrays_are = ap (λ (l : List ℕ). sum l) same ∙ sym sizes.arrays_are;
+  named = read_named text k;
+}
+
 lens_fit : (arrays : List NamedLength) → sum (lengths_of arrays) ≤ word_limit → AllByRecursion LengthFits arrays
 lens_fit [] h = tt
 lens_fit (a ∷ arrays) h =
@@ -307,9 +335,9 @@ read_text text s z arrays code rs words last k sizes e len whole =
     let runs : runs_of words ≡ rs = ap runs_of e ∙ runs_are_longest.one rs h.longest in
     let front : List ℕ = coded z arrays code in
     let spelt : text ≡ front ++ (words_line (length words) ++ flat_map run_line (runs_of words)) =
-          at.same ∙ append-nil (front ++ words_line (words_for z arrays) ++ flat_map run_line rs)
-          ∙ append_assoc front (words_line (words_for z arrays)) (flat_map run_line rs)
-          ∙ (λ i. front ++ (words_line (sym len i) ++ flat_map run_line (sym runs i))) in
+    at.same ∙ append-nil (front ++ words_line (words_for z arrays) ++ flat_map run_line rs)
+    ∙ append_assoc front (words_line (words_for z arrays)) (flat_map run_line rs)
+    ∙ (λ i. front ++ (words_line (sym len i) ++ flat_map run_line (sym runs i))) in
     record {
       sizes = ap (λ (z : Sizes). sizes_fit z) same_sizes ∙ c.front.sizes;
       by_places = sizes.by_places;
@@ -328,3 +356,30 @@ read_text text s z arrays code rs words last k sizes e len whole =
       same = spelt
           ∙ ap (λ (z : Sizes). coded z arrays code ++ (words_line (length words) ++ flat_map run_line (runs_of words))) (sym same_sizes);
     }
+
+-- the version and the sizes were read
+pub front_read : (text : List ℕ) {rest behind : List ℕ} {z : Sizes} → length text ≤ text_limit → Goes AtVersion text 1 AtSizes rest
+    → Goes AtSizes rest 1 (AtArrays z []) behind → IsRead text (AtArrays z []) 3 behind
+front_read text short g k = reads_on (reads_on (reads_all text short) g) k
+
+-- the words were read, as many as the machine has
+pub state_read : (text : List ℕ) (s : Shape) (z : Sizes) (arrays : List NamedLength) (code : CodeParts) (words : List ℕ) {line count : ℕ} {r rest : List ℕ}
+    → IsRead text (AtWords z arrays code) line r → IsRead text (AtRuns z arrays code []) (line + 1) rest
+    → HasSizes z.processors z.room z.slots (sum (lengths_of arrays)) s → AreRunsRead rest (line + 1) count words → count ≡ words_for z arrays
+    → IsSavedText text s arrays code words
+state_read text s z arrays code words k l sizes runs count =
+    read_text text s z arrays code runs.runs words runs.last (runs.leads text z arrays code l) sizes runs.words_are (runs.many ∙ count)
+    (whole_state text s z arrays (lengths_of arrays) code words k sizes refl (runs.many ∙ count))
+
+-- a code was read behind arrays, which are the same
+pub coded_read : (text : List ℕ) (z : Sizes) (items arrays : List NamedLength) (code : CodeParts) {line later : ℕ} {r rest : List ℕ} → arrays ≡ items
+    → (IsRead text (AtArrays z arrays) line r → IsRead text (AtWords z arrays code) later rest) → IsRead text (AtArrays z items) line r
+    → IsRead text (AtWords z items code) later rest
+coded_read text z items arrays code {line = line} {later = later} {r = r} {rest = rest} e f k =
+    subst (λ (l : List NamedLength). IsRead text (AtWords z l code) later rest) e
+    (f (subst (λ (l : List NamedLength). IsRead text (AtArrays z l) line r) (sym e) k))
+
+-- the words that are asked for are those of the machine
+pub sizes_for : (s : Shape) (z : Sizes) (arrays : List NamedLength) (words : ℕ) → HasSizes z.processors z.room z.slots words s
+    → words ≡ sum (lengths_of arrays) → HasSizes z.processors z.room z.slots (sum (lengths_of arrays)) s
+sizes_for s z arrays words h e = subst (λ n. HasSizes z.processors z.room z.slots n s) e h

@@ -1,9 +1,9 @@
 -- The text of a state is read to its end, line by line, and there nothing is wrong.
-use Rattle.std.proofs.Common.{◌≡◌, ◌≢◌, ◌∙◌, ◌⊎◌, inl, inr, ℕ, ◌+◌, ◌-◌, ◌*◌, ◌^◌, ◌<◌, ◌≤◌, ◌==◌, Bool, true, false, ◌&&◌, cond, nat_le, nat_lt, List, [], ◌∷◌, ◌++◌, length, take, drop, codes, decimal, Option, Some, None, refl, sym, ap, subst, arith, append_assoc, length-append}
-use Rattle.std.specs.List.{flat_map, sum, list_all, All, AllByRecursion}
+use Rattle.std.proofs.Common.{◌≡◌, ◌≢◌, ◌∙◌, ◌⊎◌, inl, inr, ℕ, ◌+◌, ◌-◌, ◌≤◌, ◌==◌, Bool, true, false, cond, nat_le, List, [], ◌∷◌, ◌++◌, length, take, drop, codes, decimal, Some, None, refl, sym, ap, subst, arith, append_assoc, length-append}
+use Rattle.std.specs.List.{flat_map, list_all, AllByRecursion}
 use Rattle.std.specs.Str.{bytes_eq}
 use Rattle.std.proofs.Math.Seq.{take-append_seam, drop-append_seam}
-use Rattle.std.proofs.lemmas.Bool.{both_ways, and_parts, and_from, cond-true, cond-false, le-leb, ne_eqb}
+use Rattle.std.proofs.lemmas.Bool.{both_ways, and_parts, and_from, cond-true, le-leb, ne_eqb}
 use Rattle.std.proofs.lemmas.Bool.Decides.{eqb_tells}
 use Rattle.std.proofs.lemmas.List.{append-nil}
 use Rattle.std.proofs.lemmas.List.Elements.{recursion_from_All}
@@ -17,21 +17,20 @@ use Rattle.ppm_cells.specs.Cells.{arrays_at}
 use Rattle.ppm_cells.specs.declared.shape.Shape.{Shape}
 use Rattle.ppm_code.specs.declared.code.CodeParts.{CodeParts}
 use Rattle.ppm_listing.specs.Listing.{listing_of}
-use Rattle.ppm_listing_reader.specs.Correct.{IsListing}
 use Rattle.ppm_saved.specs.Correct.{IsWord, LengthFits, RunFits}
-use Rattle.ppm_saved.specs.Names.{IsArrayName, AreNames, lengths_of}
-use Rattle.ppm_saved.specs.Runs.{run, runs_of, words_of, AreLongest}
-use Rattle.ppm_saved.specs.Text.{numbers_text, version_line, shape_line, array_line, code_line, words_line, times_text, run_line, words_text}
+use Rattle.ppm_saved.specs.Names.{IsArrayName, AreNames}
+use Rattle.ppm_saved.specs.Runs.{runs_of, AreLongest}
+use Rattle.ppm_saved.specs.Text.{numbers_text, shape_line, array_line, code_line, times_text, run_line, words_text}
 use Rattle.ppm_saved.specs.declared.names.NamedLength.{NamedLength}
 use Rattle.ppm_saved.specs.declared.run.Run.{Run}
 use Rattle.ppm_saved.proofs.RunLemmas.{runs_are_longest}
 use Rattle.ppm_saved.proofs.TellLemmas.{digits, name_bytes, run_split, text_split}
 use Rattle.ppm_saved_reader.specs.declared.lines.Sizes.{Sizes}
 use Rattle.ppm_saved_reader.specs.declared.saved_error.Fault.{Fault}
-use Rattle.ppm_saved_reader.specs.Lines.{behind_halves, behind_word, number_in, number_behind, count_in, version_in, three, last_two, three_between, sizes_behind}
+use Rattle.ppm_saved_reader.specs.Lines.{behind_halves, behind_word, number_in, number_behind, count_in, three, last_two, three_between, sizes_behind}
 use Rattle.ppm_saved_reader.specs.Lines.{sizes_in, is_array_name, named, name_and_len, array_behind, array_in, word_in, times_in, run_between, run_in, first_line}
 use Rattle.ppm_saved_reader.specs.Rules.{text_limit, words_for, is_other_count, ends_with}
-use Rattle.ppm_saved_reader.specs.Places.{Place, AtVersion, AtSizes, AtArrays, AtWords, AtRuns, Goes, Version, Shaped, Array, Coded, Counted, Repeated, LeadsTo, Stays, Then}
+use Rattle.ppm_saved_reader.specs.Places.{Place, AtVersion, AtArrays, AtWords, AtRuns, Goes, Version, Shaped, Array, Coded, Counted, Repeated, LeadsTo, Stays, Then}
 use Rattle.ppm_saved_reader.specs.Places.{IsWrong, NoRun, Same, NoWord}
 use Rattle.ppm_saved_reader.specs.Correct.{sizes_of, IsSavedText, IsWrongAt, Breaks, TooLong}
 use Rattle.ppm_saved_reader.proofs.OptionLemmas.{not_both}
@@ -232,7 +231,7 @@ module _ (s : Shape) (arrays : List NamedLength) (code : CodeParts) (words : Lis
       let longest = runs_are_longest.longest words in
       let counted : length words ≡ words_for (sizes_of s) arrays = h.whole.words_are ∙ ap (λ n. arrays_at s + n) (sym h.whole.arrays_are) in
       let summed : times_sum (runs_of words) ≡ length words =
-            sym (length-words_of (runs_of words)) ∙ ap (λ (l : List ℕ). length l) (runs_are_longest.words words) in
+      sym (length-words_of (runs_of words)) ∙ ap (λ (l : List ℕ). length l) (runs_are_longest.words words) in
       then_on
       (Counted (count_first (codes "words") (length words) (flat_map run_line (runs_of words)) refl refl h.fits.count) counted
       (ap (λ n. is_other_count n (flat_map run_line (runs_of words))) (sym summed) ∙ runs_counted (runs_of words) longest h.fits.runs))

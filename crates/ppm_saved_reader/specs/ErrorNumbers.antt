@@ -1,5 +1,7 @@
 -- The numbers of the faults of a saved text, and their lines.
 use Rattle.std.specs.Prelude.{ℕ}
+use Rattle.ppm_listing_reader.specs.declared.listing_error.ListingError.{ListingError}
+use Rattle.ppm_listing_reader.specs.declared.listing_error.ListingError.TheVariants as listing
 use Rattle.ppm_saved_reader.specs.declared.saved_error.Fault.{Fault}
 use Rattle.ppm_saved_reader.specs.declared.saved_error.Fault.TheVariants as fault
 use Rattle.ppm_saved_reader.specs.declared.saved_error.SavedError.{SavedError}
@@ -38,3 +40,13 @@ refusal_at fault.OutOfRange line = error.OutOfRange line
 refusal_at fault.BadListing line = error.BadListing line
 refusal_at fault.BadCode line = error.BadCode line
 refusal_at fault.WrongCount line = error.WrongCount line
+
+-- the refusal where the listing behind a line is refused
+abbrev pub refusal_behind : ℕ → ListingError → SavedError
+refusal_behind line (listing.NoSuchForm at) = error.BadListing line
+refusal_behind line (listing.OutOfRange at) = error.BadListing line
+refusal_behind line (listing.NotForward at) = error.BadListing line
+refusal_behind line (listing.NoEnd at) = error.BadListing line
+refusal_behind line (listing.WrongRoom at) = error.BadListing line
+refusal_behind line (listing.NotThere at) = error.BadListing line
+refusal_behind line listing.NoMemory = error.NoMemory

@@ -1,5 +1,5 @@
 -- Where a line of a saved text stands, by what those in front of it say; how reading goes on from it, and what may be wrong with it.
-use Rattle.std.specs.Prelude.{◌≡◌, ◌≢◌, ◌<◌, ◌≤◌, ℕ, ◌+◌, true, false, List, [], ◌∷◌, ◌++◌, length, take, drop, codes, Option, Some, None}
+use Rattle.std.specs.Prelude.{◌≡◌, ◌≢◌, ◌<◌, ◌≤◌, ℕ, ◌+◌, true, false, List, [], ◌∷◌, ◌++◌, length, take, drop, codes, Some, None}
 use Rattle.std.specs.List.{All}
 use Rattle.ppm_code.specs.Free.{IsFree}
 use Rattle.ppm_code.specs.Tidy.{IsTidy}

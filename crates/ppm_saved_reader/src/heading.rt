@@ -3,6 +3,7 @@ ghost use Rattle.std.specs.Prelude.{◌≡◌, ◌≤◌, ◌<◌, ◌+◌, ◌^
 ghost use Rattle.std.specs.Prelude.{◌↔◌, IsTrue, IfOk, IfErr};
 ghost use Rattle.std.specs.List.{list_all, sum};
 ghost use Rattle.ppm_code.specs.Code.{IsCode};
+ghost use Rattle.ppm_code.specs.Free.{IsFree};
 ghost use Rattle.ppm_saved.specs.Names.{lengths_of};
 ghost use Rattle.ppm_saved_reader.specs.Lines.{first_line, array_in as array};
 ghost use Rattle.ppm_saved_reader.specs.Rules.{line_feeds as feeds};
@@ -14,7 +15,7 @@ use crate::lines::{Sizes, array_in, count_in, same_bytes, sizes_in};
 use crate::rules::{is_past, is_twice, sizes_fit};
 use crate::saved_error::{Fault, SavedError};
 use ppm_code::Code;
-use ppm_listing_reader::{ListingError, read_listing};
+use ppm_listing_reader::{faults_tell_listings, read_listing};
 use ppm_pieces::split_once;
 use ppm_saved::NamedLength;
 use ppm_war::{check, tidy};
@@ -155,7 +156,17 @@ fn names_arrays(code: &Code, arrays: usize) -> bool
     are_below(code.parts().arrays.as_slice(), arrays)
 }
 
-/// The bytes in front of those behind the first n.
+/// Whether a code has no conflict.
+fn is_free(code: &Code) -> bool
+    ensures { IsTrue result ↔ IsFree code.now }
+{
+    match check(code) {
+        Ok(_) => true,
+        Err(_) => false,
+    }
+}
+
+/// The first n bytes.
 fn front(bytes: &[u8], n: usize) -> &[u8]
     requires { n ≤ length bytes.now }
     ensures { result.now ≡ take n bytes.now }
@@ -207,13 +218,16 @@ pub(crate) fn read_code<'a>(
     let listing = front(rest, count as usize);
     let code = match read_listing(alloc, listing) {
         Ok(code) => code,
-        Err(ListingError::NoMemory) => return Err(SavedError::NoMemory),
-        Err(_) => return Err(SavedError::BadListing(line)),
+        Err(error) => {
+            // so it is the listing of no code
+            faults_tell_listings();
+            return Err(SavedError::for_listing(line, error));
+        }
     };
     if !names_arrays(&code, arrays.len()) {
         return Err(SavedError::BadListing(line));
     }
-    if check(&code).is_err() {
+    if !is_free(&code) {
         return Err(SavedError::BadCode(line));
     }
     if !tidy(&code) {

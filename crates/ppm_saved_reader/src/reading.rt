@@ -1,10 +1,11 @@
 //! Reads saved texts.
-ghost use Rattle.std.specs.Prelude.{◌≡◌, ◌≤◌, true, IsSome, IfSome, IfOk, IfErr};
+ghost use Rattle.std.specs.Prelude.{◌≡◌, ◌≤◌, true, [], IsSome, IfSome, IfOk, IfErr};
 ghost use Rattle.ppm_words.specs.Limits.{word_limit};
 ghost use Rattle.ppm_cells.specs.Shape.{HasSizes};
 ghost use Rattle.ppm_saved.specs.Names.{lengths_of as lengths_in};
 ghost use Rattle.ppm_saved_reader.specs.Rules.{sizes_fit as fit};
-ghost use Rattle.ppm_saved_reader.specs.Correct.{IsRefusal, IsSavedText};
+ghost use Rattle.ppm_saved_reader.specs.Places.{AtArrays};
+ghost use Rattle.ppm_saved_reader.specs.Correct.{IsRead, IsRefusal, IsSavedText};
 
 use crate::heading::{read_arrays, read_code, read_sizes, read_version};
 use crate::lines::Sizes;
@@ -23,8 +24,10 @@ fn lengths_of(alloc: Global, arrays: &[NamedLength]) -> Result<Vec<u32>, NoMemor
     ensures { IfOk result (λ lengths. lengths.items ≡ lengths_in arrays.now) }
 {
     let mut lengths = Vec::new(alloc);
-    for array in arrays {
+    let mut left = arrays;
+    while let [array, rest @ ..] = left {
         lengths.push(array.len)?;
+        left = rest;
     }
     Ok(lengths)
 }
@@ -44,11 +47,9 @@ fn shape_of(sizes: Sizes, words: u64) -> Option<Shape>
     )
 }
 
-/// The state of a saved text. `Err` with the fault of its first wrong line, of the rules that it
-/// breaks the one with the least number; or where memory is refused: none is taken but for the
-/// code, the arrays and the words.
-pub fn read_saved(alloc: Global, text: &[u8]) -> Result<Saved, SavedError>
-    ensures ok { IfOk result (λ s. IsSavedText text.now s.shape s.names s.code s.words) }
+/// The sizes of a text that is not too long, and the text behind them.
+fn read_front(text: &[u8]) -> Result<(Sizes, &[u8]), SavedError>
+    ensures ok { IfOk result (λ p. IsRead text.now (AtArrays p.0 []) 3 p.1.now) }
     ensures err { IfErr result (IsRefusal text.now) }
 {
     if text.len() > TEXT_LIMIT {
@@ -58,18 +59,28 @@ pub fn read_saved(alloc: Global, text: &[u8]) -> Result<Saved, SavedError>
         Ok(rest) => rest,
         Err(fault) => return Err(fault.at(1)),
     };
-    let (sizes, rest) = match read_sizes(rest) {
-        Ok(read) => read,
-        Err(fault) => return Err(fault.at(2)),
-    };
+    match read_sizes(rest) {
+        Ok((sizes, rest)) => Ok((sizes, rest)),
+        Err(fault) => Err(fault.at(2)),
+    }
+}
+
+/// The state of a saved text. `Err` with the fault of its first wrong line, of the rules that it
+/// breaks the one with the least number; or where memory is refused: none is taken but for the
+/// code, the arrays and the words.
+pub fn read_saved(alloc: Global, text: &[u8]) -> Result<Saved, SavedError>
+    ensures ok { IfOk result (λ s. IsSavedText text.now s.shape s.names s.code s.words) }
+    ensures err { IfErr result (IsRefusal text.now) }
+{
+    let (sizes, rest) = read_front(text)?;
     let arrays = read_arrays(alloc, rest, 3)?;
     let coded = read_code(alloc, arrays.rest, &arrays.arrays, arrays.line)?;
     let Some(shape) = shape_of(sizes, arrays.words) else {
         return Err(SavedError::OutOfRange(2));
     };
     let count = u64::from(shape.word_count());
-    let rest = read_count(coded.rest, count, coded.line)?;
-    let words = read_runs(alloc, rest, count, coded.line + 1)?;
+    let behind = read_count(coded.rest, count, coded.line)?;
+    let words = read_runs(alloc, behind, count, coded.line + 1)?;
     let lengths = lengths_of(alloc, &arrays.arrays)?;
     Ok(Saved {
         shape,

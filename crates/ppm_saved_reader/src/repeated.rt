@@ -43,12 +43,12 @@ pub(crate) fn read_count(text: &[u8], count: u64, line: u32) -> Result<&[u8], Sa
 
 /// Appends a word so many times.
 fn push_run(words: &mut Vec<u64>, word: u64, times: u64) -> Result<(), SavedError>
+    requires { times < 2 ^ 32 }
     ensures ok { OnOk result (words.new.items ≡ words.old.items ++ replicate times word) }
     ensures err { IfErr result (λ e. e ≡ NoMemory) }
 {
-    for _ in 0..times {
-        words.push(word)?;
-    }
+    let length = words.len() + times as usize;
+    words.resize(length, word)?;
     Ok(())
 }
 
@@ -69,9 +69,10 @@ pub(crate) fn read_runs(
     count: u64,
     line: u32,
 ) -> Result<Vec<u64>, SavedError>
+    requires few { count < 2 ^ 32 }
     requires count { other_count count text.now ≡ false }
     requires bound { line + length text.now < 2 ^ 32 }
-    ensures ok { IfOk result (AreRunsRead text.now line count) }
+    ensures ok { IfOk result (λ words. AreRunsRead text.now line count words.items) }
     ensures err { (whole : List ℕ) (z : Sizes) (arrays : List NamedLength) (code : CodeParts)
         → IsRead whole (AtRuns z arrays code []) line text.now → IfErr result (IsRefusal whole) }
 {
@@ -80,10 +81,10 @@ pub(crate) fn read_runs(
     let mut number = line;
     let mut left = text;
     while let Some((bytes, rest)) = split_once(left, b'\n') {
-        let Some((word, times)) = run_in(bytes) else {
+        let Some((read, times)) = run_in(bytes) else {
             return Err(SavedError::NoSuchForm(number));
         };
-        let Some(word) = word else {
+        let Some(word) = read else {
             return Err(SavedError::OutOfRange(number));
         };
         if is_last(last, word) {

@@ -1,8 +1,9 @@
 //! Why a text is none of a saved state.
 ghost use Rattle.std.specs.Prelude.{◌≡◌};
 ghost use Rattle.ppm_saved_reader.specs.ErrorNumbers.{fault_number, number_of, line_of};
-ghost use Rattle.ppm_saved_reader.specs.ErrorNumbers.{refusal_at};
+ghost use Rattle.ppm_saved_reader.specs.ErrorNumbers.{refusal_at, refusal_behind};
 
+use ppm_listing_reader::ListingError;
 use ppm_words::NoMemory;
 use std::alloc::{AllocError, AllocFailed};
 use thiserror::Error;
@@ -75,6 +76,21 @@ impl Fault {
 }
 
 impl SavedError {
+    /// The refusal where the listing behind a line is refused.
+    pub(crate) fn for_listing(line: u32, error: ListingError) -> SavedError
+        ensures { result ≡ refusal_behind line error }
+    {
+        match error {
+            ListingError::NoSuchForm(_)
+            | ListingError::OutOfRange(_)
+            | ListingError::NotForward(_)
+            | ListingError::NoEnd(_)
+            | ListingError::WrongRoom(_)
+            | ListingError::NotThere(_) => SavedError::BadListing(line),
+            ListingError::NoMemory => SavedError::NoMemory,
+        }
+    }
+
     /// The number of the fault, from 1 to 5; 0 where memory was refused.
     pub fn number(self) -> u32
         ensures { result ≡ number_of self }

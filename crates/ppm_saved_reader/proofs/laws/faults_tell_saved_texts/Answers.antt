@@ -1,4 +1,3 @@
-use Rattle.ppm_saved_reader.proofs.SpelledLemmas.{read_text}
 use Rattle.ppm_saved_reader.proofs.WrittenLemmas.{text_right}
 use Rattle.ppm_saved_reader.proofs.PlaceLemmas.{one_fault}
 use Rattle.ppm_saved_reader.proofs.laws.faults_tell_saved_texts.Goals as goal
