@@ -6,6 +6,7 @@ ghost use Rattle.ppm_cli.specs.Words.{IsInRange, command_in, command_named as na
 use crate::replay::{ReplayOptions, replay_from};
 use crate::run::{RunOptions, run_from};
 use crate::serial::{SerialOptions, serial_from};
+use crate::stop::{StopOptions, stop_from};
 use clap::ArgMatches;
 use ppm_words::Items;
 use std::alloc::{AllocError, Global};
@@ -23,6 +24,9 @@ pub enum Command {
     Check,
     /// To replay the source that is read, by a schedule, of which these are the bytes.
     Replay(ReplayOptions, Items<u8>),
+    /// To stop the source that is read in mid-run, by a schedule, of which these are the bytes, and
+    /// to save the machine's words.
+    Stop(StopOptions, Items<u8>),
 }
 
 /// The command of the subcommand that was met, with its options.
@@ -54,6 +58,7 @@ fn command_named(
         "code" => Ok(Some(Command::Code)),
         "check" => Ok(Some(Command::Check)),
         "replay" => replay_from(alloc, matches),
+        "stop" => stop_from(alloc, matches),
         _ => Ok(None),
     }
 }

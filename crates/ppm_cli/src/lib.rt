@@ -16,6 +16,7 @@ mod replay;
 mod room;
 mod run;
 mod serial;
+mod stop;
 mod table;
 mod takeover;
 
@@ -25,4 +26,5 @@ pub use line::read_words;
 pub use replay::ReplayOptions;
 pub use run::RunOptions;
 pub use serial::SerialOptions;
+pub use stop::StopOptions;
 pub use table::{COMMANDS, ChoiceOption, CommandRow, NumberOption, OptionRow, TextOption};

@@ -36,7 +36,7 @@ fn meaning_of(status: Status) -> &'static str {
     match status {
         Status::Ended => {
             "ended: the arrays, and of `replay` its forks and takes; of `code` the listing; of\n       \
-             `check` the line `ok`"
+             `check` the line `ok`; of `stop` the saved text (docs/SAVED.md)"
         }
         Status::Trapped => {
             "trapped: `trap K line N`, K being overflow, divzero, index or split; of `replay`\n       \

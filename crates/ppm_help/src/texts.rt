@@ -15,7 +15,7 @@ It has at most 1,048,576 bytes, a listing 536,870,912. An option is given as `--
 ";
 
 /// What stands behind the commands.
-pub(crate) const BEHIND: &str = "to come: self, stop, resume, ram\n";
+pub(crate) const BEHIND: &str = "to come: self, resume, ram\n";
 
 /// What a command is for.
 pub(crate) fn purpose_of(command: &str) -> &'static str {
@@ -25,6 +25,7 @@ pub(crate) fn purpose_of(command: &str) -> &'static str {
         "code" => "compiles a source, and writes the listing of its capsules",
         "check" => "whether the capsules of a listing may be run again; races are not asked",
         "replay" => "compiles a source, and processors run its capsules along a schedule",
+        "stop" => "stops such a run after so many acts, and writes its words as a saved text",
         _ => NO_WORDS,
     }
 }
@@ -37,6 +38,7 @@ pub(crate) fn example_of(command: &str) -> &'static str {
         "code" => "< examples/first.ppm",
         "check" => "< examples/conflict.listing",
         "replay" => "--processors 3 --schedule '0*200,1*30,1!h' < examples/sum.ppm",
+        "stop" => "--processors 3 --after 300 < examples/sum.ppm > sum.saved",
         _ => NO_WORDS,
     }
 }
@@ -46,7 +48,8 @@ pub(crate) fn meaning_of(command: &str, option: &str) -> &'static str {
     match option {
         "processors" => "how many processors there are",
         "turns" => turns_of(command),
-        "room" => "words of a place's pool, not reused; 67108864 in all",
+        "after" => "acts that are made, those of the schedule too",
+        "room" => room_of(command),
         "slots" => "entries of a place's deque",
         "looks" => "looks for work in a row until a processor rests",
         "seed" => "where the random victims begin",
@@ -65,6 +68,14 @@ fn turns_of(command: &str) -> &'static str {
         "serial" => "turns of the meaning (docs/LANGUAGE.md)",
         "replay" => "acts that all processors may make together",
         _ => NO_WORDS,
+    }
+}
+
+/// What the room of a command is.
+fn room_of(command: &str) -> &'static str {
+    match command {
+        "stop" => "words of a place's pool, not reused",
+        _ => "words of a place's pool, not reused; 67108864 in all",
     }
 }
 

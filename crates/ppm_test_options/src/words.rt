@@ -1,7 +1,8 @@
 //! The words that clap's documentation takes and refuses.
 use ppm_cells::Takeover;
 use ppm_cli::{
-    Command, ReplayOptions, RunOptions, SerialOptions, any_rule_may_be_admitted, read_words,
+    Command, ReplayOptions, RunOptions, SerialOptions, StopOptions, any_rule_may_be_admitted,
+    read_words,
 };
 use ppm_words::Idle;
 use std::alloc::Global;
@@ -29,6 +30,14 @@ const REPLAY: ReplayOptions = ReplayOptions {
     takeover: Takeover::ByPlaces,
 };
 
+/// The options of a stop of which the words give none.
+const STOP: StopOptions = StopOptions {
+    processors: 4,
+    after: 0,
+    room: 16_384,
+    slots: 256,
+};
+
 /// A command without its texts.
 #[derive(Clone, Copy, Debug, PartialEq, Eq)]
 enum Plain {
@@ -37,6 +46,7 @@ enum Plain {
     Code,
     Check,
     Replay(ReplayOptions),
+    Stop(StopOptions),
 }
 
 fn shown(command: &Command) -> Plain {
@@ -46,6 +56,7 @@ fn shown(command: &Command) -> Plain {
         Command::Code => Plain::Code,
         Command::Check => Plain::Check,
         Command::Replay(options, _) => Plain::Replay(*options),
+        Command::Stop(options, _) => Plain::Stop(*options),
     }
 }
 
@@ -297,6 +308,61 @@ fn words_give_a_replay(rt: HostRuntime) -> Result<(), Fail> {
     Ok(())
 }
 
+#[test]
+fn words_give_a_stop(rt: HostRuntime) -> Result<(), Fail> {
+    let least = StopOptions {
+        processors: 1,
+        after: 0,
+        room: 64,
+        slots: 2,
+    };
+    let most = StopOptions {
+        processors: 16,
+        after: 268_435_456,
+        room: 65_536,
+        slots: 4_096,
+    };
+    let cases: [(&[&str], StopOptions, &str); 4] = [
+        (&[], STOP, "none"),
+        (&["--schedule=0*40,1>0"], STOP, "0*40,1>0"),
+        (
+            &[
+                "--processors=1",
+                "--after=0",
+                "--room=64",
+                "--slots=2",
+                "--schedule=",
+            ],
+            least,
+            "",
+        ),
+        (
+            &[
+                "--slots",
+                "4096",
+                "--room",
+                "65536",
+                "--after",
+                "268435456",
+                "--processors",
+                "16",
+            ],
+            most,
+            "none",
+        ),
+    ];
+    for (words, options, schedule) in cases {
+        match command_with(rt.alloc(), "stop", words)? {
+            Some(Command::Stop(got, bytes)) => {
+                assert_eq!(rt; got, options, "{words:?}");
+                assert_eq!(rt; bytes.as_slice(), schedule.as_bytes());
+            }
+            _ => return Err(Fail::from("another command")),
+        }
+    }
+    Ok(())
+}
+
 /// A command, one of its options, a value of it, and words that are none.
 type OptionCase = (
     &'static str,
@@ -322,7 +388,7 @@ fn values_are_refused(
 
 #[test]
 fn values_out_of_form_are_refused(rt: HostRuntime) -> Result<(), Fail> {
-    let cases: [OptionCase; 15] = [
+    let cases: [OptionCase; 20] = [
         ("run", "--processors", "1", &["0", "65", "one", "+", ""]),
         ("run", "--turns", "1", &["0", "268435457"]),
         ("run", "--room", "16777216", &["63", "16777217"]),
@@ -338,6 +404,11 @@ fn values_out_of_form_are_refused(rt: HostRuntime) -> Result<(), Fail> {
         ("replay", "--slots", "2", &["1", "65537"]),
         ("replay", "--takeover", "place", &["leave", "entries", ""]),
         ("replay", "--schedule", "0", &["-1", "--room"]),
+        ("stop", "--processors", "16", &["0", "17"]),
+        ("stop", "--after", "0", &["-1", "268435457"]),
+        ("stop", "--room", "64", &["63", "65537"]),
+        ("stop", "--slots", "2", &["1", "4097"]),
+        ("stop", "--schedule", "0", &["-1"]),
     ];
     for (name, option, value, others) in cases {
         let once = command_with(rt.alloc(), name, &[option, value])?;
@@ -353,7 +424,7 @@ fn values_out_of_form_are_refused(rt: HostRuntime) -> Result<(), Fail> {
 
 #[test]
 fn words_that_are_no_options_are_refused(rt: HostRuntime) -> Result<(), Fail> {
-    let cases: [(&str, &[&str]); 14] = [
+    let cases: [(&str, &[&str]); 16] = [
         ("run", &["--processors", "2", "--room", "67108864"]),
         ("run", &["--processors", "1", "--room", "67108865"]),
         ("replay", &["--processors", "64", "--room", "1048577"]),
@@ -368,6 +439,8 @@ fn words_that_are_no_options_are_refused(rt: HostRuntime) -> Result<(), Fail> {
         ("replay", &["--faults", "none"]),
         ("replay", &["--idle", "leave"]),
         ("replay", &["0"]),
+        ("stop", &["--turns", "1"]),
+        ("stop", &["--takeover", "place"]),
     ];
     for (name, words) in cases {
         let refused = command_with(rt.alloc(), name, words)?;
