@@ -19,6 +19,7 @@ use Rattle.ppm_top.specs.Causes.{CommandMay, CommandTells, IsAnswered}
 use Rattle.ppm_plan.specs.Forms.{plan_form, schedule_form}
 use Rattle.ppm_driver.specs.Replays.{TextHas as ReplayTextHas}
 use Rattle.ppm_driver.specs.Runs.{TextHas as RunTextHas}
+use Rattle.ppm_stop.specs.Stops.{TextHas as StopTextHas}
 use Rattle.ppm_loading.proofs.PlannedLemmas as planned
 use Rattle.ppm_driver.proofs.WatchLemmas.{untold}
 
@@ -32,6 +33,8 @@ memory_before (Some commands.Code) o h = judged.memory_before text_limit CodeRea
 memory_before (Some commands.Check) o h = judged.memory_before listing_limit CheckHas o.source h
 memory_before (Some (commands.Replay options schedule)) o h =
     planned.memory_before schedule_form schedule options.processors (ReplayTextHas options) text_limit o.source h
+memory_before (Some (commands.Stop options schedule)) o h =
+    planned.memory_before schedule_form schedule options.processors (StopTextHas options) text_limit o.source h
 
 -- an answer of the command that the words give answers the words
 pub by_command : (words : List (List ℕ)) (o : Outside) (status : Status) (command : Option Command) → command_of words ≡ command →
@@ -55,3 +58,4 @@ told_nothing (Some (commands.Serial options)) answer lists = refl
 told_nothing (Some commands.Code) answer lists = refl
 told_nothing (Some commands.Check) answer lists = refl
 told_nothing (Some (commands.Replay options schedule)) answer lists = refl
+told_nothing (Some (commands.Stop options schedule)) answer lists = refl

@@ -11,13 +11,15 @@ use Rattle.ppm_cli.specs.declared.command.Command.TheVariants as commands
 use Rattle.ppm_cli.specs.declared.serial.SerialOptions.{SerialOptions}
 use Rattle.ppm_cli.specs.declared.replay.ReplayOptions.{ReplayOptions}
 use Rattle.ppm_cli.specs.declared.run.RunOptions.{RunOptions}
-use Rattle.ppm_cli.specs.Words.{command_of, AreReplayed, AreRun}
+use Rattle.ppm_cli.specs.declared.stop.StopOptions.{StopOptions}
+use Rattle.ppm_cli.specs.Words.{command_of, AreReplayed, AreRun, AreStopped}
 use Rattle.ppm_commands.specs.Check.{CheckRows}
 use Rattle.ppm_commands.specs.Code.{CodeRows}
 use Rattle.ppm_commands.specs.Serial.{SerialRows}
 use Rattle.ppm_loading.specs.MachineRows.{RefusesPlan}
 use Rattle.ppm_driver.specs.ReplayRows.{ReplayRows}
 use Rattle.ppm_driver.specs.RunRows.{RunRows}
+use Rattle.ppm_stop.specs.StopRows.{StopRows}
 use Rattle.ppm_plan.specs.Forms.{plan_form, schedule_form}
 
 -- the rows of `run` hold where the words ask for a run, with these options, which are in their ranges, and this plan
@@ -43,11 +45,18 @@ abbrev pub ReplaysByWords : List (List ℕ) → Outside → Status → Type 0
 ReplaysByWords words o status = (options : ReplayOptions) (schedule : List ℕ) → command_of words ≡ Some (commands.Replay options schedule) →
     AreReplayed options × ReplayRows options schedule (ports_of o) status
 
--- the words ask for a run by a plan, or for a replay by a schedule, that is refused
+-- those of `stop` where they ask for that, with these options, which are in their ranges, and this schedule
+abbrev pub StopsByWords : List (List ℕ) → Outside → Status → Type 0
+StopsByWords words o status = (options : StopOptions) (schedule : List ℕ) → command_of words ≡ Some (commands.Stop options schedule) →
+    AreStopped options × StopRows options schedule (ports_of o) status
+
+-- the words ask for a run by a plan, or for a replay or a stop by a schedule, that is refused
 pub data HasRefusedPlan (words : List (List ℕ)) (o : Outside) : Type 0 where
   OfRun : (options : RunOptions) (plan : List ℕ) → command_of words ≡ Some (commands.Run options plan)
       → RefusesPlan plan_form plan options.processors (ports_of o) → HasRefusedPlan words o
   OfReplay : (options : ReplayOptions) (schedule : List ℕ) → command_of words ≡ Some (commands.Replay options schedule)
+      → RefusesPlan schedule_form schedule options.processors (ports_of o) → HasRefusedPlan words o
+  OfStop : (options : StopOptions) (schedule : List ℕ) → command_of words ≡ Some (commands.Stop options schedule)
       → RefusesPlan schedule_form schedule options.processors (ports_of o) → HasRefusedPlan words o
 
 -- Status 3 comes only where the words give no command, or name a plan or a schedule that is refused. Where they give no command,
@@ -78,6 +87,7 @@ pub record ProgramRows (words : List (List ℕ)) (o : Outside) (status : Status)
   pub code : ListsByWords words o status
   pub check : ChecksByWords words o status
   pub replay : ReplaysByWords words o status
+  pub stop : StopsByWords words o status
   pub words_refused : RefusesWords words o status
   pub faults : ReportsFaults o status
   pub nothing_on_out : IsSilentOnOut o status

@@ -19,6 +19,7 @@ use ppm_driver::{
 };
 use ppm_plan::have_one_answer as plans_have_one_answer;
 use ppm_ports::{Sink, Source, Watch};
+use ppm_stop::{have_one_answer as stops_have_one_answer, stop_command};
 use ppm_words::NoMemory;
 use std::alloc::Global;
 use std::sync::Wait;
@@ -60,6 +61,7 @@ pub fn ppm<R: Threads + Wait + Sync, S: Source, K: Sink, E: Sink, W: Watch>(
     listings_have_one_answer();
     plans_have_one_answer();
     replays_have_one_answer();
+    stops_have_one_answer();
     answer_words(rt, alloc, words, source, out, err, watch)
 }
 
@@ -103,6 +105,14 @@ fn answer_words<R: Threads + Wait + Sync, S: Source, K: Sink, E: Sink, W: Watch>
             alloc,
             options,
             schedule.as_slice(),
+            source,
+            out,
+            err,
+        ),
+        Ok(Some(Command::Stop(options, acts))) => stop_command(
+            alloc,
+            options,
+            acts.as_slice(),
             source,
             out,
             err,
