@@ -1,13 +1,12 @@
 -- The arrays that an admitted program within the limits starts with are named as those of a saved state.
-use Rattle.std.proofs.Common.{◌≡◌, ◌≢◌, ◌≤◌, ◌+◌, ℕ, Bool, true, false, List, [], ◌∷◌, ◌++◌, Option, Some, None, cond, map, length, refl, sym, ap, subst, ◌∙◌, arith}
+use Rattle.std.proofs.Common.{◌≡◌, ◌≢◌, ◌≤◌, ℕ, suc, Bool, true, false, List, [], ◌∷◌, ◌++◌, Option, Some, None, cond, map, length, refl, sym, ap, subst}
 use Rattle.std.specs.Bool.{Decides}
 use Rattle.std.specs.List.{All, AllByRecursion, Contains, IsDistinct, flat_map, sum}
 use Rattle.std.specs.Str.{bytes_eq}
-use Rattle.std.proofs.lemmas.List.{length-map}
 use Rattle.std.proofs.lemmas.List.Elements.{All-from_recursion, recursion_from_All}
 use Rattle.std.proofs.lemmas.Map.Keys.{IsDistinct-cons}
 use Rattle.std.proofs.lemmas.Slice.Eq.{bytes_eq-Decides}
-use Rattle.ppm_words.specs.Limits.{word_limit}
+use Rattle.ppm_words.specs.Limits.{array_limit, word_limit}
 use Rattle.ppm_words.specs.declared.named_array.NamedArray.{NamedArray}
 use Rattle.ppm_text.specs.Spelling.{spelled, keyword_of, keywords as spellings}
 use Rattle.ppm_tree.specs.declared.mode.Mode.TheVariants as mode
@@ -124,13 +123,15 @@ lengths_are : (arrays : List NamedArray) → lengths_of (names_of arrays) ≡ ma
 lengths_are [] = refl
 lengths_are (a ∷ arrays) = ap (λ ls. length a.values ∷ ls) (lengths_are arrays)
 
+as_many : (arrays : List NamedArray) → length (names_of arrays) ≡ length arrays
+as_many [] = refl
+as_many (a ∷ arrays) = ap suc (as_many arrays)
+
 pub names_are : (t : ProgramTree) → IsWithin t → IsAdmitted t → AreNames (names_of (initial_arrays t))
 names_are t within admitted =
     let fits = input_fits t within admitted in
     record {
-      most =
-          let e = length-map (initial_arrays t) (λ (a : NamedArray). record { name = a.name; len = length a.values }) in
-          omega (arith, e, fits.arrays_bound);
+      most = subst (λ n. n ≤ array_limit) (sym (as_many (initial_arrays t))) fits.arrays_bound;
       names = All-from_recursion (λ (a : NamedLength). IsArrayName a.name) (names_of (initial_arrays t))
           (named_all t.inputs t.arrays (recursion_from_All IsArray t.arrays within.arrays));
       differ = differ t [] t.inputs t.arrays (arrays_faultless t admitted);
