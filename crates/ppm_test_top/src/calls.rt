@@ -195,7 +195,7 @@ pub(crate) fn is_answered<R: Abort + Threads + Wait + Sync>(
 #[test]
 fn commands_are_obeyed(rt: HostRuntime) -> Result<(), Fail> {
     // Words and a text, with what is written on out and on err.
-    let cases: [(&[&str], &str, &str, &str, Status); 17] = [
+    let cases: [(&[&str], &str, &str, &str, Status); 19] = [
         (RUN, FIRST, "a 5 7\n", "", Status::Ended),
         (
             &["ppm", "run", "--processors", "1"],
@@ -282,6 +282,30 @@ fn commands_are_obeyed(rt: HostRuntime) -> Result<(), Fail> {
              capsule 4 proc 0\nend\n",
             "",
             Status::Ended,
+        ),
+        (
+            &[
+                "ppm",
+                "stop",
+                "--processors",
+                "1",
+                "--room",
+                "64",
+                "--slots",
+                "2",
+            ],
+            "proc main() { }",
+            "saved 1\nshape 1 64 2\ncode 57\nppm 1\nroot 0\nproc 0 slots 0 entry 0\ncapsule 0 proc 0\nend\n\
+             words 74\n0*3\n576460756598390794\n0*2\n1\n16\n13835058055282163712\n4611686018427387904\n144115191297081344\n1\n0*62\n",
+            "",
+            Status::Ended,
+        ),
+        (
+            &["ppm", "stop", "--processors", "3", "--schedule", "3"],
+            "proc main() { }",
+            "",
+            "plan refused: 2\n",
+            Status::WordsRefused,
         ),
         (
             &["ppm", "code"],

@@ -20,6 +20,7 @@ use Rattle.ppm_plan.specs.Forms.{plan_form, schedule_form}
 use Rattle.ppm_driver.specs.Replays.{TextHas as ReplayTextHas}
 use Rattle.ppm_driver.specs.Resumes.{TextHas as ResumeTextHas}
 use Rattle.ppm_driver.specs.Runs.{TextHas as RunTextHas}
+use Rattle.ppm_stop.specs.Stops.{TextHas as StopTextHas}
 use Rattle.ppm_loading.proofs.PlannedLemmas as planned
 use Rattle.ppm_driver.proofs.ResumeLemmas.{still_told}
 use Rattle.ppm_driver.proofs.WatchLemmas.{untold}
@@ -37,6 +38,8 @@ memory_before (Some (commands.Replay options schedule)) o h =
     planned.memory_before schedule_form schedule options.processors (ReplayTextHas options) text_limit o.source h
 memory_before (Some (commands.Resume options plan)) o h =
     judged.memory_before saved_limit (ResumeTextHas options plan o.told_before o.told_now) o.source h
+memory_before (Some (commands.Stop options schedule)) o h =
+    planned.memory_before schedule_form schedule options.processors (StopTextHas options) text_limit o.source h
 
 -- an answer of the command that the words give answers the words
 pub by_command : (words : List (List ℕ)) (o : Outside) (status : Status) (command : Option Command) → command_of words ≡ command →
@@ -61,3 +64,4 @@ told_nothing (Some commands.Code) answer lists = refl
 told_nothing (Some commands.Check) answer lists = refl
 told_nothing (Some (commands.Replay options schedule)) answer lists = refl
 told_nothing (Some (commands.Resume options plan)) answer lists = still_told answer lists
+told_nothing (Some (commands.Stop options schedule)) answer lists = refl

@@ -16,6 +16,7 @@ use Rattle.ppm_cli.specs.declared.command.Command.TheVariants as commands
 use Rattle.ppm_cli.specs.declared.replay.ReplayOptions.{ReplayOptions}
 use Rattle.ppm_cli.specs.declared.resume.ResumeOptions.{ResumeOptions}
 use Rattle.ppm_cli.specs.declared.run.RunOptions.{RunOptions}
+use Rattle.ppm_cli.specs.declared.stop.StopOptions.{StopOptions}
 use Rattle.ppm_cli.specs.Words.{command_of}
 use Rattle.ppm_cli.proofs.RangeLemmas.{is_in_range}
 use Rattle.ppm_commands.specs.Check.{CheckHas, HaveOneAnswer as ListingsHaveOneAnswer}
@@ -35,6 +36,8 @@ use Rattle.ppm_driver.specs.Replays.{TextHas as ReplayTextHas, HaveOneAnswer as 
 use Rattle.ppm_driver.specs.Resumes.{TextHas as ResumeTextHas}
 use Rattle.ppm_driver.specs.ResumeRows.{RefusesPlan as RefusesResumed}
 use Rattle.ppm_driver.specs.Runs.{TextHas as RunTextHas, AnswersAreOne, FrontsDecideAnswers}
+use Rattle.ppm_stop.specs.Stops.{TextHas as StopTextHas, HaveOneAnswer as StopsHaveOneAnswer}
+use Rattle.ppm_stop.proofs.OfStop as of_stop
 use Rattle.ppm_driver.proofs.OfReplay as of_replay
 use Rattle.ppm_driver.proofs.OfResume as of_resume
 use Rattle.ppm_driver.proofs.OfRun as of_run
@@ -45,7 +48,7 @@ use Rattle.ppm_answers.specs.Reading.{IsUnread, JudgingMay, DeliversAnswer}
 use Rattle.ppm_answers.proofs.Delivered.{of_answers}
 use Rattle.ppm_answers.specs.Rows.{IsOneOf}
 use Rattle.ppm_top.specs.Causes.{NoCommandMay, CommandMay, CommandTells, IsAnswered}
-use Rattle.ppm_top.specs.Rows.{HasRefusedPlan, OfRun, OfReplay, OfResume, RefusesWords, ReportsFaults, ProgramRows}
+use Rattle.ppm_top.specs.Rows.{HasRefusedPlan, OfRun, OfReplay, OfStop, OfResume, RefusesWords, ReportsFaults, ProgramRows}
 use Rattle.ppm_answers.proofs.Delivered as delivered
 use Rattle.ppm_answers.proofs.Judged as judged
 
@@ -80,6 +83,8 @@ command_reports o (Some commands.Check) = judging_reports listing_limit CheckHas
 command_reports o (Some (commands.Replay options schedule)) =
     planned_reports schedule_form schedule options.processors (ReplayTextHas options) o
 command_reports o (Some (commands.Resume options plan)) = judging_reports saved_limit (ResumeTextHas options plan o.told_before o.told_now) o
+command_reports o (Some (commands.Stop options schedule)) =
+    planned_reports schedule_form schedule options.processors (StopTextHas options) o
 
 -- an answer of status 7 is a read fault
 read_answer : (may : Answer → Type 0) (answer : Answer) → may answer → status_of answer ≡ statuses.ReadFault → may answers.ReadFault
@@ -120,6 +125,7 @@ data IsPlanned (command : Option Command) : Type 0 where
   IsRun : (options : RunOptions) (plan : List ℕ) → command ≡ Some (commands.Run options plan) → IsPlanned command
   IsReplay : (options : ReplayOptions) (schedule : List ℕ) → command ≡ Some (commands.Replay options schedule) → IsPlanned command
   IsResume : (options : ResumeOptions) (plan : List ℕ) → command ≡ Some (commands.Resume options plan) → IsPlanned command
+  IsStop : (options : StopOptions) (schedule : List ℕ) → command ≡ Some (commands.Stop options schedule) → IsPlanned command
 
 no_command : (command : Option Command) (o : Outside) (answer : Answer) → CommandMay command o answer →
     status_of answer ≡ statuses.WordsRefused → (command ≡ None) ⊎ IsPlanned command
@@ -127,6 +133,7 @@ no_command None o answer h e = inl refl
 no_command (Some (commands.Run options plan)) o answer h e = inr (IsRun options plan refl)
 no_command (Some (commands.Replay options schedule)) o answer h e = inr (IsReplay options schedule refl)
 no_command (Some (commands.Resume options plan)) o answer h e = inr (IsResume options plan refl)
+no_command (Some (commands.Stop options schedule)) o answer h e = inr (IsStop options schedule refl)
 no_command (Some (commands.Serial options)) o answers.WordsRefused h e = absurd h.2
 no_command (Some commands.Code) o answers.WordsRefused h e = absurd h.2
 no_command (Some commands.Check) o answers.WordsRefused h e = absurd h.2
@@ -161,6 +168,12 @@ refuses_words meant legs comes words o status a = record {
             of_replay.schedule_refused meant options (is_in_range words (commands.Replay options schedule) c) schedule (ports_of o) status
             (subst (λ x. DeliversAnswer (CommandMay x o) (ports_of o) status) c (delivers words o status a)) e
 
+        refuses_stop : (options : StopOptions) (schedule : List ℕ) → command_of words ≡ Some (commands.Stop options schedule) →
+            RefusesPlan schedule_form schedule options.processors (ports_of o)
+        refuses_stop options schedule c =
+            of_stop.schedule_refused options schedule (ports_of o) status
+            (subst (λ x. DeliversAnswer (CommandMay x o) (ports_of o) status) c (delivers words o status a)) e
+
         refuses_plan : (options : RunOptions) (plan : List ℕ) → command_of words ≡ Some (commands.Run options plan) →
             RefusesPlan plan_form plan options.processors (ports_of o)
         refuses_plan options plan c = of_run.plan_refused meant options (is_in_range words (commands.Run options plan) c) options.processors plan o status
@@ -176,6 +189,7 @@ refuses_words meant legs comes words o status a = record {
         by_words (inr (IsRun options plan c)) = inr (OfRun options plan c (refuses_plan options plan c))
         by_words (inr (IsReplay options schedule c)) = inr (OfReplay options schedule c (refuses options schedule c))
         by_words (inr (IsResume options plan c)) = inr (OfResume options plan c (refuses_resumed options plan c))
+        by_words (inr (IsStop options schedule c)) = inr (OfStop options schedule c (refuses_stop options schedule c))
 
   always : (status_of a.answer ≡ statuses.WordsRefused) ⊎ (status_of a.answer ≡ statuses.NoMemory) →
       (status ≡ statuses.WriteFault) ⊎ IsWritten o.out o.err a.answer status →
@@ -198,6 +212,7 @@ pub record Laws : Type 0 where
   pub listings : ListingsHaveOneAnswer
   pub plans : PlansHaveOneAnswer
   pub replays : ReplaysHaveOneAnswer
+  pub stops : StopsHaveOneAnswer
 
 -- all rows of the program
 pub program_rows : Laws → (words : List (List ℕ)) (o : Outside) (status : Status) → IsAnswered words o status → ProgramRows words o status
@@ -218,6 +233,10 @@ program_rows laws words o status a = record {
   resume = λ options plan e. (
     is_in_range words (commands.Resume options plan) e,
     of_resume.resume_rows laws.legs laws.comes options plan o status (by_words (Some (commands.Resume options plan)) e),
+  );
+  stop = λ options schedule e. (
+    is_in_range words (commands.Stop options schedule) e,
+    of_stop.stop_rows options schedule (ports_of o) status (by_words (Some (commands.Stop options schedule)) e) laws.plans laws.stops,
   );
   words_refused = refuses_words laws.meant laws.legs laws.comes words o status a;
   faults = faults words o status a;

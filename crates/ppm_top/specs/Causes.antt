@@ -14,6 +14,7 @@ use Rattle.ppm_commands.specs.Serial.{SerialMay}
 use Rattle.ppm_driver.specs.Replays.{ReplayMay}
 use Rattle.ppm_driver.specs.Resumes.{ResumeMay, ResumeTells}
 use Rattle.ppm_driver.specs.Runs.{RunMay, RunTells}
+use Rattle.ppm_stop.specs.Stops.{StopMay}
 
 -- the answers where the words give no command
 abbrev pub NoCommandMay : Outside → Answer → Type 0
@@ -30,6 +31,7 @@ CommandMay (Some commands.Code) o answer = CodeMay o.source answer
 CommandMay (Some commands.Check) o answer = CheckMay o.source answer
 CommandMay (Some (commands.Replay options schedule)) o answer = ReplayMay options schedule o.source answer
 CommandMay (Some (commands.Resume options plan)) o answer = ResumeMay options plan o.told_before o.told_now o.source answer
+CommandMay (Some (commands.Stop options schedule)) o answer = StopMay options schedule o.source answer
 
 -- what watchers are told with each answer of a command, or of none: a run tells them its turns
 abbrev pub CommandTells : Option Command → Answer → ToldLists → ToldLists → Type 0
@@ -40,6 +42,7 @@ CommandTells (Some commands.Code) = TellsNothing
 CommandTells (Some commands.Check) = TellsNothing
 CommandTells (Some (commands.Replay options schedule)) = TellsNothing
 CommandTells (Some (commands.Resume options plan)) = ResumeTells
+CommandTells (Some (commands.Stop options schedule)) = TellsNothing
 
 -- an answer of the command that the words give was delivered, and watchers were told what belongs to it
 abbrev pub IsAnswered : List (List ℕ) → Outside → Status → Type 0

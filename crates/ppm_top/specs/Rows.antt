@@ -12,7 +12,8 @@ use Rattle.ppm_cli.specs.declared.serial.SerialOptions.{SerialOptions}
 use Rattle.ppm_cli.specs.declared.replay.ReplayOptions.{ReplayOptions}
 use Rattle.ppm_cli.specs.declared.resume.ResumeOptions.{ResumeOptions}
 use Rattle.ppm_cli.specs.declared.run.RunOptions.{RunOptions}
-use Rattle.ppm_cli.specs.Words.{command_of, AreReplayed, AreResumed, AreRun}
+use Rattle.ppm_cli.specs.declared.stop.StopOptions.{StopOptions}
+use Rattle.ppm_cli.specs.Words.{command_of, AreReplayed, AreResumed, AreRun, AreStopped}
 use Rattle.ppm_commands.specs.Check.{CheckRows}
 use Rattle.ppm_commands.specs.Code.{CodeRows}
 use Rattle.ppm_commands.specs.Serial.{SerialRows}
@@ -20,6 +21,7 @@ use Rattle.ppm_loading.specs.MachineRows.{RefusesPlan}
 use Rattle.ppm_driver.specs.ReplayRows.{ReplayRows}
 use Rattle.ppm_driver.specs.ResumeRows.{ResumeRows, RefusesPlan as RefusesResumed}
 use Rattle.ppm_driver.specs.RunRows.{RunRows}
+use Rattle.ppm_stop.specs.StopRows.{StopRows}
 use Rattle.ppm_plan.specs.Forms.{plan_form, schedule_form}
 
 -- the rows of `run` hold where the words ask for a run, with these options, which are in their ranges, and this plan
@@ -50,7 +52,12 @@ abbrev pub ResumesByWords : List (List ℕ) → Outside → Status → Type 0
 ResumesByWords words o status = (options : ResumeOptions) (plan : List ℕ) → command_of words ≡ Some (commands.Resume options plan)
     → AreResumed options × ResumeRows options plan o status
 
--- the words ask for a run by a plan, for a replay by a schedule, or to resume by a plan, that is refused
+-- those of `stop` where they ask for that, with these options, which are in their ranges, and this schedule
+abbrev pub StopsByWords : List (List ℕ) → Outside → Status → Type 0
+StopsByWords words o status = (options : StopOptions) (schedule : List ℕ) → command_of words ≡ Some (commands.Stop options schedule) →
+    AreStopped options × StopRows options schedule (ports_of o) status
+
+-- the words ask for a run or to resume by a plan, or for a replay or a stop by a schedule, that is refused
 pub data HasRefusedPlan (words : List (List ℕ)) (o : Outside) : Type 0 where
   OfRun : (options : RunOptions) (plan : List ℕ) → command_of words ≡ Some (commands.Run options plan)
       → RefusesPlan plan_form plan options.processors (ports_of o) → HasRefusedPlan words o
@@ -58,6 +65,8 @@ pub data HasRefusedPlan (words : List (List ℕ)) (o : Outside) : Type 0 where
       → RefusesPlan schedule_form schedule options.processors (ports_of o) → HasRefusedPlan words o
   OfResume : (options : ResumeOptions) (plan : List ℕ) → command_of words ≡ Some (commands.Resume options plan)
       → RefusesResumed options plan o → HasRefusedPlan words o
+  OfStop : (options : StopOptions) (schedule : List ℕ) → command_of words ≡ Some (commands.Stop options schedule)
+      → RefusesPlan schedule_form schedule options.processors (ports_of o) → HasRefusedPlan words o
 
 -- Status 3 comes only where the words give no command, or name a plan or a schedule that is refused. Where they give no command,
 -- nothing is read, and the status is 3, or 8 or 9.
@@ -88,6 +97,7 @@ pub record ProgramRows (words : List (List ℕ)) (o : Outside) (status : Status)
   pub check : ChecksByWords words o status
   pub replay : ReplaysByWords words o status
   pub resume : ResumesByWords words o status
+  pub stop : StopsByWords words o status
   pub words_refused : RefusesWords words o status
   pub faults : ReportsFaults o status
   pub nothing_on_out : IsSilentOnOut o status

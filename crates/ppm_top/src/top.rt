@@ -21,6 +21,7 @@ use ppm_driver::{
 use ppm_plan::have_one_answer as plans_have_one_answer;
 use ppm_ports::{Sink, Source, Watch};
 use ppm_resumed::renewed_words_come_back;
+use ppm_stop::{have_one_answer as stops_have_one_answer, stop_command};
 use ppm_words::NoMemory;
 use std::alloc::Global;
 use std::sync::Wait;
@@ -65,6 +66,7 @@ pub fn ppm<R: Threads + Wait + Sync, S: Source, K: Sink, E: Sink, W: Watch>(
     listings_have_one_answer();
     plans_have_one_answer();
     replays_have_one_answer();
+    stops_have_one_answer();
     answer_words(rt, alloc, words, source, out, err, watch)
 }
 
@@ -121,6 +123,14 @@ fn answer_words<R: Threads + Wait + Sync, S: Source, K: Sink, E: Sink, W: Watch>
             out,
             err,
             watch,
+        ),
+        Ok(Some(Command::Stop(options, acts))) => stop_command(
+            alloc,
+            options,
+            acts.as_slice(),
+            source,
+            out,
+            err,
         ),
         Ok(None) => deliver(alloc, &Answer::WordsRefused, out, err),
         Err(NoMemory) => deliver(alloc, &Answer::NoMemory, out, err),

@@ -43,6 +43,12 @@ returns-in-Ok-Some-Resume-clause-answers g c = by_command (map string_bytes c.ar
     (cc (c.in-Ok-Some-Resume.ensures.value, c.in-Ok-Some-Resume.field-0-is, c.in-Ok-Some-Resume.field-0-0-is))
     c.resume_command.ensures.answers
 
+-- the words ask for a stop, which was answered
+pub returns-in-Ok-Some-Stop-clause-answers : goal.returns-in-Ok-Some-Stop-clause-answers
+returns-in-Ok-Some-Stop-clause-answers g c = by_ports (map string_bytes c.args.words.now) _ _ (Some (commands.Stop _ _))
+    (cc (c.in-Ok-Some-Stop.ensures.value, c.in-Ok-Some-Stop.field-0-is, c.in-Ok-Some-Stop.field-0-0-is)) refl refl
+    c.stop_command.ensures.delivers
+
 -- the words give no command, and nothing was read
 pub returns-in-Ok-None-clause-answers : goal.returns-in-Ok-None-clause-answers
 returns-in-Ok-None-clause-answers g c = by_command (map string_bytes c.args.words.now) _ _ None

@@ -16,4 +16,5 @@ returns-clause-rows g c = program_rows (record {
   listings = c.listings_have_one_answer.ensures.law;
   plans = c.have_one_answer.ensures.law;
   replays = c.have_one_answer-2.ensures.law;
+  stops = c.have_one_answer-3.ensures.law;
 }) _ _ _ c.answer_words.ensures.answers
