@@ -7,8 +7,8 @@
 -- takes no proof.
 -- clap takes any text for a choice and `--name=-x`; the definitions narrow both (`choice_in`,
 -- `text_in`).
--- That the options are in their ranges, whatever memory does, is `RangeLemmas.run_is_in_range`,
--- which `ppm_top` cites.
+-- That the options of whatever command are in their ranges, also where memory is refused, is
+-- `RangeLemmas.is_in_range`, which `ppm_top` cites.
 
 pub mod ApplicationLemmas
 pub mod OptionLemmas

@@ -1,5 +1,5 @@
--- The options of a run that words give are in their ranges.
-use Rattle.std.proofs.Common.{◌≡◌, ◌≤◌, ◌*◌, ◌∙◌, ℕ, nat_le, Bool, true, false, List, [], ◌∷◌, Option, Some, None, refl, ap, subst}
+-- The options of a command that words give are in their ranges.
+use Rattle.std.proofs.Common.{◌≡◌, ◌≤◌, ◌*◌, ℕ, nat_le, Bool, true, false, List, [], ◌∷◌, Option, Some, None, IfSome, refl, subst}
 use Rattle.std.proofs.Common.{if◌then◌else◌, option_and_then, option_map}
 use Rattle.std.specs.Prelude.{codes}
 use Rattle.std.specs.Str.{bytes_eq}
@@ -8,15 +8,16 @@ use Rattle.clap.specs.Words.{Kinds, Row, Text, one_of, fault_of, subcommand_of}
 use Rattle.clap.specs.declared.builder.value_parser.ValueParser.TheVariants as parsers
 use Rattle.clap.specs.ValueTests.{is_unsigned_in}
 use Rattle.clap.proofs.ValueTestLemmas.{accepts-Accepts}
-use Rattle.ppm_words.specs.declared.idle.Idle.{Idle}
 use Rattle.ppm_cells.specs.Limits.{most_pool_words}
-use Rattle.ppm_cells.specs.declared.shape.Takeover.{Takeover}
 use Rattle.ppm_cli.specs.Application.{ppm_application}
 use Rattle.ppm_cli.specs.CommandLine.{Number, OptionRule, processors, turns, room, slots, looks, seed, faults, schedule}
-use Rattle.ppm_cli.specs.Words.{number_in, number_given, value_of_digits, run_options, run_in, serial_in, replay_in, replay_options, text_given}
-use Rattle.ppm_cli.specs.Words.{and_then, takeover_given, idle_given, command_named, command_in, without_fault, command_of, AreRun}
-use Rattle.ppm_cli.specs.Words.{fitting_room, room_given, IsOfForm, DoPoolsFit}
+use Rattle.ppm_cli.specs.CommandLine.{few_processors, after, small_room, few_slots, size, count}
+use Rattle.ppm_cli.specs.Words.{number_in, number_given, value_of_digits, run_options, serial_in, replay_options, resume_options, self_in, self_options, stop_options, text_given}
+use Rattle.ppm_cli.specs.Words.{takeover_given, idle_given, command_named, command_in, without_fault, command_of}
+use Rattle.ppm_cli.specs.Words.{fitting_room, room_given, with_text, AreReplayed, AreResumed, AreRun, AreSelf, AreStopped, DoPoolsFit, IsInRange, IsOfForm}
+use Rattle.ppm_cli.specs.declared.command.Command.{Command}
 use Rattle.ppm_cli.specs.declared.command.Command.TheVariants as commands
+use Rattle.ppm_cli.specs.declared.example.SelfOptions.{SelfOptions}
 use Rattle.ppm_cli.specs.declared.replay.ReplayOptions.{ReplayOptions}
 use Rattle.ppm_cli.specs.declared.run.RunOptions.{RunOptions}
 
@@ -60,86 +61,117 @@ room_fits p n rows e =
     let f = fits p c.value n c.came in
     subst (λ words. IsOfForm room.form words × DoPoolsFit p words) f.0 (given room _ _ c.value rows refl c.there, f.1)
 
-options_are : (rows : List Row) (options : RunOptions) → run_options rows ≡ Some options → AreRun options
-options_are rows options = all (number_given processors rows) refl where
-  go : (p : ℕ) (n w s l x : Option ℕ) (t : Option Takeover) (i : Option Idle)
-      → number_given processors rows ≡ Some p → number_given turns rows ≡ n → room_given p rows ≡ w → number_given slots rows ≡ s
-      → number_given looks rows ≡ l → number_given seed rows ≡ x
-      → and_then n (λ n. and_then w (λ w. and_then s (λ e. and_then l (λ l. and_then x (λ s. and_then t (λ t. and_then i (λ i.
-      Some (record { processors = p; turns = n; room = w; slots = e; looks = l; seed = s; takeover = t; idle = i }))))))))
-      ≡ Some options → AreRun options
-  go p (Some n) (Some w) (Some s) (Some l) (Some x) (Some t) (Some i) a b c d f g e =
-      let r = room_fits p w rows c in
-      subst AreRun (some_is e) (
-        given processors _ _ p rows refl a,
-        given turns _ _ n rows refl b,
-        r.0,
-        given slots _ _ s rows refl d,
-        given looks _ _ l rows refl f,
-        given seed _ _ x rows refl g,
-        r.1,
-      )
-  go p (Some n) (Some w) (Some s) (Some l) (Some x) (Some t) None a b c d f g e = cc
-  go p (Some n) (Some w) (Some s) (Some l) (Some x) None i a b c d f g e = cc
-  go p (Some n) (Some w) (Some s) (Some l) None t i a b c d f g e = cc
-  go p (Some n) (Some w) (Some s) None x t i a b c d f g e = cc
-  go p (Some n) (Some w) None l x t i a b c d f g e = cc
-  go p (Some n) None s l x t i a b c d f g e = cc
-  go p None w s l x t i a b c d f g e = cc
+-- ---- what each value has that may come of options
 
-  all : (p : Option ℕ) → number_given processors rows ≡ p
-      → and_then p (λ p. and_then (number_given turns rows) (λ n. and_then (room_given p rows) (λ w. and_then (number_given slots rows) (λ e.
-      and_then (number_given looks rows) (λ l. and_then (number_given seed rows) (λ s. and_then (takeover_given rows) (λ t.
-      and_then (idle_given rows) (λ i.
-      Some (record { processors = p; turns = n; room = w; slots = e; looks = l; seed = s; takeover = t; idle = i })))))))))
-      ≡ Some options → AreRun options
-  all None a e = cc
-  all (Some p) a e =
-      go p (number_given turns rows) (room_given p rows) (number_given slots rows) (number_given looks rows) (number_given seed rows)
-      (takeover_given rows) (idle_given rows) a refl refl refl refl refl e
+-- what comes of a value has it, if it has it whatever the value is
+bound : {A B : Type 0} (P : B → Type 0) (o : Option A) (f : A → Option B) → ((a : A) → o ≡ Some a → IfSome (f a) P)
+    → IfSome (option_and_then f o) P
+bound P None f h = tt
+bound P (Some a) f h = h a refl
 
-run_are : (rows : List Row) (options : RunOptions) (plan : List ℕ) → run_in rows ≡ Some (commands.Run options plan) → AreRun options
-run_are rows options plan e =
-    let o = came (run_options rows) (λ o. option_map (λ plan. commands.Run o plan) (text_given faults rows)) (commands.Run options plan) e in
-    options_are rows options (o.there ∙ ap Some (same o.value (text_given faults rows) o.came)) where
-      same : (o : RunOptions) (text : Option (List ℕ)) → option_map (λ plan. commands.Run o plan) text ≡ Some (commands.Run options plan) → o ≡ options
-      same o None h = cc
-      same o (Some t) h = cc
+-- of two options, whichever is taken
+either : {A : Type 0} (P : A → Type 0) (b : Bool) (x y : Option A) → IfSome x P → IfSome y P → IfSome (if b then x else y) P
+either P true x y h k = h
+either P false x y h k = k
 
--- of no other command
-serial_is : (options : RunOptions) (plan : List ℕ) (rows : List Row) → serial_in rows ≡ Some (commands.Run options plan) → ⊥
-serial_is options plan rows e = go (number_given turns rows) e where
-  go : (n : Option ℕ) → option_map (λ n. commands.Serial (record { turns = n })) n ≡ Some (commands.Run options plan) → ⊥
-  go None h = cc
-  go (Some n) h = cc
+-- a command with options and a text is in range where the options are
+with_text_are : {O : Type 0} (P : O → Type 0) (make : O → Text → Command) (text : OptionRule) (options : Option O) (rows : List Row) →
+    ((o : O) (t : Text) → P o → IsInRange (make o t)) → IfSome options P → IfSome (with_text make text options rows) IsInRange
+with_text_are P make text None rows in_range h = tt
+with_text_are P make text (Some o) rows in_range h = go (text_given text rows) where
+  go : (t : Option Text) → IfSome (option_map (make o) t) IsInRange
+  go None = tt
+  go (Some t) = in_range o t h
 
-replay_is : (options : RunOptions) (plan : List ℕ) (rows : List Row) → replay_in rows ≡ Some (commands.Run options plan) → ⊥
-replay_is options plan rows e =
-    let o = came (replay_options rows) (λ o. option_map (λ acts. commands.Replay o acts) (text_given schedule rows)) (commands.Run options plan) e in
-    go o.value (text_given schedule rows) o.came where
-      go : (o : ReplayOptions) (text : Option (List ℕ)) → option_map (λ acts. commands.Replay o acts) text ≡ Some (commands.Run options plan) → ⊥
-      go o None h = cc
-      go o (Some t) h = cc
+-- ---- the options of each command
 
-named_are : (name : Text) (rows : List Row) (options : RunOptions) (plan : List ℕ) → command_named name rows ≡ Some (commands.Run options plan)
-    → AreRun options
-named_are name rows options plan =
-    go (bytes_eq name (codes "run")) (bytes_eq name (codes "serial")) (bytes_eq name (codes "code")) (bytes_eq name (codes "check"))
-    (bytes_eq name (codes "replay")) where
-      go : (run serial code check replay : Bool) → (if run then run_in rows else if serial then serial_in rows else if code then Some commands.Code
-          else if check then Some commands.Check else if replay then replay_in rows else None) ≡ Some (commands.Run options plan) → AreRun options
-      go true serial code check replay e = run_are rows options plan e
-      go false true code check replay e = absurd (serial_is options plan rows e)
-      go false false true check replay e = cc
-      go false false false true replay e = cc
-      go false false false false true e = absurd (replay_is options plan rows e)
-      go false false false false false e = cc
+run_are : (rows : List Row) → IfSome (run_options rows) AreRun
+run_are rows =
+    bound AreRun (number_given processors rows) _ (λ p a.
+    bound AreRun (number_given turns rows) _ (λ n b.
+    bound AreRun (room_given p rows) _ (λ w c.
+    bound AreRun (number_given slots rows) _ (λ s d.
+    bound AreRun (number_given looks rows) _ (λ l e.
+    bound AreRun (number_given seed rows) _ (λ x f.
+    bound AreRun (takeover_given rows) _ (λ t g.
+    bound AreRun (idle_given rows) _ (λ i h.
+    let r = room_fits p w rows c in (
+      given processors _ _ p rows refl a,
+      given turns _ _ n rows refl b,
+      r.0,
+      given slots _ _ s rows refl d,
+      given looks _ _ l rows refl e,
+      given seed _ _ x rows refl f,
+      r.1,
+    )))))))))
 
--- the options of a run that words give
-pub run_is_in_range : (words : List Text) (options : RunOptions) (plan : List ℕ) → command_of words ≡ Some (commands.Run options plan)
-    → AreRun options
-run_is_in_range words options plan = go (fault_of ppm_application words) (subcommand_of ppm_application words) where
-  go : (kinds : Kinds) (met : Option (Text × List Row)) → without_fault kinds (command_in met) ≡ Some (commands.Run options plan) → AreRun options
-  go [] None e = cc
-  go [] (Some m) e = named_are m.0 m.1 options plan e
-  go (k ∷ kinds) met e = cc
+replay_are : (rows : List Row) → IfSome (replay_options rows) AreReplayed
+replay_are rows =
+    bound AreReplayed (number_given processors rows) _ (λ p a.
+    bound AreReplayed (number_given turns rows) _ (λ n b.
+    bound AreReplayed (room_given p rows) _ (λ w c.
+    bound AreReplayed (number_given slots rows) _ (λ s d.
+    bound AreReplayed (takeover_given rows) _ (λ t e.
+    let r = room_fits p w rows c in
+    (given processors _ _ p rows refl a, given turns _ _ n rows refl b, r.0, given slots _ _ s rows refl d, r.1))))))
+
+serial_are : (rows : List Row) → IfSome (serial_in rows) IsInRange
+serial_are rows = go (number_given turns rows) (λ n e. given turns _ _ n rows refl e) where
+  go : (n : Option ℕ) → ((m : ℕ) → n ≡ Some m → IsOfForm turns.form m) → IfSome (option_map (λ n. commands.Serial (record { turns = n })) n) IsInRange
+  go None h = tt
+  go (Some n) h = h n refl
+
+stop_are : (rows : List Row) → IfSome (stop_options rows) AreStopped
+stop_are rows =
+    bound AreStopped (number_given few_processors rows) _ (λ p a.
+    bound AreStopped (number_given after rows) _ (λ n b.
+    bound AreStopped (number_given small_room rows) _ (λ w c.
+    bound AreStopped (number_given few_slots rows) _ (λ s d.
+    (given few_processors _ _ p rows refl a, given after _ _ n rows refl b, given small_room _ _ w rows refl c, given few_slots _ _ s rows refl d)))))
+
+resume_are : (rows : List Row) → IfSome (resume_options rows) AreResumed
+resume_are rows =
+    bound AreResumed (number_given turns rows) _ (λ n a.
+    bound AreResumed (number_given looks rows) _ (λ l b.
+    bound AreResumed (number_given seed rows) _ (λ s c.
+    (given turns _ _ n rows refl a, given looks _ _ l rows refl b, given seed _ _ s rows refl c))))
+
+self_are : (rows : List Row) → IfSome (self_options rows) AreSelf
+self_are rows =
+    bound AreSelf (number_given few_processors rows) _ (λ p a.
+    bound AreSelf (number_given size rows) _ (λ n b.
+    bound AreSelf (number_given seed rows) _ (λ s c.
+    bound AreSelf (number_given count rows) _ (λ f d.
+    (given few_processors _ _ p rows refl a, given size _ _ n rows refl b, given seed _ _ s rows refl c, given count _ _ f rows refl d)))))
+
+example_are : (rows : List Row) → IfSome (self_in rows) IsInRange
+example_are rows = go (self_options rows) (self_are rows) where
+  go : (o : Option SelfOptions) → IfSome o AreSelf → IfSome (option_map (λ o. commands.Example o) o) IsInRange
+  go None h = tt
+  go (Some o) h = h
+
+-- ---- any command
+
+named_are : (name : Text) (rows : List Row) → IfSome (command_named name rows) IsInRange
+named_are name rows =
+    either IsInRange (bytes_eq name (codes "run")) _ _
+    (with_text_are AreRun commands.Run faults (run_options rows) rows (λ o t h. h) (run_are rows))
+    (either IsInRange (bytes_eq name (codes "serial")) _ _ (serial_are rows)
+    (either IsInRange (bytes_eq name (codes "code")) _ _ tt
+    (either IsInRange (bytes_eq name (codes "check")) _ _ tt
+    (either IsInRange (bytes_eq name (codes "replay")) _ _
+    (with_text_are AreReplayed commands.Replay schedule (replay_options rows) rows (λ o t h. h) (replay_are rows))
+    (either IsInRange (bytes_eq name (codes "self")) _ _ (example_are rows)
+    (either IsInRange (bytes_eq name (codes "stop")) _ _
+    (with_text_are AreStopped commands.Stop schedule (stop_options rows) rows (λ o t h. h) (stop_are rows))
+    (either IsInRange (bytes_eq name (codes "resume")) _ _
+    (with_text_are AreResumed commands.Resume faults (resume_options rows) rows (λ o t h. h) (resume_are rows))
+    tt)))))))
+
+-- the options of a command that words give
+pub is_in_range : (words : List Text) (command : Command) → command_of words ≡ Some command → IsInRange command
+is_in_range words command e =
+    subst (λ c. IfSome c IsInRange) e (go (fault_of ppm_application words) (subcommand_of ppm_application words)) where
+      go : (kinds : Kinds) (met : Option (Text × List Row)) → IfSome (without_fault kinds (command_in met)) IsInRange
+      go [] met = bound IsInRange met _ (λ m f. named_are m.0 m.1)
+      go (k ∷ kinds) met = tt

@@ -75,9 +75,21 @@ turns = number "turns" 1 turn_limit 16777216
 abbrev pub room : OptionRule
 room = number "room" 64 most_pool_words 65536
 
+-- and where all words are written out
+abbrev pub small_room : OptionRule
+small_room = number "room" 64 65536 16384
+
 -- the entries of a place's deque
 abbrev pub slots : OptionRule
 slots = number "slots" 2 entry_limit 4096
+
+-- and where all words are written out
+abbrev pub few_slots : OptionRule
+few_slots = number "slots" 2 4096 256
+
+-- the acts after which a run is stopped
+abbrev pub after : OptionRule
+after = number "after" 0 turn_limit 0
 
 -- how many looks in a row a processor makes before it leaves or parks
 abbrev pub looks : OptionRule
@@ -86,6 +98,14 @@ looks = number "looks" 1 1048576 1000
 -- where the random words begin
 abbrev pub seed : OptionRule
 seed = number "seed" 0 4294967295 1
+
+-- the values that are made and summed
+abbrev pub size : OptionRule
+size = number "size" 1 4096 64
+
+-- the faults that are drawn
+abbrev pub count : OptionRule
+count = number "count" 0 4096 0
 
 -- the plan of faults
 abbrev pub faults : OptionRule
@@ -114,10 +134,9 @@ command_line =
     ∷ command "code" []
     ∷ command "check" []
     ∷ command "replay" (processors ∷ turns ∷ room ∷ slots ∷ takeover ∷ schedule ∷ [])
-    ∷ later_command "self" (few_processors ∷ number "size" 1 4096 64 ∷ seed ∷ number "count" 0 4096 0 ∷ [])
-    ∷ later_command "stop"
-    (few_processors ∷ number "after" 0 turn_limit 0 ∷ number "room" 64 65536 16384 ∷ number "slots" 2 4096 256 ∷ schedule ∷ [])
-    ∷ later_command "resume" (turns ∷ looks ∷ seed ∷ faults ∷ [])
+    ∷ command "self" (few_processors ∷ size ∷ seed ∷ count ∷ [])
+    ∷ command "stop" (few_processors ∷ after ∷ small_room ∷ few_slots ∷ schedule ∷ [])
+    ∷ command "resume" (turns ∷ looks ∷ seed ∷ faults ∷ [])
     ∷ later_command "ram" (processors ∷ turns ∷ room ∷ slots ∷ looks ∷ seed ∷ faults ∷ takeover ∷ idle ∷ [])
     ∷ []
 

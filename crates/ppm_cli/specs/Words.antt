@@ -12,11 +12,15 @@ use Rattle.ppm_cells.specs.declared.shape.Takeover.TheVariants.{ByPlaces, ByEntr
 use Rattle.ppm_cli.specs.Application.{ppm_application}
 use Rattle.ppm_cli.specs.CommandLine.{Form, Number, Choice, AnyText, OptionRule, is_free_text}
 use Rattle.ppm_cli.specs.CommandLine.{processors, turns, room, slots, looks, seed, faults, schedule, takeover, idle}
+use Rattle.ppm_cli.specs.CommandLine.{few_processors, after, small_room, few_slots, size, count}
 use Rattle.ppm_cli.specs.declared.command.Command.{Command}
 use Rattle.ppm_cli.specs.declared.command.Command.TheVariants as commands
+use Rattle.ppm_cli.specs.declared.example.SelfOptions.{SelfOptions}
 use Rattle.ppm_cli.specs.declared.serial.SerialOptions.{SerialOptions}
 use Rattle.ppm_cli.specs.declared.replay.ReplayOptions.{ReplayOptions}
+use Rattle.ppm_cli.specs.declared.resume.ResumeOptions.{ResumeOptions}
 use Rattle.ppm_cli.specs.declared.run.RunOptions.{RunOptions}
+use Rattle.ppm_cli.specs.declared.stop.StopOptions.{StopOptions}
 
 -- the number that decimal digits write; a plus may stand in front
 abbrev pub value_of_digits : Text → ℕ
@@ -78,6 +82,10 @@ fitting_room processors words = if nat_le (processors * words) most_pool_words t
 abbrev pub room_given : ℕ → List Row → Option ℕ
 room_given processors rows = and_then (number_given room rows) (fitting_room processors)
 
+-- a command that has options and a text, if each has a value of its form
+abbrev pub with_text : {O : Type 0} → (O → Text → Command) → OptionRule → Option O → List Row → Option Command
+with_text make text options rows = and_then options (λ o. option_map (make o) (text_given text rows))
+
 -- the options of `run` but for its plan, if each has a value of its form
 abbrev pub run_options : List Row → Option RunOptions
 run_options rows =
@@ -93,7 +101,7 @@ run_options rows =
 
 -- the command `run` with its options and its plan
 abbrev pub run_in : List Row → Option Command
-run_in rows = and_then (run_options rows) (λ o. option_map (λ plan. commands.Run o plan) (text_given faults rows))
+run_in rows = with_text commands.Run faults (run_options rows) rows
 
 -- the command `serial` with its options
 abbrev pub serial_in : List Row → Option Command
@@ -111,7 +119,45 @@ replay_options rows =
 
 -- the command `replay` with its options and its schedule
 abbrev pub replay_in : List Row → Option Command
-replay_in rows = and_then (replay_options rows) (λ o. option_map (λ acts. commands.Replay o acts) (text_given schedule rows))
+replay_in rows = with_text commands.Replay schedule (replay_options rows) rows
+
+-- the options of `stop` but for its schedule, if each has a value of its form
+abbrev pub stop_options : List Row → Option StopOptions
+stop_options rows =
+    and_then (number_given few_processors rows) (λ p.
+    and_then (number_given after rows) (λ n.
+    and_then (number_given small_room rows) (λ w.
+    and_then (number_given few_slots rows) (λ e.
+    Some (record { processors = p; after = n; room = w; slots = e })))))
+
+-- the command `stop` with its options and its schedule
+abbrev pub stop_in : List Row → Option Command
+stop_in rows = with_text commands.Stop schedule (stop_options rows) rows
+
+-- the options of `resume` but for its plan, if each has a value of its form
+abbrev pub resume_options : List Row → Option ResumeOptions
+resume_options rows =
+    and_then (number_given turns rows) (λ n.
+    and_then (number_given looks rows) (λ l.
+    and_then (number_given seed rows) (λ s.
+    Some (record { turns = n; looks = l; seed = s }))))
+
+-- the command `resume` with its options and its plan
+abbrev pub resume_in : List Row → Option Command
+resume_in rows = with_text commands.Resume faults (resume_options rows) rows
+
+-- the options of `self`, if each has a value of its form
+abbrev pub self_options : List Row → Option SelfOptions
+self_options rows =
+    and_then (number_given few_processors rows) (λ p.
+    and_then (number_given size rows) (λ n.
+    and_then (number_given seed rows) (λ s.
+    and_then (number_given count rows) (λ c.
+    Some (record { processors = p; size = n; seed = s; count = c })))))
+
+-- the command `self` with its options
+abbrev pub self_in : List Row → Option Command
+self_in rows = option_map (λ o. commands.Example o) (self_options rows)
 
 -- the command of this name, with the options in its matches
 abbrev pub command_named : Text → List Row → Option Command
@@ -121,6 +167,9 @@ command_named name rows =
     else if bytes_eq name (codes "code") then Some commands.Code
     else if bytes_eq name (codes "check") then Some commands.Check
     else if bytes_eq name (codes "replay") then replay_in rows
+    else if bytes_eq name (codes "self") then self_in rows
+    else if bytes_eq name (codes "stop") then stop_in rows
+    else if bytes_eq name (codes "resume") then resume_in rows
     else None
 
 -- the command of the subcommand that was met, with its options
@@ -158,6 +207,23 @@ AreReplayed options =
     IsOfForm processors.form options.processors × IsOfForm turns.form options.turns × IsOfForm room.form options.room
     × IsOfForm slots.form options.slots × DoPoolsFit options.processors options.room
 
+-- each option of a run of the program's own example is in its range
+abbrev pub AreSelf : SelfOptions → Type 0
+AreSelf options =
+    IsOfForm few_processors.form options.processors × IsOfForm size.form options.size × IsOfForm seed.form options.seed
+    × IsOfForm count.form options.count
+
+-- each option of a stop is in its range
+abbrev pub AreStopped : StopOptions → Type 0
+AreStopped options =
+    IsOfForm few_processors.form options.processors × IsOfForm after.form options.after × IsOfForm small_room.form options.room
+    × IsOfForm few_slots.form options.slots
+
+-- each option of a resumption is in its range
+abbrev pub AreResumed : ResumeOptions → Type 0
+AreResumed options =
+    IsOfForm turns.form options.turns × IsOfForm looks.form options.looks × IsOfForm seed.form options.seed
+
 -- each option of the command is in its range
 abbrev pub IsInRange : Command → Type 0
 IsInRange (commands.Run options _) = AreRun options
@@ -165,3 +231,6 @@ IsInRange (commands.Serial options) = IsOfForm turns.form options.turns
 IsInRange commands.Code = ⊤
 IsInRange commands.Check = ⊤
 IsInRange (commands.Replay options _) = AreReplayed options
+IsInRange (commands.Example options) = AreSelf options
+IsInRange (commands.Stop options _) = AreStopped options
+IsInRange (commands.Resume options _) = AreResumed options

@@ -3,9 +3,12 @@ ghost use Rattle.std.specs.Prelude.{◌≡◌, IfOk, IfSome};
 ghost use Rattle.clap.specs.Words.{found_of, rows_of, subcommand_rows_of};
 ghost use Rattle.ppm_cli.specs.Words.{IsInRange, command_in, command_named as named_by};
 
+use crate::example::{SelfOptions, self_from};
 use crate::replay::{ReplayOptions, replay_from};
+use crate::resume::{ResumeOptions, resume_from};
 use crate::run::{RunOptions, run_from};
 use crate::serial::{SerialOptions, serial_from};
+use crate::stop::{StopOptions, stop_from};
 use clap::ArgMatches;
 use ppm_words::Items;
 use std::alloc::{AllocError, Global};
@@ -23,6 +26,14 @@ pub enum Command {
     Check,
     /// To replay the source that is read, by a schedule, of which these are the bytes.
     Replay(ReplayOptions, Items<u8>),
+    /// To run the program's own example.
+    Example(SelfOptions),
+    /// To stop the source that is read in mid-run, by a schedule, of which these are the bytes, and
+    /// to save the machine's words.
+    Stop(StopOptions, Items<u8>),
+    /// To go on from the words of the saved text that is read, under a plan of faults, of which
+    /// these are the bytes.
+    Resume(ResumeOptions, Items<u8>),
 }
 
 /// The command of the subcommand that was met, with its options.
@@ -54,6 +65,9 @@ fn command_named(
         "code" => Ok(Some(Command::Code)),
         "check" => Ok(Some(Command::Check)),
         "replay" => replay_from(alloc, matches),
+        "self" => Ok(self_from(matches)),
+        "stop" => stop_from(alloc, matches),
+        "resume" => resume_from(alloc, matches),
         _ => Ok(None),
     }
 }

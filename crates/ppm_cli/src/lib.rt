@@ -9,20 +9,26 @@
 
 mod application;
 mod command;
+mod example;
 mod getters;
 mod laws;
 mod line;
 mod replay;
+mod resume;
 mod room;
 mod run;
 mod serial;
+mod stop;
 mod table;
 mod takeover;
 
 pub use command::Command;
+pub use example::SelfOptions;
 pub use laws::any_rule_may_be_admitted;
 pub use line::read_words;
 pub use replay::ReplayOptions;
+pub use resume::ResumeOptions;
 pub use run::RunOptions;
 pub use serial::SerialOptions;
+pub use stop::StopOptions;
 pub use table::{COMMANDS, ChoiceOption, CommandRow, NumberOption, OptionRow, TextOption};

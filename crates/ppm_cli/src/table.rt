@@ -2,6 +2,18 @@
 use ppm_cells::POOL_WORD_LIMIT;
 use ppm_words::{ENTRY_LIMIT, PROCESSOR_LIMIT, TURN_LIMIT};
 
+/// The most processors where all words are written out or the input is made.
+const FEW: u32 = 16;
+
+/// The most words of a pool where all words are written out.
+const MOST_WRITTEN_WORDS: u32 = 65_536;
+
+/// The most values that are made, and the most faults that are drawn.
+const MOST_MADE: u32 = 4_096;
+
+/// The most entries of a deque where all words are written out.
+const MOST_WRITTEN_ENTRIES: u32 = 4_096;
+
 /// The most looks for work in a row.
 const MOST_LOOKS: u32 = 1_048_576;
 
@@ -66,6 +78,14 @@ pub(crate) const PROCESSORS: NumberOption = NumberOption {
     default: "4",
 };
 
+/// How many there are where all words are written out or the input is made.
+pub(crate) const FEW_PROCESSORS: NumberOption = NumberOption {
+    name: "processors",
+    low: 1,
+    high: FEW,
+    default: "4",
+};
+
 /// How many turns there are.
 pub(crate) const TURNS: NumberOption = NumberOption {
     name: "turns",
@@ -82,12 +102,36 @@ pub(crate) const ROOM: NumberOption = NumberOption {
     default: "65536",
 };
 
+/// How many it has where all words are written out.
+pub(crate) const SMALL_ROOM: NumberOption = NumberOption {
+    name: "room",
+    low: 64,
+    high: MOST_WRITTEN_WORDS,
+    default: "16384",
+};
+
 /// How many entries the deque of a place has.
 pub(crate) const SLOTS: NumberOption = NumberOption {
     name: "slots",
     low: 2,
     high: ENTRY_LIMIT,
     default: "4096",
+};
+
+/// How many it has where all words are written out.
+pub(crate) const FEW_SLOTS: NumberOption = NumberOption {
+    name: "slots",
+    low: 2,
+    high: MOST_WRITTEN_ENTRIES,
+    default: "256",
+};
+
+/// After how many acts a run is stopped.
+pub(crate) const AFTER: NumberOption = NumberOption {
+    name: "after",
+    low: 0,
+    high: TURN_LIMIT,
+    default: "0",
 };
 
 /// How many looks for work in a row a processor makes before it leaves or parks.
@@ -104,6 +148,22 @@ pub(crate) const SEED: NumberOption = NumberOption {
     low: 0,
     high: u32::MAX,
     default: "1",
+};
+
+/// How many values are made and summed.
+pub(crate) const SIZE: NumberOption = NumberOption {
+    name: "size",
+    low: 1,
+    high: MOST_MADE,
+    default: "64",
+};
+
+/// How many faults are drawn.
+pub(crate) const COUNT: NumberOption = NumberOption {
+    name: "count",
+    low: 0,
+    high: MOST_MADE,
+    default: "0",
 };
 
 /// The plan of faults.
@@ -133,7 +193,7 @@ pub(crate) const SCHEDULE: TextOption = TextOption {
 };
 
 /// The commands that are admitted, in the order of the help page.
-pub const COMMANDS: [CommandRow; 5] = [
+pub const COMMANDS: [CommandRow; 8] = [
     CommandRow {
         name: "run",
         options: &[
@@ -169,6 +229,34 @@ pub const COMMANDS: [CommandRow; 5] = [
             OptionRow::Number(SLOTS),
             OptionRow::Choice(TAKEOVER),
             OptionRow::Text(SCHEDULE),
+        ],
+    },
+    CommandRow {
+        name: "self",
+        options: &[
+            OptionRow::Number(FEW_PROCESSORS),
+            OptionRow::Number(SIZE),
+            OptionRow::Number(SEED),
+            OptionRow::Number(COUNT),
+        ],
+    },
+    CommandRow {
+        name: "stop",
+        options: &[
+            OptionRow::Number(FEW_PROCESSORS),
+            OptionRow::Number(AFTER),
+            OptionRow::Number(SMALL_ROOM),
+            OptionRow::Number(FEW_SLOTS),
+            OptionRow::Text(SCHEDULE),
+        ],
+    },
+    CommandRow {
+        name: "resume",
+        options: &[
+            OptionRow::Number(TURNS),
+            OptionRow::Number(LOOKS),
+            OptionRow::Number(SEED),
+            OptionRow::Text(FAULTS),
         ],
     },
 ];

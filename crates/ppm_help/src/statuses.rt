@@ -36,7 +36,8 @@ fn meaning_of(status: Status) -> &'static str {
     match status {
         Status::Ended => {
             "ended: the arrays, and of `replay` its forks and takes; of `code` the listing; of\n       \
-             `check` the line `ok`"
+             `check` the line `ok`; of `stop` the saved text (docs/SAVED.md); of `self` the line\n       \
+             `size n forks g sum s last l`"
         }
         Status::Trapped => {
             "trapped: `trap K line N`, K being overflow, divzero, index or split; of `replay`\n       \
@@ -51,10 +52,10 @@ fn meaning_of(status: Status) -> &'static str {
              processor is spared, as by a hard fault where there is one processor"
         }
         Status::OutOfTurns => {
-            "of `run` `out of turns: processor C`, which spent --turns; of `replay`\n       \
+            "of `run` and `resume` `out of turns: processor C`, which spent --turns; of `replay`\n       \
              `unfinished after N turns`"
         }
-        Status::OutOfRoom => "out of room: `run` or `replay` needed more than --room at that place",
+        Status::OutOfRoom => "out of room: the run needed more than --room at that place",
         Status::ReadFault => "read fault: standard input failed",
         Status::WriteFault => "write fault: standard output or standard error failed",
         Status::NoMemory => "out of memory",
@@ -63,6 +64,6 @@ fn meaning_of(status: Status) -> &'static str {
         }
         Status::NotWithin => "not within: `serial` did not end within --turns",
         Status::Broken =>
-            "saved words broken: of `run` and `replay`; no run is known to come to it",
+            "saved words broken: of `resume`, where no run left the saved text; no other is known",
     }
 }

@@ -9,13 +9,14 @@ Ppm: a small fork-join language, its capsules, and the machine that runs them wh
   ./ppm help [COMMAND]                 this page, or what it says of a command; also --help and -h
   ./ppm --version                      the kit, the sum of the sources, and whether they are built
 
-Input is standard input alone: a source (docs/LANGUAGE.md), of `check` a listing (docs/CODE.md).
-It has at most 1,048,576 bytes, a listing 536,870,912. An option is given as `--turns 5` or
-`--turns=5`, at most once. A value never begins with `-`.
+Input is standard input alone: a source (docs/LANGUAGE.md), of `check` a listing (docs/CODE.md), of
+`resume` a saved text (docs/SAVED.md), of `self` nothing. It has at most 1,048,576 bytes, a listing
+536,870,912, a saved text 671,088,640. An option is given as `--turns 5` or `--turns=5`, at most
+once. A value never begins with `-`.
 ";
 
 /// What stands behind the commands.
-pub(crate) const BEHIND: &str = "to come: self, stop, resume, ram\n";
+pub(crate) const BEHIND: &str = "to come: ram\n";
 
 /// What a command is for.
 pub(crate) fn purpose_of(command: &str) -> &'static str {
@@ -25,6 +26,9 @@ pub(crate) fn purpose_of(command: &str) -> &'static str {
         "code" => "compiles a source, and writes the listing of its capsules",
         "check" => "whether the capsules of a listing may be run again; races are not asked",
         "replay" => "compiles a source, and processors run its capsules along a schedule",
+        "self" => "makes a source that sums so many values, runs it, and says what came of it",
+        "stop" => "stops such a run after so many acts, and writes its words as a saved text",
+        "resume" => "fresh processors go on from a saved text, under a plan of faults",
         _ => NO_WORDS,
     }
 }
@@ -37,6 +41,9 @@ pub(crate) fn example_of(command: &str) -> &'static str {
         "code" => "< examples/first.ppm",
         "check" => "< examples/conflict.listing",
         "replay" => "--processors 3 --schedule '0*200,1*30,1!h' < examples/sum.ppm",
+        "self" => "--size 1000 --seed 7 --count 50",
+        "stop" => "--processors 3 --after 300 < examples/sum.ppm > sum.saved",
+        "resume" => "--faults 0@5s,1@9h < sum.saved",
         _ => NO_WORDS,
     }
 }
@@ -46,10 +53,13 @@ pub(crate) fn meaning_of(command: &str, option: &str) -> &'static str {
     match option {
         "processors" => "how many processors there are",
         "turns" => turns_of(command),
-        "room" => "words of a place's pool, not reused; 67108864 in all",
+        "after" => "acts that are made, those of the schedule too",
+        "room" => room_of(command),
         "slots" => "entries of a place's deque",
         "looks" => "looks for work in a row until a processor rests",
-        "seed" => "where the random victims begin",
+        "size" => "values that are made and summed",
+        "count" => "faults that are drawn",
+        "seed" => seed_of(command),
         "faults" => "as 0@5s,1@9h: soft and hard faults (docs/PLANS.md)",
         "schedule" => "as 0*9,1>0,1!h: acts, a victim, a hard fault",
         "takeover" => "what others take over of a processor that stopped",
@@ -61,10 +71,26 @@ pub(crate) fn meaning_of(command: &str, option: &str) -> &'static str {
 /// What the turns of a command are.
 fn turns_of(command: &str) -> &'static str {
     match command {
-        "run" => "work turns that each processor may make",
+        "run" | "resume" => "work turns that each processor may make",
         "serial" => "turns of the meaning (docs/LANGUAGE.md)",
         "replay" => "acts that all processors may make together",
         _ => NO_WORDS,
+    }
+}
+
+/// What the seed of a command is.
+fn seed_of(command: &str) -> &'static str {
+    match command {
+        "self" => "where values, random victims and drawn faults begin",
+        _ => "where the random victims begin",
+    }
+}
+
+/// What the room of a command is.
+fn room_of(command: &str) -> &'static str {
+    match command {
+        "stop" => "words of a place's pool, not reused",
+        _ => "words of a place's pool, not reused; 67108864 in all",
     }
 }
 

@@ -1,7 +1,8 @@
 //! The words that clap's documentation takes and refuses.
 use ppm_cells::Takeover;
 use ppm_cli::{
-    Command, ReplayOptions, RunOptions, SerialOptions, any_rule_may_be_admitted, read_words,
+    Command, ReplayOptions, ResumeOptions, RunOptions, SelfOptions, SerialOptions, StopOptions,
+    any_rule_may_be_admitted, read_words,
 };
 use ppm_words::Idle;
 use std::alloc::Global;
@@ -29,6 +30,29 @@ const REPLAY: ReplayOptions = ReplayOptions {
     takeover: Takeover::ByPlaces,
 };
 
+/// The options of the program's own example of which the words give none.
+const EXAMPLE: SelfOptions = SelfOptions {
+    processors: 4,
+    size: 64,
+    seed: 1,
+    count: 0,
+};
+
+/// The options of a stop of which the words give none.
+const STOP: StopOptions = StopOptions {
+    processors: 4,
+    after: 0,
+    room: 16_384,
+    slots: 256,
+};
+
+/// The options of a resumption of which the words give none.
+const RESUME: ResumeOptions = ResumeOptions {
+    turns: 16_777_216,
+    looks: 1_000,
+    seed: 1,
+};
+
 /// A command without its texts.
 #[derive(Clone, Copy, Debug, PartialEq, Eq)]
 enum Plain {
@@ -37,6 +61,9 @@ enum Plain {
     Code,
     Check,
     Replay(ReplayOptions),
+    Example(SelfOptions),
+    Stop(StopOptions),
+    Resume(ResumeOptions),
 }
 
 fn shown(command: &Command) -> Plain {
@@ -46,6 +73,9 @@ fn shown(command: &Command) -> Plain {
         Command::Code => Plain::Code,
         Command::Check => Plain::Check,
         Command::Replay(options, _) => Plain::Replay(*options),
+        Command::Example(options) => Plain::Example(*options),
+        Command::Stop(options, _) => Plain::Stop(*options),
+        Command::Resume(options, _) => Plain::Resume(*options),
     }
 }
 
@@ -297,6 +327,150 @@ fn words_give_a_replay(rt: HostRuntime) -> Result<(), Fail> {
     Ok(())
 }
 
+#[test]
+fn words_give_an_example(rt: HostRuntime) -> Result<(), Fail> {
+    let least = SelfOptions {
+        processors: 1,
+        size: 1,
+        seed: 0,
+        count: 0,
+    };
+    let most = SelfOptions {
+        processors: 16,
+        size: 4_096,
+        seed: 4_294_967_295,
+        count: 4_096,
+    };
+    let cases: [(&[&str], SelfOptions); 3] = [
+        (&[], EXAMPLE),
+        (
+            &["--processors=1", "--size=1", "--seed=0", "--count=0"],
+            least,
+        ),
+        (
+            &[
+                "--count",
+                "4096",
+                "--seed",
+                "4294967295",
+                "--size",
+                "4096",
+                "--processors",
+                "16",
+            ],
+            most,
+        ),
+    ];
+    for (words, options) in cases {
+        let got = command_with(rt.alloc(), "self", words)?;
+        assert_eq!(rt;
+            got.as_ref().map(shown),
+            Some(Plain::Example(options)),
+            "{words:?}"
+        );
+    }
+    Ok(())
+}
+
+#[test]
+fn words_give_a_stop(rt: HostRuntime) -> Result<(), Fail> {
+    let least = StopOptions {
+        processors: 1,
+        after: 0,
+        room: 64,
+        slots: 2,
+    };
+    let most = StopOptions {
+        processors: 16,
+        after: 268_435_456,
+        room: 65_536,
+        slots: 4_096,
+    };
+    let cases: [(&[&str], StopOptions, &str); 4] = [
+        (&[], STOP, "none"),
+        (&["--schedule=0*40,1>0"], STOP, "0*40,1>0"),
+        (
+            &[
+                "--processors=1",
+                "--after=0",
+                "--room=64",
+                "--slots=2",
+                "--schedule=",
+            ],
+            least,
+            "",
+        ),
+        (
+            &[
+                "--slots",
+                "4096",
+                "--room",
+                "65536",
+                "--after",
+                "268435456",
+                "--processors",
+                "16",
+            ],
+            most,
+            "none",
+        ),
+    ];
+    for (words, options, schedule) in cases {
+        match command_with(rt.alloc(), "stop", words)? {
+            Some(Command::Stop(got, bytes)) => {
+                assert_eq!(rt; got, options, "{words:?}");
+                assert_eq!(rt; bytes.as_slice(), schedule.as_bytes());
+            }
+            _ => return Err(Fail::from("another command")),
+        }
+    }
+    Ok(())
+}
+
+#[test]
+fn words_give_a_resumption(rt: HostRuntime) -> Result<(), Fail> {
+    let least = ResumeOptions {
+        turns: 1,
+        looks: 1,
+        seed: 0,
+    };
+    let most = ResumeOptions {
+        turns: 268_435_456,
+        looks: 1_048_576,
+        seed: 4_294_967_295,
+    };
+    let cases: [(&[&str], ResumeOptions, &str); 3] = [
+        (&["--faults", "0@5s,1@9h"], RESUME, "0@5s,1@9h"),
+        (
+            &["--turns=1", "--looks=1", "--seed=0", "--faults="],
+            least,
+            "",
+        ),
+        (
+            &[
+                "--seed",
+                "4294967295",
+                "--looks",
+                "1048576",
+                "--turns",
+                "268435456",
+            ],
+            most,
+            "none",
+        ),
+    ];
+    for (words, options, plan) in cases {
+        match command_with(rt.alloc(), "resume", words)? {
+            Some(Command::Resume(got, bytes)) => {
+                assert_eq!(rt; got, options, "{words:?}");
+                assert_eq!(rt; bytes.as_slice(), plan.as_bytes());
+            }
+            _ => return Err(Fail::from("another command")),
+        }
+    }
+    Ok(())
+}
+
 /// A command, one of its options, a value of it, and words that are none.
 type OptionCase = (
     &'static str,
@@ -322,7 +496,7 @@ fn values_are_refused(
 
 #[test]
 fn values_out_of_form_are_refused(rt: HostRuntime) -> Result<(), Fail> {
-    let cases: [OptionCase; 15] = [
+    let cases: [OptionCase; 28] = [
         ("run", "--processors", "1", &["0", "65", "one", "+", ""]),
         ("run", "--turns", "1", &["0", "268435457"]),
         ("run", "--room", "16777216", &["63", "16777217"]),
@@ -338,6 +512,19 @@ fn values_out_of_form_are_refused(rt: HostRuntime) -> Result<(), Fail> {
         ("replay", "--slots", "2", &["1", "65537"]),
         ("replay", "--takeover", "place", &["leave", "entries", ""]),
         ("replay", "--schedule", "0", &["-1", "--room"]),
+        ("self", "--processors", "16", &["0", "17"]),
+        ("self", "--size", "1", &["0", "4097"]),
+        ("self", "--seed", "0", &["-1", "4294967296"]),
+        ("self", "--count", "0", &["-1", "4097"]),
+        ("stop", "--processors", "16", &["0", "17"]),
+        ("stop", "--after", "0", &["-1", "268435457"]),
+        ("stop", "--room", "64", &["63", "65537"]),
+        ("stop", "--slots", "2", &["1", "4097"]),
+        ("stop", "--schedule", "0", &["-1"]),
+        ("resume", "--turns", "1", &["0", "268435457"]),
+        ("resume", "--looks", "1", &["0", "1048577"]),
+        ("resume", "--seed", "0", &["-1", "4294967296"]),
+        ("resume", "--faults", "none", &["-1"]),
     ];
     for (name, option, value, others) in cases {
         let once = command_with(rt.alloc(), name, &[option, value])?;
@@ -353,7 +540,7 @@ fn values_out_of_form_are_refused(rt: HostRuntime) -> Result<(), Fail> {
 
 #[test]
 fn words_that_are_no_options_are_refused(rt: HostRuntime) -> Result<(), Fail> {
-    let cases: [(&str, &[&str]); 14] = [
+    let cases: [(&str, &[&str]); 20] = [
         ("run", &["--processors", "2", "--room", "67108864"]),
         ("run", &["--processors", "1", "--room", "67108865"]),
         ("replay", &["--processors", "64", "--room", "1048577"]),
@@ -368,6 +555,12 @@ fn words_that_are_no_options_are_refused(rt: HostRuntime) -> Result<(), Fail> {
         ("replay", &["--faults", "none"]),
         ("replay", &["--idle", "leave"]),
         ("replay", &["0"]),
+        ("self", &["--turns", "1"]),
+        ("self", &["--faults", "none"]),
+        ("stop", &["--turns", "1"]),
+        ("stop", &["--takeover", "place"]),
+        ("resume", &["--processors", "1"]),
+        ("resume", &["--idle", "leave"]),
     ];
     for (name, words) in cases {
         let refused = command_with(rt.alloc(), name, words)?;

@@ -16,7 +16,7 @@ use Rattle.ppm_cli.specs.declared.command.Command.TheVariants as commands
 use Rattle.ppm_cli.specs.declared.replay.ReplayOptions.{ReplayOptions}
 use Rattle.ppm_cli.specs.declared.run.RunOptions.{RunOptions}
 use Rattle.ppm_cli.specs.Words.{command_of}
-use Rattle.ppm_cli.proofs.RangeLemmas.{run_is_in_range}
+use Rattle.ppm_cli.proofs.RangeLemmas.{is_in_range}
 use Rattle.ppm_commands.specs.Check.{CheckHas, HaveOneAnswer as ListingsHaveOneAnswer}
 use Rattle.ppm_commands.specs.Code.{CodeReads, CodesAreFaithful, HaveOneAnswer as CodesHaveOneAnswer}
 use Rattle.ppm_commands.specs.Serial.{SerialHas, HaveOneAnswer as OutcomesHaveOneAnswer}
@@ -183,14 +183,16 @@ pub record Laws : Type 0 where
 pub program_rows : Laws → (words : List (List ℕ)) (o : Outside) (status : Status) → IsAnswered words o status → ProgramRows words o status
 program_rows laws words o status a = record {
   run = λ options plan e. (
-    run_is_in_range words options plan e,
+    is_in_range words (commands.Run options plan) e,
     of_run.run_rows laws.meant options options.processors plan o status (by_words (Some (commands.Run options plan)) e) laws.plans laws.runs laws.fronts,
   );
   serial = λ options e. serial_rows options.turns (ports_of o) (laws.outcomes options.turns) status (by_words (Some (commands.Serial options)) e);
   code = λ e. code_rows laws.codes laws.faithful (ports_of o) status (by_words (Some commands.Code) e);
   check = λ e. check_rows (ports_of o) laws.listings status (by_words (Some commands.Check) e);
-  replay = λ options schedule e. of_replay.replay_rows laws.meant options schedule (ports_of o) status (by_words (Some (commands.Replay options schedule)) e)
-      laws.plans laws.replays;
+  replay = λ options schedule e. (
+    is_in_range words (commands.Replay options schedule) e,
+    of_replay.replay_rows laws.meant options schedule (ports_of o) status (by_words (Some (commands.Replay options schedule)) e) laws.plans laws.replays,
+  );
   words_refused = refuses_words laws.meant words o status a;
   faults = faults words o status a;
   nothing_on_out = delivered.nothing_on_out o.out o.err a.answer status a.delivered;

@@ -11,7 +11,7 @@ use Rattle.ppm_cli.specs.declared.command.Command.TheVariants as commands
 use Rattle.ppm_cli.specs.declared.serial.SerialOptions.{SerialOptions}
 use Rattle.ppm_cli.specs.declared.replay.ReplayOptions.{ReplayOptions}
 use Rattle.ppm_cli.specs.declared.run.RunOptions.{RunOptions}
-use Rattle.ppm_cli.specs.Words.{command_of, AreRun}
+use Rattle.ppm_cli.specs.Words.{command_of, AreReplayed, AreRun}
 use Rattle.ppm_commands.specs.Check.{CheckRows}
 use Rattle.ppm_commands.specs.Code.{CodeRows}
 use Rattle.ppm_commands.specs.Serial.{SerialRows}
@@ -38,10 +38,10 @@ ListsByWords words o status = command_of words ≡ Some commands.Code → CodeRo
 abbrev pub ChecksByWords : List (List ℕ) → Outside → Status → Type 0
 ChecksByWords words o status = command_of words ≡ Some commands.Check → CheckRows (ports_of o) status
 
--- those of `replay` where they ask for that, with these options and this schedule
+-- those of `replay` where they ask for that, with these options, which are in their ranges, and this schedule
 abbrev pub ReplaysByWords : List (List ℕ) → Outside → Status → Type 0
 ReplaysByWords words o status = (options : ReplayOptions) (schedule : List ℕ) → command_of words ≡ Some (commands.Replay options schedule) →
-    ReplayRows options schedule (ports_of o) status
+    AreReplayed options × ReplayRows options schedule (ports_of o) status
 
 -- the words ask for a run by a plan, or for a replay by a schedule, that is refused
 pub data HasRefusedPlan (words : List (List ℕ)) (o : Outside) : Type 0 where

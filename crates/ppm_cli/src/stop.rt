@@ -1,0 +1,59 @@
+//! The command `stop`, as its words give it.
+ghost use Rattle.std.specs.Prelude.{◌≡◌, IfOk, IfSome};
+ghost use Rattle.clap.specs.Words.{found_of, rows_of};
+ghost use Rattle.ppm_cli.specs.Words.{AreStopped, IsInRange, stop_in};
+ghost use Rattle.ppm_cli.specs.Words.{stop_options as options_in};
+
+use crate::command::Command;
+use crate::getters::{bytes_of, number_of};
+use crate::table::{AFTER, FEW_PROCESSORS, FEW_SLOTS, SCHEDULE, SMALL_ROOM};
+use clap::ArgMatches;
+use std::alloc::{AllocError, Global};
+
+/// The options of `stop` but for its schedule.
+#[derive(Clone, Copy, Debug, PartialEq, Eq)]
+pub struct StopOptions {
+    /// How many processors there are: from 1 to 16, and 4 by default.
+    pub processors: u32,
+    /// After how many acts the run is stopped, those of the schedule among them: from 0 to
+    /// 268435456, and 0 by default.
+    pub after: u64,
+    /// How many words the pool of a place has: from 64 to 65536, and 16384 by default.
+    pub room: u32,
+    /// How many entries the deque of a place has: from 2 to 4096, and 256 by default.
+    pub slots: u32,
+}
+
+/// The command with the options and the schedule in its matches.
+pub(crate) fn stop_from(
+    alloc: Global,
+    matches: &ArgMatches<'_>,
+) -> Result<Option<Command>, AllocError>
+    ensures value { IfOk result (λ c. c ≡ stop_in (rows_of (found_of matches.now))) }
+    ensures in_range { IfOk result (λ c. IfSome c IsInRange) }
+{
+    match stop_options(matches) {
+        Some(options) => match bytes_of(alloc, matches, SCHEDULE)? {
+            Some(schedule) => Ok(Some(Command::Stop(options, schedule))),
+            None => Ok(None),
+        },
+        None => Ok(None),
+    }
+}
+
+/// The options of `stop` in its matches.
+fn stop_options(matches: &ArgMatches<'_>) -> Option<StopOptions>
+    ensures value { result ≡ options_in (rows_of (found_of matches.now)) }
+    ensures in_range { IfSome result AreStopped }
+{
+    let processors = number_of(matches, FEW_PROCESSORS)?;
+    let after = number_of(matches, AFTER)?;
+    let room = number_of(matches, SMALL_ROOM)?;
+    let slots = number_of(matches, FEW_SLOTS)?;
+    Some(StopOptions {
+        processors,
+        after: u64::from(after),
+        room,
+        slots,
+    })
+}
