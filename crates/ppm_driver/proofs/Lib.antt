@@ -19,3 +19,5 @@ pub mod MeantRows
 pub mod RunLemmas
 pub mod OneRun
 pub mod OfRun
+pub mod ExampleLemmas
+pub mod OfExample

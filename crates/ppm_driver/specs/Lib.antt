@@ -5,3 +5,5 @@ pub mod Runs
 pub mod RunRows
 pub mod Replays
 pub mod ReplayRows
+pub mod Examples
+pub mod ExampleRows

@@ -9,6 +9,7 @@
 //! schedules and limits and their rules are this project's.
 #![tactic(auto)]
 
+mod example;
 mod meant;
 mod one_replay;
 mod one_run;
@@ -16,6 +17,7 @@ mod replay;
 mod run;
 mod saying;
 
+pub use example::self_command;
 pub use meant::runs_are_as_programs;
 pub use one_replay::have_one_answer;
 pub use one_run::answers_are_one;
