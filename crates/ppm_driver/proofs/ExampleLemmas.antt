@@ -3,6 +3,17 @@ use Rattle.std.proofs.Common.{◌≡◌, ◌⊎◌, ◌+◌, ◌*◌, ◌^◌, �
 use Rattle.ppm_ports.specs.Outside.{ToldLists}
 use Rattle.ppm_words.specs.declared.named_array.NamedArray.{NamedArray}
 use Rattle.ppm_tree.specs.Tree.{ProgramTree}
+use Rattle.ppm_tree.specs.Limits.{IsWithin}
+use Rattle.ppm_tree.specs.Program.{initial_arrays}
+use Rattle.ppm_regions.specs.Admission.{IsAdmitted}
+use Rattle.ppm_cut_bounds.specs.Bounds.{IsWithinBounds}
+use Rattle.ppm_code.specs.Tidy.{IsTidy}
+use Rattle.ppm_code.specs.declared.code.CodeParts.{CodeParts}
+use Rattle.ppm_cut_code.specs.Routines.{code_of}
+use Rattle.ppm_cut_sound.specs.Correct.{CodeIsSound}
+use Rattle.ppm_cut_correct.specs.Beginning.{StartWithInput}
+use Rattle.ppm_depth.specs.Run.{IsDepthRun}
+use Rattle.ppm_depth.specs.declared.depth.DepthRun.{DepthRun}
 use Rattle.ppm_answers.specs.declared.answer.Answer.{Answer}
 use Rattle.ppm_answers.specs.declared.answer.Answer.TheVariants as answers
 use Rattle.ppm_answers.specs.declared.sums.Sums.{Sums}
@@ -12,7 +23,7 @@ use Rattle.ppm_cli.specs.Words.{AreRun, AreSelf}
 use Rattle.ppm_program.specs.Programs.{HasProgram}
 use Rattle.ppm_plan.specs.declared.plan_item.PlanItem.{PlanItem}
 use Rattle.ppm_loading.specs.Programs.{ProgramMay, RefusedHas}
-use Rattle.ppm_driver.specs.Examples.{ExampleMay, HasRun, ProgramSums, SumsUp, items_of, run_options_of, text_of}
+use Rattle.ppm_driver.specs.Examples.{AreForks, ExampleMay, HasRun, ProgramSums, SumsUp, items_of, run_options_of, text_of}
 use Rattle.ppm_driver.specs.Runs.{ProgramHas, RunTells}
 use Rattle.ppm_driver.specs.Watchers.{OthersKeep}
 use Rattle.ppm_driver.proofs.RunLemmas.{IsOfProgram, of_program}
@@ -30,7 +41,7 @@ example_are_run o are = (
 )
 
 module _ (o : SelfOptions) (before now : ToldLists) (t : ProgramTree) where
-  kind : (a : Answer) → HasRun o before now t a → IsOfProgram o.processors a
+  pub kind : (a : Answer) → HasRun o before now t a → IsOfProgram o.processors a
   kind a h = of_program (run_options_of o) o.processors before now (items_of o) t a h
 
   -- but for arrays the answer is that of the run
@@ -70,6 +81,20 @@ pub none_may : (o : SelfOptions) (before now : ToldLists) (a : Answer) → TextM
 none_may o before now answers.NoMemory h = tt
 none_may o before now (answers.SourceRefused r) h = h
 none_may o before now a h = absurd h.2.1
+
+-- the code is tidy, and the forks that are counted are its
+module _ (t : ProgramTree) (code : CodeParts) (is : code ≡ code_of t) where
+  pub code_tidy : CodeIsSound → StartWithInput → IsWithin t → IsAdmitted t → IsWithinBounds t → IsTidy code
+  code_tidy sound starts within admitted bounded =
+      subst (λ (c : CodeParts). IsTidy c) (sym is) (sound t within admitted bounded (initial_arrays t) (starts t within admitted)).tidy
+
+  pub forks_are : (input : List NamedArray) → input ≡ initial_arrays t → (run : DepthRun) → IsDepthRun code input (2 ^ 40) run → AreForks t run.forks
+  forks_are input same run h = (
+    run,
+    subst (λ (c : CodeParts). IsDepthRun c (initial_arrays t) (2 ^ 40) run) is
+        (subst (λ (l : List NamedArray). IsDepthRun code l (2 ^ 40) run) same h),
+    refl,
+  )
 
 -- tags count all work turns
 pub few_work : (o : SelfOptions) → AreSelf o → 2 ^ 34 ≤ o.processors * (run_options_of o).turns + 1 → ⊥

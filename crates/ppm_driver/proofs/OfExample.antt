@@ -1,6 +1,6 @@
 -- The rows of `self`.
 use Rattle.std.proofs.Common.{◌≡◌, ◌⊎◌, ℕ, List, refl, sym, subst, inl, inr}
-use Rattle.ppm_ports.specs.Outside.{Outside}
+use Rattle.ppm_ports.specs.Outside.{Outside, ToldLists}
 use Rattle.ppm_cli.specs.declared.example.SelfOptions.{SelfOptions}
 use Rattle.ppm_cli.specs.Words.{AreSelf}
 use Rattle.ppm_answers.specs.declared.answer.Answer.{Answer}
@@ -81,3 +81,14 @@ pub example_delivered : (options : SelfOptions) (o : Outside) (a : Answer) (stat
 example_delivered options o a status told kept may (inl d) = record { answer = a; cause = may; delivered = d; told = told }
 example_delivered options o a status told kept may (inr d) =
     record { answer = answers.NoMemory; cause = tt; delivered = d.1; told = kept }
+
+-- the example is no reading command, and its plan and words are never refused
+module _ (options : SelfOptions) (before now : ToldLists) where
+  pub no_read_fault : ExampleMay options before now answers.ReadFault → ⊥
+  no_read_fault h = kind options before now h.0 answers.ReadFault h.2
+
+  pub no_words_refused : ExampleMay options before now answers.WordsRefused → ⊥
+  no_words_refused h = kind options before now h.0 answers.WordsRefused h.2
+
+  pub no_plan_refused : (number : ℕ) → ExampleMay options before now (answers.PlanRefused number) → ⊥
+  no_plan_refused number h = kind options before now h.0 (answers.PlanRefused number) h.2

@@ -7,6 +7,7 @@ ghost use Rattle.ppm_cli.specs.Words.{AreRun, AreSelf};
 ghost use Rattle.ppm_tree.specs.Tree.{tree_of};
 ghost use Rattle.ppm_cut_bounds.specs.Bounds.{IsWithinBounds};
 ghost use Rattle.ppm_program.specs.Programs.{HasProgram};
+ghost use Rattle.ppm_plan.specs.Schedules.{Planned};
 ghost use Rattle.ppm_loading.specs.Programs.{ProgramMay, RefusedHas};
 ghost use Rattle.ppm_driver.specs.Examples.{AreForks, ExampleMay, IsPlanOf, ProgramSums};
 ghost use Rattle.ppm_driver.specs.Examples.{first_value, last_value, run_options_of, text_of};
@@ -181,7 +182,7 @@ fn with_sums(
     answer: Answer,
 ) -> Result<Answer, NoMemory>
     requires bounded { IsWithinBounds (tree_of program.now) }
-    ensures { (before now : ToldLists) (plan : Plan) → IsPlanOf options plan
+    ensures { (before now : ToldLists) (plan : Planned) → IsPlanOf options plan
         → ProgramHas (run_options_of options) options.processors before now plan.items (tree_of program.now) answer
         → IfOk result (ProgramSums options before now (tree_of program.now)) }
 {

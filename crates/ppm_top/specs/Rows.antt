@@ -8,14 +8,16 @@ use Rattle.ppm_answers.specs.declared.status.Status.TheVariants as statuses
 use Rattle.ppm_answers.specs.Reading.{IsUnread}
 use Rattle.ppm_answers.specs.Rows.{IsOneOf}
 use Rattle.ppm_cli.specs.declared.command.Command.TheVariants as commands
+use Rattle.ppm_cli.specs.declared.example.SelfOptions.{SelfOptions}
 use Rattle.ppm_cli.specs.declared.serial.SerialOptions.{SerialOptions}
 use Rattle.ppm_cli.specs.declared.replay.ReplayOptions.{ReplayOptions}
 use Rattle.ppm_cli.specs.declared.run.RunOptions.{RunOptions}
-use Rattle.ppm_cli.specs.Words.{command_of, AreReplayed, AreRun}
+use Rattle.ppm_cli.specs.Words.{command_of, AreReplayed, AreRun, AreSelf}
 use Rattle.ppm_commands.specs.Check.{CheckRows}
 use Rattle.ppm_commands.specs.Code.{CodeRows}
 use Rattle.ppm_commands.specs.Serial.{SerialRows}
 use Rattle.ppm_loading.specs.MachineRows.{RefusesPlan}
+use Rattle.ppm_driver.specs.ExampleRows.{ExampleSays}
 use Rattle.ppm_driver.specs.ReplayRows.{ReplayRows}
 use Rattle.ppm_driver.specs.RunRows.{RunRows}
 use Rattle.ppm_plan.specs.Forms.{plan_form, schedule_form}
@@ -42,6 +44,11 @@ ChecksByWords words o status = command_of words ≡ Some commands.Check → Chec
 abbrev pub ReplaysByWords : List (List ℕ) → Outside → Status → Type 0
 ReplaysByWords words o status = (options : ReplayOptions) (schedule : List ℕ) → command_of words ≡ Some (commands.Replay options schedule) →
     AreReplayed options × ReplayRows options schedule (ports_of o) status
+
+-- where they ask for the program's own example, nothing is read, and each status says what comes of it
+abbrev pub SumsByWords : List (List ℕ) → Outside → Status → Type 0
+SumsByWords words o status = (options : SelfOptions) → command_of words ≡ Some (commands.Example options)
+    → AreSelf options × IsUnread o.source × ExampleSays options o status
 
 -- the words ask for a run by a plan, or for a replay by a schedule, that is refused
 pub data HasRefusedPlan (words : List (List ℕ)) (o : Outside) : Type 0 where
@@ -78,6 +85,7 @@ pub record ProgramRows (words : List (List ℕ)) (o : Outside) (status : Status)
   pub code : ListsByWords words o status
   pub check : ChecksByWords words o status
   pub replay : ReplaysByWords words o status
+  pub example : SumsByWords words o status
   pub words_refused : RefusesWords words o status
   pub faults : ReportsFaults o status
   pub nothing_on_out : IsSilentOnOut o status
