@@ -80,7 +80,7 @@ module _ (o : SelfOptions) (before now : ToldLists) (t : ProgramTree) where
 pub none_may : (o : SelfOptions) (before now : ToldLists) (a : Answer) → TextMay RefusedHas (text_of o) a → ExampleMay o before now a
 none_may o before now answers.NoMemory h = tt
 none_may o before now (answers.SourceRefused r) h = h
-none_may o before now a h = absurd h.2.1
+none_may o before now a h = absurd h.2
 
 -- the code is tidy, and the forks that are counted are its
 module _ (t : ProgramTree) (code : CodeParts) (is : code ≡ code_of t) where

@@ -28,12 +28,15 @@ use ppm_loading::text_program;
 use ppm_plan::{Plan, make_source, seeded_plan};
 use ppm_ports::{Sink, Watch};
 use ppm_regions::Admitted;
-use ppm_words::{Idle, NamedArray, NoMemory, TURN_LIMIT};
+use ppm_words::{Idle, NamedArray, NoMemory};
 use std::alloc::Global;
 use std::sync::Wait;
 use std::thread::Threads;
 
-/// The words of a pool in the run of the example.
+/// The work turns of a processor in the run of the example: as many as it may have.
+const EXAMPLE_TURNS: u64 = 268_435_456;
+
+/// The words of a pool.
 const EXAMPLE_ROOM: u32 = 262_144;
 
 /// The entries of a deque.
@@ -197,7 +200,7 @@ fn with_sums(
                 last,
             }))
         }
-        other => Ok(other),
+        _ => Ok(answer),
     }
 }
 
@@ -242,7 +245,7 @@ fn run_options(options: SelfOptions) -> RunOptions
 {
     RunOptions {
         processors: options.processors,
-        turns: u64::from(TURN_LIMIT),
+        turns: EXAMPLE_TURNS,
         room: EXAMPLE_ROOM,
         slots: EXAMPLE_SLOTS,
         looks: EXAMPLE_LOOKS,
