@@ -89,6 +89,7 @@ TellsOfRun Tells (answers.NotWithin turns) before now = Tells (answers.NotWithin
 TellsOfRun Tells (answers.OutOfTurns processor) before now = Tells (answers.OutOfTurns processor) before now
 TellsOfRun Tells (answers.OutOfRoom place) before now = Tells (answers.OutOfRoom place) before now
 TellsOfRun Tells (answers.Broken place) before now = Tells (answers.Broken place) before now
+TellsOfRun Tells (answers.Summed sums) before now = Tells (answers.Summed sums) before now
 TellsOfRun Tells (answers.Listed listing) before now = Tells (answers.Listed listing) before now
 TellsOfRun Tells (answers.Saved text) before now = Tells (answers.Saved text) before now
 TellsOfRun Tells answers.Accepted before now = Tells answers.Accepted before now

@@ -16,6 +16,7 @@ status_of (answers.NotWithin turns) = statuses.NotWithin
 status_of (answers.OutOfTurns processor) = statuses.OutOfTurns
 status_of (answers.OutOfRoom place) = statuses.OutOfRoom
 status_of (answers.Broken place) = statuses.Broken
+status_of (answers.Summed sums) = statuses.Ended
 status_of (answers.Listed listing) = statuses.Ended
 status_of (answers.Saved text) = statuses.Ended
 status_of (answers.SourceRefused r) = statuses.SourceRefused

@@ -13,6 +13,7 @@ use Rattle.ppm_answers.specs.declared.conflict.Class.{Class}
 use Rattle.ppm_answers.specs.declared.conflict.Class.TheVariants as class
 use Rattle.ppm_answers.specs.declared.conflict.Conflict.{Conflict}
 use Rattle.ppm_answers.specs.declared.conflict.ListingRefusal.{ListingRefusal}
+use Rattle.ppm_answers.specs.declared.sums.Sums.{Sums}
 use Rattle.ppm_answers.specs.declared.tally.Tally.{Tally}
 use Rattle.ppm_answers.specs.declared.answer.Answer.{Answer}
 use Rattle.ppm_answers.specs.declared.answer.Answer.TheVariants as answers
@@ -95,6 +96,11 @@ plan_text number = ended_line (codes "plan refused: " ++ decimal number)
 abbrev pub tally_text : Tally → List ℕ
 tally_text t = ended_line (codes "forks " ++ decimal t.forks ++ codes " takes " ++ decimal t.takes)
 
+-- a line with what `self` tells of its run: how many values and forks there were, their sum, and the last value
+abbrev pub sums_text : Sums → List ℕ
+sums_text s = ended_line (codes "size " ++ decimal s.size ++ codes " forks " ++ decimal s.forks
+    ++ codes " sum " ++ signed_decimal s.sum ++ codes " last " ++ signed_decimal s.last)
+
 -- what `check` says of a code that it accepts
 abbrev pub accepted_text : List ℕ
 accepted_text = ended_line (codes "ok")
@@ -126,6 +132,7 @@ out_text (answers.Ended arrays) = arrays_text arrays
 out_text (answers.Trapped t line) = trap_text t line
 out_text (answers.EndedWith arrays tally) = arrays_text arrays ++ tally_text tally
 out_text (answers.TrappedWith t line tally) = trap_text t line ++ tally_text tally
+out_text (answers.Summed sums) = sums_text sums
 out_text (answers.Listed listing) = listing
 out_text (answers.Saved text) = text
 out_text answers.Accepted = accepted_text
@@ -162,6 +169,7 @@ err_text (answers.Ended arrays) = []
 err_text (answers.Trapped t line) = []
 err_text (answers.EndedWith arrays tally) = []
 err_text (answers.TrappedWith t line tally) = []
+err_text (answers.Summed sums) = []
 err_text (answers.Listed listing) = []
 err_text (answers.Saved text) = []
 err_text answers.Accepted = []

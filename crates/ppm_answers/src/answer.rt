@@ -2,6 +2,7 @@
 use crate::conflict::{Conflict, ListingRefusal};
 use crate::refusal::Refusal;
 use crate::saved::SavedRefusal;
+use crate::sums::Sums;
 use crate::tally::Tally;
 use ppm_words::{Items, NamedArray, Trap};
 
@@ -29,6 +30,8 @@ pub enum Answer {
     /// The words of the run are broken at this place; places count from 0, and 64 is for a place
     /// that isn't known, or for a saved finish word that stands for nothing.
     Broken(u32),
+    /// The run of the program's own example ended with these sums.
+    Summed(Sums),
     /// The program of the text is compiled to the code with this listing.
     Listed(Items<u8>),
     /// The state in which the run of the program was stopped has this text.

@@ -63,7 +63,8 @@ fn own_status(answer: &Answer) -> Status
         Answer::OutOfRoom(_) => Status::OutOfRoom,
         Answer::Broken(_) => Status::Broken,
         Answer::SourceRefused(_) => Status::SourceRefused,
-        Answer::Listed(_) | Answer::Saved(_) | Answer::Accepted => Status::Ended,
+        Answer::Summed(_) | Answer::Listed(_) | Answer::Saved(_) | Answer::Accepted =>
+            Status::Ended,
         Answer::Conflicting(_) | Answer::ListingRefused(_) => Status::CodeRefused,
         Answer::SavedRefused(_) => Status::SavedRefused,
         Answer::WordsRefused | Answer::PlanRefused(_) => Status::WordsRefused,

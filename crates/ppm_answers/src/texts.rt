@@ -15,6 +15,7 @@ use crate::answer::Answer;
 use crate::conflict::{Class, Conflict, ListingRefusal};
 use crate::refusal::{Pass, Refusal};
 use crate::saved::SavedRefusal;
+use crate::sums::sums_text_of;
 use crate::tally::with_tally;
 use ppm_words::{NamedArray, Trap};
 use std::alloc::{AllocError, Global};
@@ -64,6 +65,10 @@ pub fn texts_of(alloc: Global, answer: &Answer) -> Result<(Text, Text), AllocErr
                 CowSlice::Borrowed(none),
             ))
         }
+        Answer::Summed(sums) => Ok((
+            CowSlice::Owned(sums_text_of(alloc, *sums)?),
+            CowSlice::Borrowed(none),
+        )),
         Answer::SourceRefused(refusal) => Ok((
             CowSlice::Borrowed(none),
             CowSlice::Owned(refusal_text_of(alloc, *refusal)?),

@@ -28,3 +28,5 @@ pub mod OfRun
 pub mod ResumeLemmas
 pub mod OfResume
 pub mod LeftLemmas
+pub mod ExampleLemmas
+pub mod OfExample

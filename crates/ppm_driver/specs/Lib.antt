@@ -10,3 +10,5 @@ pub mod ReplayRows
 pub mod Legs
 pub mod Resumes
 pub mod ResumeRows
+pub mod Examples
+pub mod ExampleRows

@@ -151,7 +151,7 @@ fn program_answer<R: Threads + Wait + Sync, W: Watch>(
 }
 
 /// What the run of a program comes to.
-fn ran<R: Threads + Wait + Sync, W: Watch>(
+pub(crate) fn ran<R: Threads + Wait + Sync, W: Watch>(
     rt: &R,
     alloc: Global,
     options: RunOptions,

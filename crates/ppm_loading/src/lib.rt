@@ -18,4 +18,4 @@ mod programs;
 pub use arrays::{arrays_of, arrays_of_closed, to_values};
 pub use loading::{Sizes, load, share};
 pub use planned::refusal_answer;
-pub use programs::read_program;
+pub use programs::{read_program, text_program};

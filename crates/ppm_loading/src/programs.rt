@@ -28,7 +28,7 @@ pub fn read_program<S: Source>(alloc: Global, source: &mut S) -> Result<Admitted
 }
 
 /// The program of a text. `Err` is the answer where there is none.
-fn text_program(alloc: Global, text: &[u8]) -> Result<Admitted, Answer>
+pub fn text_program(alloc: Global, text: &[u8]) -> Result<Admitted, Answer>
     ensures program { IfOk result (λ program. HasProgram text.now (tree_of program)) }
     ensures none { IfErr result (TextMay RefusedHas text.now) }
 {

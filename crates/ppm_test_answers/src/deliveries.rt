@@ -2,7 +2,8 @@
 ghost use Rattle.std.specs.Prelude.{◌<◌};
 
 use ppm_answers::{
-    Answer, Class, Conflict, ListingRefusal, Pass, Refusal, SavedRefusal, Status, Tally, deliver,
+    Answer, Class, Conflict, ListingRefusal, Pass, Refusal, SavedRefusal, Status, Sums, Tally,
+    deliver,
 };
 use ppm_ports::{MemorySink, Sink};
 use ppm_words::{Items, Name, NamedArray, Trap};
@@ -126,6 +127,17 @@ fn answers_have_texts_and_statuses(rt: HostRuntime) -> Result<(), Fail> {
             "trap divzero line 4\nforks 12 takes 0\n",
             "",
             1,
+        ),
+        (
+            Answer::Summed(Sums {
+                size: 4,
+                forks: 3,
+                sum: -214,
+                last: 100,
+            }),
+            "size 4 forks 3 sum -214 last 100\n",
+            "",
+            0,
         ),
         (Answer::Unfinished(1), "", "unfinished after 1 turns\n", 4),
         (Answer::PlanRefused(4), "", "plan refused: 4\n", 3),

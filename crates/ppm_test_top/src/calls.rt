@@ -630,6 +630,43 @@ fn words_are_judged_before_anything_is_read(rt: HostRuntime) -> Result<(), Fail>
 }
 
 #[test]
+fn the_example_is_summed_and_nothing_is_read(rt: HostRuntime) -> Result<(), Fail> {
+    let reads_fail = Failing {
+        reads: &[0],
+        ..NONE
+    };
+    let cases: [(&[&str], &str); 3] = [
+        (
+            &["ppm", "self", "--size", "4", "--seed", "7"],
+            "size 4 forks 3 sum 214 last 100\n",
+        ),
+        (
+            &["ppm", "self", "--size=1", "--processors=1"],
+            "size 1 forks 0 sum 1 last 1\n",
+        ),
+        (
+            &[
+                "ppm",
+                "self",
+                "--size=40",
+                "--seed=999",
+                "--count=50",
+                "--processors=3",
+            ],
+            "size 40 forks 39 sum 18140 last 208\n",
+        ),
+    ];
+    for (words, out) in cases {
+        let got = ppm_over_memory(&rt, rt.alloc(), FIRST.as_bytes(), words, 9, reads_fail)?;
+        assert_eq!(rt; got.out.as_slice(), out.as_bytes(), "{words:?}");
+        assert_eq!(rt; got.err.as_slice(), b"".as_slice(), "{words:?}");
+        assert_eq!(rt; got.status, Status::Ended, "{words:?}");
+        assert_eq!(rt; got.read_faults, 0, "{words:?}");
+    }
+    Ok(())
+}
+
+#[test]
 fn each_read_fails_in_turn(rt: HostRuntime) -> Result<(), Fail> {
     // One read for each byte, and one that finds the end.
     for call in 0..FIRST.len() as u64 + 1 {

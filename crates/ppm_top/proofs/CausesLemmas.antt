@@ -17,10 +17,12 @@ use Rattle.ppm_commands.specs.Serial.{SerialHas}
 use Rattle.ppm_cli.specs.Words.{command_of}
 use Rattle.ppm_top.specs.Causes.{CommandMay, CommandTells, IsAnswered}
 use Rattle.ppm_plan.specs.Forms.{plan_form, schedule_form}
+use Rattle.ppm_cli.specs.declared.example.SelfOptions.{SelfOptions}
+use Rattle.ppm_driver.specs.Examples.{ExampleMay}
 use Rattle.ppm_driver.specs.Replays.{TextHas as ReplayTextHas}
 use Rattle.ppm_driver.specs.Resumes.{TextHas as ResumeTextHas}
-use Rattle.ppm_driver.specs.Runs.{TextHas as RunTextHas}
 use Rattle.ppm_stop.specs.Stops.{TextHas as StopTextHas}
+use Rattle.ppm_driver.specs.Runs.{RunTells, TextHas as RunTextHas}
 use Rattle.ppm_loading.proofs.PlannedLemmas as planned
 use Rattle.ppm_driver.proofs.ResumeLemmas.{still_told}
 use Rattle.ppm_driver.proofs.WatchLemmas.{untold}
@@ -40,6 +42,7 @@ memory_before (Some (commands.Resume options plan)) o h =
     judged.memory_before saved_limit (ResumeTextHas options plan o.told_before o.told_now) o.source h
 memory_before (Some (commands.Stop options schedule)) o h =
     planned.memory_before schedule_form schedule options.processors (StopTextHas options) text_limit o.source h
+memory_before (Some (commands.Example options)) o h = (h, tt)
 
 -- an answer of the command that the words give answers the words
 pub by_command : (words : List (List ℕ)) (o : Outside) (status : Status) (command : Option Command) → command_of words ≡ command →
@@ -55,6 +58,13 @@ by_ports words o status command e tells told d =
     (subst (λ (t : Answer → ToldLists → ToldLists → Type 0). Answers (CommandMay command o) t o status) (sym tells)
     (tells_nothing (CommandMay command o) o status told d))
 
+-- an answer of the example is one of its command, where nothing was read
+pub of_example : (options : SelfOptions) (o : Outside) (status : Status) → IsUnread o.source
+    → Answers (ExampleMay options o.told_before o.told_now) (RunTells options.processors) o status
+    → Answers (CommandMay (Some (commands.Example options)) o) (CommandTells (Some (commands.Example options))) o status
+of_example options o status unread a =
+    record { answer = a.answer; cause = (unread, a.cause); delivered = a.delivered; told = a.told }
+
 -- where nobody was told anything, that belongs to each answer
 pub told_nothing : (command : Option Command) (answer : Answer) (lists : ToldLists) → CommandTells command answer lists lists
 told_nothing None answer lists = refl
@@ -65,3 +75,4 @@ told_nothing (Some commands.Check) answer lists = refl
 told_nothing (Some (commands.Replay options schedule)) answer lists = refl
 told_nothing (Some (commands.Resume options plan)) answer lists = still_told answer lists
 told_nothing (Some (commands.Stop options schedule)) answer lists = refl
+told_nothing (Some (commands.Example options)) answer lists = untold options.processors answer lists

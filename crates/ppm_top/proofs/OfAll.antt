@@ -13,6 +13,7 @@ use Rattle.ppm_answers.specs.Statuses.{status_of}
 use Rattle.ppm_answers.specs.Delivery.{IsWritten}
 use Rattle.ppm_cli.specs.declared.command.Command.{Command}
 use Rattle.ppm_cli.specs.declared.command.Command.TheVariants as commands
+use Rattle.ppm_cli.specs.declared.example.SelfOptions.{SelfOptions}
 use Rattle.ppm_cli.specs.declared.replay.ReplayOptions.{ReplayOptions}
 use Rattle.ppm_cli.specs.declared.resume.ResumeOptions.{ResumeOptions}
 use Rattle.ppm_cli.specs.declared.run.RunOptions.{RunOptions}
@@ -38,13 +39,15 @@ use Rattle.ppm_driver.specs.ResumeRows.{RefusesPlan as RefusesResumed}
 use Rattle.ppm_driver.specs.Runs.{TextHas as RunTextHas, AnswersAreOne, FrontsDecideAnswers}
 use Rattle.ppm_stop.specs.Stops.{TextHas as StopTextHas, HaveOneAnswer as StopsHaveOneAnswer}
 use Rattle.ppm_stop.proofs.OfStop as of_stop
+use Rattle.ppm_driver.specs.Examples.{ExampleMay}
+use Rattle.ppm_driver.proofs.OfExample as of_example
 use Rattle.ppm_driver.proofs.OfReplay as of_replay
 use Rattle.ppm_driver.proofs.OfResume as of_resume
 use Rattle.ppm_driver.proofs.OfRun as of_run
 use Rattle.ppm_resumed.specs.Resumed.{RenewedWordsComeBack}
 use Rattle.ppm_saved_reader.specs.Rules.{text_limit as saved_limit}
 use Rattle.ppm_loading.proofs.PlannedLemmas as planned
-use Rattle.ppm_answers.specs.Reading.{IsUnread, JudgingMay, DeliversAnswer}
+use Rattle.ppm_answers.specs.Reading.{IsUnread, JudgingMay, DeliversAnswer, Answers}
 use Rattle.ppm_answers.proofs.Delivered.{of_answers}
 use Rattle.ppm_answers.specs.Rows.{IsOneOf}
 use Rattle.ppm_top.specs.Causes.{NoCommandMay, CommandMay, CommandTells, IsAnswered}
@@ -67,6 +70,12 @@ planned_reports form plan processors Has o = record {
   fails = λ answer h f. planned.source_failed form plan processors Has text_limit o.source answer h f;
 }
 
+example_reports : (options : SelfOptions) (o : Outside) → ReportsReads o (CommandMay (Some (commands.Example options)) o)
+example_reports options o = record {
+  failed = λ h. absurd (of_example.no_read_fault options o.told_before o.told_now h.1);
+  fails = λ answer h f. absurd (f h.0.holds);
+}
+
 none_reports : (o : Outside) → ReportsReads o (NoCommandMay o)
 none_reports o = record { failed = λ h. absurd h; fails = fails } where
   fails : (answer : Answer) → NoCommandMay o answer → ¬ Holds o.source → status_of answer ≡ statuses.ReadFault
@@ -85,6 +94,7 @@ command_reports o (Some (commands.Replay options schedule)) =
 command_reports o (Some (commands.Resume options plan)) = judging_reports saved_limit (ResumeTextHas options plan o.told_before o.told_now) o
 command_reports o (Some (commands.Stop options schedule)) =
     planned_reports schedule_form schedule options.processors (StopTextHas options) o
+command_reports o (Some (commands.Example options)) = example_reports options o
 
 -- an answer of status 7 is a read fault
 read_answer : (may : Answer → Type 0) (answer : Answer) → may answer → status_of answer ≡ statuses.ReadFault → may answers.ReadFault
@@ -137,9 +147,13 @@ no_command (Some (commands.Stop options schedule)) o answer h e = inr (IsStop op
 no_command (Some (commands.Serial options)) o answers.WordsRefused h e = absurd h.2
 no_command (Some commands.Code) o answers.WordsRefused h e = absurd h.2
 no_command (Some commands.Check) o answers.WordsRefused h e = absurd h.2
+no_command (Some (commands.Example options)) o answers.WordsRefused h e =
+    absurd (of_example.no_words_refused options o.told_before o.told_now h.1)
 no_command (Some (commands.Serial options)) o (answers.PlanRefused number) h e = absurd h.2
 no_command (Some commands.Code) o (answers.PlanRefused number) h e = absurd h.2
 no_command (Some commands.Check) o (answers.PlanRefused number) h e = absurd h.2
+no_command (Some (commands.Example options)) o (answers.PlanRefused number) h e =
+    absurd (of_example.no_plan_refused options o.told_before o.told_now number h.1)
 no_command command o answer h e = cc
 
 -- without a command nothing is read, and the words are refused or memory is
@@ -238,9 +252,21 @@ program_rows laws words o status a = record {
     is_in_range words (commands.Stop options schedule) e,
     of_stop.stop_rows options schedule (ports_of o) status (by_words (Some (commands.Stop options schedule)) e) laws.plans laws.stops,
   );
+  example = λ options e.
+      let range = is_in_range words (commands.Example options) e in
+      let x = by_example options e in (
+        range,
+        x.cause.0,
+        of_example.example_says laws.meant options range o status
+            (record { answer = x.answer; cause = x.cause.1; delivered = x.delivered; told = x.told }),
+      );
   words_refused = refuses_words laws.meant laws.legs laws.comes words o status a;
   faults = faults words o status a;
   nothing_on_out = delivered.nothing_on_out o.out o.err a.answer status a.delivered;
 } where
+  by_example : (options : SelfOptions) → command_of words ≡ Some (commands.Example options)
+      → Answers (CommandMay (Some (commands.Example options)) o) (CommandTells (Some (commands.Example options))) o status
+  by_example options e = subst (λ c. Answers (CommandMay c o) (CommandTells c) o status) e a
+
   by_words : (command : Option Command) → command_of words ≡ command → DeliversAnswer (CommandMay command o) (ports_of o) status
   by_words command e = subst (λ c. DeliversAnswer (CommandMay c o) (ports_of o) status) e (delivers words o status a)

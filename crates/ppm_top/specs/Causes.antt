@@ -11,6 +11,7 @@ use Rattle.ppm_cli.specs.Words.{command_of}
 use Rattle.ppm_commands.specs.Check.{CheckMay}
 use Rattle.ppm_commands.specs.Code.{CodeMay}
 use Rattle.ppm_commands.specs.Serial.{SerialMay}
+use Rattle.ppm_driver.specs.Examples.{ExampleMay}
 use Rattle.ppm_driver.specs.Replays.{ReplayMay}
 use Rattle.ppm_driver.specs.Resumes.{ResumeMay, ResumeTells}
 use Rattle.ppm_driver.specs.Runs.{RunMay, RunTells}
@@ -32,6 +33,7 @@ CommandMay (Some commands.Check) o answer = CheckMay o.source answer
 CommandMay (Some (commands.Replay options schedule)) o answer = ReplayMay options schedule o.source answer
 CommandMay (Some (commands.Resume options plan)) o answer = ResumeMay options plan o.told_before o.told_now o.source answer
 CommandMay (Some (commands.Stop options schedule)) o answer = StopMay options schedule o.source answer
+CommandMay (Some (commands.Example options)) o answer = IsUnread o.source × ExampleMay options o.told_before o.told_now answer
 
 -- what watchers are told with each answer of a command, or of none: a run tells them its turns
 abbrev pub CommandTells : Option Command → Answer → ToldLists → ToldLists → Type 0
@@ -43,6 +45,7 @@ CommandTells (Some commands.Check) = TellsNothing
 CommandTells (Some (commands.Replay options schedule)) = TellsNothing
 CommandTells (Some (commands.Resume options plan)) = ResumeTells
 CommandTells (Some (commands.Stop options schedule)) = TellsNothing
+CommandTells (Some (commands.Example options)) = RunTells options.processors
 
 -- an answer of the command that the words give was delivered, and watchers were told what belongs to it
 abbrev pub IsAnswered : List (List ℕ) → Outside → Status → Type 0

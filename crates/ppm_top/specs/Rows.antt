@@ -8,16 +8,18 @@ use Rattle.ppm_answers.specs.declared.status.Status.TheVariants as statuses
 use Rattle.ppm_answers.specs.Reading.{IsUnread}
 use Rattle.ppm_answers.specs.Rows.{IsOneOf}
 use Rattle.ppm_cli.specs.declared.command.Command.TheVariants as commands
+use Rattle.ppm_cli.specs.declared.example.SelfOptions.{SelfOptions}
 use Rattle.ppm_cli.specs.declared.serial.SerialOptions.{SerialOptions}
 use Rattle.ppm_cli.specs.declared.replay.ReplayOptions.{ReplayOptions}
 use Rattle.ppm_cli.specs.declared.resume.ResumeOptions.{ResumeOptions}
 use Rattle.ppm_cli.specs.declared.run.RunOptions.{RunOptions}
 use Rattle.ppm_cli.specs.declared.stop.StopOptions.{StopOptions}
-use Rattle.ppm_cli.specs.Words.{command_of, AreReplayed, AreResumed, AreRun, AreStopped}
+use Rattle.ppm_cli.specs.Words.{command_of, AreReplayed, AreResumed, AreRun, AreSelf, AreStopped}
 use Rattle.ppm_commands.specs.Check.{CheckRows}
 use Rattle.ppm_commands.specs.Code.{CodeRows}
 use Rattle.ppm_commands.specs.Serial.{SerialRows}
 use Rattle.ppm_loading.specs.MachineRows.{RefusesPlan}
+use Rattle.ppm_driver.specs.ExampleRows.{ExampleSays}
 use Rattle.ppm_driver.specs.ReplayRows.{ReplayRows}
 use Rattle.ppm_driver.specs.ResumeRows.{ResumeRows, RefusesPlan as RefusesResumed}
 use Rattle.ppm_driver.specs.RunRows.{RunRows}
@@ -56,6 +58,11 @@ ResumesByWords words o status = (options : ResumeOptions) (plan : List ℕ) → 
 abbrev pub StopsByWords : List (List ℕ) → Outside → Status → Type 0
 StopsByWords words o status = (options : StopOptions) (schedule : List ℕ) → command_of words ≡ Some (commands.Stop options schedule) →
     AreStopped options × StopRows options schedule (ports_of o) status
+
+-- where they ask for the program's own example, nothing is read, and each status says what comes of it
+abbrev pub SumsByWords : List (List ℕ) → Outside → Status → Type 0
+SumsByWords words o status = (options : SelfOptions) → command_of words ≡ Some (commands.Example options)
+    → AreSelf options × IsUnread o.source × ExampleSays options o status
 
 -- the words ask for a run or to resume by a plan, or for a replay or a stop by a schedule, that is refused
 pub data HasRefusedPlan (words : List (List ℕ)) (o : Outside) : Type 0 where
@@ -98,6 +105,7 @@ pub record ProgramRows (words : List (List ℕ)) (o : Outside) (status : Status)
   pub replay : ReplaysByWords words o status
   pub resume : ResumesByWords words o status
   pub stop : StopsByWords words o status
+  pub example : SumsByWords words o status
   pub words_refused : RefusesWords words o status
   pub faults : ReportsFaults o status
   pub nothing_on_out : IsSilentOnOut o status

@@ -16,7 +16,7 @@ use ppm_commands::{
 use ppm_driver::{
     answers_are_one as runs_have_one_answer, have_one_answer as replays_have_one_answer,
     replay_command, resume_command, run_command, runs_are_as_programs, runs_complete,
-    runs_in_legs_are_as_programs,
+    runs_in_legs_are_as_programs, self_command,
 };
 use ppm_plan::have_one_answer as plans_have_one_answer;
 use ppm_ports::{Sink, Source, Watch};
@@ -132,6 +132,7 @@ fn answer_words<R: Threads + Wait + Sync, S: Source, K: Sink, E: Sink, W: Watch>
             out,
             err,
         ),
+        Ok(Some(Command::Example(options))) => self_command(rt, alloc, options, out, err, watch),
         Ok(None) => deliver(alloc, &Answer::WordsRefused, out, err),
         Err(NoMemory) => deliver(alloc, &Answer::NoMemory, out, err),
     }

@@ -3,7 +3,7 @@ use Rattle.std.specs.String.{string_bytes}
 use Rattle.ppm_answers.specs.declared.answer.Answer.TheVariants as answers
 use Rattle.ppm_cli.specs.declared.command.Command.TheVariants as commands
 use Rattle.ppm_answers.proofs.Delivered.{fixed_delivered, left_alone}
-use Rattle.ppm_top.proofs.CausesLemmas.{memory_before, by_command, by_ports, told_nothing}
+use Rattle.ppm_top.proofs.CausesLemmas.{memory_before, by_command, by_ports, of_example, told_nothing}
 use Rattle.ppm_answers.specs.Reading.{TellsNothing}
 use Rattle.ppm_top.proofs.top.answer_words.Goals as goal
 
@@ -48,6 +48,11 @@ pub returns-in-Ok-Some-Stop-clause-answers : goal.returns-in-Ok-Some-Stop-clause
 returns-in-Ok-Some-Stop-clause-answers g c = by_ports (map string_bytes c.args.words.now) _ _ (Some (commands.Stop _ _))
     (cc (c.in-Ok-Some-Stop.ensures.value, c.in-Ok-Some-Stop.field-0-is, c.in-Ok-Some-Stop.field-0-0-is)) refl refl
     c.stop_command.ensures.delivers
+-- the words ask for the program's own example, which was run, and nothing was read
+pub returns-in-Ok-Some-Example-clause-answers : goal.returns-in-Ok-Some-Example-clause-answers
+returns-in-Ok-Some-Example-clause-answers g c = by_command (map string_bytes c.args.words.now) _ _ (Some (commands.Example _))
+    (cc (c.in-Ok-Some-Example.ensures.value, c.in-Ok-Some-Example.field-0-is, c.in-Ok-Some-Example.field-0-0-is))
+    (of_example _ _ _ (left_alone g.S.Source.left g.S.Source.fault_count c.args.source.now) (c.self_command.ensures.answers _))
 
 -- the words give no command, and nothing was read
 pub returns-in-Ok-None-clause-answers : goal.returns-in-Ok-None-clause-answers

@@ -1,0 +1,94 @@
+-- The rows of `self`.
+use Rattle.std.proofs.Common.{◌≡◌, ◌⊎◌, ℕ, List, refl, sym, subst, inl, inr}
+use Rattle.ppm_ports.specs.Outside.{Outside, ToldLists}
+use Rattle.ppm_cli.specs.declared.example.SelfOptions.{SelfOptions}
+use Rattle.ppm_cli.specs.Words.{AreSelf}
+use Rattle.ppm_answers.specs.declared.answer.Answer.{Answer}
+use Rattle.ppm_answers.specs.declared.answer.Answer.TheVariants as answers
+use Rattle.ppm_answers.specs.declared.status.Status.{Status}
+use Rattle.ppm_answers.specs.declared.status.Status.TheVariants as statuses
+use Rattle.ppm_answers.specs.Delivery.{Delivers, IsWritten}
+use Rattle.ppm_answers.specs.Reading.{Answers}
+use Rattle.ppm_answers.specs.Statuses.{status_of}
+use Rattle.ppm_answers.specs.Texts.{IsFixed}
+use Rattle.ppm_answers.proofs.Delivered.{own_or_fault, write_failed}
+use Rattle.ppm_driver.specs.Examples.{ExampleMay, items_of, run_options_of, text_of}
+use Rattle.ppm_driver.specs.ExampleRows.{ExampleSays}
+use Rattle.ppm_driver.specs.Meant.{RunsAreAsPrograms}
+use Rattle.ppm_driver.specs.Runs.{RunTells}
+use Rattle.ppm_driver.proofs.ExampleLemmas.{example_are_run, kind}
+use Rattle.ppm_driver.proofs.MeantRows.{run_ends, run_traps, run_needs, run_needs_turns, run_unbroken}
+use Rattle.ppm_driver.proofs.RunLemmas.{spent_has}
+
+module _ (law : RunsAreAsPrograms) (options : SelfOptions) (are : AreSelf options) (o : Outside) where
+  -- each answer's own status says its sentence
+  by : (a : Answer) → ExampleMay options o.told_before o.told_now a → IsWritten o.out o.err a (status_of a) → ExampleSays options o (status_of a)
+  by answers.NoMemory h w = tt
+  by (answers.SourceRefused r) h w = record { refusal = r; refused = h; gets = w.err_takes.0 }
+  by (answers.Summed sums) h w = record {
+    sums = sums;
+    tree = h.0;
+    program = h.1;
+    sums_up = h.2;
+    meant = run_ends law (text_of options) h.0 h.1 (run_options_of options) options.processors o.told_before o.told_now (items_of options)
+        h.2.arrays h.2.has;
+    gets = w.out_takes.0;
+  }
+  by (answers.Trapped trap line) h w = record {
+    trap = trap;
+    line = line;
+    runs = record { tree = h.0; program = h.1; has = h.2 };
+    meant = run_traps law (text_of options) h.0 h.1 (run_options_of options) options.processors o.told_before o.told_now (items_of options)
+        trap line h.2;
+    gets = w.out_takes.0;
+  }
+  by (answers.OutOfTurns c) h w = record {
+    processor = c;
+    runs = record { tree = h.0; program = h.1; has = h.2 };
+    needs = run_needs_turns law (text_of options) h.0 h.1 (run_options_of options) options.processors o.told_before o.told_now
+        (items_of options) refl c h.2
+        (spent_has (run_options_of options) options.processors o.told_before o.told_now (items_of options) h.0 c h.2).1;
+    gets = w.err_takes.0;
+  }
+  by (answers.OutOfRoom place) h w = record {
+    place = place;
+    runs = record { tree = h.0; program = h.1; has = h.2 };
+    needs = run_needs law (text_of options) h.0 h.1 (run_options_of options) options.processors o.told_before o.told_now (items_of options)
+        place h.2;
+    gets = w.err_takes.0;
+  }
+  by (answers.Broken place) h w =
+      absurd (run_unbroken law (text_of options) h.0 h.1 (run_options_of options) options.processors o.told_before o.told_now (items_of options)
+      refl (example_are_run options are) place h.2)
+  by (answers.Ended arrays) h w = absurd h.2
+  by a h w = absurd (kind options o.told_before o.told_now h.0 a h.2)
+
+  -- all rows
+  pub example_says : (status : Status) → Answers (ExampleMay options o.told_before o.told_now) (RunTells options.processors) o status
+      → ExampleSays options o status
+  example_says status a = go (own_or_fault o.out o.err a.answer status a.delivered)
+    where
+      go : (status ≡ statuses.WriteFault) ⊎ IsWritten o.out o.err a.answer status → ExampleSays options o status
+      go (inl e) = subst (ExampleSays options o) (sym e) (write_failed o.out o.err a.answer status a.delivered e)
+      go (inr w) =
+          subst (ExampleSays options o) (sym w.own) (by a.answer a.cause (subst (IsWritten o.out o.err a.answer) w.own w))
+
+-- what was delivered is the answer, or want of memory in its place
+pub example_delivered : (options : SelfOptions) (o : Outside) (a : Answer) (status : Status) → RunTells options.processors a o.told_before o.told_now
+    → RunTells options.processors answers.NoMemory o.told_before o.told_now → ExampleMay options o.told_before o.told_now a
+    → Delivers o.out o.err a status ⊎ ((¬ IsFixed a) × Delivers o.out o.err answers.NoMemory status)
+    → Answers (ExampleMay options o.told_before o.told_now) (RunTells options.processors) o status
+example_delivered options o a status told kept may (inl d) = record { answer = a; cause = may; delivered = d; told = told }
+example_delivered options o a status told kept may (inr d) =
+    record { answer = answers.NoMemory; cause = tt; delivered = d.1; told = kept }
+
+-- the example is no reading command, and its plan and words are never refused
+module _ (options : SelfOptions) (before now : ToldLists) where
+  pub no_read_fault : ExampleMay options before now answers.ReadFault → ⊥
+  no_read_fault h = kind options before now h.0 answers.ReadFault h.2
+
+  pub no_words_refused : ExampleMay options before now answers.WordsRefused → ⊥
+  no_words_refused h = kind options before now h.0 answers.WordsRefused h.2
+
+  pub no_plan_refused : (number : ℕ) → ExampleMay options before now (answers.PlanRefused number) → ⊥
+  no_plan_refused number h = kind options before now h.0 (answers.PlanRefused number) h.2

@@ -1,0 +1,28 @@
+use Rattle.std.proofs.Common.{map, subst}
+use Rattle.ppm_cli.specs.declared.run.RunOptions.{RunOptions}
+use Rattle.ppm_tree.specs.Tree.{tree_of}
+use Rattle.ppm_driver.specs.Runs.{ProgramHas}
+use Rattle.ppm_driver.specs.Watchers.{OthersKeep}
+use Rattle.ppm_driver.proofs.example.summed.Goals as goal
+
+-- sums come in place of the arrays of the run
+pub returns-clause-has : goal.returns-clause-has
+returns-clause-has g c =
+    let before = map g.W.Watch.told c.args.watch.now.items in
+    let now = map g.W.Watch.told c.ran.new.watch.items in
+    c.with_sums.ensures before now c.args.plan.now c.requires.plan
+    (subst (λ (r : RunOptions). ProgramHas r r.processors before now c.args.plan.now.items (tree_of c.args.program.now) c.in_ok-answer.answer)
+    c.run_options.ensures.value c.in_ok-answer.ensures.has)
+
+-- the watchers of no processor are told nothing
+pub returns-clause-others : goal.returns-clause-others
+returns-clause-others g c =
+    let before = map g.W.Watch.told c.args.watch.now.items in
+    let now = map g.W.Watch.told c.ran.new.watch.items in
+    subst (λ (r : RunOptions). OthersKeep r.processors before now) c.run_options.ensures.value c.in_ok-answer.ensures.others
+
+pub returns-in_err-answer-clause-others : goal.returns-in_err-answer-clause-others
+returns-in_err-answer-clause-others g c =
+    let before = map g.W.Watch.told c.args.watch.now.items in
+    let now = map g.W.Watch.told c.ran.new.watch.items in
+    subst (λ (r : RunOptions). OthersKeep r.processors before now) c.run_options.ensures.value c.in_err-answer.ensures.others
