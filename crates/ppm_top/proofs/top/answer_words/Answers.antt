@@ -48,6 +48,7 @@ pub returns-in-Ok-Some-Stop-clause-answers : goal.returns-in-Ok-Some-Stop-clause
 returns-in-Ok-Some-Stop-clause-answers g c = by_ports (map string_bytes c.args.words.now) _ _ (Some (commands.Stop _ _))
     (cc (c.in-Ok-Some-Stop.ensures.value, c.in-Ok-Some-Stop.field-0-is, c.in-Ok-Some-Stop.field-0-0-is)) refl refl
     c.stop_command.ensures.delivers
+
 -- the words ask for the program's own example, which was run, and nothing was read
 pub returns-in-Ok-Some-Example-clause-answers : goal.returns-in-Ok-Some-Example-clause-answers
 returns-in-Ok-Some-Example-clause-answers g c = by_command (map string_bytes c.args.words.now) _ _ (Some (commands.Example _))
