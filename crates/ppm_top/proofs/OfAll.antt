@@ -31,7 +31,6 @@ use Rattle.ppm_loading.specs.MachineRows.{RefusesPlan}
 use Rattle.ppm_driver.specs.Meant.{RunsAreAsPrograms}
 use Rattle.ppm_driver.specs.Replays.{TextHas as ReplayTextHas, HaveOneAnswer as ReplaysHaveOneAnswer}
 use Rattle.ppm_driver.specs.Runs.{TextHas as RunTextHas, AnswersAreOne, FrontsDecideAnswers}
-use Rattle.ppm_driver.specs.Examples.{ExampleMay}
 use Rattle.ppm_driver.proofs.OfExample as of_example
 use Rattle.ppm_driver.proofs.OfReplay as of_replay
 use Rattle.ppm_driver.proofs.OfRun as of_run
