@@ -1,5 +1,5 @@
 -- The answers that the example of `self` has.
-use Rattle.std.proofs.Common.{◌≡◌, ◌⊎◌, ◌+◌, ◌*◌, ◌^◌, ◌≤◌, ℕ, List, refl, sym, subst, arith, lit≤}
+use Rattle.std.proofs.Common.{◌≡◌, ◌+◌, ◌*◌, ◌^◌, ◌≤◌, List, refl, sym, subst, arith, lit≤}
 use Rattle.ppm_ports.specs.Outside.{ToldLists}
 use Rattle.ppm_words.specs.declared.named_array.NamedArray.{NamedArray}
 use Rattle.ppm_tree.specs.Tree.{ProgramTree}
@@ -16,14 +16,13 @@ use Rattle.ppm_depth.specs.Run.{IsDepthRun}
 use Rattle.ppm_depth.specs.declared.depth.DepthRun.{DepthRun}
 use Rattle.ppm_answers.specs.declared.answer.Answer.{Answer}
 use Rattle.ppm_answers.specs.declared.answer.Answer.TheVariants as answers
-use Rattle.ppm_answers.specs.declared.sums.Sums.{Sums}
 use Rattle.ppm_answers.specs.Reading.{TextMay}
 use Rattle.ppm_cli.specs.declared.example.SelfOptions.{SelfOptions}
 use Rattle.ppm_cli.specs.Words.{AreRun, AreSelf}
 use Rattle.ppm_program.specs.Programs.{HasProgram}
 use Rattle.ppm_plan.specs.declared.plan_item.PlanItem.{PlanItem}
 use Rattle.ppm_loading.specs.Programs.{ProgramMay, RefusedHas}
-use Rattle.ppm_driver.specs.Examples.{AreForks, ExampleMay, HasRun, ProgramSums, SumsUp, items_of, run_options_of, text_of}
+use Rattle.ppm_driver.specs.Examples.{AreForks, ExampleMay, HasRun, ProgramSums, items_of, run_options_of, text_of}
 use Rattle.ppm_driver.specs.Runs.{ProgramHas, RunTells}
 use Rattle.ppm_driver.specs.Watchers.{OthersKeep}
 use Rattle.ppm_driver.proofs.RunLemmas.{IsOfProgram, of_program}

@@ -192,13 +192,8 @@ fn with_sums(
     match answer {
         Answer::Ended(arrays) => {
             let forks = forks_of(alloc, program)?;
-            let (sum, last) = ends_of(arrays.as_slice());
-            Ok(Answer::Summed(Sums {
-                size: options.size,
-                forks,
-                sum,
-                last,
-            }))
+            let sums = sums_of(options.size, forks, arrays.as_slice());
+            Ok(Answer::Summed(sums))
         }
         _ => Ok(answer),
     }
@@ -221,19 +216,31 @@ fn forks_of(alloc: Global, program: &Admitted) -> Result<u64, NoMemory>
     Ok(run.forks)
 }
 
-/// The first and the last value of the first array.
-fn ends_of(arrays: &[NamedArray]) -> (i64, i64)
-    ensures first { result.0 ≡ first_value arrays.now }
-    ensures last { result.1 ≡ last_value arrays.now }
+/// The sums of these arrays, of which the first one is summed.
+fn sums_of(size: u32, forks: u64, arrays: &[NamedArray]) -> Sums
+    ensures size { result.size ≡ size }
+    ensures forks { result.forks ≡ forks }
+    ensures sum { result.sum ≡ first_value arrays.now }
+    ensures last { result.last ≡ last_value arrays.now }
 {
     match arrays {
         [array, ..] => {
             let values = array.values.as_slice();
-            let first = values.first().copied().unwrap_or(0);
+            let sum = values.first().copied().unwrap_or(0);
             let last = values.last().copied().unwrap_or(0);
-            (first, last)
+            Sums {
+                size,
+                forks,
+                sum,
+                last,
+            }
         }
-        [] => (0, 0),
+        [] => Sums {
+            size,
+            forks,
+            sum: 0,
+            last: 0,
+        },
     }
 }
 

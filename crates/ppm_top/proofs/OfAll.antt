@@ -39,7 +39,6 @@ use Rattle.ppm_driver.specs.ResumeRows.{RefusesPlan as RefusesResumed}
 use Rattle.ppm_driver.specs.Runs.{TextHas as RunTextHas, AnswersAreOne, FrontsDecideAnswers}
 use Rattle.ppm_stop.specs.Stops.{TextHas as StopTextHas, HaveOneAnswer as StopsHaveOneAnswer}
 use Rattle.ppm_stop.proofs.OfStop as of_stop
-use Rattle.ppm_driver.specs.Examples.{ExampleMay}
 use Rattle.ppm_driver.proofs.OfExample as of_example
 use Rattle.ppm_driver.proofs.OfReplay as of_replay
 use Rattle.ppm_driver.proofs.OfResume as of_resume
