@@ -113,7 +113,7 @@ fn fault(alloc: Global, text: &[u8]) -> Result<(u32, u32), Fail> {
             if again.as_slice() == text {
                 Ok((0, 0))
             } else {
-                Err("another text is written".into())
+                Err(Fail::from("another text is written"))
             }
         }
         Err(error) => Ok((error.number(), error.line())),
