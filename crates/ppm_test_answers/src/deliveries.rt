@@ -187,6 +187,22 @@ fn answers_have_texts_and_statuses(rt: HostRuntime) -> Result<(), Fail> {
             11,
         ),
         (Answer::Accepted, "ok\n", "", 0),
+    ];
+    for (answer, out, err, status) in cases {
+        for most in [1, 64] {
+            let got = delivered(alloc, &answer, most, &[], &[])?;
+            assert_eq!(rt; got.out.as_slice(), out.as_bytes());
+            assert_eq!(rt; got.err.as_slice(), err.as_bytes());
+            assert_eq!(rt; got.status.number(), status);
+        }
+    }
+    Ok(())
+}
+
+#[test]
+fn refusals_have_texts_and_statuses(rt: HostRuntime) -> Result<(), Fail> {
+    let alloc = rt.alloc();
+    let cases = [
         (
             conflicting(Class::Cur(3)),
             "",

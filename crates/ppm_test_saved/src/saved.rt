@@ -90,9 +90,9 @@ const CHANGES: [(usize, &'static str, u32, u32); 42] = [
 /// The text with another line in place of one.
 fn changed(alloc: Global, at: usize, with: &str) -> Result<Vec<u8>, Fail> {
     let mut text = Vec::new(alloc);
-    let mut number = 0;
+    let mut number: usize = 0;
     for line in LINES {
-        number += 1;
+        number = number.wrapping_add(1);
         let bytes = if number == at {
             with.as_bytes()
         } else {
