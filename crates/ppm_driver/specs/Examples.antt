@@ -1,7 +1,5 @@
 -- What `self` answers: the answer of a run of its own example, with sums in place of arrays.
-use Rattle.std.specs.Prelude.{◌≡◌, ℕ, ◌-◌, ◌^◌, ℤ, List, [], ◌∷◌, length}
-use Rattle.core.specs.Option.{unwrap_or}
-use Rattle.core.specs.List.{slice_get}
+use Rattle.std.specs.Prelude.{◌≡◌, ℕ, ◌-◌, ◌^◌, ℤ, List, [], ◌∷◌, length, slice_get, unwrap_or}
 use Rattle.ppm_words.specs.Limits.{turn_limit}
 use Rattle.ppm_words.specs.TwosComplement.{value_of}
 use Rattle.ppm_words.specs.declared.idle.Idle.TheVariants.{Leave}
