@@ -1,5 +1,5 @@
 //! Trials of the threads: what their watchers are told, that threads meet, that processors park, and
-//! that a refusal ends a run.
+//! that a refusal ends a run; and of processors of a table whose turns no plan says.
 //! Model: none; all of it is tests, by what one processor does alone and by rules of obedience.
 //! Contract: none.
 //! Stands on `ppm_threads`, `ppm_table` and `ppm_core`, and on `ppm_listing_reader`, on which the
@@ -16,5 +16,7 @@ mod refusals;
 mod runs;
 #[cfg(test)]
 mod tables;
+#[cfg(test)]
+mod turns;
 
 pub use obeying::obeys;

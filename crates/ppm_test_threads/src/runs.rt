@@ -3,7 +3,10 @@ ghost use Rattle.std.specs.Prelude.{◌↔◌, IsTrue};
 ghost use Rattle.ppm_core.specs.Acts.{IsActAmong};
 
 use crate::obeying::obeys;
-use crate::tables::{WIDE, fork_code, fork_machine, fork_shape, is_right, plan_of, recorders, run};
+use crate::tables::{
+    LOOP, WIDE, fork_code, fork_machine, fork_shape, is_right, plan_of, recorders, run, run_listing,
+};
+use ppm_cells::{Ending, Finish};
 use ppm_choice::{Idle, Limits, Pace, is_over, next_act};
 use ppm_core::Machine;
 use ppm_plan::{Plan, Victims};
@@ -220,5 +223,29 @@ fn two_of_three_leave(rt: HostRuntime) -> Result<(), Fail> {
         let other = watch.get(number).ok_or("another")?;
         assert_eq!(&rt; other.events().len(), 2, "processor {number}");
     }
+    Ok(())
+}
+
+/// How many of these events say that a processor parks.
+fn parkings(watch: &[Recorder], number: usize) -> Option<usize> {
+    let told = watch.get(number)?;
+    Some(told.events().iter().filter(|e| e.step == 7).count())
+}
+
+#[test]
+fn one_parks_until_turns_are_spent(rt: HostRuntime) -> Result<(), Fail> {
+    let alloc = rt.alloc();
+    let limits = Limits {
+        turns: 10_000,
+        ..SHORT
+    };
+    let mut watch = recorders(alloc, 2)?;
+    let closed = run_listing(&rt, alloc, LOOP, "none", limits, 2, &mut watch)?.ok_or("refused")?;
+    assert!(&rt; closed.outcome() == Ending::With(Finish::OutOfTurns { processor: 0 }));
+    assert_eq!(&rt; parkings(&watch, 0), Some(0));
+    assert_eq!(&rt; parkings(&watch, 1), Some(1));
+    // It wakes to one act, which finds the finish word set.
+    let other = watch.get(1).ok_or("another")?;
+    assert_eq!(&rt; other.events().len(), 4);
     Ok(())
 }

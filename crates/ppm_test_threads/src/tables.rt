@@ -1,4 +1,4 @@
-//! What the trials run: a listing that forks, over an array of three words.
+//! What the trials run: listings, over an array of four words.
 ghost use Rattle.std.specs.Prelude.{◌≡◌, ◌<◌, ◌↔◌, IfOk, IsTrue, length};
 ghost use Rattle.std.specs.List.{All};
 ghost use Rattle.ppm_words.specs.Inputs.{value_count};
@@ -27,6 +27,23 @@ capsule 0 proc 0\nroom 21\nloadslot r0 0\nconst r1 1\nconst r2 2\ncutl r3 r0 r1 
 storenew 11 r3\nstorenew 12 r1\nstorenew 19 r4\nstorenew 20 r2\nfork 1 1 1\ncapsule 1 proc 0\nend\n\
 capsule 2 proc 1\nloadslot r0 0\nconst r1 0\nloadslot r2 1\nput r0 r1 r2 1\nend\n";
 
+/// The words of the array with which it begins.
+const FORKED: [i64; 4] = [0, 0, 7, 4];
+
+/// Adds up its array in a tree of forks: the first word of each part becomes its sum.
+pub(crate) const SUM: &str = "ppm 1\nroot 0 0\nproc 0 slots 1 entry 0\nproc 1 slots 5 entry 2\n\
+capsule 0 proc 0\nroom 11\nloadslot r0 0\nstorenew 6 r0\ncall 1 1\ncapsule 1 proc 0\nend\n\
+capsule 2 proc 1\nloadslot r0 0\nlen r1 r0\nconst r2 1\nlt r3 r2 r1\nbranchz r3 6\nnext 3\nend\n\
+capsule 3 proc 1\nloadslot r0 0\nlen r1 r0\nconst r2 2\ndiv r1 r1 r2 1\ncutl r3 r0 r1 1\ncutr r4 r0 r1 1\n\
+storecur 1 r3\nstorecur 2 r4\nnext 4\n\
+capsule 4 proc 1\nroom 27\nloadslot r0 1\nloadslot r1 2\nstorenew 11 r0\nstorenew 22 r1\nfork 1 1 5\n\
+capsule 5 proc 1\nloadslot r0 1\nloadslot r1 2\nconst r2 0\nget r3 r0 r2 1\nget r4 r1 r2 1\nadd r3 r3 r4 1\n\
+storecur 3 r3\nnext 6\n\
+capsule 6 proc 1\nloadslot r0 1\nconst r1 0\nloadslot r2 3\nput r0 r1 r2 1\nend\n";
+
+/// Goes round for ever.
+pub(crate) const LOOP: &str = "ppm 1\nroot 0\nproc 0 slots 0 entry 0\ncapsule 0 proc 0\nnext 0\n";
+
 /// Limits that no run here meets.
 pub(crate) const WIDE: Limits = Limits {
     turns: 1_000_000,
@@ -46,58 +63,70 @@ fn names_first(code: &Code) -> bool
         .all(|array| *array < 1)
 }
 
-/// The code of the listing, if its root names the first array alone.
-pub(crate) fn fork_code(alloc: Global) -> Result<Code, Fail>
+/// The code of a listing, if its root names the first array alone.
+fn code_of(alloc: Global, listing: &str) -> Result<Code, Fail>
     ensures { IfOk result (λ code. All (λ array. array < 1) code.arrays) }
 {
-    let code = read_listing(alloc, FORK.as_bytes()).map_err(|_| "no listing")?;
+    let code = read_listing(alloc, listing.as_bytes()).map_err(|_| "no listing")?;
     if !names_first(&code) {
         return Err("another root")?;
     }
     Ok(code)
 }
 
-/// An array of three words.
-fn three_words(alloc: Global) -> Result<Input, Fail>
+/// The code of the listing that forks.
+pub(crate) fn fork_code(alloc: Global) -> Result<Code, Fail>
+    ensures { IfOk result (λ code. All (λ array. array < 1) code.arrays) }
+{
+    code_of(alloc, FORK)
+}
+
+/// An array of four words.
+fn four_words(alloc: Global, words: [i64; 4]) -> Result<Input, Fail>
     ensures one { IfOk result (λ input. length input ≡ 1) }
-    ensures three { IfOk result (λ input. value_count input ≡ 3) }
+    ensures four { IfOk result (λ input. value_count input ≡ 4) }
 {
     let array = NamedArray {
         name: Name::from_bytes(vec![in alloc; b'a']?),
-        values: Items::from_vec(vec![in alloc; 0i64, 0i64, 7i64]?),
+        values: Items::from_vec(vec![in alloc; words[0], words[1], words[2], words[3]]?),
     };
     Ok(Input::from_vec(vec![in alloc; array]?))
 }
 
-/// The sizes of a machine for the listing and its array.
+/// The sizes of a machine for the listings and their array.
 pub(crate) fn fork_shape(processors: u32) -> Result<Shape, Fail>
-    ensures { IfOk result (λ shape. shape.arrays ≡ 3) }
+    ensures { IfOk result (λ shape. shape.arrays ≡ 4) }
 {
-    Ok(Shape::new(processors, 64, 4, 3).ok_or("within the limits")?)
+    Ok(Shape::new(processors, 128, 4, 4).ok_or("within the limits")?)
 }
 
-/// Its image.
-fn fork_image(alloc: Global, code: &Code, processors: u32) -> Result<Image, Fail>
+/// The image of a code over these words.
+fn image_of(alloc: Global, code: &Code, words: [i64; 4], processors: u32) -> Result<Image, Fail>
     requires { All (λ array. array < 1) code.now.arrays }
 {
-    let input = three_words(alloc)?;
+    let input = four_words(alloc, words)?;
     let shape = fork_shape(processors)?;
     Ok(image(alloc, code, &input, shape, 0).map_err(|_| "memory")?)
 }
 
-/// A machine of one processor for it.
+/// A machine of one processor for the listing that forks.
 pub(crate) fn fork_machine(alloc: Global) -> Result<Machine, Fail> {
     let code = fork_code(alloc)?;
-    let made = fork_image(alloc, &code, 1)?;
+    let made = image_of(alloc, &code, FORKED, 1)?;
     Ok(Machine::load(alloc, made, code).map_err(|_| "memory")?)
 }
 
-/// A table for it, with its processors.
-fn fork_table(alloc: Global, processors: u32) -> Result<(Shared, Vec<Processor>), Fail>
+/// A table for a listing over these words, with its processors.
+pub(crate) fn table_of(
+    alloc: Global,
+    listing: &str,
+    words: [i64; 4],
+    processors: u32,
+) -> Result<(Shared, Vec<Processor>), Fail>
     ensures { IfOk result (λ made. AreNewOf made.0 made.1.items) }
 {
-    let code = fork_code(alloc)?;
-    let made = fork_image(alloc, &code, processors)?;
+    let code = code_of(alloc, listing)?;
+    let made = image_of(alloc, &code, words, processors)?;
     match Shared::load(alloc, made, code) {
         Ok(loaded) => Ok(loaded),
         Err(_) => Err(Fail::from("memory")),
@@ -112,7 +141,7 @@ pub(crate) fn plan_of(alloc: Global, faults: &str, processors: u32) -> Result<Pl
     Ok(read_plan(alloc, faults.as_bytes(), processors).map_err(|_| "no plan")?)
 }
 
-/// The listing on so many threads; `None` where memory was refused, or by a watcher.
+/// The listing that forks on so many threads; `None` where memory was refused, or by a watcher.
 pub(crate) fn run<W: Watch, R: Threads + Wait + Sync>(
     rt: &R,
     alloc: Global,
@@ -121,8 +150,21 @@ pub(crate) fn run<W: Watch, R: Threads + Wait + Sync>(
     processors: u32,
     watch: &mut Vec<W>,
 ) -> Result<Option<Closed>, Fail> {
+    run_listing(rt, alloc, FORK, faults, limits, processors, watch)
+}
+
+/// The same of any listing.
+pub(crate) fn run_listing<W: Watch, R: Threads + Wait + Sync>(
+    rt: &R,
+    alloc: Global,
+    listing: &str,
+    faults: &str,
+    limits: Limits,
+    processors: u32,
+    watch: &mut Vec<W>,
+) -> Result<Option<Closed>, Fail> {
     let plan = plan_of(alloc, faults, processors)?;
-    let (shared, all) = fork_table(alloc, processors)?;
+    let (shared, all) = table_of(alloc, listing, FORKED, processors)?;
     if plan.processors() != shared.shape.processors || all.len() > watch.len() {
         return Err(Fail::from("as many processors, and a watcher for each"));
     }
@@ -132,13 +174,13 @@ pub(crate) fn run<W: Watch, R: Threads + Wait + Sync>(
     }
 }
 
-/// Whether a run has come to 1, 2 and 7.
+/// Whether a run of the listing that forks has come to 1, 2, 7 and 4.
 pub(crate) fn is_right(alloc: Global, closed: &Closed) -> Result<bool, Fail> {
     if closed.outcome() != Ending::With(Finish::Ended) || closed.arrays() != 1 {
         return Ok(false);
     }
     let array = closed.array(alloc, 0).map_err(|_| "memory")?;
-    Ok(array.as_slice() == [1, 2, 7].as_slice())
+    Ok(array.as_slice() == [1, 2, 7, 4].as_slice())
 }
 
 /// So many watchers that keep what they are told.
