@@ -128,17 +128,6 @@ fn answers_have_texts_and_statuses(rt: HostRuntime) -> Result<(), Fail> {
             "",
             1,
         ),
-        (
-            Answer::Summed(Sums {
-                size: 4,
-                forks: 3,
-                sum: -214,
-                last: 100,
-            }),
-            "size 4 forks 3 sum -214 last 100\n",
-            "",
-            0,
-        ),
         (Answer::Unfinished(1), "", "unfinished after 1 turns\n", 4),
         (Answer::PlanRefused(4), "", "plan refused: 4\n", 3),
         (Answer::Broken(64), "", "saved words broken: place 64\n", 13),
@@ -175,12 +164,6 @@ fn answers_have_texts_and_statuses(rt: HostRuntime) -> Result<(), Fail> {
             0,
         ),
         (
-            Answer::Saved(Items::from_vec(b"saved 1\n".to_vec(alloc)?)),
-            "saved 1\n",
-            "",
-            0,
-        ),
-        (
             Answer::NotWithin(268_435_456),
             "",
             "not within 268435456 turns\n",
@@ -200,9 +183,26 @@ fn answers_have_texts_and_statuses(rt: HostRuntime) -> Result<(), Fail> {
 }
 
 #[test]
-fn refusals_have_texts_and_statuses(rt: HostRuntime) -> Result<(), Fail> {
+fn states_and_refusals_have_texts_and_statuses(rt: HostRuntime) -> Result<(), Fail> {
     let alloc = rt.alloc();
     let cases = [
+        (
+            Answer::Saved(Items::from_vec(b"saved 1\n".to_vec(alloc)?)),
+            "saved 1\n",
+            "",
+            0,
+        ),
+        (
+            Answer::Summed(Sums {
+                size: 4,
+                forks: 3,
+                sum: -214,
+                last: 100,
+            }),
+            "size 4 forks 3 sum -214 last 100\n",
+            "",
+            0,
+        ),
         (
             conflicting(Class::Cur(3)),
             "",

@@ -151,7 +151,7 @@ fn texts_that_are_cut_short_have_theirs(rt: HostRuntime) -> Result<(), Fail> {
             assert_eq!(rt; found, (number, line), "{len} bytes");
         }
     }
-    let last = fault(alloc, &whole[..whole.len() - 1])?;
+    let last = fault(alloc, &whole[..whole.len().saturating_sub(1)])?;
     assert_eq!(rt; last, (5, 14));
     Ok(())
 }
