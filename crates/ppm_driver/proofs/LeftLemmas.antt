@@ -14,10 +14,22 @@ use Rattle.ppm_resumed.specs.Resumed.{TagsMayRise}
 use Rattle.ppm_core.specs.Situation.{Situation, loaded}
 use Rattle.ppm_loading.specs.declared.loading.Sizes.{Sizes}
 use Rattle.ppm_loading.specs.Loading.{Opens}
+use Rattle.ppm_plan.specs.declared.schedule_item.ScheduleItem.{ScheduleItem}
+use Rattle.ppm_plan.specs.Forms.{schedule_form}
+use Rattle.ppm_plan.specs.Refusals.{IsAccepted}
+use Rattle.ppm_choice.specs.Schedules.{schedule_turns}
+use Rattle.ppm_answers.specs.declared.answer.Answer.{Answer}
+use Rattle.ppm_answers.specs.declared.answer.Answer.TheVariants as answers
+use Rattle.ppm_cli.specs.declared.stop.StopOptions.{StopOptions}
+use Rattle.ppm_cli.specs.Words.{AreStopped}
+use Rattle.ppm_following.proofs.ScheduledLemmas.{scheduled_among}
+use Rattle.ppm_loading.proofs.LoadingLemmas.{opens_processors}
+use Rattle.ppm_saved.specs.Text.{saved_text}
+use Rattle.ppm_stop.specs.Stops.{sizes_of, ProgramHas as StoppedHas}
 use Rattle.ppm_driver.specs.RunOf.{words_behind}
-use Rattle.ppm_driver.specs.Resumes.{state_behind, IsLeftBy, RunsLeaveStates}
+use Rattle.ppm_driver.specs.Resumes.{SavedState, state_behind, IsLeftBy, RunsLeaveStates, StopsLeaveStates}
 use Rattle.ppm_driver.proofs.MeantLemmas.{Laws, calm, fair, opened}
-use Rattle.ppm_driver.proofs.WorkLemmas.{works_are}
+use Rattle.ppm_driver.proofs.WorkLemmas.{works_are, scheduled_work}
 
 module _ (laws : Laws) (low : TagsStayLow) (text : List ℕ) (t : ProgramTree) (has : HasProgram text t) (sizes : Sizes) (places : sizes.takeover ≡ ByPlaces)
     (keeper : ℕ) (m : Situation) (b : Opens sizes (code_of t) (initial_arrays t) keeper m) (turns : List Turn) where
@@ -60,3 +72,26 @@ module _ (laws : Laws) (low : TagsStayLow) (text : List ℕ) (t : ProgramTree) (
 -- so it is with each text's program
 pub runs_leave_states : Laws → TagsStayLow → RunsLeaveStates
 runs_leave_states laws low text t has sizes places keeper m b turns among few = left laws low text t has sizes places keeper m b turns among few
+
+-- and with what `stop` writes
+module _ (laws : Laws) (low : TagsStayLow) (options : StopOptions) (are : AreStopped options) (schedule : List ℕ) (items : List ScheduleItem)
+    (accepted : IsAccepted schedule_form schedule options.processors items) (text : List ℕ) (t : ProgramTree) (has : HasProgram text t) where
+  abbrev made : Situation → List Turn
+  made m = schedule_turns m.shape m.code m.state items options.after
+
+  stop_leaves : (answer : Answer) (h : StoppedHas options items t answer)
+      → (z : SavedState) × (answer ≡ answers.Saved (saved_text z.shape z.arrays z.code z.words)) × IsLeftBy text z
+  stop_leaves answer h =
+      let least = h.start.shape.within.processors_least in
+      let count = opens_processors (sizes_of options) (code_of t) (initial_arrays t) h.keeper h.start h.opens in
+      let among = scheduled_among h.start.shape h.start.code (omega (arith, least)) schedule options.processors items count accepted h.start.state options.after in
+      let work = scheduled_work h.start.shape h.start.code h.start.state items options.after in
+      let most = are.1.1 in (
+        state_behind h.start (initial_arrays t) (made h.start),
+        h.saves,
+        left laws low text t has (sizes_of options) refl h.keeper h.start h.opens (made h.start) among (omega (arith, work, most)),
+      )
+
+pub stops_leave_states : Laws → TagsStayLow → StopsLeaveStates
+stops_leave_states laws low options are schedule items accepted text t has answer h =
+    stop_leaves laws low options are schedule items accepted text t has answer h

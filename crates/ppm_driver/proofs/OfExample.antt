@@ -17,7 +17,7 @@ use Rattle.ppm_driver.specs.ExampleRows.{ExampleSays}
 use Rattle.ppm_driver.specs.Meant.{RunsAreAsPrograms}
 use Rattle.ppm_driver.specs.Runs.{RunTells}
 use Rattle.ppm_driver.proofs.ExampleLemmas.{example_are_run, kind}
-use Rattle.ppm_driver.proofs.MeantRows.{run_ends, run_traps, run_needs, run_needs_turns, run_unbroken}
+use Rattle.ppm_driver.proofs.MeantRows.{run_ends, run_traps, run_needs, run_needs_turns, run_once, run_unbroken}
 use Rattle.ppm_driver.proofs.RunLemmas.{spent_has}
 
 module _ (law : RunsAreAsPrograms) (options : SelfOptions) (are : AreSelf options) (o : Outside) where
@@ -48,6 +48,8 @@ module _ (law : RunsAreAsPrograms) (options : SelfOptions) (are : AreSelf option
     needs = run_needs_turns law (text_of options) h.0 h.1 (run_options_of options) options.processors o.told_before o.told_now
         (items_of options) refl c h.2
         (spent_has (run_options_of options) options.processors o.told_before o.told_now (items_of options) h.0 c h.2).1;
+    once = run_once law (text_of options) h.0 h.1 (run_options_of options) options.processors o.told_before o.told_now (items_of options)
+        (answers.OutOfTurns c) h.2;
     gets = w.err_takes.0;
   }
   by (answers.OutOfRoom place) h w = record {
@@ -55,6 +57,8 @@ module _ (law : RunsAreAsPrograms) (options : SelfOptions) (are : AreSelf option
     runs = record { tree = h.0; program = h.1; has = h.2 };
     needs = run_needs law (text_of options) h.0 h.1 (run_options_of options) options.processors o.told_before o.told_now (items_of options)
         place h.2;
+    once = run_once law (text_of options) h.0 h.1 (run_options_of options) options.processors o.told_before o.told_now (items_of options)
+        (answers.OutOfRoom place) h.2;
     gets = w.err_takes.0;
   }
   by (answers.Broken place) h w =

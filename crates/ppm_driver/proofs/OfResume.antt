@@ -41,10 +41,11 @@ use Rattle.ppm_loading.proofs.SayLemmas.{said_of_word}
 use Rattle.ppm_driver.specs.Legs.{words_at_last, finish_at_last, worked_in_all, struck_in_all, NoneIsTakenTwiceInAll, EndsAsProgramInAll, IsAsProgramInAll, RunsInLegsAreAsPrograms}
 use Rattle.ppm_driver.specs.Meant.{NeedsMoreRoom, NeedsMoreTurns}
 use Rattle.ppm_driver.specs.RunOf.{words_behind, finish_behind}
-use Rattle.ppm_driver.specs.Resumes.{SavedState, GoesOnFrom, named, names_of, ResumedHas, ResumeMay, IsLeftBy, legs_with}
+use Rattle.ppm_driver.specs.Resumes.{SavedState, GoesOnFrom, named, names_of, limits_of, plan_of, ResumedHas, ResumeMay, IsLeftBy, legs_with}
 use Rattle.ppm_driver.specs.ResumeRows.{Has, RefusesPlan, ResumeSays, ResumeRows}
 use Rattle.ppm_driver.proofs.MeantRows.{ended_run, trapped_run, full_run}
 use Rattle.ppm_driver.proofs.ResumeLemmas.{spent_has, filled_has, has_kind, fronts_decide, saved_or_none}
+use Rattle.ppm_driver.proofs.StrikeLemmas.{strikes_are_planned}
 use Rattle.ppm_driver.proofs.WorkLemmas.{of_all}
 
 -- arrays are read off by their names
@@ -212,6 +213,8 @@ module _ (law : RunsInLegsAreAsPrograms) (comes : RenewedWordsComeBack) (options
         read = h;
         spent = spent;
         needs = resumed_needs_turns law comes options o.told_before o.told_now h.2.has.items h.2.state processor h.2.has.has spent.1;
+        struck = strikes_are_planned (plan_of h.2.state h.2.has.items) (limits_of options) h.2.has.has.start h.2.has.has.run.turns
+            h.2.has.has.run.obey;
         once = resumed_once law comes options o.told_before o.told_now h.2.has.items h.2.state (answers.OutOfTurns processor) h.2.has.has;
         gets = w.err_takes.0;
       }
@@ -227,10 +230,14 @@ module _ (law : RunsInLegsAreAsPrograms) (comes : RenewedWordsComeBack) (options
   by answer h w = absurd (has_kind options o.told_before o.told_now h.2.has.items h.2.state answer h.2.has.has)
 
   pub resume_rows : (status : Status) → DeliversAnswer (ResumeMay options plan o.told_before o.told_now o.source) (ports_of o) status → ResumeRows options plan o status
-  resume_rows status d =
-      text_rows text_limit (Has options plan o) (fronts_decide options plan o.told_before o.told_now) (ResumeSays options plan o) (ports_of o) status d of_ports by
+  resume_rows status d = record {
+    rows =
+        text_rows text_limit (Has options plan o) (fronts_decide options plan o.told_before o.told_now) (ResumeSays options plan o) (ports_of o) status d of_ports by;
+    meant = λ items z answer h source left.
+        is_program law comes source z left h.start h.goes_on h.run.turns (among law comes options o.told_before o.told_now items z answer h);
+  }
 
   -- 3 comes of a plan alone
   pub plan_refused : (status : Status) → DeliversAnswer (ResumeMay options plan o.told_before o.told_now o.source) (ports_of o) status
       → status ≡ statuses.WordsRefused → RefusesPlan options plan o
-  plan_refused status d e = subst (ResumeSays options plan o) e (resume_rows status d).says
+  plan_refused status d e = subst (ResumeSays options plan o) e (resume_rows status d).rows.says

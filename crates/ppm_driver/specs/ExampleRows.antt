@@ -16,7 +16,7 @@ use Rattle.ppm_answers.specs.declared.sums.Sums.{Sums}
 use Rattle.ppm_answers.specs.Texts.{refusal_text, room_text, sums_text, trap_text, turns_text}
 use Rattle.ppm_cli.specs.declared.example.SelfOptions.{SelfOptions}
 use Rattle.ppm_driver.specs.Examples.{HasRun, SumsUp, run_options_of, text_of}
-use Rattle.ppm_driver.specs.Meant.{EndsAsProgram, NeedsMoreRoom, NeedsMoreTurns, struck_in}
+use Rattle.ppm_driver.specs.Meant.{EndsAsProgram, NeedsMoreRoom, NeedsMoreTurns, NoneIsTakenTwice, struck_in}
 
 module _ (options : SelfOptions) (o : Outside) where
   -- the run of the example's program has this answer
@@ -48,18 +48,20 @@ module _ (options : SelfOptions) (o : Outside) where
     pub refused : IsRefusal (text_of options) refusal
     pub gets : Gets o.err (refusal_text refusal)
 
-  -- a processor spent its turns, which are too few, and err got exactly the line that says so
+  -- a processor spent its turns, which are too few, and no branch was taken twice; err got exactly the line that says so
   pub record WritesOutOfTurns : Type 0 where
     pub processor : ℕ
     pub runs : Runs (answers.OutOfTurns processor)
     pub needs : NeedsMoreTurns runs.tree (struck_in runs.has.start runs.has.run.turns) (run_options_of options).turns
+    pub once : NoneIsTakenTwice runs.has.start runs.has.run.turns
     pub gets : Gets o.err (turns_text processor)
 
-  -- a pool is full, and the program needs more of it; err got exactly the line that says so
+  -- a pool is full, and the program needs more of it, and no branch was taken twice; err got exactly the line that says so
   pub record WritesOutOfRoom : Type 0 where
     pub place : ℕ
     pub runs : Runs (answers.OutOfRoom place)
     pub needs : NeedsMoreRoom runs.tree (run_options_of options).room
+    pub once : NoneIsTakenTwice runs.has.start runs.has.run.turns
     pub gets : Gets o.err (room_text place)
 
   -- what each status says; the others never come

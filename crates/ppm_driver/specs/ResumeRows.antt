@@ -1,6 +1,6 @@
 -- What follows from each status of `resume`. What is said of programs is said of each source whose program left the state: a run of it came to
 -- the saved words, whatever was stopped and resumed how often before.
-use Rattle.std.specs.Prelude.{◌≡◌, ◌⊎◌, ℕ, ◌<◌, List, Some}
+use Rattle.std.specs.Prelude.{◌≡◌, ◌⊎◌, ℕ, ◌<◌, ◌≤◌, List, Some}
 use Rattle.ppm_words.specs.declared.named_array.NamedArray.{NamedArray}
 use Rattle.ppm_words.specs.declared.outcome.Outcome.TheVariants as outcome
 use Rattle.ppm_words.specs.declared.trap.Trap.{Trap}
@@ -20,8 +20,9 @@ use Rattle.ppm_choice.specs.Deeds.{work_made}
 use Rattle.ppm_cli.specs.declared.resume.ResumeOptions.{ResumeOptions}
 use Rattle.ppm_saved_reader.specs.Rules.{text_limit}
 use Rattle.ppm_step.specs.Laws.{IsFilledBehind}
-use Rattle.ppm_driver.specs.Meant.{NeedsMoreRoom, NeedsMoreTurns}
-use Rattle.ppm_driver.specs.Legs.{struck_in_all, NoneIsTakenTwiceInAll, EndsAsProgramInAll}
+use Rattle.ppm_driver.specs.Meant.{NeedsMoreRoom, NeedsMoreTurns, struck_in}
+use Rattle.ppm_driver.specs.Strikes.{fault_count}
+use Rattle.ppm_driver.specs.Legs.{struck_in_all, NoneIsTakenTwiceInAll, EndsAsProgramInAll, IsAsProgramInAll}
 use Rattle.ppm_driver.specs.Resumes.{SavedState, saved_finish, ResumedHas, TextHas, IsLeftBy, legs_with}
 use Rattle.ppm_plan.specs.declared.plan_item.PlanItem.{PlanItem}
 
@@ -82,13 +83,15 @@ module _ (options : ResumeOptions) (plan : List ℕ) (o : Outside) where
   RefusesPlan = (number : ℕ) × HasRead (answers.PlanRefused number) × Gets o.err (plan_text number)
 
   -- A processor has made exactly as many work turns as it may make, in this run, and err got exactly the line that says so. So many are too
-  -- few for each program that left the state, and no branch of it was taken twice.
+  -- few for each program that left the state, and no branch of it was taken twice. No more faults of this run struck a row of work than the plan
+  -- has.
   pub record WritesOutOfTurns : Type 0 where
     pub processor : ℕ
     pub read : HasRead (answers.OutOfTurns processor)
     pub spent : let r = read.2.has.has in
         (processor < read.2.state.shape.processors) × (work_made r.start.shape r.start.code processor r.start.state r.run.turns ≡ options.turns)
     pub needs : AreTooFew read.2.has.has
+    pub struck : struck_in read.2.has.has.start read.2.has.has.run.turns ≤ fault_count read.2.has.items
     pub once : IsOnce read.2.has.has
     pub gets : Gets o.err (turns_text processor)
 
@@ -118,7 +121,14 @@ module _ (options : ResumeOptions) (plan : List ℕ) (o : Outside) where
   ResumeSays statuses.Broken = WritesBroken
   ResumeSays status = PortsSay (ports_of o) status
 
+  -- each run that an answer is of is, with the legs before, as each program that left its state; at each status: also where the answer's text
+  -- failed
+  abbrev pub AreAsPrograms : Type 0
+  AreAsPrograms = (items : List PlanItem) (z : SavedState) (answer : Answer) (h : Resumed items z answer) (source : List ℕ) (left : IsLeftBy source z)
+      → IsAsProgramInAll left.start (legs_with left h.start.state.words) h.run.turns left.tree
+
   -- The rows of `resume` with such options and such a plan: what each status says; and where all goes well, something is judged, and the
   -- answer that the text has is written.
-  abbrev pub ResumeRows : Status → Type 0
-  ResumeRows status = TextRows text_limit Has ResumeSays (ports_of o) status
+  pub record ResumeRows (status : Status) : Type 0 where
+    pub rows : TextRows text_limit Has ResumeSays (ports_of o) status
+    pub meant : AreAsPrograms

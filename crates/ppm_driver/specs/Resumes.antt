@@ -14,7 +14,8 @@ use Rattle.ppm_code.specs.declared.code.CodeParts.{CodeParts}
 use Rattle.ppm_core.specs.Situation.{Situation, loaded}
 use Rattle.ppm_choice.specs.declared.limits.Limits.{Limits}
 use Rattle.ppm_plan.specs.declared.plan_item.PlanItem.{PlanItem}
-use Rattle.ppm_plan.specs.Forms.{plan_form}
+use Rattle.ppm_plan.specs.Forms.{plan_form, schedule_form}
+use Rattle.ppm_plan.specs.declared.schedule_item.ScheduleItem.{ScheduleItem}
 use Rattle.ppm_plan.specs.Refusals.{IsAccepted}
 use Rattle.ppm_plan.specs.Schedules.{Planned}
 use Rattle.ppm_step.specs.Among.{IsTurnAmong}
@@ -27,6 +28,7 @@ use Rattle.ppm_program.specs.Programs.{HasProgram}
 use Rattle.ppm_cut_code.specs.Routines.{code_of}
 use Rattle.ppm_runs.specs.Legs.{Leg, AreLegs}
 use Rattle.ppm_saved.specs.Names.{lengths_of}
+use Rattle.ppm_saved.specs.Text.{saved_text}
 use Rattle.ppm_saved.specs.Renewal.{AreRenewed}
 use Rattle.ppm_saved.specs.declared.names.NamedLength.{NamedLength}
 use Rattle.ppm_saved.specs.declared.saved.Saved.{Saved}
@@ -41,6 +43,9 @@ use Rattle.ppm_answers.specs.declared.answer.Answer.TheVariants as answers
 use Rattle.ppm_answers.specs.declared.saved.SavedRefusal.{SavedRefusal}
 use Rattle.ppm_answers.specs.Reading.{JudgingMay, FrontsDecide, TellsOfRun}
 use Rattle.ppm_cli.specs.declared.resume.ResumeOptions.{ResumeOptions}
+use Rattle.ppm_cli.specs.declared.stop.StopOptions.{StopOptions}
+use Rattle.ppm_cli.specs.Words.{AreStopped}
+use Rattle.ppm_stop.specs.Stops.{ProgramHas as StoppedHas}
 use Rattle.ppm_loading.specs.Loading.{Opens}
 use Rattle.ppm_loading.specs.Planned.{IsRefusedBy}
 use Rattle.ppm_loading.specs.declared.loading.Sizes.{Sizes}
@@ -203,3 +208,11 @@ RunsLeaveStates = (text : List ℕ) (t : ProgramTree) → HasProgram text t → 
     → (keeper : ℕ) (m : Situation) → Opens sizes (code_of t) (initial_arrays t) keeper m
     → (turns : List Turn) → AllByRecursion (IsTurnAmong m.shape.processors) turns
     → length (along m.shape m.code work_of m.state turns) ≤ 2 ^ 34 → IsLeftBy text (state_behind m (initial_arrays t) turns)
+
+-- What `stop` writes of a text's program, by the items of a schedule that is accepted, with options in their ranges: the saved text of a state
+-- that is left by that text.
+abbrev pub StopsLeaveStates : Type 0
+StopsLeaveStates = (options : StopOptions) → AreStopped options
+    → (schedule : List ℕ) (items : List ScheduleItem) → IsAccepted schedule_form schedule options.processors items
+    → (text : List ℕ) (t : ProgramTree) → HasProgram text t → (answer : Answer) (h : StoppedHas options items t answer)
+    → (z : SavedState) × (answer ≡ answers.Saved (saved_text z.shape z.arrays z.code z.words)) × IsLeftBy text z

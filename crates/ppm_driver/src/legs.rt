@@ -1,6 +1,6 @@
 //! That runs in legs end as their programs do, shown by a call that does nothing.
 ghost use Rattle.ppm_driver.specs.Legs.{RunsInLegsAreAsPrograms};
-ghost use Rattle.ppm_driver.specs.Resumes.{RunsLeaveStates};
+ghost use Rattle.ppm_driver.specs.Resumes.{RunsLeaveStates, StopsLeaveStates};
 
 use ppm_cut_code::keeps_the_rules;
 use ppm_cut_correct::{end_as_meant, ends_serially, name_arrays, start_with_input};
@@ -45,6 +45,27 @@ pub fn runs_in_legs_are_as_programs()
 /// that text, so what the rows of `resume` say of it holds of the program.
 pub fn runs_leave_states()
     ensures law { RunsLeaveStates }
+{
+    // The law rests on these; the calls do nothing.
+    trees_are_within();
+    keeps_the_rules();
+    code_is_sound();
+    start_with_input();
+    name_arrays();
+    ends_serially();
+    end_as_meant();
+    images_begin_the_depth_first_run();
+    runs_end_so();
+    room_is_spent();
+    work_is_bounded();
+    nothing_breaks();
+    tags_stay_low();
+}
+
+/// What `stop` writes is the saved text of a state that is left by the text that it read: behind at
+/// most 268,435,456 acts.
+pub fn stops_leave_states()
+    ensures law { StopsLeaveStates }
 {
     // The law rests on these; the calls do nothing.
     trees_are_within();

@@ -27,7 +27,7 @@ mod saying;
 
 pub use complete::runs_complete;
 pub use example::self_command;
-pub use legs::{runs_in_legs_are_as_programs, runs_leave_states};
+pub use legs::{runs_in_legs_are_as_programs, runs_leave_states, stops_leave_states};
 pub use meant::runs_are_as_programs;
 pub use one_replay::have_one_answer;
 pub use one_run::answers_are_one;

@@ -4,7 +4,7 @@ use ppm_cells::{Takeover, pools_fit};
 use ppm_cli::RunOptions;
 use ppm_driver::{
     WATCHERS, answers_are_one, run_command, runs_are_as_programs, runs_in_legs_are_as_programs,
-    runs_leave_states,
+    runs_leave_states, stops_leave_states,
 };
 use ppm_ports::{MemorySink, MemorySource, Silent};
 use ppm_words::Idle;
@@ -329,6 +329,7 @@ fn sources_are_run(rt: HostRuntime) -> Result<(), Fail> {
     runs_are_as_programs();
     runs_in_legs_are_as_programs();
     runs_leave_states();
+    stops_leave_states();
     Ok(())
 }
 
