@@ -147,3 +147,11 @@ AreFree s seat (suc n) (Exchange cell old new next) = AreFree s seat n (Now next
 
 abbrev pub LooksAreFree : Type 0
 LooksAreFree = (s : Shape) → s.takeover ≡ ByPlaces → (seat : Seat) (k : RestartKind) → IsLook k → (n : ℕ) → AreFree s seat n (row_of s seat k)
+
+-- With takeover by entries that holds too, but for Check, which goes on with what was inherited
+abbrev pub IsNoCheck : RestartKind → Type 0
+IsNoCheck (Check victim slot) = ⊥
+IsNoCheck _ = Unit {0}
+
+abbrev pub SearchesAreFree : Type 0
+SearchesAreFree = (s : Shape) (seat : Seat) (k : RestartKind) → IsLook k → IsNoCheck k → (n : ℕ) → AreFree s seat n (row_of s seat k)

@@ -1,6 +1,6 @@
 //! What is true of the word steps of every row, shown by calls that do nothing.
 ghost use Rattle.ppm_step.specs.Laws.{reached};
-ghost use Rattle.ppm_paces.specs.Costs.{CapsulesAreShort, LooksAreFree, RowsArePaid};
+ghost use Rattle.ppm_paces.specs.Costs.{CapsulesAreShort, LooksAreFree, RowsArePaid, SearchesAreFree};
 ghost use Rattle.ppm_paces.specs.Paces.{RowsKeepPace};
 
 /// Each row of work but that of a frame makes at most so many word steps, whatever it finds, and each
@@ -15,9 +15,11 @@ pub fn capsules_are_short()
     ensures law { CapsulesAreShort }
 {}
 
-/// With takeover by places, nothing has to be set aside for what the rows without work install.
+/// With takeover by places, nothing has to be set aside for what the rows without work install. By entries
+/// that holds of all but Check.
 pub fn looks_are_free()
     ensures law { LooksAreFree }
+    ensures searches { SearchesAreFree }
 {}
 
 /// Along each run each processor keeps the pace of its row: what it has made and what it still may
