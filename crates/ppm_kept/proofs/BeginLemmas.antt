@@ -76,7 +76,7 @@ module _ (code : CodeParts) (input : List NamedArray) (s : Shape) (keeper : ℕ)
 pub machines_open : MachinesOpen
 machines_open code input s keeper image o calm =
     let open_ = images_open code input s keeper image o calm in
-    let i : Image = record { shape = s; code = code; counted = 0 } in
+    let i : Image = record { shape = s; code = code; counted = λ k. true } in
     let t : Skeleton = Leaf (InPlace keeper) (Begins 0) (pool_at s keeper) (slots_of code code.root) in
     let e = opens_so code input s keeper image o in (
       e,

@@ -48,7 +48,7 @@ use Rattle.ppm_kept.proofs.TurnLemmas.{pool_cell}
 
 module _ (code : CodeParts) (input : List NamedArray) (s : Shape) (keeper : ℕ) (image : RealImage) (o : Opens code input s keeper image) where
   abbrev i : Image
-  i = record { shape = s; code = code; counted = 0 }
+  i = record { shape = s; code = code; counted = λ k. true }
 
   abbrev m : Cell → ℕ
   m = view s image.words

@@ -1,5 +1,6 @@
 -- The words of an opening: the root frame, clean pools, and a tree without races.
-use Rattle.std.specs.Prelude.{◌≡◌, ◌≤◌, ◌<◌, ℕ, ◌+◌, List}
+use Rattle.std.specs.Prelude.{◌≡◌, ◌≤◌, ◌<◌, ℕ, ◌+◌, true, List}
+use Rattle.ppm_strands.specs.Run.{none}
 use Rattle.ppm_strands.specs.Calm.{Calm}
 use Rattle.ppm_cells.specs.declared.cell.Cell.{Cell}
 use Rattle.ppm_cells.specs.declared.cell.Cell.TheVariants.{FinishWord, RoomCounter, BlockWord}
@@ -24,7 +25,7 @@ use Rattle.ppm_kept.specs.Kept.{Image, start, end_of, Resting, NoOutcome, State,
 -- than the root's; above the counters they are 0; and the root's tree is calm
 pub record Opening (i : Image) (m : Cell → ℕ) (p f n : ℕ) : Type 0 where
   pub there : p < i.shape.processors
-  pub uncounted : i.counted ≡ 0
+  pub uncounted : i.counted none ≡ true
   pub link : link_at (m (BlockWord f)) ≡ record { size = 6 + n; kind = Root }
   pub entry : slots_at i.code (m (BlockWord (f + 2))) ≡ n
   pub outcome : m (BlockWord (f + 1)) ≡ ended
@@ -51,5 +52,5 @@ OpeningsAreKept = (i : Image) (m : Cell → ℕ) (p f n : ℕ) → Opening i m p
 abbrev pub ImagesOpen : Type 0
 ImagesOpen = (code : CodeParts) (input : List NamedArray) (s : Shape) (keeper : ℕ) (image : RealImage) → Opens code input s keeper image
     → Calm (strands s code) (root_strand code input) (arrays_at (view s image.words))
-    → Opening (record { shape = s; code = code; counted = 0 }) (view s image.words) keeper (pool_at s keeper) (slots_of code code.root)
+    → Opening (record { shape = s; code = code; counted = λ k. true }) (view s image.words) keeper (pool_at s keeper) (slots_of code code.root)
     × (tree_of (view s image.words) (Leaf (InPlace keeper) (Begins 0) (pool_at s keeper) (slots_of code code.root)) ≡ root_strand code input)

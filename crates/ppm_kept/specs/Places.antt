@@ -165,4 +165,4 @@ MachinesOpen = (code : CodeParts) (input : List NamedArray) (s : Shape) (keeper 
     → Opens code input s keeper image
     → Calm (strands s code) (root_strand code input) (arrays_at (view s image.words))
     → (places_of s (opening image.words s.processors) ≡ opening_of (view s image.words) keeper (pool_at s keeper))
-    × IsKept (record { shape = s; code = code; counted = 0 }) (root_strand code input) (arrays_at (view s image.words)) (places_of s (opening image.words s.processors)) (Leaf (InPlace keeper) (Begins 0) (pool_at s keeper) (slots_of code code.root))
+    × IsKept (record { shape = s; code = code; counted = λ k. true }) (root_strand code input) (arrays_at (view s image.words)) (places_of s (opening image.words s.processors)) (Leaf (InPlace keeper) (Begins 0) (pool_at s keeper) (slots_of code code.root))
