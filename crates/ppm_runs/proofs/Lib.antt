@@ -55,3 +55,4 @@ pub mod HalvesLemmas
 pub mod HeirJoinLemmas
 pub mod HeiredLemmas
 pub mod LegWork
+pub mod HeirWork

@@ -11,7 +11,7 @@ ghost use Rattle.ppm_runs.specs.Renewals.{PartsComeTo, RunsComeBack};
 ghost use Rattle.ppm_runs.specs.Spent.{RoomIsSpent, RoomIsSpentSo};
 ghost use Rattle.ppm_runs.specs.Unbroken.{NothingBreaks};
 ghost use Rattle.ppm_runs.specs.Whole.{JoinsStay, RunsComeTo, TurnsLead};
-ghost use Rattle.ppm_runs.specs.Work.{WorkIsBounded, WorkIsWithin256};
+ghost use Rattle.ppm_runs.specs.Work.{UndoneAreStruck, WorkIsBounded, WorkIsBoundedSo, WorkIsWithin256, WorkIsWithin256So};
 
 /// With takeover by places each turn is orderly in a state of a run: block words that it changes
 /// are those of pools, a block that it forks was not forked before, and a branch that it begins
@@ -101,10 +101,14 @@ pub fn nothing_breaks()
 
 /// From an image of a sound code, with takeover by places, whatever the turns: where the depth-first run
 /// of the root ends, all work turns together are no more than 218 for each of its capsules, 171 for each
-/// fault that strikes a row of work, and 6; so they are fewer than 256 for each.
+/// fault that strikes a row of work, and 6; so they are fewer than 256 for each. With either takeover that
+/// is so of the faults that undo work; by places these are those that strike.
 pub fn work_is_bounded()
     ensures law { WorkIsBounded }
     ensures within { WorkIsWithin256 }
+    ensures so { WorkIsBoundedSo }
+    ensures within_so { WorkIsWithin256So }
+    ensures struck { UndoneAreStruck }
 {}
 
 /// With takeover by entries, a turn by which a place goes on with what it inherited leads to words that are
