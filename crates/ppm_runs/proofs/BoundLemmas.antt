@@ -96,7 +96,7 @@ told_one : (b : Bool) (c : ℕ) → length (if b then c ∷ [] else []) ≡ one 
 told_one true c = refl
 told_one false c = refl
 
-length_both : (a b : List ℕ) → length (a ++ b) ≡ length a + length b
+pub length_both : (a b : List ℕ) → length (a ++ b) ≡ length a + length b
 length_both [] b = omega arith
 length_both (x ∷ a) b = let e = length_both a b in omega (arith, e)
 
@@ -118,7 +118,7 @@ module _ (s : Shape) (code : CodeParts) (state : RunState) (c : ℕ) (act : Act)
   live_words (IsBroken p) e = refl
   live_words IsDone e = absurd (cc)
 
-  live_stands : (x : Standing) → stand_of state c ≡ x → is_done_at x ≡ false
+  pub live_stands : (x : Standing) → stand_of state c ≡ x → is_done_at x ≡ false
       → stand_of (acts s code state c act x) c ≡ stand_after s code c act (found_in state.words (want_of s code c act x)) x
   live_stands IsLost e live = stand_own state.stand c _ (λ d. let z = sym e ∙ d in cc)
   live_stands (IsPlaced p) e live = stand_own state.stand c _ (λ d. let z = sym e ∙ d in cc)
@@ -225,7 +225,7 @@ pub again_none : (how : Takeover) → how ≡ ByPlaces → (x : Standing) (k : R
 again_none ByPlaces e x k = refl
 again_none ByEntries e x k = absurd (cc)
 
-again_live : (how : Takeover) (x : Standing) (k : RestartKind) → is_done_at x ≡ false → again how x k ≡ 0
+pub again_live : (how : Takeover) (x : Standing) (k : RestartKind) → is_done_at x ≡ false → again how x k ≡ 0
 again_live ByPlaces x k live = refl
 again_live ByEntries IsLost k live = refl
 again_live ByEntries (IsPlaced p) k live = refl
@@ -291,7 +291,7 @@ module _ (s : Shape) (code : CodeParts) where
   stands_live seat (Store cell content next) = within_live seat (Store cell content next) (row_is_there s seat (Store cell content next))
   stands_live seat (Exchange cell old new next) = within_live seat (Exchange cell old new next) (row_is_there s seat (Exchange cell old new next))
 
-  row_live : (seat : Seat) (v found : ℕ) (row : Row) → is_done_at (went_row s code seat v found row) ≡ false
+  pub row_live : (seat : Seat) (v found : ℕ) (row : Row) → is_done_at (went_row s code seat v found row) ≡ false
   row_live seat v found (Now (Load x)) = stands_live seat (found_at s seat v x (content_of (reading_at x) found))
   row_live seat v found (Now (Install x)) = refl
   row_live seat v found (Now (Fork x)) = refl
@@ -350,7 +350,7 @@ pub undone_are_struck : UndoneAreStruck
 undone_are_struck s places state turn =
     ap (λ (how : Takeover). if undoes how turn.act (stand_of state turn.processor) (restart_of (read s state.words (RestartWord turn.processor))) then turn.processor ∷ [] else []) places
 
-undone_is : (s : Shape) → s.takeover ≡ ByPlaces → undone_of s ≡ strikes_of
+pub undone_is : (s : Shape) → s.takeover ≡ ByPlaces → undone_of s ≡ strikes_of
 undone_is s places = fun_ext (λ state. fun_ext (λ turn. undone_are_struck s places state turn))
 
 module _ (s : Shape) (code : CodeParts) (fair : IsFair code) (root : Tree (Frame FrameWord Point) Result) (input : Words) (end : End Result) (ends : EndsSo (strands s code) root input end) where
@@ -819,8 +819,8 @@ module _ (s : Shape) (code : CodeParts) (fair : IsFair code) (root : Tree (Frame
     module _ (t' : Skeleton) (run' : IsHalves s code root input n h' forked' taken' l t') (agrees' : Agrees t' (λ r. fate_of (h' r)))
         (counted : k + by_step ended_by act x ≤ run'.kept.ahead.0.capsules) (credit : owed Root t' + by_step paid_by act x ≤ owed Root t + 36 * by_step ended_by act x)
         (free : (v : ℕ) → act ≡ Step v → IsFreeAt x) where
-      abbrev Paid : Type 0
-      Paid = one (is_work_turn act x) + made c + dues l n.words + agains l n + owed Root t'
+      abbrev PaidSo : Type 0
+      PaidSo = one (is_work_turn act x) + made c + dues l n.words + agains l n + owed Root t'
           ≤ made_then (made c) act x y + dues l state.words + agains l state + owed Root t + 218 * by_step ended_by act x + 171 * one undone
 
       abbrev Owes : Type 0
@@ -830,7 +830,7 @@ module _ (s : Shape) (code : CodeParts) (fair : IsFair code) (root : Tree (Frame
       dues_same same = ap (λ (f : ℕ → RestartKind). sum N (λ p. due (left_kinds l f p))) same
 
       -- no place is at another kind
-      still_paid : K' ≡ K → ((is_step act ≡ true) × Sets x → ⊥) → finish_at s n ≡ 0 → Paid
+      still_paid : K' ≡ K → ((is_step act ≡ true) × Sets x → ⊥) → finish_at s n ≡ 0 → PaidSo
       still_paid same none then_ =
           let dues_ = dues_same same in let cr = credit in
           elim keeps.pays [
@@ -860,7 +860,7 @@ module _ (s : Shape) (code : CodeParts) (fair : IsFair code) (root : Tree (Frame
             let cr = credit in let p1 = put_.paid (free v is) in
             omega (arith, dues_, own, was, w0, p0, e0, cr, p1)
 
-        put_paid : finish_at s n ≡ 0 → Paid
+        put_paid : finish_at s n ≡ 0 → PaidSo
         put_paid then_ = let pays_ = put_pays in elim (how_or s.takeover) [
           | inl places ↦ let a = again_places n places in let b = again_places state places in omega (arith, pays_, a, b)
           | inr ih ↦ let a = again_step ih then_ v is in omega (arith, pays_, a)
@@ -872,10 +872,10 @@ module _ (s : Shape) (code : CodeParts) (fair : IsFair code) (root : Tree (Frame
       alone_pays : Pays l t' run' agrees'
       alone_pays = record { counted = counted; pays = by act refl; owes = λ places. by_owes act refl }
         where
-          faulted : (a : Act) → act ≡ a → is_step a ≡ false → finish_at s n ≡ 0 → Paid
+          faulted : (a : Act) → act ≡ a → is_step a ≡ false → finish_at s n ≡ 0 → PaidSo
           faulted a is other then_ = still_paid (faults_still (ap is_step is ∙ other)) (λ sets. let z : true ≡ false = sym sets.0 ∙ ap is_step is ∙ other in cc) then_
 
-          by : (a : Act) → act ≡ a → finish_at s n ≡ 0 → Paid
+          by : (a : Act) → act ≡ a → finish_at s n ≡ 0 → PaidSo
           by (Step v) is then_ = elim (stepped v) [
             | inl still ↦ still_paid (by_step_is v is ∙ still.0) (λ sets. still.1 sets.1) then_
             | inr put_ ↦ put_paid v is put_ then_
@@ -1000,7 +1000,7 @@ module _ (code : CodeParts) (input : List NamedArray) (s : Shape) (keeper : ℕ)
   abbrev pub first_tree : Skeleton
   first_tree = Leaf (InPlace keeper) (Begins 0) (pool_at s keeper) (slots_of code code.root)
 
-  pub first_run : IsRun s code (root_strand code input) (arrays_at (view s im.words)) (opening im.words s.processors) (λ r. Unborn) [] [] first_tree
+  abbrev pub first_run : IsRun s code (root_strand code input) (arrays_at (view s im.words)) (opening im.words s.processors) (λ r. Unborn) [] [] first_tree
   first_run = runs_open code input s keeper im opens calm
 
   pub first_stage : (run : IsRun s code (root_strand code input) (arrays_at (view s im.words)) (opening im.words s.processors) (λ r. Unborn) [] [] first_tree)

@@ -401,7 +401,7 @@ module _ (s : Shape) (code : CodeParts) (ih : s.takeover ≡ ByEntries) (fair : 
 
 -- with either takeover
 pub work_is_bounded_so : WorkIsBoundedSo
-unfolding heired_first first_run
+unfolding heired_first
 work_is_bounded_so code input s keeper im fair opens calm turns all end ends = elim (how_or s.takeover) [
   | inl places ↦
       let le = work_is_bounded code input s keeper im places fair opens calm turns all end ends in

@@ -229,7 +229,7 @@ not_within x seat row is e = elim is [
 ]
 
 -- where a run opens none was followed
-pub heired_first : (code : CodeParts) (input : List NamedArray) (s : Shape) (keeper : ℕ) (im : RealImage) → Opens code input s keeper im → Calm (strands s code) (root_strand code input) (arrays_at (view s im.words))
+unfoldable pub heired_first : (code : CodeParts) (input : List NamedArray) (s : Shape) (keeper : ℕ) (im : RealImage) → Opens code input s keeper im → Calm (strands s code) (root_strand code input) (arrays_at (view s im.words))
     → IsHeired s code (root_strand code input) (arrays_at (view s im.words)) (opening im.words s.processors) (λ r. Unborn) [] [] [] (Leaf (InPlace keeper) (Begins 0) (pool_at s keeper) (slots_of code code.root))
 heired_first code input s keeper im opens calm =
     let run = runs_open code input s keeper im opens calm in record {

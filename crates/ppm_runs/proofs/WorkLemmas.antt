@@ -186,7 +186,7 @@ module _ (s : Shape) (code : CodeParts) (fair : IsFair code) (root : Tree (Frame
     pub away : IsAway l place
     pub paid : IsFreeAt x → one (is_work_turn (Step v) x) + made + due kind ≤ due (K place) + paid_by x + 182 * ended_by x
 
-  kinds_then : (p : ℕ) (re : Restart) → p < s.processors → restart_is_there s re ≡ true → spots.kinds s (store s state.words (RestartWord p) (restart_word re)) ≡ put K p re.kind
+  pub kinds_then : (p : ℕ) (re : Restart) → p < s.processors → restart_is_there s re ≡ true → spots.kinds s (store s state.words (RestartWord p) (restart_word re)) ≡ put K p re.kind
   kinds_then p re there here = kinds_put s state.words p re run.lawful.0 there (restart_fits s (few_words s) re here)
 
   own_kind : (p : ℕ) (k : RestartKind) → K p ≡ k → due (K p) ≡ due k
@@ -401,16 +401,16 @@ module _ (s : Shape) (code : CodeParts) (fair : IsFair code) (root : Tree (Frame
   kind_here : (p c : ℕ) → At p c → L p ≡ K p
   kind_here p c at = kind_away l K p (away l run.lawful.1.board.gone p run.gone (here run.lawful.1.board p (open_ s.takeover run.lawful.1.rooted)))
     where
-      open_ : (how : Takeover) → Rooted how m → Closed how m p → ⊥
-      open_ ByPlaces rooted shut = shut
-      open_ ByEntries rooted shut = at.0 (subst (λ (q : ℕ). IsDead (m (Dead q))) (number_is p c (sym at.1 ∙ rooted c)) shut)
-
       told : Word → ℕ
       told (Number q) = q
       told _ = 0
 
-      number_is : (p c : ℕ) → Number p ≡ Number c → p ≡ c
-      number_is p c e = ap told e
+      number_is : Number p ≡ Number c → p ≡ c
+      number_is e = ap told e
+
+      open_ : (how : Takeover) → Rooted how m → Closed how m p → ⊥
+      open_ ByPlaces rooted shut = shut
+      open_ ByEntries rooted shut = at.0 (subst (λ (q : ℕ). IsDead (m (Dead q))) (number_is (sym at.1 ∙ rooted c)) shut)
 
   module _ (made : ℕ → ℕ) (claims : (c : ℕ) → Claim c (made c) (stand_of state c)) where
     abbrev There : ℕ → Standing → Type 0
