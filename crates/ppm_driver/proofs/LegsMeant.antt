@@ -39,7 +39,7 @@ use Rattle.ppm_driver.specs.Meant.{HasOutcome, NeedsMoreRoom, NeedsMoreTurns}
 use Rattle.ppm_driver.proofs.EndLemmas.{words_opened}
 use Rattle.ppm_driver.proofs.MeantLemmas as meant
 use Rattle.ppm_driver.proofs.MeantLemmas.{run_length, ends_as, ended_said, trapped_said}
-use Rattle.ppm_driver.proofs.TakenLemmas.{as_long}
+use Rattle.ppm_runs.proofs.LongLemmas.{as_long}
 
 -- what the crates below show of every run, and of every run in legs
 pub record Laws : Type 0 where

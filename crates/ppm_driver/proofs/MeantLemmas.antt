@@ -66,7 +66,7 @@ use Rattle.ppm_driver.specs.Meant.{HasOutcome, NeedsMoreRoom, NeedsMoreTurns, st
 use Rattle.ppm_loading.specs.Says.{arrays_from}
 use Rattle.ppm_loading.proofs.ArrayLemmas.{same_arrays}
 use Rattle.ppm_driver.proofs.EndLemmas.{keeper_opened, words_opened}
-use Rattle.ppm_driver.proofs.TakenLemmas.{as_long}
+use Rattle.ppm_runs.proofs.LongLemmas.{as_long}
 use Rattle.ppm_driver.proofs.WorkLemmas.{works_are}
 
 -- what the crates below show of every text, every code, every image and every run

@@ -80,7 +80,7 @@ idle_or (Take v j) = inl tt
 idle_or (Take2 v) = inl tt
 
 -- a row by which a place goes on with what it inherited
-abbrev Inherits : RestartKind → Row → Type 0
+abbrev pub Inherits : RestartKind → Row → Type 0
 Inherits k row = (v : ℕ) × (j : ℕ) × (next : Then) × (k ≡ Check v j) × (row ≡ Now next) × GoesOn next
 
 check_or : (v j : ℕ) (next : Then) → LooksOn (Check v j) (Now next) ⊎ Inherits (Check v j) (Now next)
@@ -93,7 +93,7 @@ check_or v j (Enter x) = inl tt
 check_or v j Again = inl tt
 check_or v j Broken = inl tt
 
-looks_or : (k : RestartKind) (row : Row) → LooksOn k row ⊎ Inherits k row
+pub looks_or : (k : RestartKind) (row : Row) → LooksOn k row ⊎ Inherits k row
 looks_or (Check v j) (Now next) = check_or v j next
 looks_or (Check v j) (Store cell content next) = inl tt
 looks_or (Check v j) (Exchange cell old new next) = inl tt
@@ -111,7 +111,7 @@ looks_or (Steal v j) row = inl tt
 looks_or (Take v j) row = inl tt
 looks_or (Take2 v) row = inl tt
 
-alone_of : (how : Takeover) (act : Act) (x : Standing) → LooksOnly act x → StepsAlone how act x
+pub alone_of : (how : Takeover) (act : Act) (x : Standing) → LooksOnly act x → StepsAlone how act x
 alone_of how (Step v) (IsWithin seat row) looks = inr looks
 alone_of how (Step v) IsLost looks = tt
 alone_of how (Step v) (IsPlaced p) looks = tt
@@ -151,7 +151,7 @@ module _ (s : Shape) (code : CodeParts) (ih : s.takeover ≡ ByEntries) (fair : 
     inlined_by (Take v j) new ek er = tt
     inlined_by (Take2 v) new ek er = tt
 
-    inlined : IsInlined s.takeover s state.words seat seat.restart.kind re.kind
+    pub inlined : IsInlined s.takeover s state.words seat seat.restart.kind re.kind
     inlined = subst (λ (how : Takeover). IsInlined how s state.words seat seat.restart.kind re.kind) (sym ih) (inlined_by seat.restart.kind re.kind refl refl)
 
   -- behind an act, by where its processor stood
@@ -218,7 +218,7 @@ module _ (s : Shape) (code : CodeParts) (ih : s.takeover ≡ ByEntries) (fair : 
       all_lead (happens s code state turn) (by_act s state.words turn.act (stand_of state turn.processor) h) (forks_of state turn ++ f) (takes_of state turn ++ tk) next.0 next.1 more all.1 next.2
 
 -- where a run opens nobody is in a row
-not_within : (x : Standing) (seat : Seat) (row : Row) → (x ≡ IsLost) ⊎ (x ≡ IsDone) → x ≡ IsWithin seat row → ⊥
+pub not_within : (x : Standing) (seat : Seat) (row : Row) → (x ≡ IsLost) ⊎ (x ≡ IsDone) → x ≡ IsWithin seat row → ⊥
 not_within x seat row is e = elim is [
   | inl a ↦ absurd (let z : IsLost ≡ IsWithin seat row = sym a ∙ e in cc)
   | inr a ↦ absurd (let z : IsDone ≡ IsWithin seat row = sym a ∙ e in cc)
