@@ -38,7 +38,7 @@ use Rattle.ppm_kept.specs.Laws.{kind_then}
 use Rattle.ppm_kept.specs.Heirs.{settled, handed, GoesOnAs}
 use Rattle.ppm_kept.specs.HeirTurns.{Heired, and_followed}
 use Rattle.ppm_kept.specs.Left.{Followed, left_words, left_kinds, left, IsAway, AreApart, StepsAway}
-use Rattle.ppm_kept.specs.Places.{places_of}
+use Rattle.ppm_kept.specs.Places.{kinds_of, places_of}
 use Rattle.ppm_kept.specs.Steps.{tree_with, act_with, TakesSo, InRestSo, IsKindIf, StandsSo, ActsSo}
 use Rattle.ppm_kept.specs.Credit.{ended_by, by_step, CapsulesAreCounted}
 use Rattle.ppm_kept.specs.Counting.{forks_with, opened_by, CountsAreExact, HeirsCountNone}
@@ -289,14 +289,14 @@ module _ (i : Image) (q : Counts → Bool) where
   away_more l (Quit why) x a = a
 
 -- just these counts
-abbrev exactly : Counts → Counts → Bool
+abbrev pub exactly : Counts → Counts → Bool
 exactly k j = (j.capsules == k.capsules) && ((j.forks == k.forks) && (j.block_words == k.block_words))
 
-exactly_is : (k : Counts) → exactly k k ≡ true
+pub exactly_is : (k : Counts) → exactly k k ≡ true
 exactly_is k = and_from (k.capsules == k.capsules) _ (eq-eqb k.capsules k.capsules refl)
     (and_from (k.forks == k.forks) _ (eq-eqb k.forks k.forks refl) (eq-eqb k.block_words k.block_words refl))
 
-exactly_says : (k j : Counts) → exactly k j ≡ true → j ≡ k
+pub exactly_says : (k j : Counts) → exactly k j ≡ true → j ≡ k
 exactly_says k j e =
     let two = and_parts (j.capsules == k.capsules) _ e in
     let more = and_parts (j.forks == k.forks) _ two.1 in

@@ -1,6 +1,6 @@
 -- The words of an opening: the root frame, clean pools, and a tree without races.
-use Rattle.std.specs.Prelude.{◌≡◌, ◌≤◌, ◌<◌, ℕ, ◌+◌, true, List}
-use Rattle.ppm_strands.specs.Run.{none}
+use Rattle.std.specs.Prelude.{◌≡◌, ◌≤◌, ◌<◌, ℕ, ◌+◌, Bool, true, List}
+use Rattle.ppm_strands.specs.Run.{Counts, none}
 use Rattle.ppm_strands.specs.Calm.{Calm}
 use Rattle.ppm_cells.specs.declared.cell.Cell.{Cell}
 use Rattle.ppm_cells.specs.declared.cell.Cell.TheVariants.{FinishWord, RoomCounter, BlockWord}
@@ -48,9 +48,10 @@ abbrev pub OpeningsAreKept : Type 0
 OpeningsAreKept = (i : Image) (m : Cell → ℕ) (p f n : ℕ) → Opening i m p f n
     → IsKept i (tree_of m (Leaf (InPlace p) (Begins 0) f n)) (arrays_at m) (opening_of m p f) (Leaf (InPlace p) (Begins 0) f n)
 
--- each image of a sound code opens so, with the tree of the root's strand
+-- each image of a sound code opens so, whatever is asked of the counts, if it is true where nothing is counted,
+-- with the tree of the root's strand
 abbrev pub ImagesOpen : Type 0
 ImagesOpen = (code : CodeParts) (input : List NamedArray) (s : Shape) (keeper : ℕ) (image : RealImage) → Opens code input s keeper image
     → Calm (strands s code) (root_strand code input) (arrays_at (view s image.words))
-    → Opening (record { shape = s; code = code; counted = λ k. true }) (view s image.words) keeper (pool_at s keeper) (slots_of code code.root)
+    → ((asked : Counts → Bool) → asked none ≡ true → Opening (record { shape = s; code = code; counted = asked }) (view s image.words) keeper (pool_at s keeper) (slots_of code code.root))
     × (tree_of (view s image.words) (Leaf (InPlace keeper) (Begins 0) (pool_at s keeper) (slots_of code code.root)) ≡ root_strand code input)

@@ -222,7 +222,7 @@ module _ (s : Shape) (code : CodeParts) (ih : s.takeover ≡ ByEntries) (fair : 
       all_lead (happens s code state turn) (by_act s state.words turn.act (stand_of state turn.processor) h) (forks_of state turn ++ f) (takes_of state turn ++ tk) next.0 next.1 more all.1 next.2
 
 -- where a run opens nobody is in a row
-not_within : (x : Standing) (seat : Seat) (row : Row) → (x ≡ IsLost) ⊎ (x ≡ IsDone) → x ≡ IsWithin seat row → ⊥
+pub not_within : (x : Standing) (seat : Seat) (row : Row) → (x ≡ IsLost) ⊎ (x ≡ IsDone) → x ≡ IsWithin seat row → ⊥
 not_within x seat row is e = elim is [
   | inl a ↦ absurd (let z : IsLost ≡ IsWithin seat row = sym a ∙ e in cc)
   | inr a ↦ absurd (let z : IsDone ≡ IsWithin seat row = sym a ∙ e in cc)

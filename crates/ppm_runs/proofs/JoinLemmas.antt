@@ -1098,7 +1098,7 @@ joint_of s code places root input state h forked taken t run = record {
   opens = λ c seat next v slot stand ke on w r shut aw kw by. absurd (let two : ByPlaces ≡ ByEntries = sym places ∙ entries_by s.takeover (spots.view s state.words) w shut in cc);
 }
 
-alone_by : (how : Takeover) → how ≡ ByPlaces → (act : Act) (x : Standing) → StepsAlone how act x
+pub alone_by : (how : Takeover) → how ≡ ByPlaces → (act : Act) (x : Standing) → StepsAlone how act x
 alone_by how e (Step v) (IsWithin seat row) = inl e
 alone_by how e (Step v) IsLost = tt
 alone_by how e (Step v) (IsPlaced p) = tt

@@ -27,7 +27,7 @@ runs_open code input s keeper real opens calm =
     let ticket = images_open code input s keeper real opens.image_is in
     record {
       lawful = lawful_in_every_run s code keeper (pool_at s keeper) real.words [] ticket.1 ticket.0 tt;
-      kept = made.1;
+      kept = made.1 (λ k. true) refl;
       agrees = record {
         fresh = λ r e. absurd e;
         held = λ r e. absurd e;

@@ -1,6 +1,7 @@
 //! What turns owe, shown by calls that do nothing.
 ghost use Rattle.ppm_runs.specs.Deques.{DequesAreSound};
-ghost use Rattle.ppm_runs.specs.Entries.{HeirsLeadOn, OnceByEntries, OnceInEachRun, RunsEndByEntries, RunsEndSo, RunsStayHeired};
+ghost use Rattle.ppm_runs.specs.Entries.{HeirsLeadOn, OnceByEntries, OnceInEachRun, RunsEndByEntries, RunsEndSo};
+ghost use Rattle.ppm_runs.specs.Entries.{RunsForkSo, RunsStayHeired};
 ghost use Rattle.ppm_runs.specs.Follow.{HalvesGoOn, HalvesOwe, HeirsLead};
 ghost use Rattle.ppm_runs.specs.Joint.{JointsStay};
 ghost use Rattle.ppm_runs.specs.Laws.{BirthsFollow, BrokenFollow, TakersHave, TurnsAreOrderly, TurnsGoOn};
@@ -139,8 +140,9 @@ pub fn runs_stay_heired()
 /// Whatever the takeover, from an image of a sound code, whatever the turns: at each moment no right
 /// branch was forked twice, and none was taken twice; where the finish word says an outcome the
 /// depth-first run of the root ends so, with the words of the arrays as they are, and each branch that
-/// was forked was taken.
+/// was forked was taken: as many as that run forks.
 pub fn runs_end_so()
     ensures once { OnceInEachRun }
     ensures ends { RunsEndSo }
+    ensures forks { RunsForkSo }
 {}
