@@ -1,6 +1,6 @@
 -- The work of runs with takeover by entries: each turn leads from one moment to the next, also that by which a place goes on with what it
 -- inherited; and the bound of both takeovers.
-use Rattle.std.proofs.Common.{◌≡◌, ◌≢◌, ◌⊎◌, ◌≤◌, ◌<◌, ℕ, ◌+◌, ◌*◌, Bool, true, false, List, [], ◌∷◌, ◌++◌, length, inl, inr, refl, sym, ap, ◌∙◌, subst, subst₂, arith, true≢false}
+use Rattle.std.proofs.Common.{◌≡◌, ◌≢◌, ◌⊎◌, ◌≤◌, ℕ, ◌+◌, true, false, List, [], ◌∷◌, ◌++◌, length, inl, inr, refl, sym, ap, ◌∙◌, subst, subst₂, arith, true≢false}
 use Rattle.std.specs.List.{AllByRecursion}
 use Rattle.std.proofs.lemmas.Bool.{cases_eq}
 use Rattle.ppm_strands.specs.Tree.{Words, Tree}
@@ -31,7 +31,7 @@ use Rattle.ppm_step.specs.declared.turn.Act.{Act}
 use Rattle.ppm_step.specs.declared.turn.Act.TheVariants.{Step, Soft, Hard, Quit}
 use Rattle.ppm_step.specs.declared.turn.Turn.{Turn}
 use Rattle.ppm_paces.specs.Costs.{cost, due}
-use Rattle.ppm_paces.specs.Paces.{made_behind, strikes_of}
+use Rattle.ppm_paces.specs.Paces.{made_behind}
 use Rattle.ppm_paces.proofs.PaceLemmas.{one, most, made_few}
 use Rattle.ppm_paces.proofs.RunLemmas.{turn_else}
 use Rattle.ppm_tickets.specs.Along.{by_row, by_act, homes, forked as forked_in, taken as taken_in}
@@ -48,15 +48,15 @@ use Rattle.ppm_frames.specs.Good.{link_at}
 use Rattle.ppm_frames.specs.Skeletons.{Skeleton}
 use Rattle.ppm_kept.specs.Running.{IsFair, strands}
 use Rattle.ppm_kept.specs.Fates.{Agrees}
-use Rattle.ppm_kept.specs.Kept.{State, put as set}
+use Rattle.ppm_kept.specs.Kept.{State}
 use Rattle.ppm_kept.specs.Heirs.{handed, OpensAs, GoesOnAs}
 use Rattle.ppm_kept.specs.HeirTurns.{and_followed, Heired}
 use Rattle.ppm_kept.specs.Laws.{kind_then}
-use Rattle.ppm_kept.specs.Left.{Followed, left, left_kinds, IsAway, StepsAway}
+use Rattle.ppm_kept.specs.Left.{Followed, left, left_kinds, StepsAway}
 use Rattle.ppm_kept.specs.Others.{IsIdle}
 use Rattle.ppm_kept.specs.Places.{kinds_of, places_of}
 use Rattle.ppm_kept.specs.Steps.{act_with}
-use Rattle.ppm_kept.specs.Credit.{owed, ended_by, by_step}
+use Rattle.ppm_kept.specs.Credit.{ended_by}
 use Rattle.ppm_kept.proofs.CountLemmas.{counts_are_exact, heirs_count_none}
 use Rattle.ppm_kept.proofs.CreditLemmas.{handed_owes}
 use Rattle.ppm_kept.proofs.HeirLemmas.{not_idle}
@@ -66,7 +66,7 @@ use Rattle.ppm_kept.proofs.PutLemmas.{put_here as set_here, put_else as set_else
 use Rattle.ppm_runs.specs.Run.{image, fate_of}
 use Rattle.ppm_runs.specs.Follow.{IsHalves, GoesOn, LooksOnly}
 use Rattle.ppm_runs.specs.Entries.{IsHeired}
-use Rattle.ppm_runs.specs.Work.{undone_of, undone_in, WorkIsBoundedSo, WorkIsWithin256So}
+use Rattle.ppm_runs.specs.Work.{undone_of, WorkIsBoundedSo, WorkIsWithin256So}
 use Rattle.ppm_runs.proofs.BoundLemmas.{again, again_not, again_live, left_at, row_live, live_stands, length_both, finish_still, undone_is, Stage, Pays, dues, agains, goes_on, alone_goes, made_all, work_of_stage, first_run, first_stage, first_tree}
 use Rattle.ppm_runs.proofs.BrokenLemmas.{broken_stays}
 use Rattle.ppm_runs.proofs.FollowLemmas.{heirs_lead}
@@ -77,7 +77,7 @@ use Rattle.ppm_runs.proofs.JoinLemmas.{joints_stay}
 use Rattle.ppm_runs.proofs.LegWork.{work_is_bounded}
 use Rattle.ppm_runs.proofs.OrderlyLemmas.{how_or, halves_owe}
 use Rattle.ppm_runs.proofs.StandLemmas.{kinds_same}
-use Rattle.ppm_runs.proofs.SumLemmas.{sum, sum_at, sum_le}
+use Rattle.ppm_runs.proofs.SumLemmas.{sum_at, sum_le}
 use Rattle.ppm_runs.proofs.WholeLemmas.{in_two}
 use Rattle.ppm_runs.proofs.WorkLemmas.{kinds_then, free_at}
 
