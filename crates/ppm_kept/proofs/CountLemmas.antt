@@ -349,7 +349,7 @@ module _ (i : Image) (fair : IsFair i.code) (root : Tree (Frame FrameWord Point)
       let after = turns_keep_left other fair root input state l apart t other_law turn (acts_more i (exactly k) state t c act x none so) (away_more i (exactly k) l act x away) in
       let same = left_same i (exactly k) l in
       let kept = subst₂ (λ (z : State) (u : Skeleton). IsKept other root input z u) (same (places_of i.shape (happens i.shape i.code state turn)))
-          (ap (λ (m : Cell → ℕ). act_with other m state.words act x t) (words_same i (exactly k) l (view i.shape state.words)) ∙ tree_same i (exactly k) S.words state.words act x t) after in
+      (ap (λ (m : Cell → ℕ). act_with other m state.words act x t) (words_same i (exactly k) l (view i.shape state.words)) ∙ tree_same i (exactly k) S.words state.words act x t) after in
       let all = answered i root input S t law (left i l (places_of i.shape (happens i.shape i.code state turn))) (act_with i S.words state.words act x t) kept in
       (all.0, let a = all.1 in omega (arith, a, none), let a = all.2 in omega (arith, a, no_fork))
 

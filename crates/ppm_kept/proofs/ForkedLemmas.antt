@@ -1,6 +1,6 @@
 -- The forks that a capsule counts are those of the tree that it opens.
-use Rattle.std.proofs.Common.{◌≡◌, ℕ, refl, arith}
-use Rattle.ppm_strands.specs.Tree.{Words, Tree, Strand, Call, Fork, Over, forks_in, Code}
+use Rattle.std.proofs.Common.{◌≡◌, refl, arith}
+use Rattle.ppm_strands.specs.Tree.{Words, Tree, Strand, forks_in, Code}
 use Rattle.ppm_strands.specs.Run.{Counts}
 use Rattle.ppm_strands.specs.Ahead.{Step, Capsule, Store, Return, Join, Receive, Collect, UnderCall, InLeft, InRight}
 

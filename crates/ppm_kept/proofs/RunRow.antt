@@ -338,35 +338,35 @@ module _ (i : Image) (fair : IsFair i.code) (root : Tree (Frame FrameWord Point)
     ended_turn lets l v j forks opens_it head arrived good adds grows bound one here others_none frees ordered copy own all no_taker pays =
         let opened : counts.forks ≡ j = forks_told step tt refl ∙ ap (λ (w : Tree (Frame FrameWord Point) Result). forks_in w) opens_it ∙ forks in
         let got = built i fair root input s t law p (installs s p l) c u v l Resting (record {
-      is = is;
-      alone = has_leaf.alone;
-      there = there;
-      kind = put_here s.kind p l;
-      kinds = λ q ne. put_else s.kind p l q ne;
-      doing = put_here s.doing p Resting;
-      doings = λ q ne. put_else s.doing p Resting q ne;
-      around = λ x ne. refl;
-      step = inl (
-        counts,
-        subst₂ (λ (a : Frame FrameWord Point) (w : Tree (Frame FrameWord Point) Result). Step (strands i.shape i.code) counts (Strand a) (arrays_at m) w (arrays_at m))
-            (ap (λ (d : ℕ). record { own = own_at m f n; point = at_capsule d }) (sym number_is)) opens_it step,
-        lets counts,
-      );
-      swap = record { aim = record { head = head; aim = refl }; order = arrived; gives = inl (refl, refl) };
-      good = good;
-      adds = λ x. subst (λ (b : ℕ). ((count h v x ≤ count h u x) × (plain h v x ≤ plain h u x)) ⊎ ((count h v x ≤ 1 + count h u x) × (b ≤ x) × (x < ceiling i m p l))) (sym roof) (adds x);
-      grows = subst (λ (b : ℕ). b ≤ ceiling i m p l) (sym roof) grows;
-      pays = subst (λ (b : ℕ). ceiling i m p l ≤ b + counts.block_words) (sym roof) pays;
-      bound = bound;
-      places = here ∙ sym one;
-      placed = λ q ne. others_none q ne ∙ sym (only q ne);
-      free = frees;
-      does = tt;
-      orders = ordered;
-      others = λ q ne. kept_same i fair root input s t law p q;
-      unrun = barren (λ q x. (λ w. w, λ w. w)) copy own all no_taker;
-      finishes = not_ended m m t c u v is refl refl;
-    }) in
+          is = is;
+          alone = has_leaf.alone;
+          there = there;
+          kind = put_here s.kind p l;
+          kinds = λ q ne. put_else s.kind p l q ne;
+          doing = put_here s.doing p Resting;
+          doings = λ q ne. put_else s.doing p Resting q ne;
+          around = λ x ne. refl;
+          step = inl (
+            counts,
+            subst₂ (λ (a : Frame FrameWord Point) (w : Tree (Frame FrameWord Point) Result). Step (strands i.shape i.code) counts (Strand a) (arrays_at m) w (arrays_at m))
+                (ap (λ (d : ℕ). record { own = own_at m f n; point = at_capsule d }) (sym number_is)) opens_it step,
+            lets counts,
+          );
+          swap = record { aim = record { head = head; aim = refl }; order = arrived; gives = inl (refl, refl) };
+          good = good;
+          adds = λ x. subst (λ (b : ℕ). ((count h v x ≤ count h u x) × (plain h v x ≤ plain h u x)) ⊎ ((count h v x ≤ 1 + count h u x) × (b ≤ x) × (x < ceiling i m p l))) (sym roof) (adds x);
+          grows = subst (λ (b : ℕ). b ≤ ceiling i m p l) (sym roof) grows;
+          pays = subst (λ (b : ℕ). ceiling i m p l ≤ b + counts.block_words) (sym roof) pays;
+          bound = bound;
+          places = here ∙ sym one;
+          placed = λ q ne. others_none q ne ∙ sym (only q ne);
+          free = frees;
+          does = tt;
+          orders = ordered;
+          others = λ q ne. kept_same i fair root input s t law p q;
+          unrun = barren (λ q x. (λ w. w, λ w. w)) copy own all no_taker;
+          finishes = not_ended m m t c u v is refl refl;
+        }) in
         (got.0, ap (λ (k : Counts). k.capsules) got.1, ap (λ (k : Counts). k.forks) got.1 ∙ ap (λ (k : ℕ). law.ahead.0.forks + k) opened)
 
   abbrev Stood : End → Type 0

@@ -23,8 +23,7 @@ use Rattle.ppm_frames.specs.Views.{view}
 use Rattle.ppm_frames.specs.Seen.{arrays_at}
 use Rattle.ppm_frames.specs.Skeletons.{Begins, InPlace, Skeleton, Leaf}
 use Rattle.ppm_kept.specs.Running.{IsFair, strands}
-use Rattle.ppm_kept.specs.Unruns.{HasUnrun}
-use Rattle.ppm_runs.specs.Legs.{Leg, AreLegs, GoOn, words_then, state_then, homes_then, forked_then, taken_then, last_state, all_homes, all_forked, all_taken, ForksOverLegs}
+use Rattle.ppm_runs.specs.Legs.{Leg, AreLegs, GoOn, state_then, homes_then, forked_then, taken_then, last_state, all_homes, all_forked, all_taken, ForksOverLegs}
 use Rattle.ppm_runs.proofs.CountedLemmas.{counted_on}
 use Rattle.ppm_runs.proofs.ForkLemmas.{IsForked, as_run, forked_run, all_places, opens_forked, ends_forked}
 use Rattle.ppm_runs.proofs.LegLemmas.{goes_on_back, forks_back}
