@@ -2,6 +2,7 @@
 -- program's.
 use Rattle.std.proofs.Common.{◌≡◌, ℕ, ◌≤◌, List, [], ◌∷◌, length, map, Some, refl, sym, ap, ◌∙◌, subst, arith}
 use Rattle.std.specs.List.{AllByRecursion, sum}
+use Rattle.ppm_strands.specs.Run.{End}
 use Rattle.ppm_words.specs.declared.named_array.NamedArray.{NamedArray}
 use Rattle.ppm_words.specs.declared.outcome.Outcome.{Outcome}
 use Rattle.ppm_words.specs.declared.outcome.Outcome.TheVariants as outcome
@@ -13,11 +14,12 @@ use Rattle.ppm_cells.specs.declared.finish.Finish.{Finish}
 use Rattle.ppm_cells.specs.declared.finish.Finish.TheVariants as finishes
 use Rattle.ppm_cells.specs.declared.shape.Shape.{Shape}
 use Rattle.ppm_cells.specs.declared.shape.Takeover.TheVariants.{ByPlaces}
+use Rattle.ppm_code.specs.Strands.{Result}
 use Rattle.ppm_code.specs.declared.code.CodeParts.{CodeParts}
 use Rattle.ppm_tree.specs.Tree.{ProgramTree}
 use Rattle.ppm_tree.specs.Program.{initial_arrays}
 use Rattle.ppm_program.specs.Programs.{HasProgram}
-use Rattle.ppm_depth.specs.Run.{arrays_at as arrays_by, said_of}
+use Rattle.ppm_depth.specs.Run.{ComesTo, arrays_at as arrays_by, said_of}
 use Rattle.ppm_layout.specs.Root.{root_strand as strand_of_image}
 use Rattle.ppm_cut_code.specs.Routines.{code_of}
 use Rattle.ppm_step.specs.Among.{IsTurnAmong}
@@ -26,7 +28,7 @@ use Rattle.ppm_step.specs.declared.turn.Turn.{Turn}
 use Rattle.ppm_frames.specs.Seen.{arrays_at}
 use Rattle.ppm_frames.specs.Skeletons.{Skeleton}
 use Rattle.ppm_frames.specs.Views.{view}
-use Rattle.ppm_runs.specs.Legs.{Leg, words_then, state_then, AreLegs, last_state, all_forked, all_taken, all_work, OnceOverLegs, LegsComeTo, RoomOverLegs, WorkOverLegsIsWithin256}
+use Rattle.ppm_runs.specs.Legs.{Leg, words_then, state_then, AreLegs, last_state, all_forked, all_taken, all_work, OnceOverLegs, LegsComeTo, ForksOverLegs, RoomOverLegs, WorkOverLegsIsWithin256}
 use Rattle.ppm_runs.specs.Moments.{AreOnce}
 use Rattle.ppm_runs.specs.Outcomes.{EndsWell}
 use Rattle.ppm_core.specs.Situation.{Situation, loaded}
@@ -39,12 +41,13 @@ use Rattle.ppm_driver.specs.Meant.{HasOutcome, NeedsMoreRoom, NeedsMoreTurns}
 use Rattle.ppm_driver.proofs.EndLemmas.{words_opened}
 use Rattle.ppm_driver.proofs.MeantLemmas as meant
 use Rattle.ppm_driver.proofs.MeantLemmas.{run_length, ends_as, ended_said, trapped_said}
-use Rattle.ppm_driver.proofs.TakenLemmas.{as_long}
+use Rattle.ppm_runs.proofs.LongLemmas.{as_long}
 
 -- what the crates below show of every run, and of every run in legs
 pub record Laws : Type 0 where
   pub base : meant.Laws
   pub legs : LegsComeTo
+  pub forks : ForksOverLegs
   pub once : OnceOverLegs
   pub room : RoomOverLegs
   pub work : WorkOverLegsIsWithin256
@@ -116,6 +119,12 @@ module _ (laws : Laws) (text : List ℕ) (t : ProgramTree) (has : HasProgram tex
         alike = as_long forks takes h.forked_once h.taken_once h.all;
       }
 
+      -- as many are forked as the code forks
+      as_many : (v : Finish) → Says v → IsOutcome v → (e : End Result) → ComesTo code input e → length forks ≡ e.counts.forks
+      as_many v says out e comes =
+          laws.forks code input s keeper b.image (b.sized.takeover ∙ places) (meant.fair laws.base text t has) (meant.opened laws.base text t has sizes keeper m b) (meant.calm laws.base text t has sizes keeper m b) legs are turns among v says out e
+          (ends_as (sym (meant.shown laws.base text t has sizes keeper m b).strands) (sym (meant.shown laws.base text t has sizes keeper m b).root) (sym (meant.shown laws.base text t has sizes keeper m b).arrays) e comes)
+
       -- a full pool is one that the program needs more of
       needs_more : (place : ℕ) → Says (finishes.OutOfRoom place) → NeedsMoreRoom t s.room
       needs_more place says k z means =
@@ -142,6 +151,7 @@ module _ (laws : Laws) (text : List ℕ) (t : ProgramTree) (has : HasProgram tex
               record {
                 serially = subst (λ (o : Outcome). HasOutcome t o) said (outcome_then r.0 finishes.Ended r.1);
                 branches = each r.0 finishes.Ended r.1;
+                forks = as_many finishes.Ended says tt;
               }
 
           when_trapped : (trap : Trap) (line : ℕ) → Says (finishes.Trapped trap line) → EndsAsProgramInAll start legs turns t (outcome.Trapped trap line)
@@ -152,6 +162,7 @@ module _ (laws : Laws) (text : List ℕ) (t : ProgramTree) (has : HasProgram tex
                     (trapped_said input r.1.answer.end.words trap line r.1.answer.end.outcome r.1.answer.outcome)
                     (outcome_then r.0 (finishes.Trapped trap line) r.1);
                 branches = each r.0 (finishes.Trapped trap line) r.1;
+                forks = as_many (finishes.Trapped trap line) says tt;
               }
 
     pub as_programs : (legs : List Leg) → AreLegs m.shape m.code m.state.words legs

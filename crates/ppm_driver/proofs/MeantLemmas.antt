@@ -29,7 +29,7 @@ use Rattle.ppm_rows.specs.Correct.{TreesAreWithin}
 use Rattle.ppm_regions.proofs.Inputs.{input_fits}
 use Rattle.ppm_program.specs.Programs.{HasProgram}
 use Rattle.ppm_program.proofs.WithinLemmas.{tree_within}
-use Rattle.ppm_depth.specs.Run.{arrays_at as arrays_by, said_of}
+use Rattle.ppm_depth.specs.Run.{ComesTo, arrays_at as arrays_by, said_of}
 use Rattle.ppm_depth.specs.Sound.{IsSound}
 use Rattle.ppm_layout.specs.Correct.{Opens as IsOpened}
 use Rattle.ppm_layout.specs.Root.{root_strand as strand_of_image}
@@ -53,7 +53,7 @@ use Rattle.ppm_frames.specs.Skeletons.{Skeleton}
 use Rattle.ppm_frames.specs.Views.{view}
 use Rattle.ppm_kept.specs.Answers.{finish_by}
 use Rattle.ppm_kept.specs.Running.{IsFair, strands}
-use Rattle.ppm_runs.specs.Entries.{EndsAsRun, OnceInEachRun, RunsEndSo}
+use Rattle.ppm_runs.specs.Entries.{EndsAsRun, OnceInEachRun, RunsEndSo, RunsForkSo}
 use Rattle.ppm_runs.specs.Moments.{AreOnce}
 use Rattle.ppm_runs.specs.Run.{image}
 use Rattle.ppm_runs.specs.Spent.{RoomIsSpentSo}
@@ -66,7 +66,7 @@ use Rattle.ppm_driver.specs.Meant.{HasOutcome, NeedsMoreRoom, NeedsMoreTurns, st
 use Rattle.ppm_loading.specs.Says.{arrays_from}
 use Rattle.ppm_loading.proofs.ArrayLemmas.{same_arrays}
 use Rattle.ppm_driver.proofs.EndLemmas.{keeper_opened, words_opened}
-use Rattle.ppm_driver.proofs.TakenLemmas.{as_long}
+use Rattle.ppm_runs.proofs.LongLemmas.{as_long}
 use Rattle.ppm_driver.proofs.WorkLemmas.{works_are}
 
 -- what the crates below show of every text, every code, every image and every run
@@ -80,6 +80,7 @@ pub record Laws : Type 0 where
   pub meant : EndAsMeant
   pub shown : ImagesShowTheRun
   pub runs : RunsEndSo
+  pub forks : RunsForkSo
   pub once : OnceInEachRun
   pub room : RoomIsSpentSo
   pub work : WorkIsWithin256
@@ -227,6 +228,12 @@ module _ (laws : Laws) (text : List ℕ) (t : ProgramTree) (has : HasProgram tex
         alike = as_long forks takes h.forked_once h.taken_once h.all;
       }
 
+      -- as many are forked as the code forks
+      as_many : (v : Finish) → Says v → IsOutcome v → (e : End Result) → ComesTo code input e → length forks ≡ e.counts.forks
+      as_many v says out e comes =
+          laws.forks code input s keeper b.image fair opened calm turns among v says out e
+          (ends_as (sym shown.strands) (sym shown.root) (sym shown.arrays) e comes)
+
       -- a full pool is one that the program needs more of
       needs_more : (place : ℕ) → Says (finishes.OutOfRoom place) → NeedsMoreRoom t s.room
       needs_more place says k z means =
@@ -263,6 +270,7 @@ module _ (laws : Laws) (text : List ℕ) (t : ProgramTree) (has : HasProgram tex
               record {
                 serially = subst (λ (o : Outcome). HasOutcome t o) said (outcome_then r.0 finishes.Ended r.1);
                 branches = each r.0 finishes.Ended r.1;
+                forks = as_many finishes.Ended says tt;
               }
 
           when_trapped : (trap : Trap) (line : ℕ) → Says (finishes.Trapped trap line) → EndsAsProgram start turns t (outcome.Trapped trap line)
@@ -273,6 +281,7 @@ module _ (laws : Laws) (text : List ℕ) (t : ProgramTree) (has : HasProgram tex
                     (trapped_said input r.1.answer.end.words trap line r.1.answer.end.outcome r.1.answer.outcome)
                     (outcome_then r.0 (finishes.Trapped trap line) r.1);
                 branches = each r.0 (finishes.Trapped trap line) r.1;
+                forks = as_many (finishes.Trapped trap line) says tt;
               }
 
     pub as_programs : (turns : List Turn) → AllByRecursion (IsTurnAmong m.shape.processors) turns → IsAsProgram m turns t × (sizes.takeover ≡ ByPlaces → IsWithinProgram m turns t)

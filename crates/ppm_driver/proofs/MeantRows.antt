@@ -32,7 +32,7 @@ use Rattle.ppm_cli.specs.declared.run.RunOptions.{RunOptions}
 use Rattle.ppm_cli.specs.declared.replay.ReplayOptions.{ReplayOptions}
 use Rattle.ppm_cli.specs.Words.{AreReplayed, AreRun}
 use Rattle.ppm_following.specs.Followed.{followed}
-use Rattle.ppm_driver.specs.Meant.{NeedsMoreRoom, NeedsMoreTurns, struck_in, NoneIsTakenTwice, EachIsTakenOnce, EndsAsProgram, IsAsProgram, IsWithinProgram, RunsAreAsPrograms}
+use Rattle.ppm_driver.specs.Meant.{NeedsMoreRoom, NeedsMoreTurns, forked_in, struck_in, NoneIsTakenTwice, EachIsTakenOnce, EndsAsProgram, IsAsProgram, IsWithinProgram, RunsAreAsPrograms}
 use Rattle.ppm_driver.specs.RunOf.{words_behind, finish_behind}
 use Rattle.ppm_loading.specs.Says.{arrays_from, IsOfFinish}
 use Rattle.ppm_driver.specs.Runs as runs
@@ -244,21 +244,21 @@ module _ (law : RunsAreAsPrograms) (text : List ℕ) (t : ProgramTree) (has : Ha
         some : (h : HasReplay a) → 0 < h.start.shape.processors
         some h = let least = h.start.shape.within.processors_least in omega (arith, least)
 
-    -- it counts as many forks and takes as its turns make
-    alike : (m : Situation) → m.forks ≡ 0 → m.takes ≡ 0 → EachIsTakenOnce m (turns_in m)
-        → (tally : Tally) → tally ≡ tally_of (followed m items options.turns) → tally.forks ≡ tally.takes
-    alike m none no_takes each tally e =
+    -- it counts the forks and the takes that its turns make
+    tallied : (m : Situation) → m.forks ≡ 0 → m.takes ≡ 0 → EachIsTakenOnce m (turns_in m)
+        → (tally : Tally) → tally ≡ tally_of (followed m items options.turns) → (tally.forks ≡ length (forked_in m (turns_in m))) × (tally.forks ≡ tally.takes)
+    tallied m none no_takes each tally e =
         let forks = count_forked m.shape m.code m.state [] (turns_in m) in
         let takes = count_taken m.shape m.code m.state [] (turns_in m) in
         let f : tally.forks ≡ m.forks + length (along m.shape m.code forks_of m.state (turns_in m)) = ap (λ (k : Tally). k.forks) e in
         let g : tally.takes ≡ m.takes + length (along m.shape m.code takes_of m.state (turns_in m)) = ap (λ (k : Tally). k.takes) e in
-        omega (arith, forks, takes, f, g, none, no_takes, each.alike)
+        (omega (arith, forks, f, none), omega (arith, forks, takes, f, g, none, no_takes, each.alike))
 
     abbrev last : Situation → Situation
     last m = followed m items options.turns
 
     pub replay_ends : (arrays : List NamedArray) (tally : Tally) (h : HasReplay (answers.EndedWith arrays tally))
-        → EndsAsProgram h.start (turns_in h.start) t (outcome.Ended arrays) × (tally.forks ≡ tally.takes)
+        → EndsAsProgram h.start (turns_in h.start) t (outcome.Ended arrays) × (tally.forks ≡ length (forked_in h.start (turns_in h.start))) × (tally.forks ≡ tally.takes)
     replay_ends arrays tally h =
         let m = last h.start in
         let k = said_of_word (λ values. answers.EndedWith values (tally_of m)) (λ trap line. answers.TrappedWith trap line (tally_of m))
@@ -267,11 +267,11 @@ module _ (law : RunsAreAsPrograms) (text : List ℕ) (t : ProgramTree) (has : Ha
         let e = ended_replay m.shape m.array_lengths m.state.words (initial_arrays t) options.turns (tally_of m) k.0 arrays tally k.2 in
         let ends = (replay_is (answers.EndedWith arrays tally) h).0.ended (k.1 ∙ ap (λ (f : Finish). Some f) e.0) in (
           subst (λ (l : List NamedArray). EndsAsProgram h.start (turns_in h.start) t (outcome.Ended l)) (sym e.1) ends,
-          alike h.start (ap (λ (x : Situation). x.forks) h.opens.loads) (ap (λ (x : Situation). x.takes) h.opens.loads) ends.branches tally e.2,
+          tallied h.start (ap (λ (x : Situation). x.forks) h.opens.loads) (ap (λ (x : Situation). x.takes) h.opens.loads) ends.branches tally e.2,
         )
 
     pub replay_traps : (trap : Trap) (line : ℕ) (tally : Tally) (h : HasReplay (answers.TrappedWith trap line tally))
-        → EndsAsProgram h.start (turns_in h.start) t (outcome.Trapped trap line) × (tally.forks ≡ tally.takes)
+        → EndsAsProgram h.start (turns_in h.start) t (outcome.Trapped trap line) × (tally.forks ≡ length (forked_in h.start (turns_in h.start))) × (tally.forks ≡ tally.takes)
     replay_traps trap line tally h =
         let m = last h.start in
         let k = said_of_word (λ values. answers.EndedWith values (tally_of m)) (λ x n. answers.TrappedWith x n (tally_of m))
@@ -280,7 +280,7 @@ module _ (law : RunsAreAsPrograms) (text : List ℕ) (t : ProgramTree) (has : Ha
         let e = trapped_replay m.shape m.array_lengths m.state.words (initial_arrays t) options.turns (tally_of m) k.0 trap line tally k.2 in
         let ends = (replay_is (answers.TrappedWith trap line tally) h).0.trapped trap line (k.1 ∙ ap (λ (f : Finish). Some f) e.0) in (
           ends,
-          alike h.start (ap (λ (x : Situation). x.forks) h.opens.loads) (ap (λ (x : Situation). x.takes) h.opens.loads) ends.branches tally e.1,
+          tallied h.start (ap (λ (x : Situation). x.forks) h.opens.loads) (ap (λ (x : Situation). x.takes) h.opens.loads) ends.branches tally e.1,
         )
 
     pub replay_needs : (place : ℕ) (h : HasReplay (answers.OutOfRoom place)) → NeedsMoreRoom t options.room

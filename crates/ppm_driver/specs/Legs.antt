@@ -2,6 +2,7 @@
 -- turns of fresh processors, and so on.
 use Rattle.std.specs.Prelude.{◌≡◌, ℕ, ◌+◌, ◌*◌, List, Some, length}
 use Rattle.std.specs.List.{AllByRecursion}
+use Rattle.ppm_strands.specs.Run.{End as CapsuleEnd}
 use Rattle.ppm_words.specs.declared.outcome.Outcome.{Outcome}
 use Rattle.ppm_words.specs.declared.outcome.Outcome.TheVariants as outcome
 use Rattle.ppm_words.specs.declared.trap.Trap.{Trap}
@@ -10,6 +11,8 @@ use Rattle.ppm_cells.specs.Memory.{read}
 use Rattle.ppm_cells.specs.declared.cell.Cell.TheVariants.{FinishWord}
 use Rattle.ppm_cells.specs.declared.finish.Finish.TheVariants as finishes
 use Rattle.ppm_cells.specs.declared.shape.Takeover.TheVariants.{ByPlaces}
+use Rattle.ppm_code.specs.Strands.{Result}
+use Rattle.ppm_depth.specs.Run.{ComesTo}
 use Rattle.ppm_tree.specs.Tree.{ProgramTree}
 use Rattle.ppm_tree.specs.Program.{initial_arrays}
 use Rattle.ppm_program.specs.Programs.{HasProgram}
@@ -58,10 +61,12 @@ module _ (m : Situation) (legs : List Leg) (turns : List Turn) where
     pub all : (block : ℕ) → has forked_in_all block ≡ has taken_in_all block
     pub alike : length forked_in_all ≡ length taken_in_all
 
-  -- such a run ends as the program does: with its serial outcome, and with each branch that was forked taken once
+  -- such a run ends as the program does: with its serial outcome, and with each branch that was forked taken once; there are as many as forks
+  -- that the code of the program, run depth first, makes
   pub record EndsAsProgramInAll (t : ProgramTree) (o : Outcome) : Type 0 where
     pub serially : HasOutcome t o
     pub branches : EachIsTakenOnceInAll
+    pub forks : (e : CapsuleEnd Result) → ComesTo (code_of t) (initial_arrays t) e → length forked_in_all ≡ e.counts.forks
 
   -- What holds behind them. No branch is taken twice. Where the finish word says an outcome the run ends as the program does, with the arrays
   -- of the words then, or this trap; where it says that a pool is full, the program takes more words. All work turns are fewer than 256 for

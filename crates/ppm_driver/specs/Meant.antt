@@ -64,10 +64,12 @@ module _ (m : Situation) (turns : List Turn) where
   abbrev pub struck_in : ℕ
   struck_in = length (along m.shape m.code strikes_of m.state turns)
 
-  -- a run of these turns ends as the program does: with its serial outcome, and with each branch that was forked taken once
+  -- a run of these turns ends as the program does: with its serial outcome, and with each branch that was forked taken once; there are as many
+  -- as forks that the code of the program, run depth first, makes
   pub record EndsAsProgram (t : ProgramTree) (o : Outcome) : Type 0 where
     pub serially : HasOutcome t o
     pub branches : EachIsTakenOnce
+    pub forks : (e : CapsuleEnd Result) → ComesTo (code_of t) (initial_arrays t) e → length forked_in ≡ e.counts.forks
 
   -- What holds behind these turns. No branch is taken twice. Where the finish word says an outcome the run ends as the program does, with the
   -- arrays of the words then, or this trap; where it says that a pool is full, the program takes more words.

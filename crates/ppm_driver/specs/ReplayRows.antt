@@ -1,5 +1,5 @@
 -- What follows from each status of `replay`.
-use Rattle.std.specs.Prelude.{◌≡◌, ℕ, ◌<◌, List, ◌++◌}
+use Rattle.std.specs.Prelude.{◌≡◌, ℕ, ◌<◌, List, ◌++◌, length}
 use Rattle.ppm_words.specs.declared.named_array.NamedArray.{NamedArray}
 use Rattle.ppm_words.specs.declared.outcome.Outcome.TheVariants as outcome
 use Rattle.ppm_words.specs.declared.trap.Trap.{Trap}
@@ -26,7 +26,7 @@ use Rattle.ppm_choice.specs.Schedules.{schedule_turns}
 use Rattle.ppm_loading.specs.MachineRows as machine
 use Rattle.ppm_core.specs.Situation.{Situation}
 use Rattle.ppm_plan.specs.declared.schedule_item.ScheduleItem.{ScheduleItem}
-use Rattle.ppm_driver.specs.Meant.{NeedsMoreRoom, NoneIsTakenTwice, EndsAsProgram, IsAsProgram}
+use Rattle.ppm_driver.specs.Meant.{NeedsMoreRoom, forked_in, NoneIsTakenTwice, EndsAsProgram, IsAsProgram}
 use Rattle.ppm_loading.specs.Planned.{IsRefusedBy, HasByItems}
 use Rattle.ppm_driver.specs.Replays.{ProgramHas, ReplayHas, ReplayMay, TextHas}
 
@@ -40,16 +40,16 @@ module _ (options : ReplayOptions) (schedule : List ℕ) (o : Ports) where
   turns_by m items = schedule_turns m.shape m.code m.state items options.turns
 
   -- The replay of the text that was read ends as its program does, with these arrays, or in this trap; and the tally
-  -- counts as many takes as forks.
+  -- counts the branches that were forked, and as many takes.
   abbrev pub IsMeant : (arrays : List NamedArray) (tally : Tally) → HasRead (answers.EndedWith arrays tally) → Type 0
   IsMeant arrays tally read =
       let p = read.2.has in EndsAsProgram p.2.start (turns_by p.2.start read.2.items) p.0 (outcome.Ended arrays)
-      × (tally.forks ≡ tally.takes)
+      × (tally.forks ≡ length (forked_in p.2.start (turns_by p.2.start read.2.items))) × (tally.forks ≡ tally.takes)
 
   abbrev pub IsMeantTrap : (t : Trap) (line : ℕ) (tally : Tally) → HasRead (answers.TrappedWith t line tally) → Type 0
   IsMeantTrap t line tally read =
       let p = read.2.has in EndsAsProgram p.2.start (turns_by p.2.start read.2.items) p.0 (outcome.Trapped t line)
-      × (tally.forks ≡ tally.takes)
+      × (tally.forks ≡ length (forked_in p.2.start (turns_by p.2.start read.2.items))) × (tally.forks ≡ tally.takes)
 
   -- the replay ends with arrays, those with which the program ends serially, and out got exactly their text, and the tally's
   pub record WritesArrays : Type 0 where

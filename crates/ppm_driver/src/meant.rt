@@ -11,10 +11,11 @@ use ppm_runs::{nothing_breaks, room_is_spent, runs_end_so, work_is_bounded};
 /// From the machine with which a run of a text's program begins, whatever the turns are that its
 /// processors make: no right branch is forked or taken twice. Where the finish word says an
 /// outcome, it is the program's serial outcome, with the arrays of the words then, or its trap; and
-/// each right branch that was forked was taken. Where it says that a pool is full, the program, run
-/// whole, takes more words than a pool has, or has no end. With takeover by places, that words are
-/// broken it says only behind more than 2^34 work turns; and all work turns are fewer than 256 for
-/// each capsule that its code runs depth first and each fault that strikes a row of work.
+/// each right branch that was forked was taken: as many as the code of the program, run depth first,
+/// forks. Where it says that a pool is full, the program, run whole, takes more words than a pool has,
+/// or has no end. With takeover by places, that words are broken it says only behind more than 2^34
+/// work turns; and all work turns are fewer than 256 for each capsule that its code runs depth first
+/// and each fault that strikes a row of work.
 pub fn runs_are_as_programs()
     ensures law { RunsAreAsPrograms }
 {

@@ -76,10 +76,10 @@ module _ (code : CodeParts) (input : List NamedArray) (s : Shape) (keeper : ℕ)
 pub machines_open : MachinesOpen
 machines_open code input s keeper image o calm =
     let open_ = images_open code input s keeper image o calm in
-    let i : Image = record { shape = s; code = code; counted = 0 } in
     let t : Skeleton = Leaf (InPlace keeper) (Begins 0) (pool_at s keeper) (slots_of code code.root) in
     let e = opens_so code input s keeper image o in (
       e,
-      subst (λ (z : State). IsKept i (root_strand code input) (arrays_at (view s image.words)) z t) (sym e)
-          (subst (λ (w : Tree (Frame FrameWord Point) Result). IsKept i w (arrays_at (view s image.words)) (opening_of (view s image.words) keeper (pool_at s keeper)) t) open_.1 (openings i (view s image.words) keeper (pool_at s keeper) (slots_of code code.root) open_.0)),
+      λ asked so. let i : Image = record { shape = s; code = code; counted = asked } in
+          subst (λ (z : State). IsKept i (root_strand code input) (arrays_at (view s image.words)) z t) (sym e)
+          (subst (λ (w : Tree (Frame FrameWord Point) Result). IsKept i w (arrays_at (view s image.words)) (opening_of (view s image.words) keeper (pool_at s keeper)) t) open_.1 (openings i (view s image.words) keeper (pool_at s keeper) (slots_of code code.root) (open_.0 asked so))),
     )

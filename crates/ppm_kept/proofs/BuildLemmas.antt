@@ -1,8 +1,9 @@
 -- What one word step has to show, for the invariant to stand after it.
 use Rattle.std.proofs.Common.{◌≡◌, ◌≢◌, ◌⊎◌, ◌≤◌, ◌<◌, ℕ, ◌+◌, true, false, inl, inr, refl, sym, ap, ◌∙◌, subst, subst₂, arith}
 use Rattle.std.proofs.lemmas.Bool.{cases_eq}
-use Rattle.ppm_strands.specs.Run.{Counts, plus}
+use Rattle.ppm_strands.specs.Run.{Counts, none, plus}
 use Rattle.ppm_strands.specs.Ahead.{Ahead, Step}
+use Rattle.ppm_strands.proofs.RunLemmas.{plus_none, plus_comm}
 use Rattle.ppm_strands.proofs.StepLemmas.{step_ahead}
 use Rattle.ppm_strands.proofs.ChainLemmas.{ahead_composes}
 use Rattle.ppm_capsules.proofs.StrandLemmas.{code_is_local}
@@ -26,15 +27,19 @@ use Rattle.ppm_frames.specs.Laws.{Same}
 use Rattle.ppm_frames.proofs.SkeletonLemmas.{step_in, tree_in, count_plug, plain_plug, at_plug}
 use Rattle.ppm_frames.proofs.SwapLemmas.{Swap, good_swap}
 use Rattle.ppm_kept.specs.Running.{IsFair, strands}
-use Rattle.ppm_kept.specs.Kept.{Image, start, end_of, owner, State, Doing, InRow, IsFinished, carried, ceiling, Free, Does, Head, Ordered, IsKept}
+use Rattle.ppm_kept.specs.Kept.{Image, Allows, start, end_of, owner, State, Doing, InRow, IsFinished, carried, ceiling, Free, Does, Head, Ordered, IsKept}
 use Rattle.ppm_kept.specs.Branches.{Unpushed, Waits, is_taker, HasCopy}
 use Rattle.ppm_kept.specs.Others.{KeptAt}
 use Rattle.ppm_kept.proofs.OwnerLemmas.{owned}
 use Rattle.ppm_kept.proofs.BranchLemmas.{Unrun, unpushed_less, waits_swap}
 
--- a step of the part, or none
+-- where nothing is counted all is as it was asked
+pub allows_none : (i : Image) → Allows i none
+allows_none i j e = ap i.counted (plus_comm j none ∙ plus_none j) ∙ e
+
+-- a step of the part, which may be counted, or none
 abbrev pub Moved : Image → (s z : State) → Around → (u v : Skeleton) → Type 0
-Moved i s z c u v = ((k : Counts) × Step (strands i.shape i.code) k (tree_at s.words (hook_at Root c) u) (arrays_at s.words) (tree_at z.words (hook_at Root c) v) (arrays_at z.words))
+Moved i s z c u v = ((k : Counts) × Step (strands i.shape i.code) k (tree_at s.words (hook_at Root c) u) (arrays_at s.words) (tree_at z.words (hook_at Root c) v) (arrays_at z.words) × Allows i k)
     ⊎ ((tree_at z.words (hook_at Root c) v ≡ tree_at s.words (hook_at Root c) u) × (arrays_at z.words ≡ arrays_at s.words))
 
 -- the block words that it counts
@@ -162,8 +167,8 @@ module _ (i : Image) (fair : IsFair i.code) (root : Tree (Frame FrameWord Point)
     ahead_by (inr same) = subst₂ (λ (w : Tree (Frame FrameWord Point) Result) (b : Words). Ahead (strands i.shape i.code) law.ahead.0 root input w b)
         (sym (tree_in s.words z.words Root c u v turn.around turn.swap.aim same.0 ∙ ap (λ (w : Skeleton). tree_of s.words w) (sym turn.is))) (sym same.1) law.ahead.1
 
-    counted_by : (step : Moved i s z c u v) → i.counted ≤ (counts_by step).capsules
-    counted_by (inl st) = let a = law.counted in omega (arith, a)
+    counted_by : (step : Moved i s z c u v) → i.counted (counts_by step) ≡ true
+    counted_by (inl st) = st.2 law.ahead.0 law.counted
     counted_by (inr same) = law.counted
 
     paid_by : (step : Moved i s z c u v) → ceiling i z.words p k ≤ ceiling i s.words p (s.kind p) + words_of i s z c u v step → (q : ℕ)
@@ -228,6 +233,6 @@ module _ (i : Image) (fair : IsFair i.code) (root : Tree (Frame FrameWord Point)
     }
 
     -- with what it counts
-    pub built : (kept : IsKept i root input z (plug c v)) × (kept.ahead.0.capsules ≡ (counts_by turn.step).capsules)
+    pub built : (kept : IsKept i root input z (plug c v)) × (kept.ahead.0 ≡ counts_by turn.step)
     unfolding build
     built = (build, refl)

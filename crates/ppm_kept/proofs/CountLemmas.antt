@@ -1,24 +1,28 @@
--- Capsules are counted: whatever count is asked for, a turn keeps it, since it keeps all whatever the count is.
-use Rattle.std.proofs.Common.{◌≡◌, ◌≤◌, ◌<◌, ℕ, zero, suc, ◌+◌, List, inl, inr, refl, sym, ap, subst, subst₂, arith, Option, Some, None}
+-- What a turn counts: it keeps all whatever is asked of the counts, so where no capsule ends they are the same.
+use Rattle.std.proofs.Common.{◌≡◌, ◌≤◌, ◌<◌, ℕ, zero, suc, ◌+◌, ◌==◌, ◌&&◌, Bool, true, List, [], ◌∷◌, inl, inr, refl, sym, ap, ◌∙◌, subst, subst₂, arith, Option, Some, None}
+use Rattle.std.proofs.Math.Path.{fun_ext}
+use Rattle.std.proofs.lemmas.Bool.{eq-eqb, eqb-true, and_from, and_parts}
 use Rattle.ppm_strands.specs.Tree.{Words, Tree}
+use Rattle.ppm_strands.specs.Run.{Counts}
+use Rattle.ppm_strands.proofs.RunLemmas.{counts_path}
 use Rattle.ppm_cells.specs.declared.cell.Cell.{Cell}
-use Rattle.ppm_cells.specs.declared.cell.Cell.TheVariants.{BlockWord}
+use Rattle.ppm_cells.specs.declared.cell.Cell.TheVariants.{RoomCounter, BlockWord}
 use Rattle.ppm_cells.specs.declared.link.LinkKind.{LinkKind}
 use Rattle.ppm_cells.specs.declared.link.LinkKind.TheVariants.{Root, Call as Called, Branch, Fork as Forked}
 use Rattle.ppm_cells.specs.declared.restart.Restart.{Restart}
 use Rattle.ppm_cells.specs.declared.restart.RestartKind.{RestartKind}
 use Rattle.ppm_cells.specs.declared.restart.RestartKind.TheVariants.{Run, Bump, Push1, Push2, Unwind, Arrive, Join, Pop1, Pop2, Seek, Steal, Check, Take, Take2}
-use Rattle.ppm_cells.specs.declared.shape.Takeover.TheVariants.{ByPlaces}
 use Rattle.ppm_capsules.specs.Strand.{Frame}
 use Rattle.ppm_code.specs.Strands.{Point, Result}
 use Rattle.ppm_code.specs.declared.location.FrameWord.{FrameWord}
-use Rattle.ppm_step.specs.Frames.{Loads, Stores, Full, Installs, Breaks}
+use Rattle.ppm_step.specs.Frames.{Rest, Loads, Stores, Full, Installs, Breaks}
 use Rattle.ppm_step.specs.Standings.{Standing, IsLost, IsPlaced, IsAt, IsWithin, IsRunning, IsBroken, IsDone}
 use Rattle.ppm_step.specs.State.{State as Machine, stand_of, happens}
 use Rattle.ppm_step.specs.declared.row.Point.TheVariants.{Offset}
 use Rattle.ppm_step.specs.declared.row.Row.{Row}
 use Rattle.ppm_step.specs.declared.row.Row.TheVariants.{Now, Store, Exchange}
 use Rattle.ppm_step.specs.declared.row.Seat.{Seat}
+use Rattle.ppm_step.specs.declared.row.Then.{Then as Ending}
 use Rattle.ppm_step.specs.declared.row.Then.TheVariants.{Load, Install, Fork, Begin, Move, Enter, Again, Broken}
 use Rattle.ppm_step.specs.declared.turn.Act.{Act}
 use Rattle.ppm_step.specs.declared.turn.Act.TheVariants.{Step, Soft, Hard, Quit}
@@ -28,24 +32,31 @@ use Rattle.ppm_frames.specs.Skeletons.{Stand, Skeleton, grow}
 use Rattle.ppm_frames.specs.Good.{link_at}
 use Rattle.ppm_kept.specs.Running.{IsFair}
 use Rattle.ppm_kept.specs.Branches.{HasCopy}
-use Rattle.ppm_kept.specs.Kept.{Image, start, end_of, Doing, Resting, InRow, InRest, State, ceiling, Free, Reach, Under, Does, Head, Ordered, IsKept}
+use Rattle.ppm_kept.specs.Kept.{Image, AllowsAll, start, end_of, Doing, Resting, InRow, InRest, State, ceiling, Free, Reach, Under, Does, Head, Ordered, IsKept}
 use Rattle.ppm_kept.specs.Moves.{installs, opened, by_install}
-use Rattle.ppm_kept.specs.Places.{places_of}
-use Rattle.ppm_kept.specs.Steps.{tree_by, by_act, TakesSo, InRestSo, IsKindIf, StandsSo, ActsSo}
+use Rattle.ppm_kept.specs.Laws.{kind_then}
+use Rattle.ppm_kept.specs.Heirs.{settled, handed, GoesOnAs}
+use Rattle.ppm_kept.specs.HeirTurns.{Heired, and_followed}
+use Rattle.ppm_kept.specs.Left.{Followed, left_words, left_kinds, left, IsAway, AreApart, StepsAway}
+use Rattle.ppm_kept.specs.Places.{kinds_of, places_of}
+use Rattle.ppm_kept.specs.Steps.{tree_with, act_with, TakesSo, InRestSo, IsKindIf, StandsSo, ActsSo}
 use Rattle.ppm_kept.specs.Credit.{ended_by, by_step, CapsulesAreCounted}
+use Rattle.ppm_kept.specs.Counting.{forks_with, opened_by, CountsAreExact, HeirsCountNone}
 use Rattle.ppm_kept.proofs.OtherLemmas.{others_keep}
 use Rattle.ppm_kept.proofs.RunRow.{rest_counts}
 use Rattle.ppm_kept.proofs.StateLemmas.{doing_here, turns_show}
-use Rattle.ppm_kept.proofs.StepRows.{turns_keep_on}
+use Rattle.ppm_kept.proofs.LeftLemmas.{kind_away, installs_left}
+use Rattle.ppm_kept.proofs.HeirTurns.{heir_turns_keep}
+use Rattle.ppm_kept.proofs.StepRows.{turns_keep_left, act_away}
 
--- with another count
-abbrev counting : ℕ → Image → Image
-counting n i = record { shape = i.shape; code = i.code; counted = n }
+-- with another question
+abbrev counting : (Counts → Bool) → Image → Image
+counting q i = record { shape = i.shape; code = i.code; counted = q }
 
 -- no definition but that of `IsKept` looks at it
-module _ (i : Image) (n : ℕ) where
+module _ (i : Image) (q : Counts → Bool) where
   abbrev j : Image
-  j = counting n i
+  j = counting q i
 
   roof : (m : Cell → ℕ) (p : ℕ) (k : RestartKind) → ceiling j m p k ≡ ceiling i m p k
   roof m p (Run f y) = refl
@@ -134,10 +145,10 @@ module _ (i : Image) (n : ℕ) where
   ordered s t m (Take v x) a = tt
   ordered s t m (Take2 v) a = tt
 
-  -- what is kept with one count is kept with any that it reaches
-  pub recount : (root : Tree (Frame FrameWord Point) Result) (input : Words) (s : State) (t : Skeleton) → (law : IsKept i root input s t) → n ≤ law.ahead.0.capsules
-      → (kept : IsKept j root input s t) × (kept.ahead.0.capsules ≡ law.ahead.0.capsules)
-  recount root input s t law le = (
+  -- what is kept is kept where that is true of its counts
+  pub recount : (root : Tree (Frame FrameWord Point) Result) (input : Words) (s : State) (t : Skeleton) → (law : IsKept i root input s t) → q law.ahead.0 ≡ true
+      → (kept : IsKept j root input s t) × (kept.ahead.0 ≡ law.ahead.0)
+  recount root input s t law so = (
     record {
       ahead = law.ahead;
       good = law.good;
@@ -154,7 +165,7 @@ module _ (i : Image) (n : ℕ) where
       untaken = law.untaken;
       aims = law.aims;
       paid = λ p. let e = roof s.words p (s.kind p) in let a = law.paid p in omega (arith, e, a);
-      counted = le;
+      counted = so;
     },
     refl,
   )
@@ -198,28 +209,44 @@ module _ (i : Image) (n : ℕ) where
   install_same m p (Take v x) kind t = refl
   install_same m p (Take2 v) kind t = refl
 
-  step_same : (words : List ℕ) (x : Standing) (t : Skeleton) → tree_by j words x t ≡ tree_by i words x t
-  step_same words (IsWithin seat (Now next)) t = refl
-  step_same words (IsWithin seat (Store cell content next)) t = refl
-  step_same words (IsWithin seat (Exchange cell old new next)) t = refl
-  step_same words (IsRunning seat (Installs kind)) t = install_same (view i.shape words) seat.place seat.restart.kind kind t
-  step_same words (IsRunning seat (Loads cell go)) t = refl
-  step_same words (IsRunning seat (Stores cell content rest)) t = refl
-  step_same words (IsRunning seat Full) t = refl
-  step_same words (IsRunning seat Breaks) t = refl
-  step_same words IsLost t = refl
-  step_same words (IsPlaced p) t = refl
-  step_same words (IsAt p restart) t = refl
-  step_same words (IsBroken p) t = refl
-  step_same words IsDone t = refl
+  step_same : (m : Cell → ℕ) (words : List ℕ) (x : Standing) (t : Skeleton) → tree_with j m words x t ≡ tree_with i m words x t
+  step_same m words (IsWithin seat (Now next)) t = refl
+  step_same m words (IsWithin seat (Store cell content next)) t = refl
+  step_same m words (IsWithin seat (Exchange cell old new next)) t = refl
+  step_same m words (IsRunning seat (Installs kind)) t = install_same m seat.place seat.restart.kind kind t
+  step_same m words (IsRunning seat (Loads cell go)) t = refl
+  step_same m words (IsRunning seat (Stores cell content rest)) t = refl
+  step_same m words (IsRunning seat Full) t = refl
+  step_same m words (IsRunning seat Breaks) t = refl
+  step_same m words IsLost t = refl
+  step_same m words (IsPlaced p) t = refl
+  step_same m words (IsAt p restart) t = refl
+  step_same m words (IsBroken p) t = refl
+  step_same m words IsDone t = refl
 
-  pub tree_same : (words : List ℕ) (act : Act) (x : Standing) (t : Skeleton) → by_act j words act x t ≡ by_act i words act x t
-  tree_same words (Step v) x t = step_same words x t
-  tree_same words Soft x t = refl
-  tree_same words Hard x t = refl
-  tree_same words (Quit why) x t = refl
+  pub tree_same : (m : Cell → ℕ) (words : List ℕ) (act : Act) (x : Standing) (t : Skeleton) → act_with j m words act x t ≡ act_with i m words act x t
+  tree_same m words (Step v) x t = step_same m words x t
+  tree_same m words Soft x t = refl
+  tree_same m words Hard x t = refl
+  tree_same m words (Quit why) x t = refl
 
-  -- so what the deque's half says
+  -- the followed places are left out alike
+  settled_same : (m : Cell → ℕ) (v c : ℕ) → settled j m v c ≡ settled i m v c
+  settled_same m v c = fun_ext by
+    where
+      by : (cell : Cell) → settled j m v c cell ≡ settled i m v c cell
+      by (RoomCounter x) = refl
+      by (BlockWord x) = refl
+      by _ = refl
+
+  words_same : (l : List Followed) (m : Cell → ℕ) → left_words j l m ≡ left_words i l m
+  words_same [] m = refl
+  words_same (v ∷ l) m = settled_same (left_words j l m) v.place v.top ∙ ap (λ (w : Cell → ℕ). settled i w v.place v.top) (words_same l m)
+
+  pub left_same : (l : List Followed) (s : State) → left j l s ≡ left i l s
+  left_same l s = ap (λ (w : Cell → ℕ). record { words = w; kind = left_kinds l s.kind; doing = s.doing }) (words_same l s.words)
+
+  -- what the deque's half says is said of both
   takes : (state : Machine) (t : Skeleton) (p : ℕ) (row : Row) → TakesSo i state t p row → TakesSo j state t p row
   takes state t p (Now (Load (Offset r b))) a = a
   takes state t p (Now (Begin r f b)) a = a
@@ -229,11 +256,15 @@ module _ (i : Image) (n : ℕ) where
   kind_if words p None a = tt
   kind_if words p (Some restart) a = a
 
-  stands : (state : Machine) (t : Skeleton) (c : ℕ) (x : Standing) → StandsSo i state t c x → StandsSo j state t c x
-  stands state t c IsLost a = tt
-  stands state t c (IsPlaced p) a = tt
-  stands state t c (IsAt p restart) a = (a.0, kind_if state.words p restart a.1)
-  stands state t c (IsWithin seat row) a = record {
+  -- but where a capsule ends
+  none_ends : (seat : Seat) (rest : Rest) → ended_by (IsRunning seat rest) ≡ 0 → (kind : RestartKind) → rest ≡ Installs kind → AllowsAll j
+  none_ends seat rest none kind e = absurd (let one : 1 ≡ 0 = ap (λ (x : Rest). ended_by (IsRunning seat x)) (sym e) ∙ none in omega (arith, one))
+
+  stands : (state : Machine) (t : Skeleton) (c : ℕ) (x : Standing) → ended_by x ≡ 0 → StandsSo i state t c x → StandsSo j state t c x
+  stands state t c IsLost none a = tt
+  stands state t c (IsPlaced p) none a = tt
+  stands state t c (IsAt p restart) none a = (a.0, kind_if state.words p restart a.1)
+  stands state t c (IsWithin seat row) none a = record {
     holds = a.holds;
     own = a.own;
     kind = a.kind;
@@ -241,93 +272,171 @@ module _ (i : Image) (n : ℕ) where
     came = a.came;
     takes = λ taker. takes state t seat.place row (a.takes taker);
   }
-  stands state t c (IsRunning seat rest) a = record { holds = a.holds; kind = a.kind; there = a.there }
-  stands state t c (IsBroken p) a = a
-  stands state t c IsDone a = tt
+  stands state t c (IsRunning seat rest) none a = record { holds = a.holds; kind = a.kind; there = a.there; counts = none_ends seat rest none }
+  stands state t c (IsBroken p) none a = a
+  stands state t c IsDone none a = tt
 
-  pub acts_more : (state : Machine) (t : Skeleton) (c : ℕ) (act : Act) (x : Standing) → ActsSo i state t c act x → ActsSo j state t c act x
-  acts_more state t c (Step v) x a = (a.0, stands state t c x a.1)
-  acts_more state t c Soft x a = a
-  acts_more state t c Hard x a = a
-  acts_more state t c (Quit why) x a = a
+  pub acts_more : (state : Machine) (t : Skeleton) (c : ℕ) (act : Act) (x : Standing) → by_step ended_by act x ≡ 0 → ActsSo i state t c act x → ActsSo j state t c act x
+  acts_more state t c (Step v) x none a = (a.0, stands state t c x none a.1)
+  acts_more state t c Soft x none a = a
+  acts_more state t c Hard x none a = a
+  acts_more state t c (Quit why) x none a = a
 
--- kept, with so many counted at least
-abbrev Counts : (i : Image) (root : Tree (Frame FrameWord Point) Result) (input : Words) → State → Skeleton → ℕ → Type 0
-Counts i root input s t n = (kept : IsKept i root input s t) × (n ≤ kept.ahead.0.capsules)
+  away_more : (l : List Followed) (act : Act) (x : Standing) → StepsAway i l act x → StepsAway j l act x
+  away_more l (Step v) x a = a
+  away_more l Soft x a = a
+  away_more l Hard x a = a
+  away_more l (Quit why) x a = a
 
-module _ (i : Image) (fair : IsFair i.code) (plain : i.shape.takeover ≡ ByPlaces) (root : Tree (Frame FrameWord Point) Result) (input : Words) (state : Machine) (t : Skeleton)
-    (law : IsKept i root input (places_of i.shape state) t) where
+-- just these counts
+abbrev pub exactly : Counts → Counts → Bool
+exactly k j = (j.capsules == k.capsules) && ((j.forks == k.forks) && (j.block_words == k.block_words))
+
+pub exactly_is : (k : Counts) → exactly k k ≡ true
+exactly_is k = and_from (k.capsules == k.capsules) _ (eq-eqb k.capsules k.capsules refl)
+    (and_from (k.forks == k.forks) _ (eq-eqb k.forks k.forks refl) (eq-eqb k.block_words k.block_words refl))
+
+pub exactly_says : (k j : Counts) → exactly k j ≡ true → j ≡ k
+exactly_says k j e =
+    let two = and_parts (j.capsules == k.capsules) _ e in
+    let more = and_parts (j.forks == k.forks) _ two.1 in
+    counts_path (eqb-true j.capsules k.capsules two.0) (eqb-true j.forks k.forks more.0) (eqb-true j.block_words k.block_words more.1)
+
+-- kept, with so many counted
+abbrev pub Counted : (i : Image) (root : Tree (Frame FrameWord Point) Result) (input : Words) → State → Skeleton → (capsules forks : ℕ) → Type 0
+Counted i root input s t n m = (kept : IsKept i root input s t) × (kept.ahead.0.capsules ≡ n) × (kept.ahead.0.forks ≡ m)
+
+-- what is kept whatever is asked of the counts has the counts that there were
+module _ (i : Image) (root : Tree (Frame FrameWord Point) Result) (input : Words) (s : State) (t : Skeleton) (law : IsKept i root input s t) where
+  abbrev pub asked : Image
+  asked = counting (exactly law.ahead.0) i
+
+  pub as_asked : IsKept asked root input s t
+  as_asked = (recount i (exactly law.ahead.0) root input s t law (exactly_is law.ahead.0)).0
+
+  pub answered : (z : State) (u : Skeleton) → IsKept asked root input z u → Counted i root input z u law.ahead.0.capsules law.ahead.0.forks
+  answered z u kept =
+      let same : kept.ahead.0 ≡ law.ahead.0 = exactly_says law.ahead.0 kept.ahead.0 kept.counted in
+      let back = recount asked i.counted root input z u kept (ap i.counted same ∙ law.counted) in
+      let all = back.1 ∙ same in
+      (back.0, ap (λ (k : Counts). k.capsules) all, ap (λ (k : Counts). k.forks) all)
+
+module _ (i : Image) (fair : IsFair i.code) (root : Tree (Frame FrameWord Point) Result) (input : Words) (state : Machine) (l : List Followed) (apart : AreApart l) (t : Skeleton)
+    (law : IsKept i root input (left i l (places_of i.shape state)) t) where
   abbrev S : State
-  S = places_of i.shape state
+  S = left i l (places_of i.shape state)
 
-  abbrev k : ℕ
-  k = law.ahead.0.capsules
+  abbrev k : Counts
+  k = law.ahead.0
 
-  -- any turn
-  stays : (turn : Turn) → ActsSo i state t turn.processor turn.act (stand_of state turn.processor)
-      → Counts i root input (places_of i.shape (happens i.shape i.code state turn)) (by_act i state.words turn.act (stand_of state turn.processor) t) (k + 0)
-  stays turn so =
-      let with_count = (recount i k root input S t law (omega arith)).0 in
-      let after = turns_keep_on (counting k i) fair plain root input state t with_count turn (acts_more i k state t turn.processor turn.act (stand_of state turn.processor) so) in
-      let n = after.counted in
-      let back = recount (counting k i) i.counted root input (places_of i.shape (happens i.shape i.code state turn)) (by_act (counting k i) state.words turn.act (stand_of state turn.processor) t) after
-      (let a = law.counted in omega (arith, a, n)) in
-      let same = back.1 in
-      subst (λ (u : Skeleton). Counts i root input (places_of i.shape (happens i.shape i.code state turn)) u (k + 0)) (tree_same i k state.words turn.act (stand_of state turn.processor) t)
-      (back.0, omega (arith, n, same))
+  abbrev other : Image
+  other = asked i root input S t law
+
+  -- the same with the other question
+  other_law : IsKept other root input (left other l (places_of i.shape state)) t
+  other_law = subst (λ (z : State). IsKept other root input z t) (sym (left_same i (exactly k) l (places_of i.shape state))) (as_asked i root input S t law)
+
+  -- behind an act
+  abbrev Then : (c : ℕ) (act : Act) → Standing → Type 0
+  Then c act x = Counted i root input (left i l (places_of i.shape (happens i.shape i.code state (record { processor = c; act = act })))) (act_with i S.words state.words act x t)
+      (k.capsules + by_step ended_by act x) (k.forks + by_step (opened_by S.words) act x)
+
+  -- by which no capsule ends
+  stays : (c : ℕ) (act : Act) → ActsSo i state t c act (stand_of state c) → StepsAway i l act (stand_of state c) → by_step ended_by act (stand_of state c) ≡ 0 → by_step (opened_by S.words) act (stand_of state c) ≡ 0 → Then c act (stand_of state c)
+  stays c act so away none no_fork =
+      let x = stand_of state c in
+      let turn : Turn = record { processor = c; act = act } in
+      let after = turns_keep_left other fair root input state l apart t other_law turn (acts_more i (exactly k) state t c act x none so) (away_more i (exactly k) l act x away) in
+      let same = left_same i (exactly k) l in
+      let kept = subst₂ (λ (z : State) (u : Skeleton). IsKept other root input z u) (same (places_of i.shape (happens i.shape i.code state turn)))
+      (ap (λ (m : Cell → ℕ). act_with other m state.words act x t) (words_same i (exactly k) l (view i.shape state.words)) ∙ tree_same i (exactly k) S.words state.words act x t) after in
+      let all = answered i root input S t law (left i l (places_of i.shape (happens i.shape i.code state turn))) (act_with i S.words state.words act x t) kept in
+      (all.0, let a = all.1 in omega (arith, a, none), let a = all.2 in omega (arith, a, no_fork))
 
   -- the end of a capsule
-  module _ (c v : ℕ) (seat : Seat) (kind : RestartKind) (e : stand_of state c ≡ IsRunning seat (Installs kind)) (so : InRestSo i state c seat (Installs kind)) where
+  module _ (c v : ℕ) (seat : Seat) (kind : RestartKind) (e : stand_of state c ≡ IsRunning seat (Installs kind)) (so : InRestSo i state c seat (Installs kind)) (away : IsAway l seat.place) where
     abbrev p : ℕ
     p = seat.place
 
     doing : S.doing p ≡ InRest (Installs kind)
     doing = doing_here (stand_of state) (stand_of state) c p (IsRunning seat (Installs kind)) e (λ d ne. refl) so.holds.own refl so.holds.others i.shape.processors so.holds.there
 
-    counts_at : (q : RestartKind) → S.kind p ≡ q → Does i S.words p q (InRest (Installs kind)) → Counts i root input (installs S p kind) (by_install i S.words p q kind t) (k + 1)
-    counts_at (Run f y) ke come =
-        let got = rest_counts i fair root input S t law p so.holds.place (others_keep i fair root input S t law p) f y (subst HasCopy ke (law.copies p)) ke kind come in
-        (got.0, let n = got.1 in omega (arith, n))
+    own_kind : S.kind p ≡ seat.restart.kind
+    own_kind = kind_away l (places_of i.shape state).kind p away ∙ so.kind
+
+    counts_at : (q : RestartKind) → S.kind p ≡ q → Does i S.words p q (InRest (Installs kind)) → Counted i root input (installs S p kind) (by_install i S.words p q kind t) (k.capsules + 1) (k.forks + forks_with S.words kind)
+    counts_at (Run f y) ke come = rest_counts i fair root input S t law p so.holds.place (others_keep i fair root input S t law p) f y (subst HasCopy ke (law.copies p)) ke kind (so.counts kind refl) come
     counts_at _ ke come = absurd come
 
-    ends_count : Counts i root input (places_of i.shape (happens i.shape i.code state (record { processor = c; act = Step v }))) (tree_by i state.words (IsRunning seat (Installs kind)) t) (k + 1)
+    ends_count : Then c (Step v) (IsRunning seat (Installs kind))
     ends_count =
         let shown = ((turns_show i.shape i.code state c).0 seat so.holds).1.installs v kind e so.there in
-        subst (λ (z : State). Counts i root input z (by_install i S.words p seat.restart.kind kind t) (k + 1)) (sym shown)
-        (counts_at seat.restart.kind so.kind (subst₂ (λ (q : RestartKind) (d : Doing). Does i S.words p q d) so.kind doing (law.does p)))
+        subst (λ (z : State). Counted i root input z (by_install i S.words p seat.restart.kind kind t) (k.capsules + 1) (k.forks + forks_with S.words kind))
+        (sym (ap (left i l) shown ∙ installs_left i root input (places_of i.shape state) l apart p kind away))
+        (counts_at seat.restart.kind own_kind (subst₂ (λ (q : RestartKind) (d : Doing). Does i S.words p q d) own_kind doing (law.does p)))
 
   -- a step, by where the processor stands
   module _ (c v : ℕ) where
-    abbrev turn : Turn
-    turn = record { processor = c; act = Step v }
+    others : (x : Standing) → stand_of state c ≡ x → ActsSo i state t c (Step v) x → StepsAway i l (Step v) x → ended_by x ≡ 0 → opened_by S.words x ≡ 0 → Then c (Step v) x
+    others x e so away none no_fork = subst (Then c (Step v)) e
+        (stays c (Step v) (subst (ActsSo i state t c (Step v)) (sym e) so) (subst (StepsAway i l (Step v)) (sym e) away) (ap ended_by e ∙ none) (ap (opened_by S.words) e ∙ no_fork))
 
-    abbrev After : Standing → Type 0
-    After x = Counts i root input (places_of i.shape (happens i.shape i.code state turn)) (tree_by i state.words x t) (k + ended_by x)
+    by_stand : (x : Standing) → stand_of state c ≡ x → ActsSo i state t c (Step v) x → StepsAway i l (Step v) x → Then c (Step v) x
+    by_stand (IsRunning seat (Installs kind)) e so away = ends_count c v seat kind e so.1 away.0
+    by_stand (IsRunning seat (Loads cell go)) e so away = others (IsRunning seat (Loads cell go)) e so away refl refl
+    by_stand (IsRunning seat (Stores cell content rest)) e so away = others (IsRunning seat (Stores cell content rest)) e so away refl refl
+    by_stand (IsRunning seat Full) e so away = others (IsRunning seat Full) e so away refl refl
+    by_stand (IsRunning seat Breaks) e so away = others (IsRunning seat Breaks) e so away refl refl
+    by_stand (IsWithin seat row) e so away = others (IsWithin seat row) e so away refl refl
+    by_stand IsLost e so away = others IsLost e so away refl refl
+    by_stand (IsPlaced q) e so away = others (IsPlaced q) e so away refl refl
+    by_stand (IsAt q restart) e so away = others (IsAt q restart) e so away refl refl
+    by_stand (IsBroken q) e so away = others (IsBroken q) e so away refl refl
+    by_stand IsDone e so away = others IsDone e so away refl refl
 
-    others : (x : Standing) → stand_of state c ≡ x → ActsSo i state t c (Step v) x → ended_by x ≡ 0 → After x
-    others x e so none = subst (λ (n : ℕ). Counts i root input (places_of i.shape (happens i.shape i.code state turn)) (tree_by i state.words x t) (k + n)) (sym none)
-        (subst (λ (y : Standing). Counts i root input (places_of i.shape (happens i.shape i.code state turn)) (tree_by i state.words y t) (k + 0)) e
-        (stays turn (subst (ActsSo i state t c (Step v)) (sym e) so)))
+  by_turn : (c : ℕ) (act : Act) → ActsSo i state t c act (stand_of state c) → StepsAway i l act (stand_of state c) → Then c act (stand_of state c)
+  by_turn c (Step v) so away = by_stand c v (stand_of state c) refl so away
+  by_turn c Soft so away = stays c Soft so away refl refl
+  by_turn c Hard so away = stays c Hard so away refl refl
+  by_turn c (Quit why) so away = stays c (Quit why) so away refl refl
 
-    by_stand : (x : Standing) → stand_of state c ≡ x → ActsSo i state t c (Step v) x → After x
-    by_stand (IsRunning seat (Installs kind)) e so = ends_count c v seat kind e so.1
-    by_stand (IsRunning seat (Loads cell go)) e so = others (IsRunning seat (Loads cell go)) e so refl
-    by_stand (IsRunning seat (Stores cell content rest)) e so = others (IsRunning seat (Stores cell content rest)) e so refl
-    by_stand (IsRunning seat Full) e so = others (IsRunning seat Full) e so refl
-    by_stand (IsRunning seat Breaks) e so = others (IsRunning seat Breaks) e so refl
-    by_stand (IsWithin seat row) e so = others (IsWithin seat row) e so refl
-    by_stand IsLost e so = others IsLost e so refl
-    by_stand (IsPlaced q) e so = others (IsPlaced q) e so refl
-    by_stand (IsAt q restart) e so = others (IsAt q restart) e so refl
-    by_stand (IsBroken q) e so = others (IsBroken q) e so refl
-    by_stand IsDone e so = others IsDone e so refl
+  -- a turn of an heir
+  module _ (c victim : ℕ) (seat : Seat) (next : Ending) (v : ℕ) (at : stand_of state c ≡ IsWithin seat (Now next)) (heir : Heired i state l t c seat next v) where
+    abbrev P : State
+    P = places_of i.shape state
 
-  by_turn : (c : ℕ) (act : Act) → ActsSo i state t c act (stand_of state c)
-      → Counts i root input (places_of i.shape (happens i.shape i.code state (record { processor = c; act = act }))) (by_act i state.words act (stand_of state c) t) (k + by_step ended_by act (stand_of state c))
-  by_turn c (Step v) so = by_stand c v (stand_of state c) refl so
-  by_turn c Soft so = stays (record { processor = c; act = Soft }) so
-  by_turn c Hard so = stays (record { processor = c; act = Hard }) so
-  by_turn c (Quit why) so = stays (record { processor = c; act = Quit why }) so
+    heir_too : Heired other state l t c seat next v
+    heir_too = record {
+      holds = heir.holds;
+      kind = heir.kind;
+      there = heir.there;
+      idle = heir.idle;
+      away = heir.away;
+      place = heir.place;
+      still = heir.still;
+      rests = heir.rests;
+      ends = heir.ends;
+      goes = subst (λ (z : State). GoesOnAs z t v (kinds_of i.shape state.words v) (kind_then next)) (sym (left_same i (exactly k) l P)) heir.goes;
+    }
+
+    more_same : and_followed other l P v ≡ and_followed i l P v
+    more_same = ap (λ (n : ℕ). record { place = v; top = n } ∷ l)
+        (roof i (exactly k) (left other l P).words v (left_kinds l P.kind v) ∙ ap (λ (m : Cell → ℕ). ceiling i m v (left_kinds l P.kind v)) (words_same i (exactly k) l P.words))
+
+    heir_counts : Counted i root input (left i (and_followed i l P v) (places_of i.shape (happens i.shape i.code state (record { processor = c; act = Step victim })))) (handed v seat.place t) k.capsules k.forks
+    heir_counts =
+        let n = places_of i.shape (happens i.shape i.code state (record { processor = c; act = Step victim })) in
+        let after = heir_turns_keep other fair root input state l apart t other_law c victim seat next v at heir_too in
+        answered i root input S t law (left i (and_followed i l P v) n) (handed v seat.place t)
+        (subst (λ (z : State). IsKept other root input z (handed v seat.place t)) (ap (λ (m : List Followed). left other m n) more_same ∙ left_same i (exactly k) (and_followed i l P v) n) after)
+
+pub counts_are_exact : CountsAreExact
+counts_are_exact i fair root input state l apart t law turn so away = by_turn i fair root input state l apart t law turn.processor turn.act so away
+
+pub heirs_count_none : HeirsCountNone
+heirs_count_none i fair root input state l apart t law c victim seat next v at heir = heir_counts i fair root input state l apart t law c victim seat next v at heir
 
 pub capsules_are_counted : CapsulesAreCounted
-capsules_are_counted i fair plain root input state t law turn so = by_turn i fair plain root input state t law turn.processor turn.act so
+capsules_are_counted i fair plain root input state t law turn so =
+    let all = counts_are_exact i fair root input state [] tt t law turn so (act_away i plain turn.act (stand_of state turn.processor)) in
+    (all.0, let a = all.1 in omega (arith, a))

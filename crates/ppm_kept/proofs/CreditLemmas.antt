@@ -2,12 +2,13 @@
 use Rattle.std.proofs.Common.{◌≡◌, ◌⊎◌, ◌≤◌, ℕ, ◌+◌, ◌==◌, Bool, true, false, cond, inl, inr, refl, sym, ap, ◌∙◌, arith}
 use Rattle.std.proofs.lemmas.Bool.{cases_Bool, cond-true, cond-false}
 use Rattle.ppm_cells.specs.declared.link.LinkKind.{LinkKind}
-use Rattle.ppm_cells.specs.declared.link.LinkKind.TheVariants.{Call as Called, Branch}
+use Rattle.ppm_cells.specs.declared.link.LinkKind.TheVariants.{Root, Call as Called, Branch}
 use Rattle.ppm_cells.specs.declared.side.Side.{Side}
 use Rattle.ppm_cells.specs.declared.side.Side.TheVariants.{Left, Right}
 use Rattle.ppm_frames.specs.Skeletons.{Stand, Begins, Over, Who, InPlace, Fresh, Waiting, Held, Came, Inlined, Skeleton, Leaf, Calling, Forking, holds, grow_leaf, grow, back, joined, over_left, readied, pushed, passed, roused, inlined, awake, take_in, Around, Top, AtCall, AtLeft, AtRight, plug, hook_at}
 use Rattle.ppm_frames.proofs.SkeletonLemmas.{fork_with}
-use Rattle.ppm_kept.specs.Credit.{branch_due, stand_due, owed}
+use Rattle.ppm_kept.specs.Credit.{branch_due, stand_due, owed, HandedOwes}
+use Rattle.ppm_kept.specs.Heirs.{handed}
 
 -- a part that owes less in a whole
 pub owed_plug : (h : LinkKind) (c : Around) (u v : Skeleton) (x y : ℕ) → owed (hook_at h c) v + x ≤ owed (hook_at h c) u + y → owed h (plug c v) + x ≤ owed h (plug c u) + y
@@ -34,6 +35,22 @@ pub came_same : (h : LinkKind) (p : ℕ) (t : Skeleton) → owed h (grow p (λ s
 came_same h p (Leaf w st f n) = came_leaf h p w st f n
 came_same h p (Calling f n y t) = let e = came_same (Called f y) p t in omega (arith, e)
 came_same h p (Forking f n y r a b) = let e = came_same (Branch Left r) p a in let d = came_same (Branch Right r) p b in omega (arith, e, d)
+
+handed_leaf : (h : LinkKind) (v p : ℕ) (w : Who) (st : Stand) (f n : ℕ) → owed h (grow_leaf v (λ st f n. Leaf (InPlace p) st f n) w st f n) ≡ stand_due h st
+handed_leaf h v p (InPlace q) st f n = either h (stand_due h st) (q == v) (Leaf (InPlace p) st f n) (Leaf (InPlace q) st f n) refl refl
+handed_leaf h v p Fresh st f n = refl
+handed_leaf h v p Waiting st f n = refl
+handed_leaf h v p Held st f n = refl
+handed_leaf h v p Came st f n = refl
+handed_leaf h v p Inlined st f n = refl
+
+handed_same : (h : LinkKind) (v p : ℕ) (t : Skeleton) → owed h (handed v p t) ≡ owed h t
+handed_same h v p (Leaf w st f n) = handed_leaf h v p w st f n
+handed_same h v p (Calling f n y t) = let e = handed_same (Called f y) v p t in omega (arith, e)
+handed_same h v p (Forking f n y r a b) = let e = handed_same (Branch Left r) v p a in let d = handed_same (Branch Right r) v p b in omega (arith, e, d)
+
+pub handed_owes : HandedOwes
+handed_owes v p t = handed_same Root v p t
 
 -- a change at one fork that changes nothing of what it owes
 pub over_same : (p : ℕ) (e : (f n y r : ℕ) → Skeleton → Skeleton → Skeleton) → ((h : LinkKind) (f n y r : ℕ) (a b : Skeleton) → owed h (e f n y r a b) ≡ owed h (Forking f n y r a b))

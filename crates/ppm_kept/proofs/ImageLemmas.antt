@@ -1,10 +1,11 @@
 -- Images open runs: the words of an image, by cells.
-use Rattle.std.proofs.Common.{◌≡◌, ◌≢◌, ◌≤◌, ◌<◌, ◌⊎◌, ℕ, ◌+◌, ◌-◌, ◌*◌, ◌==◌, true, List, Some, inl, inr, refl, sym, ap, ap₂, ◌∙◌, subst, arith}
+use Rattle.std.proofs.Common.{◌≡◌, ◌≢◌, ◌≤◌, ◌<◌, ◌⊎◌, ℕ, ◌+◌, ◌-◌, ◌*◌, ◌==◌, Bool, true, List, Some, inl, inr, refl, sym, ap, ap₂, ◌∙◌, subst, arith}
 use Rattle.std.specs.Prelude.{nat_le}
 use Rattle.std.proofs.Math.Path.{fun_ext}
 use Rattle.std.proofs.Math.Nat.{mul-le-mul_right}
 use Rattle.std.proofs.lemmas.Bool.{cases_Bool, cases_eq, cases_lt, le-leb, lt-leb, lt-ltb, ne_eqb, eq-eqb}
 use Rattle.std.proofs.lemmas.List.{length-map, get_or_past}
+use Rattle.ppm_strands.specs.Run.{Counts, none}
 use Rattle.ppm_strands.specs.Calm.{Calm}
 use Rattle.ppm_strands.specs.Tree.{Tree, Strand}
 use Rattle.ppm_words.specs.declared.named_array.NamedArray.{NamedArray}
@@ -46,9 +47,9 @@ use Rattle.ppm_kept.specs.Openings.{Opening, ImagesOpen}
 use Rattle.ppm_kept.proofs.OwnerLemmas.{owned}
 use Rattle.ppm_kept.proofs.TurnLemmas.{pool_cell}
 
-module _ (code : CodeParts) (input : List NamedArray) (s : Shape) (keeper : ℕ) (image : RealImage) (o : Opens code input s keeper image) where
+module _ (code : CodeParts) (input : List NamedArray) (s : Shape) (keeper : ℕ) (image : RealImage) (o : Opens code input s keeper image) (asked : Counts → Bool) (so : asked none ≡ true) where
   abbrev i : Image
-  i = record { shape = s; code = code; counted = 0 }
+  i = record { shape = s; code = code; counted = asked }
 
   abbrev m : Cell → ℕ
   m = view s image.words
@@ -159,7 +160,7 @@ module _ (code : CodeParts) (input : List NamedArray) (s : Shape) (keeper : ℕ)
       let is = shown ∙ root.strand in (
         record {
           there = o.below;
-          uncounted = refl;
+          uncounted = so;
           link = ap link_or (ap link_of (word_at f 0 (omega arith) (omega arith)) ∙ root.link);
           entry = ap (slots_at code) (word 2 (omega arith) ∙ entry_word) ∙ entry_slots;
           outcome = word 1 (omega arith) ∙ sym (pack-unpack finish_word IsFinish finish_of finishes_exact (read s image.words (BlockWord (f + 1))) Ended root.outcome);
@@ -176,4 +177,5 @@ module _ (code : CodeParts) (input : List NamedArray) (s : Shape) (keeper : ℕ)
       )
 
 pub images_open : ImagesOpen
-images_open code input s keeper image o calm = opens code input s keeper image o calm
+images_open code input s keeper image o calm =
+    (λ asked so. (opens code input s keeper image o asked so calm).0, (opens code input s keeper image o (λ k. true) refl calm).1)

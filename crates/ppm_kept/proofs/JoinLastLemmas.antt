@@ -47,7 +47,7 @@ use Rattle.ppm_kept.proofs.PutLemmas.{put_here, put_else}
 use Rattle.ppm_kept.proofs.BlockLemmas.{finish_back}
 use Rattle.ppm_kept.proofs.EndingLemmas.{not_ended}
 use Rattle.ppm_kept.proofs.BranchLemmas.{same_part, barren, come_fork}
-use Rattle.ppm_kept.proofs.BuildLemmas.{Turn, build}
+use Rattle.ppm_kept.proofs.BuildLemmas.{Turn, allows_none, build}
 use Rattle.ppm_kept.proofs.CopyLemmas.{hooked_low}
 use Rattle.ppm_kept.proofs.PlaceLemmas.{kept_same, counted, not_free, mine_around, is_at_own, is_at_other}
 use Rattle.ppm_kept.proofs.TurnLemmas.{pool_cell}
@@ -277,7 +277,7 @@ module _ (i : Image) (fair : IsFair i.code) (root : Tree (Frame FrameWord Point)
         doings = λ q ne. put_else s.doing p x q ne;
         around = mine_around i fair root input s t law p c u (BlockWord (g + a)) w is mine;
         step = elim step [
-          | inl st ↦ inl (none, subst (λ (b : Words). Step (strands i.shape i.code) none (tree_at m h u) (arrays_at m) (tree_at m' h u) b) (sym array_is) st)
+          | inl st ↦ inl (none, subst (λ (b : Words). Step (strands i.shape i.code) none (tree_at m h u) (arrays_at m) (tree_at m' h u) b) (sym array_is) st, allows_none i)
           | inr same ↦ inr (same, array_is)
         ];
         swap = record { aim = record { head = refl; aim = target_stays }; order = refl; gives = inl (refl, refl) };
@@ -332,7 +332,7 @@ module _ (i : Image) (fair : IsFair i.code) (root : Tree (Frame FrameWord Point)
       doing = put_here s.doing p Resting;
       doings = λ q ne. put_else s.doing p Resting q ne;
       around = λ x ne. refl;
-      step = inl (none, step);
+      step = inl (none, step, allows_none i);
       swap = record { aim = record { head = refl; aim = refl }; order = refl; gives = inl (refl, refl) };
       good = (forks.framed, sized, subst (λ (q : RestartKind). Match i.code m q h (back_to y) g) (sym (put_here s.kind p k)) match);
       adds = λ x. inl (omega arith, omega arith);

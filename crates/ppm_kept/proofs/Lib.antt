@@ -22,6 +22,7 @@ pub mod UntakenLemmas
 pub mod BranchLemmas
 pub mod BuildLemmas
 pub mod PlaceLemmas
+pub mod ForkedLemmas
 pub mod RunRow
 pub mod BumpRow
 pub mod TurnLemmas

@@ -44,7 +44,7 @@ openings i m p f n o = record {
   untaken = each (λ q k. Unpushed q t k) tt (λ q ne. tt);
   aims = λ q r g b taker about. absurd (cc);
   paid = each (λ q k. ceiling i m q k ≤ start i q + (frame_size i.code i.code.root + 0)) (let a = o.small p in omega (arith, a)) (λ q ne. let a = o.small q in omega (arith, a));
-  counted = let a = o.uncounted in omega (arith, a);
+  counted = o.uncounted;
 }
   where
     t : Skeleton

@@ -1,5 +1,5 @@
 -- Each turn pays what it takes off.
-use Rattle.std.proofs.Common.{◌≡◌, ◌≤◌, ℕ, zero, suc, ◌+◌, ◌*◌, ◌==◌, nat_lt, if◌then◌else◌, Bool, true, false, cond, inl, inr, refl, sym, ap, ◌∙◌, subst, subst₂, arith, Option, Some, None}
+use Rattle.std.proofs.Common.{◌≡◌, ◌≤◌, ℕ, zero, suc, ◌+◌, ◌*◌, ◌==◌, nat_lt, if◌then◌else◌, Bool, true, false, cond, List, [], inl, inr, refl, sym, ap, ◌∙◌, subst, subst₂, arith, Option, Some, None}
 use Rattle.std.proofs.lemmas.Bool.{cases_Bool, cond-false, eq-eqb}
 use Rattle.ppm_strands.specs.Tree.{Words, Tree}
 use Rattle.ppm_cells.specs.Cells.{word_count}
@@ -40,7 +40,6 @@ use Rattle.ppm_step.specs.declared.row.Then.TheVariants.{Load, Install, Fork, Be
 use Rattle.ppm_step.specs.declared.turn.Act.{Act}
 use Rattle.ppm_step.specs.declared.turn.Act.TheVariants.{Step, Soft, Hard, Quit}
 use Rattle.ppm_paces.specs.Costs.{weight, behind_unwind, behind_join}
-use Rattle.ppm_frames.specs.Views.{view}
 use Rattle.ppm_frames.specs.Skeletons.{Stand, Begins, Over, Arrives, InPlace, Waiting, Held, Came, Skeleton, Leaf, Calling, header, holds, grow, pushed, inlined, take_in, hook_at}
 use Rattle.ppm_frames.specs.Good.{link_or, link_at, Match}
 use Rattle.ppm_frames.proofs.SkeletonLemmas.{grow_plug, called_from, fork_with, branch_from}
@@ -50,9 +49,11 @@ use Rattle.ppm_kept.specs.Moves.{doing_of, opened, by_install}
 use Rattle.ppm_kept.specs.Laws.{kind_then}
 use Rattle.ppm_kept.specs.Returns.{by_unwind}
 use Rattle.ppm_kept.specs.Joins.{joined_by, by_join}
+use Rattle.ppm_kept.specs.Left.{Followed, left, IsAway, StandsAway, StepsAway}
 use Rattle.ppm_kept.specs.Places.{places_of, Holds, IsOf}
-use Rattle.ppm_kept.specs.Steps.{by_end, by_store, by_exchange, tree_by, by_act, StandsSo, ActsSo}
-use Rattle.ppm_kept.specs.Credit.{branch_due, owed, paid_by, ended_by, by_step, CreditStays}
+use Rattle.ppm_kept.specs.Steps.{by_end, by_store, by_exchange, tree_with, act_with, StandsSo, ActsSo}
+use Rattle.ppm_kept.specs.Credit.{branch_due, owed, paid_by, ended_by, by_step, CreditStays, CreditStaysLeft}
+use Rattle.ppm_kept.proofs.LeftLemmas.{kind_away}
 use Rattle.ppm_kept.proofs.StateLemmas.{doing_here}
 use Rattle.ppm_kept.proofs.PlaceLemmas.{leaf, Runs, run_leaf}
 use Rattle.ppm_kept.proofs.UnwindRow.{Overs, over_at}
@@ -220,17 +221,20 @@ module _ (i : Image) (m : Cell → ℕ) (p : ℕ) where
   join_first r b zero d re e q = absurd (cc)
   join_first r b (suc n) d re e q = first_pops (seat_at p (Join r d) b) r n re _ _ _ (ap (λ (x : ℕ). m (BlockWord (r + 1)) == x) (side_first d) ∙ e) q
 
-module _ (i : Image) (fair : IsFair i.code) (root : Tree (Frame FrameWord Point) Result) (input : Words) (state : Machine) (t : Skeleton)
-    (law : IsKept i root input (places_of i.shape state) t) (c : ℕ) where
+module _ (i : Image) (fair : IsFair i.code) (root : Tree (Frame FrameWord Point) Result) (input : Words) (state : Machine) (l : List Followed) (t : Skeleton)
+    (law : IsKept i root input (left i l (places_of i.shape state)) t) (c : ℕ) where
+  abbrev P : State
+  P = places_of i.shape state
+
   abbrev S : State
-  S = places_of i.shape state
+  S = left i l P
 
   abbrev m : Cell → ℕ
   m = S.words
 
   -- what the step of a processor that stands there pays
   abbrev Pays : Standing → Type 0
-  Pays x = owed Root (tree_by i state.words x t) + paid_by x ≤ owed Root t + 36 * ended_by x
+  Pays x = owed Root (tree_with i m state.words x t) + paid_by x ≤ owed Root t + 36 * ended_by x
 
   doing_own : (p : ℕ) (x : Standing) → Holds i.shape state c p → stand_of state c ≡ x → IsOf p x → S.doing p ≡ doing_of x
   doing_own p x holds e of = doing_here (stand_of state) (stand_of state) c p x e (λ d ne. refl) holds.own of holds.others i.shape.processors holds.there
@@ -244,7 +248,7 @@ module _ (i : Image) (fair : IsFair i.code) (root : Tree (Frame FrameWord Point)
     hook_is : hook_at Root has_over.around ≡ (link_at (m (BlockWord f))).kind
     hook_is = sym (ap (λ (l : Link). l.kind) has_over.framed)
 
-    unwinds_pay : (l : RestartKind) → Says (link_at (m (BlockWord f))).kind l → owed Root (by_unwind p l t) + behind_unwind l ≤ owed Root t
+    unwinds_pay : (k : RestartKind) → Says (link_at (m (BlockWord f))).kind k → owed Root (by_unwind p k t) + behind_unwind k ≤ owed Root t
     unwinds_pay (Run g y) says = let le = back_less Root p (λ z. Begins z) goes_on t in omega (arith, le)
     unwinds_pay (Unwind g) says = elim (called_from Root has_over.around g says.0 (hook_is ∙ says.1)) [
       | inl none ↦ absurd (let z = none.0 in cc)
@@ -306,7 +310,7 @@ module _ (i : Image) (fair : IsFair i.code) (root : Tree (Frame FrameWord Point)
     pops re e (inl under) = join_first i m p r under.0 under.1 d re e under.2
     pops re e (inr done) = absurd (let x = done.late in let z : true ≡ false = sym e ∙ x in cc)
 
-    joins_pay : (l : RestartKind) → ((m (BlockWord (r + 1)) == side_code d) ≡ true → l ≡ Pop1) → owed Root (joined_by p l t) + behind_join l ≤ owed Root t
+    joins_pay : (k : RestartKind) → ((m (BlockWord (r + 1)) == side_code d) ≡ true → k ≡ Pop1) → owed Root (joined_by p k t) + behind_join k ≤ owed Root t
     joins_pay (Run g y) first_ = let le = joined_less Root p (λ z. Begins z) goes_on t in omega (arith, le)
     joins_pay (Unwind g) first_ = elim (cases_Bool (m (BlockWord (r + 1)) == side_code d)) [
       | inl e ↦ absurd (let z = first_ e in cc)
@@ -458,31 +462,53 @@ module _ (i : Image) (fair : IsFair i.code) (root : Tree (Frame FrameWord Point)
   exchange_pays w p (Take v x) made = refl
   exchange_pays w p (Take2 v) made = refl
 
+  -- the kind of a place that none has followed
+  own_kind : (p : ℕ) (k : RestartKind) → P.kind p ≡ k → IsAway l p → S.kind p ≡ k
+  own_kind p k e away = kind_away l P.kind p away ∙ e
+
   -- a step, by where the processor stands
-  step_pays : (x : Standing) → stand_of state c ≡ x → StandsSo i state t c x → Pays x
-  step_pays (IsWithin seat (Now next)) e a =
-      let does = subst₂ (λ (k : RestartKind) (d : Doing). Does i m seat.place k d) a.kind (doing_own seat.place (IsWithin seat (Now next)) a.holds e refl) (law.does seat.place) in
-      let le = ends_pay seat.place seat.restart.kind next a.kind does in omega (arith, le)
-  step_pays (IsWithin seat (Store cell content next)) e a = let q = store_pays seat.place seat.restart.kind in omega (arith, q)
-  step_pays (IsWithin seat (Exchange cell old new next)) e a =
-      let q = exchange_pays (view i.shape state.words) seat.place seat.restart.kind (read i.shape state.words cell == word_of old) in omega (arith, q)
-  step_pays (IsRunning seat (Installs kind)) e a = let le = installs_pay seat.place seat.restart.kind kind a.kind in omega (arith, le)
-  step_pays (IsRunning seat (Loads cell go)) e a = omega arith
-  step_pays (IsRunning seat (Stores cell content rest)) e a = omega arith
-  step_pays (IsRunning seat Full) e a = omega arith
-  step_pays (IsRunning seat Breaks) e a = omega arith
-  step_pays IsLost e a = omega arith
-  step_pays (IsPlaced p) e a = omega arith
-  step_pays (IsAt p restart) e a = omega arith
-  step_pays (IsBroken p) e a = omega arith
-  step_pays IsDone e a = omega arith
+  step_pays : (x : Standing) → stand_of state c ≡ x → StandsSo i state t c x → StandsAway l x → Pays x
+  step_pays (IsWithin seat (Now next)) e a away =
+      let kind = own_kind seat.place seat.restart.kind a.kind away in
+      let does = subst₂ (λ (k : RestartKind) (d : Doing). Does i m seat.place k d) kind (doing_own seat.place (IsWithin seat (Now next)) a.holds e refl) (law.does seat.place) in
+      let le = ends_pay seat.place seat.restart.kind next kind does in omega (arith, le)
+  step_pays (IsWithin seat (Store cell content next)) e a away = let q = store_pays seat.place seat.restart.kind in omega (arith, q)
+  step_pays (IsWithin seat (Exchange cell old new next)) e a away =
+      let q = exchange_pays m seat.place seat.restart.kind (read i.shape state.words cell == word_of old) in omega (arith, q)
+  step_pays (IsRunning seat (Installs kind)) e a away = let le = installs_pay seat.place seat.restart.kind kind (own_kind seat.place seat.restart.kind a.kind away) in omega (arith, le)
+  step_pays (IsRunning seat (Loads cell go)) e a away = omega arith
+  step_pays (IsRunning seat (Stores cell content rest)) e a away = omega arith
+  step_pays (IsRunning seat Full) e a away = omega arith
+  step_pays (IsRunning seat Breaks) e a away = omega arith
+  step_pays IsLost e a away = omega arith
+  step_pays (IsPlaced p) e a away = omega arith
+  step_pays (IsAt p restart) e a away = omega arith
+  step_pays (IsBroken p) e a away = omega arith
+  step_pays IsDone e a away = omega arith
+
+  -- an act: who takes a step is in no place that was followed
+  act_pays : (act : Act) (x : Standing) → stand_of state c ≡ x → ActsSo i state t c act x → ((v : ℕ) → act ≡ Step v → StandsAway l x)
+      → owed Root (act_with i m state.words act x t) + by_step paid_by act x ≤ owed Root t + 36 * by_step ended_by act x
+  act_pays (Step v) x e so away = step_pays x e so.1 (away v refl)
+  act_pays Soft x e so away = omega arith
+  act_pays Hard x e so away = omega arith
+  act_pays (Quit why) x e so away = omega arith
+
+pub credit_stays_left : CreditStaysLeft
+credit_stays_left i fair root input state l t law turn so away =
+    act_pays i fair root input state l t law turn.processor turn.act (stand_of state turn.processor) refl so
+    (λ v is. (subst (λ (act : Act). StepsAway i l act (stand_of state turn.processor)) is away).0)
+
+-- where none was followed
+none_away : (x : Standing) → StandsAway [] x
+none_away IsLost = tt
+none_away (IsPlaced p) = tt
+none_away (IsAt p r) = tt
+none_away (IsWithin seat row) = tt
+none_away (IsRunning seat rest) = tt
+none_away (IsBroken p) = tt
+none_away IsDone = tt
 
 pub credit_stays : CreditStays
-credit_stays i fair root input state t law turn so = by turn.act so
-  where
-    by : (act : Act) → ActsSo i state t turn.processor act (stand_of state turn.processor)
-        → owed Root (by_act i state.words act (stand_of state turn.processor) t) + by_step paid_by act (stand_of state turn.processor) ≤ owed Root t + 36 * by_step ended_by act (stand_of state turn.processor)
-    by (Step v) so = step_pays i fair root input state t law turn.processor (stand_of state turn.processor) refl so.1
-    by Soft so = omega arith
-    by Hard so = omega arith
-    by (Quit why) so = omega arith
+credit_stays i fair root input state t law turn so =
+    act_pays i fair root input state [] t law turn.processor turn.act (stand_of state turn.processor) refl so (λ v is. none_away (stand_of state turn.processor))

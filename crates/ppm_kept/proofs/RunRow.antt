@@ -4,7 +4,7 @@ use Rattle.std.specs.Prelude.{slice_get, IfSome}
 use Rattle.std.specs.Prelude.{cond}
 use Rattle.std.proofs.Math.Path.{fun_ext}
 use Rattle.std.proofs.lemmas.Bool.{eqb-true, cases_eq, cases_lt, cond-true, cond-false, le-leb, lt-leb, lt-ltb, le-ltb}
-use Rattle.ppm_strands.specs.Tree.{Words, Tree, Strand, Has}
+use Rattle.ppm_strands.specs.Tree.{Words, Tree, Strand, Has, forks_in}
 use Rattle.ppm_strands.specs.Run.{Counts, none, of_capsule}
 use Rattle.ppm_strands.specs.Ahead.{Step}
 use Rattle.ppm_cells.specs.declared.cell.Cell.{Cell}
@@ -57,9 +57,10 @@ use Rattle.ppm_frames.proofs.SeenLemmas.{choice}
 use Rattle.ppm_frames.proofs.SkeletonLemmas.{inside_from, inside_one, inside_at, count_plug, grow_plug, tree_same}
 use Rattle.ppm_kept.specs.Running.{room_or, asked_of, AllStand, outcome_by, IsFair, home_at, number_at, closed, now, all_of, limit, HasRoom, HasCome, IsClean, frame_of, strands, LiesApart, GoesOn}
 use Rattle.ppm_kept.specs.Branches.{Untaken, Unpushed, is_taker, HasCopy}
-use Rattle.ppm_kept.specs.Kept.{Image, end_of, owner, NoOutcome, Doing, Resting, InRest, State, put, Blank, ceiling, Free, Does, Ordered, carried, IsKept}
+use Rattle.ppm_kept.specs.Kept.{Image, AllowsAll, end_of, owner, NoOutcome, Doing, Resting, InRest, State, put, Blank, ceiling, Free, Does, Ordered, carried, IsKept}
 use Rattle.ppm_kept.specs.Moves.{doing_of, goes, stores, installs, fills, opened, by_install}
 use Rattle.ppm_kept.specs.Laws.{RunKeeps}
+use Rattle.ppm_kept.specs.Counting.{is_fork, forks_with}
 use Rattle.ppm_kept.specs.Others.{Mine, Keeps}
 use Rattle.ppm_kept.proofs.PutLemmas.{put_here, put_else}
 use Rattle.ppm_kept.proofs.OwnerLemmas.{pool_low}
@@ -69,8 +70,9 @@ use Rattle.ppm_kept.proofs.RunLemmas.{by_loads, by_stores, by_installs}
 use Rattle.ppm_kept.proofs.BlockLemmas as blocks
 use Rattle.ppm_kept.proofs.BlockLemmas.{header_is}
 use Rattle.ppm_kept.proofs.UntakenLemmas.{opens as opens_block}
+use Rattle.ppm_kept.proofs.ForkedLemmas.{forks_told}
 use Rattle.ppm_kept.proofs.BranchLemmas.{same_part, barren}
-use Rattle.ppm_kept.proofs.BuildLemmas.{Turn, build, built}
+use Rattle.ppm_kept.proofs.BuildLemmas.{Turn, allows_none, build, built}
 use Rattle.ppm_kept.proofs.PlaceLemmas.{leaf, going, kept_same, not_free, mine_around, Runs, run_leaf, is_at_own, is_at_other}
 
 pub inside_split : (f a b x : ℕ) → inside f (a + b) x ≡ inside f a x + inside (f + a) b x
@@ -276,7 +278,7 @@ module _ (i : Image) (fair : IsFair i.code) (root : Tree (Frame FrameWord Point)
       doing = put_here s.doing p (doing_of (running i.shape sits next));
       doings = λ q ne. put_else s.doing p (doing_of (running i.shape sits next)) q ne;
       around = around;
-      step = inl (none, steps);
+      step = inl (none, steps, allows_none i);
       swap = record { aim = record { head = refl; aim = stays 5 (omega arith) (λ d one five other e. five (sym e)) }; order = refl; gives = inl (refl, refl) };
       good = (
         ap link_at (subst (λ (x : ℕ). m' (BlockWord x) ≡ m (BlockWord x)) {x = f + 0} (omega arith) (stays 0 (omega arith) (λ d one five other e. omega (arith, one, e)))) ∙ framed,
@@ -304,9 +306,9 @@ module _ (i : Image) (fair : IsFair i.code) (root : Tree (Frame FrameWord Point)
   asks_room : (w : ℕ) → room_of (instrs_of i.code k) ≡ Some w → w ≤ (of_capsule (strands i.shape i.code) (frame_of i.shape i.code m f n y) (arrays_at m)).block_words
   asks_room w e = room_asked i.shape.arrays (instrs_of i.code k) w e _
 
-  -- an install counts a capsule
-  abbrev Counted : State → Skeleton → Type 0
-  Counted z w = (kept : Law z w) × (kept.ahead.0.capsules ≡ law.ahead.0.capsules + 1)
+  -- an install counts a capsule, and so many forks
+  abbrev Counted : State → Skeleton → ℕ → Type 0
+  Counted z w j = (kept : Law z w) × (kept.ahead.0.capsules ≡ law.ahead.0.capsules + 1) × (kept.ahead.0.forks ≡ law.ahead.0.forks + j)
 
   module _ (e : End) (stands : Stands code_locations (all_of i.shape i.code m p f y) (Ends e) (now i.shape i.code m p f y)) (room : HasRoom i.shape i.code m p f y)
       (own : AllStand m (own_stores i.code (home_at i.shape i.code m p f y) e))
@@ -327,41 +329,45 @@ module _ (i : Image) (fair : IsFair i.code) (root : Tree (Frame FrameWord Point)
         let low_ = pool_low i (owner i f) (law.there f some) in
         let under = b.1 in omega (arith, under, bound, low_)
 
-    ended_turn : (l : RestartKind) (v : Skeleton) → opens i.code e (own_at m f n) (λ o. now i.shape i.code m p f y (New o)) ≡ tree_at m h v → top v ≡ f → mark v ≡ IsPlain
+    ended_turn : AllowsAll i → (l : RestartKind) (v : Skeleton) (j : ℕ) → forks_in (tree_at m h v) ≡ j → opens i.code e (own_at m f n) (λ o. now i.shape i.code m p f y (New o)) ≡ tree_at m h v → top v ≡ f → mark v ≡ IsPlain
         → Good i.code m (put s.kind p l) h v
         → ((x : ℕ) → ((count h v x ≤ count h u x) × (plain h v x ≤ plain h u x)) ⊎ ((count h v x ≤ 1 + count h u x) × (r ≤ x) × (x < ceiling i m p l)))
         → r ≤ ceiling i m p l → ceiling i m p l ≤ end_of i p → carried m l ≡ 1 → at p v ≡ 1 → ((q : ℕ) → q ≢ p → at q v ≡ 0) → Free i m p l → Ordered i s t m l
         → HasCopy l → (((x : ℕ) → count Root (plug c v) x ≤ 1) → Unpushed p (plug c v) l) → ((q r : ℕ) → q ≢ p → Untaken q r v) → is_taker l ≡ false → ceiling i m p l ≤ r + counts.block_words
-        → Counted (installs s p l) (plug c v)
-    ended_turn l v opens_it head arrived good adds grows bound one here others_none frees ordered copy own all no_taker pays = built i fair root input s t law p (installs s p l) c u v l Resting (record {
-      is = is;
-      alone = has_leaf.alone;
-      there = there;
-      kind = put_here s.kind p l;
-      kinds = λ q ne. put_else s.kind p l q ne;
-      doing = put_here s.doing p Resting;
-      doings = λ q ne. put_else s.doing p Resting q ne;
-      around = λ x ne. refl;
-      step = inl (
-        counts,
-        subst₂ (λ (a : Frame FrameWord Point) (w : Tree (Frame FrameWord Point) Result). Step (strands i.shape i.code) counts (Strand a) (arrays_at m) w (arrays_at m))
-            (ap (λ (d : ℕ). record { own = own_at m f n; point = at_capsule d }) (sym number_is)) opens_it step,
-      );
-      swap = record { aim = record { head = head; aim = refl }; order = arrived; gives = inl (refl, refl) };
-      good = good;
-      adds = λ x. subst (λ (b : ℕ). ((count h v x ≤ count h u x) × (plain h v x ≤ plain h u x)) ⊎ ((count h v x ≤ 1 + count h u x) × (b ≤ x) × (x < ceiling i m p l))) (sym roof) (adds x);
-      grows = subst (λ (b : ℕ). b ≤ ceiling i m p l) (sym roof) grows;
-      pays = subst (λ (b : ℕ). ceiling i m p l ≤ b + counts.block_words) (sym roof) pays;
-      bound = bound;
-      places = here ∙ sym one;
-      placed = λ q ne. others_none q ne ∙ sym (only q ne);
-      free = frees;
-      does = tt;
-      orders = ordered;
-      others = λ q ne. kept_same i fair root input s t law p q;
-      unrun = barren (λ q x. (λ w. w, λ w. w)) copy own all no_taker;
-      finishes = not_ended m m t c u v is refl refl;
-    })
+        → Counted (installs s p l) (plug c v) j
+    ended_turn lets l v j forks opens_it head arrived good adds grows bound one here others_none frees ordered copy own all no_taker pays =
+        let opened : counts.forks ≡ j = forks_told step tt refl ∙ ap (λ (w : Tree (Frame FrameWord Point) Result). forks_in w) opens_it ∙ forks in
+        let got = built i fair root input s t law p (installs s p l) c u v l Resting (record {
+          is = is;
+          alone = has_leaf.alone;
+          there = there;
+          kind = put_here s.kind p l;
+          kinds = λ q ne. put_else s.kind p l q ne;
+          doing = put_here s.doing p Resting;
+          doings = λ q ne. put_else s.doing p Resting q ne;
+          around = λ x ne. refl;
+          step = inl (
+            counts,
+            subst₂ (λ (a : Frame FrameWord Point) (w : Tree (Frame FrameWord Point) Result). Step (strands i.shape i.code) counts (Strand a) (arrays_at m) w (arrays_at m))
+                (ap (λ (d : ℕ). record { own = own_at m f n; point = at_capsule d }) (sym number_is)) opens_it step,
+            lets counts,
+          );
+          swap = record { aim = record { head = head; aim = refl }; order = arrived; gives = inl (refl, refl) };
+          good = good;
+          adds = λ x. subst (λ (b : ℕ). ((count h v x ≤ count h u x) × (plain h v x ≤ plain h u x)) ⊎ ((count h v x ≤ 1 + count h u x) × (b ≤ x) × (x < ceiling i m p l))) (sym roof) (adds x);
+          grows = subst (λ (b : ℕ). b ≤ ceiling i m p l) (sym roof) grows;
+          pays = subst (λ (b : ℕ). ceiling i m p l ≤ b + counts.block_words) (sym roof) pays;
+          bound = bound;
+          places = here ∙ sym one;
+          placed = λ q ne. others_none q ne ∙ sym (only q ne);
+          free = frees;
+          does = tt;
+          orders = ordered;
+          others = λ q ne. kept_same i fair root input s t law p q;
+          unrun = barren (λ q x. (λ w. w, λ w. w)) copy own all no_taker;
+          finishes = not_ended m m t c u v is refl refl;
+        }) in
+        (got.0, ap (λ (k : Counts). k.capsules) got.1, ap (λ (k : Counts). k.forks) got.1 ∙ ap (λ (k : ℕ). law.ahead.0.forks + k) opened)
 
   abbrev Stood : End → Type 0
   Stood e = Stands code_locations (all_of i.shape i.code m p f y) (Ends e) (now i.shape i.code m p f y)
@@ -376,7 +382,7 @@ module _ (i : Image) (fair : IsFair i.code) (root : Tree (Frame FrameWord Point)
   abbrev z : ℕ
   z = other_copy y
 
-  module _ (room : HasRoom i.shape i.code m p f y) where
+  module _ (room : HasRoom i.shape i.code m p f y) (lets : AllowsAll i) where
     -- where no block is built all free words are 0
     all_blank : (e : End) → Stood e → ((o : ℕ) → Builds i.code e o → ⊥) → ((o : ℕ) → AreElsewhere o (block_stores i.code (home_at i.shape i.code m p f y) e)) → Blank i m p r
     all_blank e stands none out o lt = blocks.blank_word i.shape i.code fair m p f y room clean e stands o lt (none o) (out o)
@@ -385,26 +391,26 @@ module _ (i : Image) (fair : IsFair i.code) (root : Tree (Frame FrameWord Point)
     sized_then : (d : ℕ) → procedure_at i.code d ≡ procedure_at i.code k → m (header_word f z) ≡ d → slots_at i.code (m (BlockWord (header f z))) ≡ n
     sized_then d same own = ap (slots_at i.code) (blocks.header_then i.shape i.code fair m p f y low room clean d own) ∙ ap (slots_of i.code) same
 
-    goes_next : (d : ℕ) → Stood (Next d) → Owns (Next d) → Opened (Next d) → Counted (installs s p (Run f z)) (by_install i m p (Run f y) (Run f z) t)
+    goes_next : (d : ℕ) → Stood (Next d) → Owns (Next d) → Opened (Next d) → Counted (installs s p (Run f z)) (by_install i m p (Run f y) (Run f z) t) 0
     goes_next d stands own step =
         let v = Leaf (InPlace p) (Begins z) f n in
         let fits = fit (Next d) stands room own step in
-        let got = ended_turn (Next d) stands room own step (Run f z) v (blocks.next_tree i.shape i.code fair m p f y low room clean h d stands own.0) refl refl
+        let got = ended_turn (Next d) stands room own step lets (Run f z) v 0 refl (blocks.next_tree i.shape i.code fair m p f y low room clean h d stands own.0) refl refl
         (framed, sized_then d (procedure_is i.code (procedure_at i.code k) d fits) own.0, subst (λ (q : RestartKind). Match i.code m q h (Begins z) f) (sym (put_here s.kind p (Run f z))) (refl, refl))
         (λ x. inl (omega arith, omega arith)) (omega arith) room_low refl (is_at_own p) (λ q ne. is_at_other p q ne)
         (record { block = λ o lt out. all_blank (Next d) stands (λ o b. b) (λ o. tt) o lt; outcome = inl (blocks.still_open i.shape i.code fair m p f y low room clean (Next d) refl stands) }) tt
         (omega arith) (λ most. tt) (λ q x ne. tt) refl (omega arith) in
-        subst (Counted (installs s p (Run f z))) (sym (ap (grow p (λ st f n. Leaf (InPlace p) (Begins z) f n)) is ∙ grow_plug p (λ st f n. Leaf (InPlace p) (Begins z) f n) c (Begins y) f n has_leaf.alone)) got
+        subst (λ (w : Skeleton). Counted (installs s p (Run f z)) w 0) (sym (ap (grow p (λ st f n. Leaf (InPlace p) (Begins z) f n)) is ∙ grow_plug p (λ st f n. Leaf (InPlace p) (Begins z) f n) c (Begins y) f n has_leaf.alone)) got
 
     goes_over : (e : End) (stands : Stood e) (own : Owns e) (step : Opened e) → opens i.code e (own_at m f n) (λ o. now i.shape i.code m p f y (New o)) ≡ tree_at m h (Leaf (InPlace p) Over f n)
-        → ((o : ℕ) → Builds i.code e o → ⊥) → ((o : ℕ) → AreElsewhere o (block_stores i.code (home_at i.shape i.code m p f y) e)) → Counted (installs s p (Unwind f)) (by_install i m p (Run f y) (Unwind f) t)
+        → ((o : ℕ) → Builds i.code e o → ⊥) → ((o : ℕ) → AreElsewhere o (block_stores i.code (home_at i.shape i.code m p f y) e)) → Counted (installs s p (Unwind f)) (by_install i m p (Run f y) (Unwind f) t) 0
     goes_over e stands own step tree none out =
         let v = Leaf (InPlace p) Over f n in
-        let got = ended_turn e stands room own step (Unwind f) v tree refl refl
+        let got = ended_turn e stands room own step lets (Unwind f) v 0 refl tree refl refl
         (framed, tt, subst (λ (q : RestartKind). Match i.code m q h Over f) (sym (put_here s.kind p (Unwind f))) refl)
         (λ x. inl (omega arith, omega arith)) (omega arith) room_low refl (is_at_own p) (λ q ne. is_at_other p q ne)
         (all_blank e stands none out) tt tt (λ most. tt) (λ q x ne. tt) refl (omega arith) in
-        subst (Counted (installs s p (Unwind f))) (sym (ap (grow p (λ st f n. Leaf (InPlace p) Over f n)) is ∙ grow_plug p (λ st f n. Leaf (InPlace p) Over f n) c (Begins y) f n has_leaf.alone)) got
+        subst (λ (w : Skeleton). Counted (installs s p (Unwind f)) w 0) (sym (ap (grow p (λ st f n. Leaf (InPlace p) Over f n)) is ∙ grow_plug p (λ st f n. Leaf (InPlace p) Over f n) c (Begins y) f n has_leaf.alone)) got
 
     -- targets lie in the frame
     target_fits : (to : Option ℕ) → IfSome to (λ slot. slot < slots_of i.code (procedure_at i.code k)) → target_of to ≤ n
@@ -453,13 +459,14 @@ module _ (i : Image) (fair : IsFair i.code) (root : Tree (Frame FrameWord Point)
         (block.link, block.sized, subst (λ (l : RestartKind). Match i.code m l (Called f z) (Begins 0) r) (sym (put_here s.kind p (Bump r))) (refl, refl, block.outcome)),
       )
 
-      goes_called : Counted (installs s p (Bump r)) (by_install i m p (Run f y) (Bump r) t)
-      goes_called = subst (Counted (installs s p (Bump r))) (sym (
+      goes_called : Counted (installs s p (Bump r)) (by_install i m p (Run f y) (Bump r) t) (forks_with m (Bump r))
+      goes_called = subst₂ (λ (w : Skeleton) (j : ℕ). Counted (installs s p (Bump r)) w j) (sym (
           ap (grow p (opened i m p r (link_at (m (BlockWord r))).kind)) is
           ∙ grow_plug p (opened i m p r (link_at (m (BlockWord r))).kind) c (Begins y) f n has_leaf.alone
           ∙ ap (λ (l : Link). plug c (opened i m p r l.kind (Begins y) f n)) block.link
           ∙ ap (λ (b : ℕ). plug c (Calling f n z (Leaf (InPlace p) (Begins 0) r b))) block.sized))
-          (ended_turn (Call q d to) stands room own step (Bump r) callee block.tree refl refl call_good call_adds (omega (arith, call_top)) (let b = room in omega (arith, call_top, call_asked, b)) refl
+          (sym (ap (λ (l : Link). is_fork l.kind) block.link))
+          (ended_turn (Call q d to) stands room own step lets (Bump r) callee 0 refl block.tree refl refl call_good call_adds (omega (arith, call_top)) (let b = room in omega (arith, call_top, call_asked, b)) refl
           (is_at_own p) (λ b ne. is_at_other p b ne) call_frees tt
           tt (λ most. opens_block p r Root c callee (most r) (let a = inside_at r (6 + nq) r 0 (omega arith) (omega arith) in omega (arith, a)) tt) (λ q x ne. tt) refl (let w = asks_room (6 + nq) call_fit.3 in omega (arith, call_top, w)))
 
@@ -539,29 +546,30 @@ module _ (i : Image) (fair : IsFair i.code) (root : Tree (Frame FrameWord Point)
         ),
       )
 
-      goes_forked : Counted (installs s p (Bump r)) (by_install i m p (Run f y) (Bump r) t)
-      goes_forked = subst (Counted (installs s p (Bump r))) (sym (
+      goes_forked : Counted (installs s p (Bump r)) (by_install i m p (Run f y) (Bump r) t) (forks_with m (Bump r))
+      goes_forked = subst₂ (λ (w : Skeleton) (j : ℕ). Counted (installs s p (Bump r)) w j) (sym (
           ap (grow p (opened i m p r (link_at (m (BlockWord r))).kind)) is
           ∙ grow_plug p (opened i m p r (link_at (m (BlockWord r))).kind) c (Begins y) f n has_leaf.alone
           ∙ ap (λ (l : Link). plug c (opened i m p r l.kind (Begins y) f n)) split.link
           ∙ ap₂ (λ (x w : ℕ). plug c (Forking f n z r (Leaf (InPlace p) (Begins 0) (r + 5) x) (Leaf Fresh (Begins 0) (r + w) (slots_at i.code (m (BlockWord (r + (w + 2))))))))
           split.left_sized split.offset
           ∙ ap (λ (x : ℕ). plug c (Forking f n z r (Leaf (InPlace p) (Begins 0) (r + 5) n_left) (Leaf Fresh (Begins 0) (r + off) x))) split.right_sized))
-          (ended_turn (Fork a b d lt rt) stands room own step (Bump r) both split.tree refl refl fork_good fork_adds (omega (arith, fork_top)) (let q = room in omega (arith, fork_top, fork_asked, q)) refl
+          (sym (ap (λ (l : Link). is_fork l.kind) split.link))
+          (ended_turn (Fork a b d lt rt) stands room own step lets (Bump r) both 1 refl split.tree refl refl fork_good fork_adds (omega (arith, fork_top)) (let q = room in omega (arith, fork_top, fork_asked, q)) refl
           (let one = is_at_own p in omega (arith, one)) (λ q ne. let none_ = is_at_other p q ne in omega (arith, none_)) fork_frees tt
           tt (λ most. opens_block p r Root c both (most r) (let a = inside_at r 1 r 0 (omega arith) (omega arith) in omega (arith, a)) (λ e one. tt, tt, tt)) (λ q x ne. (λ e one. tt, tt, tt)) refl (let w = asks_room (5 + (6 + n_left) + (6 + n_right)) fork_fit.5 in omega (arith, fork_top, w)))
 
-    run_law : (e : End) → Stood e → Owns e → Opened e → Counted (installs s p (installed (home_at i.shape i.code m p f y) e)) (by_install i m p (Run f y) (installed (home_at i.shape i.code m p f y) e) t)
+    run_law : (e : End) → Stood e → Owns e → Opened e → Counted (installs s p (installed (home_at i.shape i.code m p f y) e)) (by_install i m p (Run f y) (installed (home_at i.shape i.code m p f y) e) t) (forks_with m (installed (home_at i.shape i.code m p f y) e))
     run_law (Next d) stands own step = goes_next d stands own step
     run_law Finish stands own step = goes_over Finish stands own step (blocks.finish_tree i.shape i.code fair m p f y low room clean h stands) (λ o b. b) (λ o. tt)
     run_law (Trap trap line) stands own step = goes_over (Trap trap line) stands own step (blocks.trap_tree i.shape i.code fair m p f y low room clean h trap line stands own.0) (λ o b. b) (λ o. tt)
     run_law (Call q d to) stands own step = goes_called q d to stands own step
     run_law (Fork a b d lt rt) stands own step = goes_forked a b d lt rt stands own step
 
-  pub rest_counts : (kind : RestartKind) → Come (Installs kind) → Counted (installs s p kind) (by_install i m p (Run f y) kind t)
-  rest_counts kind come =
+  pub rest_counts : (kind : RestartKind) → AllowsAll i → Come (Installs kind) → Counted (installs s p kind) (by_install i m p (Run f y) kind t) (forks_with m kind)
+  rest_counts kind lets come =
       let op = by_installs i.shape i.code fair m p f y clean kind come in
-      subst (λ (q : RestartKind). Counted (installs s p q) (by_install i m p (Run f y) q t)) (sym op.kind_is) (run_law op.room op.end op.stands op.own op.step)
+      subst (λ (q : RestartKind). Counted (installs s p q) (by_install i m p (Run f y) q t) (forks_with m q)) (sym op.kind_is) (run_law op.room lets op.end op.stands op.own op.step)
 
   -- the pool is full, and that is proposed as the finish
   module _ (none_yet : m FinishWord ≡ 0) where
@@ -666,7 +674,7 @@ module _ (i : Image) (fair : IsFair i.code) (root : Tree (Frame FrameWord Point)
     enters = λ own bottom victim. row_enters own bottom;
     loads = λ sits cell next e. rest_loads sits cell next (come_of (Loads cell next) e);
     stores = λ sits cell content next found e. rest_stores sits cell content next (come_of (Stores cell content next) e);
-    installs = λ kind e. (rest_counts kind (come_of (Installs kind) e)).0;
+    installs = λ kind lets e. (rest_counts kind lets (come_of (Installs kind) e)).0;
     full = rest_full;
     faults = going i fair root input s t law p (ap is_taker ke) Resting tt;
     cells = λ cell content next e. (by_stores i.shape i.code fair m p f y low apart cell content next (come_of (Stores cell content next) e)).spot;

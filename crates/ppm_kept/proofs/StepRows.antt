@@ -525,7 +525,7 @@ module _ (i : Image) (fair : IsFair i.code) (root : Tree (Frame FrameWord Point)
       arrives_so (Step victim) (fills P p) (fills S p) t (((turns_show i.shape i.code state c).0 (kind_seat own p (Run f y) b) a.1.holds).1.full victim a.0) (fills_left i root input P l apart p) (run_row_keeps i fair root input S t law p a.1.holds.place f y (own_kind _ _ a.1.kind a.2)).full
   capsule_step own p b victim f y (Installs kind) a =
       at_install victim p kind _ a.2 (((turns_show i.shape i.code state c).0 (kind_seat own p (Run f y) b) a.1.holds).1.installs victim kind a.0 a.1.there)
-      ((run_row_keeps i fair root input S t law p a.1.holds.place f y (own_kind _ _ a.1.kind a.2)).installs kind (does_rest own p b (Run f y) (Installs kind) a))
+      ((run_row_keeps i fair root input S t law p a.1.holds.place f y (own_kind _ _ a.1.kind a.2)).installs kind (a.1.counts kind refl) (does_rest own p b (Run f y) (Installs kind) a))
   capsule_step own p b victim f y Breaks a = absurd (let e = a.1.there in cc)
 
   going_none : (p : ℕ) (k : RestartKind) (rest : Rest) → S.kind p ≡ k → S.doing p ≡ InRest rest → Does i S.words p k (InRest rest)

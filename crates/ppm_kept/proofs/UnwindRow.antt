@@ -65,7 +65,7 @@ use Rattle.ppm_kept.proofs.CopyLemmas.{unpacked_low}
 use Rattle.ppm_kept.proofs.PutLemmas.{put_here, put_else}
 use Rattle.ppm_kept.proofs.EndingLemmas.{not_ended, on_branch, root_top}
 use Rattle.ppm_kept.proofs.BranchLemmas.{same_part, barren}
-use Rattle.ppm_kept.proofs.BuildLemmas.{Turn, build}
+use Rattle.ppm_kept.proofs.BuildLemmas.{Turn, allows_none, build}
 use Rattle.ppm_kept.proofs.TurnLemmas.{pool_cell}
 use Rattle.ppm_kept.proofs.PlaceLemmas.{leaf, going, kept_same, counted, not_free, mine_around, head_on, is_at_own, is_at_other}
 
@@ -422,7 +422,7 @@ module _ (i : Image) (fair : IsFair i.code) (root : Tree (Frame FrameWord Point)
           doings = λ q ne. put_else s.doing p d q ne;
           around = mine_around i fair root input s t law p c u (BlockWord (g + a)) w is (mine (g + a) in_caller);
           step = elim step [
-            | inl st ↦ inl (none, subst (λ (b : Words). Step (strands i.shape i.code) none (tree_at m h u) (arrays_at m) (tree_at m' h u) b) (sym array_is) st)
+            | inl st ↦ inl (none, subst (λ (b : Words). Step (strands i.shape i.code) none (tree_at m h u) (arrays_at m) (tree_at m' h u) b) (sym array_is) st, allows_none i)
             | inr same ↦ inr (same, array_is)
           ];
           swap = record { aim = record { head = refl; aim = aim }; order = refl; gives = inl (refl, refl) };
@@ -469,7 +469,7 @@ module _ (i : Image) (fair : IsFair i.code) (root : Tree (Frame FrameWord Point)
         doing = put_here s.doing p Resting;
         doings = λ q ne. put_else s.doing p Resting q ne;
         around = λ x ne. refl;
-        step = inl (none, step);
+        step = inl (none, step, allows_none i);
         swap = record { aim = record { head = refl; aim = refl }; order = refl; gives = inl (refl, refl) };
         good = (waiting.framed, sized, subst (λ (q : RestartKind). Match i.code m q h st g) (sym (put_here s.kind p k)) match);
         adds = λ x. inl (omega arith, omega arith);

@@ -1,6 +1,6 @@
 -- What a tree of strands still owes for word steps: of a frame that is not over those of its return, and of a branch that has not
 -- arrived those of its join. Each turn pays what it takes off, and takes on no more than a capsule allows; and capsules are counted.
-use Rattle.std.specs.Prelude.{◌≡◌, ◌≤◌, ℕ, ◌+◌, ◌*◌}
+use Rattle.std.specs.Prelude.{◌≡◌, ◌≤◌, ℕ, ◌+◌, ◌*◌, List}
 use Rattle.ppm_strands.specs.Tree.{Words, Tree}
 use Rattle.ppm_cells.specs.declared.link.LinkKind.{LinkKind}
 use Rattle.ppm_cells.specs.declared.link.LinkKind.TheVariants.{Root, Call as Called, Branch}
@@ -19,10 +19,12 @@ use Rattle.ppm_step.specs.declared.turn.Turn.{Turn}
 use Rattle.ppm_paces.specs.Costs.{weight}
 use Rattle.ppm_frames.specs.Skeletons.{Stand, Begins, Over, Arrives, Skeleton, Leaf, Calling, Forking}
 use Rattle.ppm_kept.specs.Running.{IsFair}
+use Rattle.ppm_kept.specs.Heirs.{handed}
 use Rattle.ppm_kept.specs.Kept.{Image, IsKept}
 use Rattle.ppm_kept.specs.Laws.{kind_then}
+use Rattle.ppm_kept.specs.Left.{Followed, left, StepsAway}
 use Rattle.ppm_kept.specs.Places.{places_of}
-use Rattle.ppm_kept.specs.Steps.{tree_after, ActsSo}
+use Rattle.ppm_kept.specs.Steps.{act_with, tree_after, ActsSo}
 
 -- of a branch 12, until it arrives
 abbrev pub branch_due : LinkKind → ℕ
@@ -72,3 +74,18 @@ CapsulesAreCounted = (i : Image) → IsFair i.code → i.shape.takeover ≡ ByPl
     → ActsSo i state t turn.processor turn.act (stand_of state turn.processor)
     → (kept : IsKept i root input (places_of i.shape (happens i.shape i.code state turn)) (tree_after i state turn t))
     × (law.ahead.0.capsules + by_step ended_by turn.act (stand_of state turn.processor) ≤ kept.ahead.0.capsules)
+
+-- With either takeover, and the places left out that others have followed: by a turn by which no place goes on with what it inherited the
+-- tree owes no more either
+abbrev pub CreditStaysLeft : Type 0
+CreditStaysLeft = (i : Image) → IsFair i.code → (root : Tree (Frame FrameWord Point) Result) (input : Words) (state : Machine) (l : List Followed)
+    → (t : Skeleton) → IsKept i root input (left i l (places_of i.shape state)) t → (turn : Turn)
+    → ActsSo i state t turn.processor turn.act (stand_of state turn.processor)
+    → StepsAway i l turn.act (stand_of state turn.processor)
+    → owed Root (act_with i (left i l (places_of i.shape state)).words state.words turn.act (stand_of state turn.processor) t)
+    + by_step paid_by turn.act (stand_of state turn.processor)
+    ≤ owed Root t + 36 * by_step ended_by turn.act (stand_of state turn.processor)
+
+-- nor where one does: who has a strand is all one
+abbrev pub HandedOwes : Type 0
+HandedOwes = (v p : ℕ) (t : Skeleton) → owed Root (handed v p t) ≡ owed Root t

@@ -1,7 +1,7 @@
 -- What is true of the words, the kinds and the tree after each turn, over the words by cells.
-use Rattle.std.specs.Prelude.{◌≡◌, ◌⊎◌, ℕ, zero, suc, ◌+◌, ◌≤◌, ◌<◌, ◌==◌, cond, true, false, Option, Some, None}
+use Rattle.std.specs.Prelude.{◌≡◌, ◌⊎◌, ℕ, zero, suc, ◌+◌, ◌≤◌, ◌<◌, ◌==◌, cond, Bool, true, false, Option, Some, None}
 use Rattle.ppm_strands.specs.Tree.{Words, Tree}
-use Rattle.ppm_strands.specs.Run.{Counts}
+use Rattle.ppm_strands.specs.Run.{Counts, plus}
 use Rattle.ppm_strands.specs.Ahead.{Ahead}
 use Rattle.ppm_cells.specs.Cells.{pool_at}
 use Rattle.ppm_cells.specs.declared.cell.Cell.{Cell}
@@ -36,11 +36,19 @@ use Rattle.ppm_frames.specs.Good.{link_at, Good}
 use Rattle.ppm_kept.specs.Running.{HasCome, IsClean, strands}
 use Rattle.ppm_kept.specs.Branches.{Unpushed, Waits, is_taker, HasCopy}
 
--- a shape and a code; and how many capsules are to be counted at least, 0 but where a turn is asked whether it counts one
+-- a shape and a code; and what is to be true of the counts so far, nothing but where it is asked what a turn counts
 pub record Image : Type 0 where
   pub shape : Shape
   pub code : CodeParts
-  pub counted : ℕ
+  pub counted : Counts → Bool
+
+-- it stays true where so much is counted
+abbrev pub Allows : Image → Counts → Type 0
+Allows i k = (j : Counts) → i.counted j ≡ true → i.counted (plus j k) ≡ true
+
+-- whatever is counted
+abbrev pub AllowsAll : Image → Type 0
+AllowsAll i = (k : Counts) → Allows i k
 
 -- where the pool of a place begins
 abbrev pub start : Image → ℕ → ℕ
@@ -206,8 +214,7 @@ module _ (i : Image) where
   -- a place has as many leaves as its kind has strands; words above ceilings are free; what is
   -- under way stands so; the finish word is true; frames run at their two headers; what is not
   -- pushed is not taken, and what is about to be taken waits; no place has given out more of its pool
-  -- than the root's frame and the block words that are counted so far; and as many capsules are counted
-  -- as are to be.
+  -- than the root's frame and the block words that are counted so far; and the counts are as is asked.
   pub record IsKept (root : Tree (Frame FrameWord Point) Result) (input : Words) (s : State) (t : Skeleton) : Type 0 where
     pub ahead : (k : Counts)
         × Ahead (strands i.shape i.code) k root input (tree_of s.words t) (arrays_at s.words)
@@ -228,4 +235,4 @@ module _ (i : Image) where
     pub aims : AimsWell s t
     pub paid : (p : ℕ) → ceiling s.words p (s.kind p)
         ≤ start i p + (frame_size i.code i.code.root + ahead.0.block_words)
-    pub counted : i.counted ≤ ahead.0.capsules
+    pub counted : i.counted ahead.0 ≡ true

@@ -20,7 +20,7 @@ use Rattle.ppm_step.specs.declared.row.Then.{Then}
 use Rattle.ppm_step.specs.declared.row.Then.TheVariants.{Install, Fork, Begin}
 use Rattle.ppm_frames.specs.Views.{is_cell}
 use Rattle.ppm_frames.specs.Skeletons.{Skeleton}
-use Rattle.ppm_kept.specs.Kept.{Image, InRow, InRest, State, IsKept}
+use Rattle.ppm_kept.specs.Kept.{Image, AllowsAll, InRow, InRest, State, IsKept}
 use Rattle.ppm_kept.specs.Moves.{goes, stores, installs, fills, by_install, begun, entered, stored}
 use Rattle.ppm_code.specs.declared.code.CodeParts.{CodeParts}
 use Rattle.ppm_kept.specs.Running.{IsFair, MayStore, GoesOnByLoads, GoesOnByStores, OpensByInstalls, BeginsSo}
@@ -56,7 +56,7 @@ pub record RunKeeps (i : Image) (root : Tree (Frame FrameWord Point) Result) (in
   pub stores : (sits : Seat) (cell : Cell) (content : Content) (next : Rest) (found : ℕ)
       → s.doing p ≡ InRest (Stores cell content next)
       → IsKept i root input (stores s p cell (word_of content) (went_rest i.shape sits found (Stores cell content next))) t
-  pub installs : (kind : RestartKind) → s.doing p ≡ InRest (Installs kind)
+  pub installs : (kind : RestartKind) → AllowsAll i → s.doing p ≡ InRest (Installs kind)
       → IsKept i root input (installs s p kind) (by_install i s.words p (Run f y) kind t)
   -- the pool is full
   pub full : IsKept i root input (fills s p) t

@@ -27,5 +27,6 @@ pub mod Rooms
 pub mod Heirs
 pub mod Left
 pub mod HeirTurns
+pub mod Counting
 pub mod Stops
 pub mod Spent

@@ -1,5 +1,6 @@
 -- The words of an opening: the root frame, clean pools, and a tree without races.
-use Rattle.std.specs.Prelude.{◌≡◌, ◌≤◌, ◌<◌, ℕ, ◌+◌, List}
+use Rattle.std.specs.Prelude.{◌≡◌, ◌≤◌, ◌<◌, ℕ, ◌+◌, Bool, true, List}
+use Rattle.ppm_strands.specs.Run.{Counts, none}
 use Rattle.ppm_strands.specs.Calm.{Calm}
 use Rattle.ppm_cells.specs.declared.cell.Cell.{Cell}
 use Rattle.ppm_cells.specs.declared.cell.Cell.TheVariants.{FinishWord, RoomCounter, BlockWord}
@@ -24,7 +25,7 @@ use Rattle.ppm_kept.specs.Kept.{Image, start, end_of, Resting, NoOutcome, State,
 -- than the root's; above the counters they are 0; and the root's tree is calm
 pub record Opening (i : Image) (m : Cell → ℕ) (p f n : ℕ) : Type 0 where
   pub there : p < i.shape.processors
-  pub uncounted : i.counted ≡ 0
+  pub uncounted : i.counted none ≡ true
   pub link : link_at (m (BlockWord f)) ≡ record { size = 6 + n; kind = Root }
   pub entry : slots_at i.code (m (BlockWord (f + 2))) ≡ n
   pub outcome : m (BlockWord (f + 1)) ≡ ended
@@ -47,9 +48,10 @@ abbrev pub OpeningsAreKept : Type 0
 OpeningsAreKept = (i : Image) (m : Cell → ℕ) (p f n : ℕ) → Opening i m p f n
     → IsKept i (tree_of m (Leaf (InPlace p) (Begins 0) f n)) (arrays_at m) (opening_of m p f) (Leaf (InPlace p) (Begins 0) f n)
 
--- each image of a sound code opens so, with the tree of the root's strand
+-- each image of a sound code opens so, whatever is asked of the counts, if it is true where nothing is counted,
+-- with the tree of the root's strand
 abbrev pub ImagesOpen : Type 0
 ImagesOpen = (code : CodeParts) (input : List NamedArray) (s : Shape) (keeper : ℕ) (image : RealImage) → Opens code input s keeper image
     → Calm (strands s code) (root_strand code input) (arrays_at (view s image.words))
-    → Opening (record { shape = s; code = code; counted = 0 }) (view s image.words) keeper (pool_at s keeper) (slots_of code code.root)
+    → ((asked : Counts → Bool) → asked none ≡ true → Opening (record { shape = s; code = code; counted = asked }) (view s image.words) keeper (pool_at s keeper) (slots_of code code.root))
     × (tree_of (view s image.words) (Leaf (InPlace keeper) (Begins 0) (pool_at s keeper) (slots_of code code.root)) ≡ root_strand code input)

@@ -1,6 +1,7 @@
 -- The state by places, from the words of a machine and from where its processors stand; and that each
 -- turn of a processor in a place is a step of that place.
 use Rattle.std.specs.Prelude.{◌≡◌, ◌≢◌, ◌<◌, ℕ, zero, suc, ◌==◌, nat_lt, if◌then◌else◌, Bool, true, false, List, Option, Some, None}
+use Rattle.ppm_strands.specs.Run.{Counts, none}
 use Rattle.ppm_strands.specs.Calm.{Calm}
 use Rattle.ppm_cells.specs.Cells.{IsCell, pool_at}
 use Rattle.ppm_cells.specs.Memory.{read, AreWordsOf}
@@ -158,11 +159,11 @@ TurnsShow = (s : Shape) (code : CodeParts) (state : Machine) (c : ℕ)
     × BareShows s code state c
     × (is_done_at (stand_of state c) ≡ false → FaultsShow s code state c)
 
--- a machine that opens an image of a sound code, with all processors lost, is kept so: the tree is the
--- strand of the root, at the keeper's place
+-- a machine that opens an image of a sound code, with all processors lost, is kept so, whatever is asked of the
+-- counts, if it is true where nothing is counted: the tree is the strand of the root, at the keeper's place
 abbrev pub MachinesOpen : Type 0
 MachinesOpen = (code : CodeParts) (input : List NamedArray) (s : Shape) (keeper : ℕ) (image : RealImage)
     → Opens code input s keeper image
     → Calm (strands s code) (root_strand code input) (arrays_at (view s image.words))
     → (places_of s (opening image.words s.processors) ≡ opening_of (view s image.words) keeper (pool_at s keeper))
-    × IsKept (record { shape = s; code = code; counted = 0 }) (root_strand code input) (arrays_at (view s image.words)) (places_of s (opening image.words s.processors)) (Leaf (InPlace keeper) (Begins 0) (pool_at s keeper) (slots_of code code.root))
+    × ((asked : Counts → Bool) → asked none ≡ true → IsKept (record { shape = s; code = code; counted = asked }) (root_strand code input) (arrays_at (view s image.words)) (places_of s (opening image.words s.processors)) (Leaf (InPlace keeper) (Begins 0) (pool_at s keeper) (slots_of code code.root)))

@@ -34,7 +34,7 @@ use Rattle.ppm_frames.specs.Views.{view}
 use Rattle.ppm_frames.specs.Skeletons.{Waiting, Held, Skeleton, pushed, over_left, take_in}
 use Rattle.ppm_kept.specs.Running.{IsFair}
 use Rattle.ppm_kept.specs.Branches.{is_taker}
-use Rattle.ppm_kept.specs.Kept.{Image, IsKept}
+use Rattle.ppm_kept.specs.Kept.{Image, AllowsAll, IsKept}
 use Rattle.ppm_kept.specs.Moves.{by_install}
 use Rattle.ppm_kept.specs.Laws.{kind_then}
 use Rattle.ppm_kept.specs.Returns.{by_unwind}
@@ -113,11 +113,12 @@ pub record InRowSo (i : Image) (state : Machine) (t : Skeleton) (c : ℕ) (seat 
   pub came : CameBy i.shape seat seat.restart.kind row
   pub takes : is_taker seat.restart.kind ≡ true → TakesSo i state t seat.place row
 
--- in a capsule
+-- in a capsule; its end may be counted
 pub record InRestSo (i : Image) (state : Machine) (c : ℕ) (seat : Seat) (rest : Rest) : Type 0 where
   pub holds : Holds i.shape state c seat.place
   pub kind : kinds_of i.shape state.words seat.place ≡ seat.restart.kind
   pub there : rest_is_there i.shape seat rest ≡ true
+  pub counts : (kind : RestartKind) → rest ≡ Installs kind → AllowsAll i
 
 -- the restart that was read is the place's
 abbrev pub IsKindIf : Image → List ℕ → ℕ → Option Restart → Type 0

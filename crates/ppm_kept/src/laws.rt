@@ -4,7 +4,8 @@ ghost use Rattle.ppm_kept.specs.Answers.{EndsAsMeant};
 ghost use Rattle.ppm_kept.specs.Arriving.{ArriveRowKeeps};
 ghost use Rattle.ppm_kept.specs.Bearing.{HeirsBear, TurnsBear, TurnsBearLeft};
 ghost use Rattle.ppm_kept.specs.Births.{AllBirthsStay, OpeningsHaveNone, RowsAreSteady};
-ghost use Rattle.ppm_kept.specs.Credit.{CapsulesAreCounted, CreditStays};
+ghost use Rattle.ppm_kept.specs.Credit.{CapsulesAreCounted, CreditStays, CreditStaysLeft, HandedOwes};
+ghost use Rattle.ppm_kept.specs.Counting.{CountsAreExact, HeirsCountNone};
 ghost use Rattle.ppm_kept.specs.Copies.{AllCopiesStay, OpeningsHaveCopies};
 ghost use Rattle.ppm_kept.specs.Fates.{AllFatesShow, AllFatesStay, NoneIsLeft};
 ghost use Rattle.ppm_kept.specs.HeirTurns.{HandedSame, HeirTurnsBear, HeirTurnsKeep, UnrunsAreUntaken};
@@ -176,15 +177,21 @@ pub fn turns_keep_left()
 {}
 
 /// What the tree owes for word steps still to come: a turn pays what it takes off, and takes on no more
-/// than 36, where a capsule ends.
+/// than 36, where a capsule ends. So it is with the places left out that others have followed, and who
+/// follows owes the same.
 pub fn credit_stays()
     ensures law { CreditStays }
+    ensures left { CreditStaysLeft }
+    ensures handed { HandedOwes }
 {}
 
-/// With takeover by places no turn counts fewer capsules than were counted before, and one by which a
-/// capsule ends counts one more.
+/// With either takeover a turn counts the capsule that ends by it, and the fork that this opens, and
+/// nothing else; one by which a place goes on with what it inherited counts nothing. So by places no
+/// turn counts fewer capsules than were counted before.
 pub fn capsules_are_counted()
     ensures law { CapsulesAreCounted }
+    ensures exact { CountsAreExact }
+    ensures heirs { HeirsCountNone }
 {}
 
 /// A turn by which a place goes on with what it inherited keeps the state with that closed place left out

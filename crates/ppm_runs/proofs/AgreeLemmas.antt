@@ -83,6 +83,7 @@ use Rattle.ppm_kept.specs.Laws.{kind_then}
 use Rattle.ppm_kept.specs.Returns.{by_unwind}
 use Rattle.ppm_kept.specs.Arriving.{by_arrive}
 use Rattle.ppm_kept.specs.Joins.{by_join}
+use Rattle.ppm_kept.specs.Counting.{is_fork}
 use Rattle.ppm_kept.specs.Unruns.{HasUnrun, SameUnruns, OneChanges, IsNone, Is, UnrunsStay}
 use Rattle.ppm_kept.proofs.PutLemmas as kept_puts
 use Rattle.ppm_kept.proofs.FateLemmas.{fates_stay, fates_show}
@@ -480,13 +481,38 @@ module _ (s : Shape) (code : CodeParts) (fair : IsFair code) (root : Tree (Frame
   Opening r = (f : ℕ) × (y : ℕ) × (z.kind (owner i r) ≡ Run f y)
 
   -- what a step is to show: the fates agree; one that is held and pushed is of a place that can't push; none is
-  -- new but an unborn one, none is newly held but by a place at its last slot, and an unborn one stays
-  pub record Agree (u : Skeleton) (g : ℕ → Home) : Type 0 where
+  -- new but an unborn one of which O says so, none is newly held but by a place at its last slot, and an unborn
+  -- one stays
+  pub record AgreeBy (O : ℕ → Type 0) (u : Skeleton) (g : ℕ → Home) : Type 0 where
     pub agrees : Agrees u (λ r. fate_of (g r))
     pub last : (r q : ℕ) → HasUnrun Held r u → g r ≡ Pushing q → IsCapped s.takeover s state.words q
-    pub fresh : (r : ℕ) → HasUnrun Fresh r u → HasUnrun Fresh r t ⊎ ((g r ≡ Unborn) × Opening r)
+    pub fresh : (r : ℕ) → HasUnrun Fresh r u → HasUnrun Fresh r t ⊎ ((g r ≡ Unborn) × O r)
     pub held : (r : ℕ) → HasUnrun Held r u → HasUnrun Held r t ⊎ ((q : ℕ) × (h r ≡ Pushing q) × IsAtLast s state.words q)
     pub stays : (r : ℕ) → h r ≡ Unborn → HasUnrun Fresh r t → HasUnrun Fresh r u
+
+  -- where none is new, and where one may be
+  abbrev pub Agree : Skeleton → (ℕ → Home) → Type 0
+  Agree u g = AgreeBy (λ r. ⊥) u g
+
+  abbrev pub AgreeOn : Skeleton → (ℕ → Home) → Type 0
+  AgreeOn u g = AgreeBy Opening u g
+
+  pub agree_on : (u : Skeleton) (g : ℕ → Home) → Agree u g → AgreeOn u g
+  agree_on u g a = record {
+    agrees = a.agrees;
+    last = a.last;
+    fresh = λ r f. elim (a.fresh r f) [ inl was ↦ inl was | inr new ↦ absurd new.1 ];
+    held = a.held;
+    stays = a.stays;
+  }
+
+  -- by the forks that a step opens: none, or one, of a block that was not forked before
+  abbrev pub Opened : ℕ → Skeleton → (ℕ → Home) → Type 0
+  Opened n u g = (Agree u g × (n ≡ 0)) ⊎ ((r : ℕ) × (h r ≡ Unborn) × OneChanges r IsNone (Is Fresh) t u × AgreeOn u g × (n ≡ 1))
+
+  pub on_opened : (n : ℕ) (u : Skeleton) (g : ℕ → Home) → Opened n u g → AgreeOn u g
+  on_opened n u g (inl a) = agree_on u g a.0
+  on_opened n u g (inr a) = a.3
 
   -- a place at its last slot can't push, and above one that can't nothing is
   capped_by : (how : Takeover) (p : ℕ) → IsAtLast s state.words p → IsCapped how s state.words p
@@ -583,7 +609,7 @@ module _ (s : Shape) (code : CodeParts) (fair : IsFair code) (root : Tree (Frame
   }
 
   -- one is opened
-  opened_now : (u : Skeleton) (r : ℕ) → OneChanges r IsNone (Is Fresh) t u → h r ≡ Unborn → Opening r → Agree u h
+  opened_now : (u : Skeleton) (r : ℕ) → OneChanges r IsNone (Is Fresh) t u → h r ≡ Unborn → Opening r → AgreeOn u h
   opened_now u r one home opening = record {
     agrees = (stay u r).opens one (ap fate_of home);
     last = λ y q held is. elim (cases_eq y r) [
@@ -1020,12 +1046,14 @@ module _ (s : Shape) (code : CodeParts) (fair : IsFair code) (root : Tree (Frame
           own,
         )
 
+    -- so many forks are opened: none, or that of a block that was not forked before
     pub opens_agree : (p f y r : ℕ) (k : LinkKind) → (link_at (z.words (BlockWord r))).kind ≡ k → z.kind p ≡ Run f y → next_state.kind p ≡ Bump r → (x : Standing) → stand_of state c ≡ x → step_by (row_by fork_row) act x ≡ []
-        → act_with i z.words state.words act (stand_of state c) t ≡ by_install i z.words p (Run f y) (Bump r) t → Agree (by_install i z.words p (Run f y) (Bump r) t) h
-    opens_agree p f y r (Called g v) le ke be x e none te = same (by_install i z.words p (Run f y) (Bump r) t) ((unruns p).calls f y r g v le)
+        → act_with i z.words state.words act (stand_of state c) t ≡ by_install i z.words p (Run f y) (Bump r) t → Opened (is_fork k) (by_install i z.words p (Run f y) (Bump r) t) h
+    opens_agree p f y r (Called g v) le ke be x e none te = inl (same (by_install i z.words p (Run f y) (Bump r) t) ((unruns p).calls f y r g v le), refl)
     opens_agree p f y r (Forked g v) le ke be x e none te =
         let once = subst (λ (u : Skeleton). (x : ℕ) → count Root u x ≤ 1) te apart in
         let new = not_forked p r x e none be in
-        opened_now (by_install i z.words p (Run f y) (Bump r) t) r ((unruns p).opens f y r g v ke le once) new.0 (f, y, ap z.kind new.1 ∙ ke)
-    opens_agree p f y r Root le ke be x e none te = subst (λ (u : Skeleton). Agree u h) (sym (ap (λ (k : LinkKind). grow p (opened i z.words p r k) t) le ∙ grow_none p t)) here
-    opens_agree p f y r (Branch d v) le ke be x e none te = subst (λ (u : Skeleton). Agree u h) (sym (ap (λ (k : LinkKind). grow p (opened i z.words p r k) t) le ∙ grow_none p t)) here
+        let one = (unruns p).opens f y r g v ke le once in
+        inr (r, new.0, one, opened_now (by_install i z.words p (Run f y) (Bump r) t) r one new.0 (f, y, ap z.kind new.1 ∙ ke), refl)
+    opens_agree p f y r Root le ke be x e none te = inl (subst (λ (u : Skeleton). Agree u h) (sym (ap (λ (k : LinkKind). grow p (opened i z.words p r k) t) le ∙ grow_none p t)) here, refl)
+    opens_agree p f y r (Branch d v) le ke be x e none te = inl (subst (λ (u : Skeleton). Agree u h) (sym (ap (λ (k : LinkKind). grow p (opened i z.words p r k) t) le ∙ grow_none p t)) here, refl)

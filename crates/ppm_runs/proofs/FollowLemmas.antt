@@ -244,22 +244,24 @@ module _ (s : Shape) (code : CodeParts) (ih : s.takeover ≡ ByEntries) (fair : 
   leads : (c victim : ℕ) (seat : Seat) (next : Then) (v slot : ℕ) → stand_of state c ≡ IsWithin seat (Now next) → seat.restart.kind ≡ Check v slot → GoesOn next
       → ((it : InheritsAt s code state h forked taken run.lawful seat.place) → (r : ℕ) → kinds_of s state.words it.place ≡ Bump r → Opens r next → OpensAs r (link_at (S.words (BlockWord r))).kind (kind_then next))
       → (w : ℕ) × Agrees (handed w seat.place t) (λ r. fate_of (by_row s state.words seat (Now next) h r)) × IsHalves s code root input (happens s code state (record { processor = c; act = Step victim })) (by_row s state.words seat (Now next) h) (fork_row (Now next) ++ forked) (take_row (Now next) ++ taken)
-      (and_followed i l P w) (handed w seat.place t)
+      (and_followed i l P w) (handed w seat.place t) × Heired i state l t c seat next w
   leads c victim seat (Install restart) v slot at ke on opens = elim (heirs_see s code ih state h forked taken run.lawful c seat (Now (Install restart)) v slot at ke) [
     | inl seeks ↦ absurd (on seeks)
     | inr a ↦
         let w = a.0.place in
-        let same = kinds_same s state.words w in (
+        let same = kinds_same s state.words w in
+        let heir = heired c victim seat (Install restart) v slot at ke a.0 (opens a.0)
+        (λ e. subst (λ (K : RestartKind). GoesOnBy (Closed s.takeover m) m k b h run.lawful.1.board seat.place w K restart.kind) e a.1)
+        tt
+        (goes_as c victim seat (Install restart) v slot at ke a.0 (opens a.0) (kinds_of s state.words w) refl
+        (subst (λ (K : RestartKind). GoesOnBy (Closed s.takeover m) m k b h run.lawful.1.board seat.place w K restart.kind) (sym same) a.1)) in (
           w,
           agrees_install c victim seat (Install restart) v slot at ke a.0 (opens a.0) restart.kind a.1,
           halves c victim seat (Install restart) v slot at ke a.0 (opens a.0) (by_row s state.words seat (Now (Install restart)) h) forked taken
               (heirs_follow s code state h forked taken run.lawful c victim seat (Now (Install restart)) v slot at ke a.0 a.1 a.2)
               (ap (λ (x : Standing). with_blocks (step_by (row_by fork_row) (Step victim) x) (has forked)) at)
-              (heired c victim seat (Install restart) v slot at ke a.0 (opens a.0)
-              (λ e. subst (λ (K : RestartKind). GoesOnBy (Closed s.takeover m) m k b h run.lawful.1.board seat.place w K restart.kind) e a.1)
-              tt
-              (goes_as c victim seat (Install restart) v slot at ke a.0 (opens a.0) (kinds_of s state.words w) refl
-              (subst (λ (K : RestartKind). GoesOnBy (Closed s.takeover m) m k b h run.lawful.1.board seat.place w K restart.kind) (sym same) a.1))),
+              heir,
+          heir,
         )
   ]
   leads c victim seat (Fork r) v slot at ke on opens =
@@ -275,6 +277,7 @@ module _ (s : Shape) (code : CodeParts) (ih : s.takeover ≡ ByEntries) (fair : 
             (heirs_follow s code state h forked taken run.lawful c victim seat (Now (Fork r)) v slot at ke a.0 a.1 fresh)
             (ap (λ (x : Standing). with_blocks (step_by (row_by fork_row) (Step victim) x) (has forked)) at ∙ fun_ext (with_same (r ∷ []) forked))
             heir,
+        heir,
       )
   leads c victim seat _ v slot at ke on opens = absurd on
 

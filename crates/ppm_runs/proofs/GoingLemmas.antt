@@ -145,7 +145,7 @@ module _ (s : Shape) (code : CodeParts) (places : s.takeover ≡ ByPlaces) (fair
         came = came_from s seat row (spots.with_restarts (spots.view s state.words) (spots.kinds s state.words) (spots.bottoms s state.words)) w.here w.seen;
         takes = takes_so c seat row e;
       }
-  stands_so c (IsRunning seat rest) e = let w = runs s code root input state h forked taken [] t (halves run) c seat rest e in record { holds = w.holds; kind = w.kind; there = w.here }
+  stands_so c (IsRunning seat rest) e = let w = runs s code root input state h forked taken [] t (halves run) c seat rest e in record { holds = w.holds; kind = w.kind; there = w.here; counts = λ kind is k j so. refl }
   stands_so c (IsBroken p) e = run.broken c p e
   stands_so c IsDone e = tt
 

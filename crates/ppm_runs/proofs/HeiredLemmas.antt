@@ -2,6 +2,8 @@
 use Rattle.std.proofs.Common.{◌≡◌, ◌≢◌, ◌⊎◌, ◌+◌, ℕ, List, [], ◌∷◌, ◌++◌, inl, inr, refl, sym, ap, ◌∙◌, subst}
 use Rattle.std.specs.List.{AllByRecursion}
 use Rattle.ppm_strands.specs.Tree.{Words, Tree}
+use Rattle.ppm_strands.specs.Calm.{Calm}
+use Rattle.ppm_words.specs.declared.named_array.NamedArray.{NamedArray}
 use Rattle.ppm_cells.specs.Cells.{pool_at}
 use Rattle.ppm_cells.specs.declared.restart.Restart.{Restart}
 use Rattle.ppm_cells.specs.declared.restart.RestartKind.{RestartKind}
@@ -14,7 +16,9 @@ use Rattle.ppm_code.specs.Sizes.{slots_of}
 use Rattle.ppm_code.specs.Strands.{Point, Result}
 use Rattle.ppm_code.specs.declared.code.CodeParts.{CodeParts}
 use Rattle.ppm_code.specs.declared.location.FrameWord.{FrameWord}
+use Rattle.ppm_layout.specs.Correct.{Opens}
 use Rattle.ppm_layout.specs.Root.{root_strand}
+use Rattle.ppm_layout.specs.declared.images.Image.{Image as RealImage}
 use Rattle.ppm_step.specs.Among.{IsTurnAmong}
 use Rattle.ppm_step.specs.Laws.{reached}
 use Rattle.ppm_step.specs.Standings.{Standing, IsLost, IsPlaced, IsAt, IsWithin, IsRunning, IsBroken, IsDone}
@@ -36,7 +40,7 @@ use Rattle.ppm_tickets.proofs.Theorem.{lost_or}
 use Rattle.ppm_frames.specs.Views.{view}
 use Rattle.ppm_frames.specs.Seen.{arrays_at}
 use Rattle.ppm_frames.specs.Skeletons.{Begins, Over, InPlace, Skeleton, Leaf}
-use Rattle.ppm_kept.specs.Running.{IsFair}
+use Rattle.ppm_kept.specs.Running.{IsFair, strands}
 use Rattle.ppm_kept.specs.Kept.{InRow}
 use Rattle.ppm_kept.specs.Fates.{Agrees}
 use Rattle.ppm_kept.specs.Left.{Followed, left, LooksOn}
@@ -80,7 +84,7 @@ idle_or (Take v j) = inl tt
 idle_or (Take2 v) = inl tt
 
 -- a row by which a place goes on with what it inherited
-abbrev Inherits : RestartKind → Row → Type 0
+abbrev pub Inherits : RestartKind → Row → Type 0
 Inherits k row = (v : ℕ) × (j : ℕ) × (next : Then) × (k ≡ Check v j) × (row ≡ Now next) × GoesOn next
 
 check_or : (v j : ℕ) (next : Then) → LooksOn (Check v j) (Now next) ⊎ Inherits (Check v j) (Now next)
@@ -93,7 +97,7 @@ check_or v j (Enter x) = inl tt
 check_or v j Again = inl tt
 check_or v j Broken = inl tt
 
-looks_or : (k : RestartKind) (row : Row) → LooksOn k row ⊎ Inherits k row
+pub looks_or : (k : RestartKind) (row : Row) → LooksOn k row ⊎ Inherits k row
 looks_or (Check v j) (Now next) = check_or v j next
 looks_or (Check v j) (Store cell content next) = inl tt
 looks_or (Check v j) (Exchange cell old new next) = inl tt
@@ -111,7 +115,7 @@ looks_or (Steal v j) row = inl tt
 looks_or (Take v j) row = inl tt
 looks_or (Take2 v) row = inl tt
 
-alone_of : (how : Takeover) (act : Act) (x : Standing) → LooksOnly act x → StepsAlone how act x
+pub alone_of : (how : Takeover) (act : Act) (x : Standing) → LooksOnly act x → StepsAlone how act x
 alone_of how (Step v) (IsWithin seat row) looks = inr looks
 alone_of how (Step v) IsLost looks = tt
 alone_of how (Step v) (IsPlaced p) looks = tt
@@ -151,7 +155,7 @@ module _ (s : Shape) (code : CodeParts) (ih : s.takeover ≡ ByEntries) (fair : 
     inlined_by (Take v j) new ek er = tt
     inlined_by (Take2 v) new ek er = tt
 
-    inlined : IsInlined s.takeover s state.words seat seat.restart.kind re.kind
+    pub inlined : IsInlined s.takeover s state.words seat seat.restart.kind re.kind
     inlined = subst (λ (how : Takeover). IsInlined how s state.words seat seat.restart.kind re.kind) (sym ih) (inlined_by seat.restart.kind re.kind refl refl)
 
   -- behind an act, by where its processor stood
@@ -218,28 +222,32 @@ module _ (s : Shape) (code : CodeParts) (ih : s.takeover ≡ ByEntries) (fair : 
       all_lead (happens s code state turn) (by_act s state.words turn.act (stand_of state turn.processor) h) (forks_of state turn ++ f) (takes_of state turn ++ tk) next.0 next.1 more all.1 next.2
 
 -- where a run opens nobody is in a row
-not_within : (x : Standing) (seat : Seat) (row : Row) → (x ≡ IsLost) ⊎ (x ≡ IsDone) → x ≡ IsWithin seat row → ⊥
+pub not_within : (x : Standing) (seat : Seat) (row : Row) → (x ≡ IsLost) ⊎ (x ≡ IsDone) → x ≡ IsWithin seat row → ⊥
 not_within x seat row is e = elim is [
   | inl a ↦ absurd (let z : IsLost ≡ IsWithin seat row = sym a ∙ e in cc)
   | inr a ↦ absurd (let z : IsDone ≡ IsWithin seat row = sym a ∙ e in cc)
 ]
 
-pub runs_stay_heired : RunsStayHeired
-runs_stay_heired code input s keeper im ih fair opens calm turns all =
-    let run = runs_open code input s keeper im opens calm in
-    let state : RunState = opening im.words s.processors in
-    all_lead s code ih fair (root_strand code input) (arrays_at (view s im.words)) state (λ r. Unborn) [] [] []
-    (Leaf (InPlace keeper) (Begins 0) (pool_at s keeper) (slots_of code code.root)) turns all (record {
+-- where a run opens none was followed
+unfoldable pub heired_first : (code : CodeParts) (input : List NamedArray) (s : Shape) (keeper : ℕ) (im : RealImage) → Opens code input s keeper im → Calm (strands s code) (root_strand code input) (arrays_at (view s im.words))
+    → IsHeired s code (root_strand code input) (arrays_at (view s im.words)) (opening im.words s.processors) (λ r. Unborn) [] [] [] (Leaf (InPlace keeper) (Begins 0) (pool_at s keeper) (slots_of code code.root))
+heired_first code input s keeper im opens calm =
+    let run = runs_open code input s keeper im opens calm in record {
       halves = halves run;
       joint = record {
         agrees = run.agrees;
         last = λ r p held home. absurd held;
         ready = run.ready;
         unheld = λ e p r row ke de on held. held;
-        opens = λ c seat next v slot stand ke on w r shut aw kw by. absurd (not_within (stand_of state c) seat (Now next) (elim (lost_or s.processors c) [ inl a ↦ inl a.0 | inr a ↦ inr a ]) stand);
+        opens = λ c seat next v slot stand ke on w r shut aw kw by. absurd (not_within (stand_of (opening im.words s.processors) c) seat (Now next) (elim (lost_or s.processors c) [ inl a ↦ inl a.0 | inr a ↦ inr a ]) stand);
       };
       broken = run.broken;
-    })
+    }
+
+pub runs_stay_heired : RunsStayHeired
+runs_stay_heired code input s keeper im ih fair opens calm turns all =
+    all_lead s code ih fair (root_strand code input) (arrays_at (view s im.words)) (opening im.words s.processors) (λ r. Unborn) [] [] []
+    (Leaf (InPlace keeper) (Begins 0) (pool_at s keeper) (slots_of code code.root)) turns all (heired_first code input s keeper im opens calm)
 
 pub once_by_entries : OnceByEntries
 once_by_entries code input s keeper im ih fair opens calm turns all =

@@ -66,6 +66,8 @@ use Rattle.ppm_frames.proofs.ViewLemmas.{view_is}
 use Rattle.ppm_kept.specs.Running.{IsFair}
 use Rattle.ppm_kept.specs.Kept.{State, InRow}
 use Rattle.ppm_kept.specs.Births.{Births}
+use Rattle.ppm_kept.specs.Counting.{forks_with, opened_by}
+use Rattle.ppm_kept.specs.Credit.{by_step}
 use Rattle.ppm_kept.specs.Heirs.{OpensAs}
 use Rattle.ppm_kept.specs.Laws.{kind_then}
 use Rattle.ppm_kept.specs.Left.{Followed, left_words, left, IsAway, InheritsNone}
@@ -92,7 +94,7 @@ use Rattle.ppm_runs.proofs.ShownLemmas.{halves, carried_away, Within, within, Ru
 use Rattle.ppm_runs.proofs.OrderlyLemmas.{places_row, pooled}
 use Rattle.ppm_runs.proofs.TameLemmas.{May, TameRow, TameOld, rest_tame}
 use Rattle.ppm_runs.proofs.OpenedLemmas.{opens_same, unborn, fork_fresh, owner_of, closed_before, load_opens}
-use Rattle.ppm_runs.proofs.AgreeLemmas.{Agree, LastSo, AbovePoint, AbovePush, AboveSo, push1_shape, not_both, here, same, unruns, row_agree, opens_agree, IsPush, IsNoRestart, IsNoEntry, quiet_restart, quiet_entry, installs_low, changes, entry_shown, open_, pushing_home, pushing_place, not_followed, exchanges_no_restart, stores_no_restart, stores_no_entry}
+use Rattle.ppm_runs.proofs.AgreeLemmas.{AgreeOn, agree_on, Opened, on_opened, LastSo, AbovePoint, AbovePush, AboveSo, push1_shape, not_both, here, same, unruns, row_agree, opens_agree, IsPush, IsNoRestart, IsNoEntry, quiet_restart, quiet_entry, installs_low, changes, entry_shown, open_, pushing_home, pushing_place, not_followed, exchanges_no_restart, stores_no_restart, stores_no_entry}
 
 pub restart_not : (cell : Cell) → IsNoRestart cell → (q : ℕ) → RestartWord q ≢ cell
 restart_not cell no_restart q e = subst IsNoRestart (sym e) no_restart
@@ -626,14 +628,14 @@ module _ (s : Shape) (code : CodeParts) (fair : IsFair code) (root : Tree (Frame
   module _ (c v : ℕ) (apart : (x : ℕ) → count Root (act_with (image s code) z.words state.words (Step v) (stand_of state c) t) x ≤ 1)
       (born : Births (image s code) (left (image s code) l (places_of s (happens s code state (record { processor = c; act = Step v })))) (has (step_by (row_by fork_row) (Step v) (stand_of state c) ++ forked)))
       (none : InheritsNone s.takeover (stand_of state c)) where
-    abbrev A : Skeleton → (ℕ → Home) → Type 0
-    A u g = Agree s code fair root input state h forked taken l t run joint u g
+    abbrev A : ℕ → Skeleton → (ℕ → Home) → Type 0
+    A n u g = Opened s code fair root input state h forked taken l t run joint n u g
 
-    still_here : A t h
-    still_here = here s code fair root input state h forked taken l t run joint
+    still_here : A 0 t h
+    still_here = inl (here s code fair root input state h forked taken l t run joint, refl)
 
     installs_agree : (seat : Seat) (kind k : RestartKind) → seat.restart.kind ≡ k → stand_of state c ≡ IsRunning seat (Installs kind) → Runs s code root input state h forked taken l t run c seat (Installs kind)
-        → Does (image s code) z.words seat.place k (InRest (Installs kind)) → A (by_install (image s code) z.words seat.place k kind t) h
+        → Does (image s code) z.words seat.place k (InRest (Installs kind)) → A (forks_with z.words kind) (by_install (image s code) z.words seat.place k kind t) h
     installs_agree seat (Bump r) (Run f y) ke e w d =
         let shown = ((turns_show s code state c).0 seat w.holds).1.installs v (Bump r) e w.here in
         let sees = subst (Sees s (spots.view s state.words) (spots.kinds s state.words) (spots.bottoms s state.words) c) e (run.lawful.1.sees c) in
@@ -641,10 +643,10 @@ module _ (s : Shape) (code : CodeParts) (fair : IsFair code) (root : Tree (Frame
         opens_agree s code fair root input state h forked taken l t run joint c (Step v) apart born seat.place f y r (link_at (z.words (BlockWord r))).kind refl (w.kind ∙ ke)
         (kind_away l (places_of s (happens s code state (record { processor = c; act = Step v }))).kind seat.place away ∙ ap (λ (q : State). q.kind seat.place) shown ∙ kept_puts.put_here (places_of s state).kind seat.place (Bump r)) (IsRunning seat (Installs (Bump r))) e refl
         (ap (λ (x : Standing). tree_with (image s code) z.words state.words x t) e ∙ ap (λ (k : RestartKind). by_install (image s code) z.words seat.place k (Bump r) t) ke)
-    installs_agree seat (Run g n) (Run f y) ke e w d = same s code fair root input state h forked taken l t run joint _ ((unruns s code fair root input state h forked taken l t run joint seat.place).runs f y (Run g n) tt)
-    installs_agree seat (Push1 x) (Run f y) ke e w d = same s code fair root input state h forked taken l t run joint _ ((unruns s code fair root input state h forked taken l t run joint seat.place).runs f y (Push1 x) tt)
-    installs_agree seat (Push2 x) (Run f y) ke e w d = same s code fair root input state h forked taken l t run joint _ ((unruns s code fair root input state h forked taken l t run joint seat.place).runs f y (Push2 x) tt)
-    installs_agree seat (Unwind x) (Run f y) ke e w d = same s code fair root input state h forked taken l t run joint _ ((unruns s code fair root input state h forked taken l t run joint seat.place).runs f y (Unwind x) tt)
+    installs_agree seat (Run g n) (Run f y) ke e w d = inl (same s code fair root input state h forked taken l t run joint _ ((unruns s code fair root input state h forked taken l t run joint seat.place).runs f y (Run g n) tt), refl)
+    installs_agree seat (Push1 x) (Run f y) ke e w d = inl (same s code fair root input state h forked taken l t run joint _ ((unruns s code fair root input state h forked taken l t run joint seat.place).runs f y (Push1 x) tt), refl)
+    installs_agree seat (Push2 x) (Run f y) ke e w d = inl (same s code fair root input state h forked taken l t run joint _ ((unruns s code fair root input state h forked taken l t run joint seat.place).runs f y (Push2 x) tt), refl)
+    installs_agree seat (Unwind x) (Run f y) ke e w d = inl (same s code fair root input state h forked taken l t run joint _ ((unruns s code fair root input state h forked taken l t run joint seat.place).runs f y (Unwind x) tt), refl)
     installs_agree seat (Arrive x n) (Run f y) ke e w d = still_here
     installs_agree seat (Join x n) (Run f y) ke e w d = still_here
     installs_agree seat Pop1 (Run f y) ke e w d = still_here
@@ -656,8 +658,8 @@ module _ (s : Shape) (code : CodeParts) (fair : IsFair code) (root : Tree (Frame
     installs_agree seat (Take2 x) (Run f y) ke e w d = still_here
     installs_agree seat kind _ ke e w d = absurd d
 
-    step_agree : (x : Standing) → stand_of state c ≡ x → InheritsNone s.takeover x → A (tree_with (image s code) z.words state.words x t) (by_standing s state.words x h)
-    step_agree (IsWithin seat row) e alone = row_agree s code fair root input state h forked taken l t run joint seat.own seat.place seat.restart.bottom seat.restart.kind c row e (within s code root input state h forked taken l t run c seat row e) alone
+    step_agree : (x : Standing) → stand_of state c ≡ x → InheritsNone s.takeover x → A (opened_by z.words x) (tree_with (image s code) z.words state.words x t) (by_standing s state.words x h)
+    step_agree (IsWithin seat row) e alone = inl (row_agree s code fair root input state h forked taken l t run joint seat.own seat.place seat.restart.bottom seat.restart.kind c row e (within s code root input state h forked taken l t run c seat row e) alone, refl)
     step_agree (IsRunning seat (Installs kind)) e alone =
         let w = runs s code root input state h forked taken l t run c seat (Installs kind) e in
         installs_agree seat kind seat.restart.kind refl e w (subst (λ (k : RestartKind). Does (image s code) z.words seat.place k (InRest (Installs kind))) w.kind w.does)
@@ -750,7 +752,7 @@ module _ (s : Shape) (code : CodeParts) (fair : IsFair code) (root : Tree (Frame
         by (Quit why) e = subst (λ (a : Act). Kinds (acts s code state c a (stand_of state c)).words q) (sym e) (live_kinds c (Quit why) (stand_of state c) q (kinds_if (slice_index state.words 0 == 0) FinishWord _ q tt tt))
 
     -- another that is about to open the block of a closed place does so by its link still
-    others_open : Agree s code fair root input state h forked taken l t run joint u g → (d : ℕ) (seat : Seat) (next : Then) (v slot : ℕ) → d ≢ c → stand_of n d ≡ IsWithin seat (Now next) → seat.restart.kind ≡ Check v slot → GoesOn next
+    others_open : AgreeOn s code fair root input state h forked taken l t run joint u g → (d : ℕ) (seat : Seat) (next : Then) (v slot : ℕ) → d ≢ c → stand_of n d ≡ IsWithin seat (Now next) → seat.restart.kind ≡ Check v slot → GoesOn next
         → (w r : ℕ) → Closed s.takeover (spots.view s n.words) w → IsAway l w → kinds_of s n.words w ≡ Bump r → Opens r next → OpensAs r (link_at (N.words (BlockWord r))).kind (kind_then next)
     others_open all d seat next v slot ne stand ke on w r shut aw kw by =
         let ih = entries_by s.takeover (spots.view s n.words) w shut in
@@ -770,7 +772,7 @@ module _ (s : Shape) (code : CodeParts) (fair : IsFair code) (root : Tree (Frame
         (joint.opens d seat next v slot before ke on w r closed aw was by)
 
     -- a place whose branch is held fills no entry
-    filled_none : Agree s code fair root input state h forked taken l t run joint u g → s.takeover ≡ ByEntries → (r q : ℕ) → HasUnrun Held r u → g r ≡ Pushing q → Raises c q n.words → ⊥
+    filled_none : AgreeOn s code fair root input state h forked taken l t run joint u g → s.takeover ≡ ByEntries → (r q : ℕ) → HasUnrun Held r u → g r ≡ Pushing q → Raises c q n.words → ⊥
     filled_none all entries r q held home raise =
         let w = within s code root input state h forked taken l t run c raise.seat (Exchange raise.cell raise.old raise.new raise.next) raise.stand in
         let same : raise.block ≡ r = subst (λ (k : RestartKind). Pushes k (after.lawful.1.board.ghost (Slot q (spots.bottoms s n.words q))) r) raise.stays
@@ -784,12 +786,12 @@ module _ (s : Shape) (code : CodeParts) (fair : IsFair code) (root : Tree (Frame
               raise.above (ap (λ (b : ℕ). b + 1) (sym w.sits.at.bottom) ∙ subst (IsAtLast s state.words) one new.2)
         ]
 
-    last_by : (how : Takeover) → s.takeover ≡ how → Agree s code fair root input state h forked taken l t run joint u g → (r q : ℕ) → HasUnrun Held r u → g r ≡ Pushing q → IsCapped how s state.words q → IsCapped how s n.words q
+    last_by : (how : Takeover) → s.takeover ≡ how → AgreeOn s code fair root input state h forked taken l t run joint u g → (r q : ℕ) → HasUnrun Held r u → g r ≡ Pushing q → IsCapped how s state.words q → IsCapped how s n.words q
     last_by ByPlaces e all r q held home cap = ap (λ (x : ℕ). x + 1) (act_lows c among.processor act none q (push_kind r q home)) ∙ cap
     last_by ByEntries e all r q held home cap = subst (λ (b : ℕ). IsEmpty (spots.view s n.words (Slot q (b + 1)))) (sym (act_lows c among.processor act none q (push_kind r q home)))
         (elim (act_tops c among.processor act q (spots.bottoms s state.words q + 1) cap) [ inl a ↦ a | inr raise ↦ absurd (filled_none all e r q held home raise) ])
 
-    joined : Agree s code fair root input state h forked taken l t run joint u g
+    joined : AgreeOn s code fair root input state h forked taken l t run joint u g
         → ((r f y b : ℕ) (seat : Seat) → stand_of n c ≡ IsWithin seat (Now (Install (record { kind = Run f y; bottom = b }))) → seat.restart.kind ≡ Push1 r → HasUnrun Fresh r t → HasUnrun Held r u)
         → (s.takeover ≡ ByEntries → (r : ℕ) (row : Row) (seat : Seat) → stand_of n c ≡ IsWithin seat row → seat.restart.kind ≡ Push1 r → PushesOn row → HasUnrun Held r u → ⊥)
         → ((seat : Seat) (next : Then) (v slot : ℕ) → stand_of n c ≡ IsWithin seat (Now next) → seat.restart.kind ≡ Check v slot → GoesOn next
@@ -1042,27 +1044,46 @@ module _ (s : Shape) (code : CodeParts) (fair : IsFair code) (root : Tree (Frame
   fault_out c act none seat row (IsRunning o w) e to = subst NotWithin (sym (stand_own state.stand c _ (λ k. let z = sym e ∙ k in cc)) ∙ to) (none _ (IsRunning o w))
   fault_out c act none seat row (IsBroken p) e to = subst NotWithin (sym (stand_own state.stand c _ (λ k. let z = sym e ∙ k in cc)) ∙ to) (none _ (IsBroken p))
 
+  -- so many forks an act opens
+  acts_open : (c : ℕ) (act : Act) → StepsAlone s.takeover act (stand_of state c)
+      → IsHalves s code root input (happens s code state (record { processor = c; act = act })) (by_act s state.words act (stand_of state c) h) (forks_of state (record { processor = c; act = act }) ++ forked) (takes_of state (record { processor = c; act = act }) ++ taken) l
+      (act_with (image s code) z.words state.words act (stand_of state c) t)
+      → Opened s code fair root input state h forked taken l t run joint (by_step (opened_by z.words) act (stand_of state c)) (act_with (image s code) z.words state.words act (stand_of state c) t) (by_act s state.words act (stand_of state c) h)
+  acts_open c (Step v) none after = step_agree c v after.kept.apart after.born none (stand_of state c) refl none
+  acts_open c Soft none after = inl (here s code fair root input state h forked taken l t run joint, refl)
+  acts_open c Hard none after = inl (here s code fair root input state h forked taken l t run joint, refl)
+  acts_open c (Quit why) none after = inl (here s code fair root input state h forked taken l t run joint, refl)
+
   all_joined : (c : ℕ) (act : Act) → IsTurnAmong s.processors (record { processor = c; act = act }) → StepsAlone s.takeover act (stand_of state c)
       → IsHalves s code root input (happens s code state (record { processor = c; act = act })) (by_act s state.words act (stand_of state c) h) (forks_of state (record { processor = c; act = act }) ++ forked) (takes_of state (record { processor = c; act = act }) ++ taken) l
       (act_with (image s code) z.words state.words act (stand_of state c) t)
       → AreJoint s code (happens s code state (record { processor = c; act = act })) (by_act s state.words act (stand_of state c) h) l (act_with (image s code) z.words state.words act (stand_of state c) t)
-  all_joined c (Step v) among none after = joined c (Step v) among none after (step_agree c v after.kept.apart after.born none (stand_of state c) refl none)
+  all_joined c (Step v) among none after = joined c (Step v) among none after (on_opened s code fair root input state h forked taken l t run joint _ _ _ (acts_open c (Step v) none after))
       (λ r f y b seat stand ke before. let row = Now (Install (record { kind = Run f y; bottom = b })) in
       went_held c v r row seat ke f y b refl before (stand_of state c) refl (step_to c v seat row (stand_of state c) refl stand))
       (λ entries r row seat stand ke on held. went_unheld c v r row seat ke entries on (stand_of state c) refl (step_to c v seat row (stand_of state c) refl stand) held)
       (λ seat next v' slot stand ke on w r shut aw kw by. own_opens c v seat next v' slot ke on (stand_of state c) refl (step_to c v seat (Now next) (stand_of state c) refl stand) w r shut aw kw by)
-  all_joined c Soft among none after = joined c Soft among none after (here s code fair root input state h forked taken l t run joint)
+  all_joined c Soft among none after = joined c Soft among none after (agree_on s code fair root input state h forked taken l t run joint t h (here s code fair root input state h forked taken l t run joint))
       (λ r f y b seat stand ke before. absurd (fault_out c Soft (λ found x. tt) seat _ (stand_of state c) refl stand))
       (λ entries r row seat stand ke on held. fault_out c Soft (λ found x. tt) seat _ (stand_of state c) refl stand)
       (λ seat next v' slot stand ke on w r shut aw kw by. absurd (fault_out c Soft (λ found x. tt) seat _ (stand_of state c) refl stand))
-  all_joined c Hard among none after = joined c Hard among none after (here s code fair root input state h forked taken l t run joint)
+  all_joined c Hard among none after = joined c Hard among none after (agree_on s code fair root input state h forked taken l t run joint t h (here s code fair root input state h forked taken l t run joint))
       (λ r f y b seat stand ke before. absurd (fault_out c Hard (λ found x. tt) seat _ (stand_of state c) refl stand))
       (λ entries r row seat stand ke on held. fault_out c Hard (λ found x. tt) seat _ (stand_of state c) refl stand)
       (λ seat next v' slot stand ke on w r shut aw kw by. absurd (fault_out c Hard (λ found x. tt) seat _ (stand_of state c) refl stand))
-  all_joined c (Quit why) among none after = joined c (Quit why) among none after (here s code fair root input state h forked taken l t run joint)
+  all_joined c (Quit why) among none after = joined c (Quit why) among none after (agree_on s code fair root input state h forked taken l t run joint t h (here s code fair root input state h forked taken l t run joint))
       (λ r f y b seat stand ke before. absurd (fault_out c (Quit why) (λ found x. tt) seat _ (stand_of state c) refl stand))
       (λ entries r row seat stand ke on held. fault_out c (Quit why) (λ found x. tt) seat _ (stand_of state c) refl stand)
       (λ seat next v' slot stand ke on w r shut aw kw by. absurd (fault_out c (Quit why) (λ found x. tt) seat _ (stand_of state c) refl stand))
+
+-- so many forks a turn opens
+pub turns_open : (s : Shape) (code : CodeParts) (fair : IsFair code) (root : Tree (Frame FrameWord Point) Result) (input : Words) (state : RunState) (h : ℕ → Home) (forked taken : List ℕ) (l : List Followed) (t : Skeleton)
+    (run : IsHalves s code root input state h forked taken l t) (joint : AreJoint s code state h l t) (turn : Turn) → StepsAlone s.takeover turn.act (stand_of state turn.processor)
+    → IsHalves s code root input (happens s code state turn) (by_act s state.words turn.act (stand_of state turn.processor) h) (forks_of state turn ++ forked) (takes_of state turn ++ taken) l
+    (act_with (image s code) (left (image s code) l (places_of s state)).words state.words turn.act (stand_of state turn.processor) t)
+    → Opened s code fair root input state h forked taken l t run joint (by_step (opened_by (left (image s code) l (places_of s state)).words) turn.act (stand_of state turn.processor))
+    (act_with (image s code) (left (image s code) l (places_of s state)).words state.words turn.act (stand_of state turn.processor) t) (by_act s state.words turn.act (stand_of state turn.processor) h)
+turns_open s code fair root input state h forked taken l t run joint turn none after = acts_open s code fair root input state h forked taken l t run joint turn.processor turn.act none after
 
 pub joints_stay : JointsStay
 joints_stay s code fair root input state h forked taken l t run joint turn among none after = all_joined s code fair root input state h forked taken l t run joint turn.processor turn.act among none after
@@ -1077,7 +1098,7 @@ joint_of s code places root input state h forked taken t run = record {
   opens = λ c seat next v slot stand ke on w r shut aw kw by. absurd (let two : ByPlaces ≡ ByEntries = sym places ∙ entries_by s.takeover (spots.view s state.words) w shut in cc);
 }
 
-alone_by : (how : Takeover) → how ≡ ByPlaces → (act : Act) (x : Standing) → StepsAlone how act x
+pub alone_by : (how : Takeover) → how ≡ ByPlaces → (act : Act) (x : Standing) → StepsAlone how act x
 alone_by how e (Step v) (IsWithin seat row) = inl e
 alone_by how e (Step v) IsLost = tt
 alone_by how e (Step v) (IsPlaced p) = tt

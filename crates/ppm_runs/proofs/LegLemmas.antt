@@ -45,7 +45,7 @@ use Rattle.ppm_kept.specs.Running.{IsFair, strands}
 use Rattle.ppm_kept.specs.Kept.{Resting, Image, State, NoOutcome, Head, Ordered, IsKept}
 use Rattle.ppm_kept.specs.Places.{kinds_of, places_of}
 use Rattle.ppm_kept.proofs.BirthLemmas.{births_stay}
-use Rattle.ppm_kept.proofs.CountLemmas.{recount}
+use Rattle.ppm_kept.proofs.CountLemmas.{Counted, asked, as_asked, answered}
 use Rattle.ppm_kept.proofs.StopLemmas.{words_stay}
 use Rattle.ppm_runs.specs.Run.{image, IsRun}
 use Rattle.ppm_runs.specs.Legs.{Leg, GoOn, words_then, state_then, AreLegs, homes_then, forked_then, taken_then, last_state, all_homes, all_forked, all_taken, LegsStay, OnceOverLegs, LegsComeTo, RoomOverLegs}
@@ -106,10 +106,6 @@ module _ (i : Image) (root : Tree (Frame FrameWord Point) Result) (input : Words
     counted = law.counted;
   }
 
--- with as many capsules counted at least
-abbrev pub CountsOn : (s : Shape) (code : CodeParts) (root : Tree (Frame FrameWord Point) Result) (input : Words) → State → Skeleton → ℕ → Type 0
-CountsOn s code root input z t n = (kept : IsKept (image s code) root input z t) × (n ≤ kept.ahead.0.capsules)
-
 module _ (s : Shape) (code : CodeParts) (places : s.takeover ≡ ByPlaces) (fair : IsFair code) (root : Tree (Frame FrameWord Point) Result) (input : Words) (state : RunState) (h : ℕ → Home) (forked taken : List ℕ) (t : Skeleton) (run : IsRun s code root input state h forked taken t)
     (back : List ℕ) (on : GoOn s state.words back) where
   abbrev then_ : RunState
@@ -152,7 +148,7 @@ module _ (s : Shape) (code : CodeParts) (places : s.takeover ≡ ByPlaces) (fair
       each (BlockWord x) = write_else m FinishWord (read s back FinishWord) (BlockWord x) (λ e. cc)
       each (ArrayWord x) = write_else m FinishWord (read s back FinishWord) (ArrayWord x) (λ e. cc)
 
-  -- with a count that is to be kept
+  -- whatever is asked of the counts
   module _ (i : Image) (law : IsKept i root input (places_of s state) t) where
     same_kept : read s back FinishWord ≡ read s state.words FinishWord → IsKept i root input back_so t
     same_kept same =
@@ -165,21 +161,10 @@ module _ (s : Shape) (code : CodeParts) (places : s.takeover ≡ ByPlaces) (fair
     kept_back : IsFair i.code → IsKept i root input (places_of s then_) t
     kept_back fair_i = subst (λ (z : State). IsKept i root input z t) (sym back_is) (elim on.finish [ inl same ↦ same_kept same | inr none ↦ none_kept fair_i none ])
 
-  abbrev many : ℕ
-  many = run.kept.ahead.0.capsules
-
-  abbrev counting : Image
-  counting = record { shape = s; code = code; counted = many }
-
-  -- no fewer capsules are counted
-  counts_on : CountsOn s code root input (places_of s then_) t many
-  counts_on =
-      let with_count = (recount (image s code) many root input (places_of s state) t run.kept (omega arith)).0 in
-      let after_ = kept_back counting with_count fair in
-      let got = after_.counted in
-      let again = recount counting 0 root input (places_of s then_) t after_ (omega arith) in
-      let same = again.1 in
-      (again.0, omega (arith, got, same))
+  -- the counts are the same
+  counts_on : Counted (image s code) root input (places_of s then_) t run.kept.ahead.0.capsules run.kept.ahead.0.forks
+  counts_on = answered (image s code) root input (places_of s state) t run.kept (places_of s then_) t
+      (kept_back (asked (image s code) root input (places_of s state) t run.kept) (as_asked (image s code) root input (places_of s state) t run.kept) fair)
 
   born_back : Births (image s code) back_so (has forked)
   born_back = let b = (births_stay (image s code) fair root input (places_of s state) t run.kept (has forked) run.born 0).stored FinishWord (read s back FinishWord) IsLost tt in record { below = b.below; homes = b.homes }
@@ -195,9 +180,13 @@ module _ (s : Shape) (code : CodeParts) (places : s.takeover ≡ ByPlaces) (fair
     born = subst (λ (z : State). Births (image s code) z (has forked)) (sym back_is) born_back;
   }
 
-  pub counted_back : many ≤ goes_on_back.kept.ahead.0.capsules
+  pub counted_back : run.kept.ahead.0.capsules ≤ goes_on_back.kept.ahead.0.capsules
   unfolding goes_on_back
-  counted_back = counts_on.1
+  counted_back = let e = counts_on.1 in omega (arith, e)
+
+  pub forks_back : goes_on_back.kept.ahead.0.forks ≡ run.kept.ahead.0.forks
+  unfolding goes_on_back
+  forks_back = counts_on.2
 
 module _ (code : CodeParts) (input : List NamedArray) (s : Shape) (keeper : ℕ) (im : RealImage) (places : s.takeover ≡ ByPlaces) (fair : IsFair code) (opens : Opens code input s keeper im)
     (calm : Calm (strands s code) (root_strand code input) (arrays_at (view s im.words))) where

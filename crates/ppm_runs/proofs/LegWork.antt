@@ -31,39 +31,44 @@ use Rattle.ppm_frames.specs.Seen.{arrays_at}
 use Rattle.ppm_frames.specs.Skeletons.{Skeleton}
 use Rattle.ppm_kept.specs.Running.{IsFair, strands}
 use Rattle.ppm_runs.specs.Work.{work_in, strikes_in, WorkIsBounded, WorkIsWithin256}
+use Rattle.ppm_runs.specs.Run.{IsRun}
 use Rattle.ppm_runs.specs.Legs.{Leg, GoOn, words_then, state_then, AreLegs, homes_then, forked_then, taken_then, work_then, strikes_then, last_state, all_homes, all_forked, all_taken, all_work, all_strikes, WorkOverLegs, WorkOverLegsIsWithin256}
 use Rattle.ppm_runs.proofs.BackLemmas.{kinds_back}
-use Rattle.ppm_runs.proofs.BoundLemmas.{Stage, all_stay, work_of_stage, lost_paces, lost_claims, lost_most, first_stage, first_tree}
+use Rattle.ppm_runs.proofs.BoundLemmas.{Stage, again, again_none, all_struck, work_of_stage, lost_paces, lost_claims, lost_most, first_run, first_stage, first_tree}
 use Rattle.ppm_runs.proofs.LegLemmas.{goes_on_back, counted_back}
+use Rattle.ppm_runs.proofs.ShownLemmas.{halves}
 use Rattle.ppm_runs.proofs.StandLemmas.{kinds_same}
 use Rattle.ppm_runs.proofs.SumLemmas.{sum, sum_le, sum_zero}
 
 -- what comes back is a moment again, with a row lost by each processor
 module _ (s : Shape) (code : CodeParts) (places : s.takeover ≡ ByPlaces) (fair : IsFair code) (root : Tree (Frame FrameWord Point) Result) (input : Words) (end : End Result) (ends : Ends (strands s code) root input end)
-    (lost : ℕ) (state : RunState) (h : ℕ → Home) (forked taken : List ℕ) (t : Skeleton) (work strikes : ℕ) (made : ℕ → ℕ) (stage : Stage s code places fair root input end ends lost state h forked taken t work strikes made)
-    (back : List ℕ) (on : GoOn s state.words back) where
+    (lost : ℕ) (state : RunState) (h : ℕ → Home) (forked taken : List ℕ) (t : Skeleton) (run : IsRun s code root input state h forked taken t) (work strikes : ℕ) (made : ℕ → ℕ)
+    (stage : Stage s code fair root input end ends lost state h forked taken [] t (halves run) run.agrees work strikes made) (back : List ℕ) (on : GoOn s state.words back) where
   abbrev N : ℕ
   N = s.processors
 
   kinds_stay : spots.kinds s back ≡ spots.kinds s state.words
   kinds_stay = fun_ext (λ p. sym (kinds_same s back p) ∙ ap (λ (f : ℕ → RestartKind). f p) (kinds_back s state.words back on.renewal) ∙ kinds_same s state.words p)
 
-  back_stage : Stage s code places fair root input end ends (lost + 172 * N) (opening back N) h forked taken t work strikes (λ c. 0)
+  abbrev run_back : IsRun s code root input (opening back N) h forked taken t
+  run_back = goes_on_back s code places fair root input state h forked taken t run back on
+
+  back_stage : Stage s code fair root input end ends (lost + 172 * N) (opening back N) h forked taken [] t (halves run_back) run_back.agrees work strikes (λ c. 0)
+  unfolding halves
   back_stage =
-      let run = goes_on_back s code places fair root input state h forked taken t stage.run back on in
-      let more = counted_back s code places fair root input state h forked taken t stage.run back on in
+      let more = counted_back s code places fair root input state h forked taken t run back on in
       let dues = ap (λ (f : ℕ → RestartKind). sum N (λ p. due (f p))) kinds_stay in
       let few = sum_le N made (λ c. most (made c) (stand_of state c)) (λ c lt. (made_few s code fair.code_is c (made c) (stand_of state c) (stage.paces c)).0) in
       let still = sum_zero N (λ c. most 0 (stand_in (slice_get (replicate N IsLost) c))) (lost_most N) in
       let none = sum_zero N (λ c. 0) (λ c. refl) in
-      let held = stage.held in
+      let beside = sum_zero N (λ p. again s.takeover (stand_of (opening back N) p) (spots.kinds s back p)) (λ p. again_none s.takeover places (stand_of (opening back N) p) (spots.kinds s back p)) in
+      let held = stage.held places in
       let bound = stage.bound in
       record {
-        run = run;
         paces = lost_paces s N;
-        claims = λ c. lost_claims s code places fair root input (opening back N) h forked taken t run c (stand_of (opening back N) c);
-        paid = λ unset. omega (arith, held, dues, few, none, more);
-        held = omega (arith, held, dues, few, none, more, still);
+        claims = λ c. lost_claims s code fair root input (opening back N) h forked taken [] t (halves run_back) run_back.agrees c (stand_of (opening back N) c);
+        paid = λ unset. omega (arith, held, dues, few, none, more, beside);
+        held = λ places. omega (arith, held, dues, few, none, more, still);
         bound = omega (arith, bound, few, none, still);
       }
 
@@ -97,33 +102,47 @@ module _ (code : CodeParts) (input : List NamedArray) (s : Shape) (keeper : ℕ)
   record Begins (legs : List Leg) : Type 0 where
     tree : Skeleton
     made : ℕ → ℕ
-    stage : Stage s code places fair root arrays end ends (lost_in s.processors legs) (state_then s code im.words legs) (homes_then s code im.words legs) (forked_then s code im.words legs) (taken_then s code im.words legs) tree
+    run : IsRun s code root arrays (state_then s code im.words legs) (homes_then s code im.words legs) (forked_then s code im.words legs) (taken_then s code im.words legs) tree
+    stage : Stage s code fair root arrays end ends (lost_in s.processors legs) (state_then s code im.words legs) (homes_then s code im.words legs) (forked_then s code im.words legs) (taken_then s code im.words legs) [] tree (halves run) run.agrees
         (work_then s code im.words legs) (strikes_then s code im.words legs) made
 
-  behind : (legs : List Leg) → Begins legs → (turns : List Turn) → AllByRecursion (IsTurnAmong s.processors) turns → (made : ℕ → ℕ) × (t : Skeleton)
-      × Stage s code places fair root arrays end ends (lost_in s.processors legs) (last_state s code im.words legs turns) (all_homes s code im.words legs turns) (all_forked s code im.words legs turns) (all_taken s code im.words legs turns) t
-      (all_work s code im.words legs turns) (all_strikes s code im.words legs turns) made
+  -- and the one behind its turns
+  record Behind (legs : List Leg) (turns : List Turn) : Type 0 where
+    tree : Skeleton
+    made : ℕ → ℕ
+    run : IsRun s code root arrays (last_state s code im.words legs turns) (all_homes s code im.words legs turns) (all_forked s code im.words legs turns) (all_taken s code im.words legs turns) tree
+    stage : Stage s code fair root arrays end ends (lost_in s.processors legs) (last_state s code im.words legs turns) (all_homes s code im.words legs turns) (all_forked s code im.words legs turns) (all_taken s code im.words legs turns) [] tree (halves run) run.agrees
+        (all_work s code im.words legs turns) (all_strikes s code im.words legs turns) made
+
+  behind : (legs : List Leg) → Begins legs → (turns : List Turn) → AllByRecursion (IsTurnAmong s.processors) turns → Behind legs turns
   behind legs b turns all =
-      let on = all_stay s code places fair root arrays end ends (lost_in s.processors legs) (words_then s code im.words legs) [] turns (state_then s code im.words legs) refl (homes_then s code im.words legs)
-      (forked_then s code im.words legs) (taken_then s code im.words legs) b.tree (work_then s code im.words legs) (strikes_then s code im.words legs) b.made all b.stage in
-      (_, on.0, on.1)
+      let on = all_struck s code fair root arrays end ends places (lost_in s.processors legs) (words_then s code im.words legs) turns (state_then s code im.words legs) refl (homes_then s code im.words legs)
+      (forked_then s code im.words legs) (taken_then s code im.words legs) b.tree b.run (work_then s code im.words legs) (strikes_then s code im.words legs) b.made all b.stage in
+      record { tree = on.0; made = _; run = on.1; stage = on.2 }
 
   begins : (legs : List Leg) → AreLegs s code im.words legs → Begins legs
-  begins [] are = record { tree = first_tree code input s keeper im places fair opens calm end ends; made = λ c. 0; stage = first_stage code input s keeper im places fair opens calm end ends }
+  begins [] are = record {
+    tree = first_tree code input s keeper im fair opens calm end ends;
+    made = λ c. 0;
+    run = first_run code input s keeper im fair opens calm end ends;
+    stage = first_stage code input s keeper im fair opens calm end ends (first_run code input s keeper im fair opens calm end ends);
+  }
   begins (leg ∷ legs) are =
       let on = behind legs (begins legs are.0) leg.turns are.1 in record {
-        tree = on.1;
+        tree = on.tree;
         made = λ c. 0;
+        run = run_back s code places fair root arrays end ends (lost_in s.processors legs) (last_state s code im.words legs leg.turns) (all_homes s code im.words legs leg.turns) (all_forked s code im.words legs leg.turns)
+            (all_taken s code im.words legs leg.turns) on.tree on.run (all_work s code im.words legs leg.turns) (all_strikes s code im.words legs leg.turns) on.made on.stage leg.back are.2;
         stage = back_stage s code places fair root arrays end ends (lost_in s.processors legs) (last_state s code im.words legs leg.turns) (all_homes s code im.words legs leg.turns) (all_forked s code im.words legs leg.turns)
-            (all_taken s code im.words legs leg.turns) on.1 (all_work s code im.words legs leg.turns) (all_strikes s code im.words legs leg.turns) on.0 on.2 leg.back are.2;
+            (all_taken s code im.words legs leg.turns) on.tree on.run (all_work s code im.words legs leg.turns) (all_strikes s code im.words legs leg.turns) on.made on.stage leg.back are.2;
       }
 
   bounded : (legs : List Leg) → AreLegs s code im.words legs → (turns : List Turn) → AllByRecursion (IsTurnAmong s.processors) turns
       → all_work s code im.words legs turns ≤ 218 * end.counts.capsules + 171 * all_strikes s code im.words legs turns + 172 * (s.processors * length legs) + 6
   bounded legs are turns all =
       let on = behind legs (begins legs are) turns all in
-      let le = work_of_stage s code places fair root arrays end ends (lost_in s.processors legs) (last_state s code im.words legs turns) (all_homes s code im.words legs turns) (all_forked s code im.words legs turns)
-      (all_taken s code im.words legs turns) on.1 (all_work s code im.words legs turns) (all_strikes s code im.words legs turns) on.0 on.2 in
+      let le = work_of_stage s code fair root arrays end ends (lost_in s.processors legs) (last_state s code im.words legs turns) (all_homes s code im.words legs turns) (all_forked s code im.words legs turns)
+      (all_taken s code im.words legs turns) [] on.tree (halves on.run) on.run.agrees (all_work s code im.words legs turns) (all_strikes s code im.words legs turns) on.made on.stage in
       let lost = lost_are s.processors legs in
       omega (arith, le, lost)
 

@@ -54,4 +54,9 @@ pub mod FollowLemmas
 pub mod HalvesLemmas
 pub mod HeirJoinLemmas
 pub mod HeiredLemmas
+pub mod LongLemmas
+pub mod CountedLemmas
+pub mod ForkLemmas
+pub mod LegForks
 pub mod LegWork
+pub mod HeirWork

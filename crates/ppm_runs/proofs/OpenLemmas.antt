@@ -1,5 +1,5 @@
 -- A machine that opens an image is in the state of a run.
-use Rattle.std.proofs.Common.{◌≡◌, ◌⊎◌, ℕ, false, [], inl, inr, sym, ap, ◌∙◌, subst}
+use Rattle.std.proofs.Common.{◌≡◌, ◌⊎◌, ℕ, true, false, [], inl, inr, sym, ap, ◌∙◌, subst}
 use Rattle.ppm_cells.specs.Cells.{pool_at}
 use Rattle.ppm_step.specs.Standings.{Standing, IsLost, IsBroken, IsDone}
 use Rattle.ppm_step.specs.State.{State as RunState, stand_of, opening}
@@ -27,7 +27,7 @@ runs_open code input s keeper real opens calm =
     let ticket = images_open code input s keeper real opens.image_is in
     record {
       lawful = lawful_in_every_run s code keeper (pool_at s keeper) real.words [] ticket.1 ticket.0 tt;
-      kept = made.1;
+      kept = made.1 (λ k. true) refl;
       agrees = record {
         fresh = λ r e. absurd e;
         held = λ r e. absurd e;

@@ -92,7 +92,7 @@ away [] g q a f = tt
 away (v ∷ l) g q a f = (λ e. true≢false (sym a.0 ∙ ap g (sym e) ∙ f), away l g q a.1 f)
 
 -- by places none is left out
-pub halves : {s : Shape} {code : CodeParts} {root : Tree (Frame FrameWord Point) Result} {input : Words} {state : RunState} {h : ℕ → Home} {forked taken : List ℕ} {t : Skeleton}
+unfoldable pub halves : {s : Shape} {code : CodeParts} {root : Tree (Frame FrameWord Point) Result} {input : Words} {state : RunState} {h : ℕ → Home} {forked taken : List ℕ} {t : Skeleton}
     → IsRun s code root input state h forked taken t → IsHalves s code root input state h forked taken [] t
 halves run = record { lawful = run.lawful; apart = tt; gone = tt; kept = run.kept; born = run.born }
 

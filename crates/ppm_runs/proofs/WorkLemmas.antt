@@ -1,5 +1,5 @@
 -- The work of a run: what one turn makes of it, of what is set aside at places, of what the tree owes, and of what rows have made.
-use Rattle.std.proofs.Common.{◌≡◌, ◌≢◌, ◌⊎◌, ◌≤◌, ◌<◌, ℕ, zero, suc, ◌+◌, ◌*◌, ◌==◌, Bool, true, false, if◌then◌else◌, List, inl, inr, refl, sym, ap, ◌∙◌, subst, arith, []}
+use Rattle.std.proofs.Common.{◌≡◌, ◌≢◌, ◌⊎◌, ◌≤◌, ◌<◌, ℕ, zero, suc, ◌+◌, ◌*◌, ◌==◌, Bool, true, false, if◌then◌else◌, List, inl, inr, refl, sym, ap, ◌∙◌, subst, arith}
 use Rattle.std.specs.Prelude.{slice_index}
 use Rattle.std.proofs.Math.Path.{fun_ext}
 use Rattle.ppm_strands.specs.Tree.{Words, Tree}
@@ -16,7 +16,8 @@ use Rattle.ppm_cells.specs.declared.restart.Restart.{Restart}
 use Rattle.ppm_cells.specs.declared.restart.RestartKind.{RestartKind}
 use Rattle.ppm_cells.specs.declared.restart.RestartKind.TheVariants.{Run, Bump, Push1, Push2, Unwind, Arrive, Join, Pop1, Pop2, Seek, Steal, Check, Take, Take2}
 use Rattle.ppm_cells.specs.declared.shape.Shape.{Shape}
-use Rattle.ppm_cells.specs.declared.shape.Takeover.TheVariants.{ByPlaces}
+use Rattle.ppm_cells.specs.declared.shape.Takeover.{Takeover}
+use Rattle.ppm_cells.specs.declared.shape.Takeover.TheVariants.{ByPlaces, ByEntries}
 use Rattle.ppm_capsules.specs.Strand.{Frame}
 use Rattle.ppm_code.specs.Strands.{Point, Result}
 use Rattle.ppm_code.specs.declared.code.CodeParts.{CodeParts}
@@ -36,32 +37,41 @@ use Rattle.ppm_step.specs.declared.turn.Act.{Act}
 use Rattle.ppm_step.specs.declared.turn.Act.TheVariants.{Step, Soft, Hard, Quit}
 use Rattle.ppm_paces.specs.Costs.{cost, due, IsLook, IsFree, AreFree}
 use Rattle.ppm_paces.specs.Paces.{Paces}
-use Rattle.ppm_paces.proofs.LookLemmas.{looks_are_free}
+use Rattle.ppm_paces.proofs.LookLemmas.{looks_are_free, searches_are_free}
 use Rattle.ppm_paces.proofs.PaceLemmas.{one, most, Sets, install_paid, fork_paid, begin_paid, capsule_paid}
 use Rattle.ppm_tickets.specs.Along.{IsPooled}
 use Rattle.ppm_tickets.specs.Entries.{IsPooledAt}
 use Rattle.ppm_tickets.specs.Homes.{Home}
 use Rattle.ppm_tickets.specs.Saw.{Sees}
 use Rattle.ppm_tickets.specs.View as spots
-use Rattle.ppm_tickets.specs.Lawful.{IsAlive}
-use Rattle.ppm_tickets.specs.Words.{Spot, Holder, Carry, Word, Number, put}
+use Rattle.ppm_tickets.specs.Heirs.{GoesOnBy}
+use Rattle.ppm_tickets.specs.Lawful.{IsAlive, IsDead, Closed, Rooted}
+use Rattle.ppm_tickets.specs.Words.{Spot, Dead, Holder, Carry, Word, Number, put}
 use Rattle.ppm_tickets.proofs.EntryLemmas.{cell_there}
+use Rattle.ppm_tickets.proofs.EstateLemmas.{here}
+use Rattle.ppm_tickets.proofs.HeirRows.{heirs_see}
 use Rattle.ppm_tickets.proofs.ViewLemmas.{view_else, restarts_kept, kinds_put}
 use Rattle.ppm_frames.specs.Skeletons.{Skeleton}
 use Rattle.ppm_frames.specs.Seen.{arrays_at}
 use Rattle.ppm_frames.specs.Skeletons.{tree_of}
 use Rattle.ppm_kept.specs.Running.{IsFair, strands}
+use Rattle.ppm_kept.specs.Fates.{Agrees}
+use Rattle.ppm_kept.specs.Kept.{State}
+use Rattle.ppm_kept.specs.Left.{Followed, left, left_kinds, IsAway, LooksOn, InheritsNone}
+use Rattle.ppm_kept.specs.Others.{IsIdle}
 use Rattle.ppm_kept.specs.Places.{places_of}
 use Rattle.ppm_kept.specs.Pushing.{Comes}
 use Rattle.ppm_kept.specs.Steps.{CameBy}
 use Rattle.ppm_kept.specs.Credit.{paid_by, ended_by}
-use Rattle.ppm_runs.specs.Run.{image, IsRun}
+use Rattle.ppm_kept.proofs.LeftLemmas.{kind_away}
+use Rattle.ppm_runs.specs.Run.{image, fate_of}
+use Rattle.ppm_runs.specs.Follow.{IsHalves}
 use Rattle.ppm_runs.proofs.StandLemmas.{kinds_same}
 use Rattle.ppm_runs.proofs.SumLemmas.{sum, sum_le, sum_plus, sum_times, sum_there}
 use Rattle.ppm_runs.proofs.BegunLemmas.{runs as runs_at, begin_in, begin_sum, runs_begin}
 use Rattle.ppm_runs.proofs.CameLemmas.{came_from}
-use Rattle.ppm_runs.proofs.ShownLemmas.{halves, names_one, Within, within, runs}
-use Rattle.ppm_runs.proofs.OrderlyLemmas.{turns_are_orderly}
+use Rattle.ppm_runs.proofs.ShownLemmas.{away, names_one, within, runs, carried_away}
+use Rattle.ppm_runs.proofs.OrderlyLemmas.{how_or, pooled}
 use Rattle.ppm_runs.proofs.AgreeLemmas.{IsNoRestart, IsNoCarry, quiet_restart, quiet_carry, exchanges_no_restart, stores_no_restart, exchanges_no_carry, stores_no_carry}
 use Rattle.ppm_runs.proofs.JoinLemmas.{restart_not}
 
@@ -130,9 +140,25 @@ abbrev pub Moves : Standing → Type 0
 Moves (IsWithin seat row) = IsMove row
 Moves _ = ⊥
 
-module _ (s : Shape) (code : CodeParts) (places : s.takeover ≡ ByPlaces) (fair : IsFair code) (root : Tree (Frame FrameWord Point) Result) (input : Words) (state : RunState) (h : ℕ → Home) (forked taken : List ℕ) (t : Skeleton) (run : IsRun s code root input state h forked taken t) where
+-- where a processor stands, nothing has to be set aside for what its row installs, if that is no work
+abbrev pub IsFreeAt : Standing → Type 0
+IsFreeAt (IsWithin seat row) = is_work seat.restart.kind ≡ false → IsFree row
+IsFreeAt _ = Unit {0}
+
+module _ (s : Shape) (code : CodeParts) (fair : IsFair code) (root : Tree (Frame FrameWord Point) Result) (input : Words) (state : RunState) (h : ℕ → Home) (forked taken : List ℕ) (l : List Followed) (t : Skeleton)
+    (run : IsHalves s code root input state h forked taken l t) (agrees : Agrees t (λ r. fate_of (h r))) where
   abbrev K : ℕ → RestartKind
   K = spots.kinds s state.words
+
+  -- with the places left out that others have followed
+  abbrev L : ℕ → RestartKind
+  L = left_kinds l K
+
+  abbrev z : State
+  z = left (image s code) l (places_of s state)
+
+  kinds_left : z.kind ≡ L
+  kinds_left = ap (left_kinds l) (fun_ext (kinds_same s state.words))
 
   abbrev m : Spot → Word
   m = spots.view s state.words
@@ -157,51 +183,75 @@ module _ (s : Shape) (code : CodeParts) (places : s.takeover ≡ ByPlaces) (fair
     pub sets : Sets x
     pub alive : IsAlive m c
     pub carry : m (Carry c) ≡ Number place
-    pub paid : one (is_work_turn (Step v) x) + made + due kind ≤ due (K place) + paid_by x + 182 * ended_by x
+    pub away : IsAway l place
+    pub paid : IsFreeAt x → one (is_work_turn (Step v) x) + made + due kind ≤ due (K place) + paid_by x + 182 * ended_by x
 
-  kinds_then : (p : ℕ) (re : Restart) → p < s.processors → restart_is_there s re ≡ true → spots.kinds s (store s state.words (RestartWord p) (restart_word re)) ≡ put K p re.kind
+  pub kinds_then : (p : ℕ) (re : Restart) → p < s.processors → restart_is_there s re ≡ true → spots.kinds s (store s state.words (RestartWord p) (restart_word re)) ≡ put K p re.kind
   kinds_then p re there here = kinds_put s state.words p re run.lawful.0 there (restart_fits s (few_words s) re here)
 
-  -- nothing has to be set aside for what a row without work installs
-  free : (c : ℕ) (seat : Seat) (row : Row) → Within s code root input state h forked taken [] t (halves run) c seat row → is_work seat.restart.kind ≡ false → IsFree row
-  free c seat row w look = look_free s places seat seat.restart.kind row (look_kind seat.restart.kind look) (came_from s seat row (spots.with_restarts (spots.view s state.words) (spots.kinds s state.words) (spots.bottoms s state.words)) w.here w.seen)
-
-  own_kind : (p : ℕ) (k : RestartKind) → (places_of s state).kind p ≡ k → due (K p) ≡ due k
-  own_kind p k e = ap due (sym (kinds_same s state.words p) ∙ e)
+  own_kind : (p : ℕ) (k : RestartKind) → K p ≡ k → due (K p) ≡ due k
+  own_kind p k e = ap due e
 
   -- a step in a row
   row_kinds : (c v made : ℕ) (seat : Seat) (row : Row) → stand_of state c ≡ IsWithin seat row → Paces s made (IsWithin seat row)
       → (Still (acts s code state c (Step v) (IsWithin seat row)).words × (Sets (IsWithin seat row) → ⊥)) ⊎ Installed c v made (IsWithin seat row)
   row_kinds c v made seat (Now (Install re)) e paces =
-      let w = within s code root input state h forked taken [] t (halves run) c seat (Now (Install re)) e in
-      let paid = install_paid s seat made re paces (free c seat (Now (Install re)) w) in
-      let own = own_kind seat.place seat.restart.kind w.kind in
-      inr (record { place = seat.place; kind = re.kind; there = w.place; kinds = kinds_then seat.place re w.place w.here; sets = tt; alive = w.sits.carried.lives.alive; carry = w.sits.carried.carry; paid = omega (arith, paid, own) })
+      let w = within s code root input state h forked taken l t run c seat (Now (Install re)) e in
+      let own = own_kind seat.place seat.restart.kind w.sits.at.kind in
+      inr (record {
+        place = seat.place;
+        kind = re.kind;
+        there = w.place;
+        kinds = kinds_then seat.place re w.place w.here;
+        sets = tt;
+        alive = w.sits.carried.lives.alive;
+        carry = w.sits.carried.carry;
+        away = carried_away s code root input state h forked taken l t run c seat.place w.sits.carried;
+        paid = λ free. let paid = install_paid s seat made re paces free in omega (arith, paid, own);
+      })
   row_kinds c v made seat (Now (Fork r)) e paces =
-      let w = within s code root input state h forked taken [] t (halves run) c seat (Now (Fork r)) e in
-      let paid = fork_paid s seat made r paces (free c seat (Now (Fork r)) w) in
-      let own = own_kind seat.place seat.restart.kind w.kind in
-      inr (record { place = seat.place; kind = Push1 r; there = w.place; kinds = kinds_then seat.place (forked_restart seat r) w.place w.here; sets = tt; alive = w.sits.carried.lives.alive; carry = w.sits.carried.carry; paid = omega (arith, paid, own) })
+      let w = within s code root input state h forked taken l t run c seat (Now (Fork r)) e in
+      let own = own_kind seat.place seat.restart.kind w.sits.at.kind in
+      inr (record {
+        place = seat.place;
+        kind = Push1 r;
+        there = w.place;
+        kinds = kinds_then seat.place (forked_restart seat r) w.place w.here;
+        sets = tt;
+        alive = w.sits.carried.lives.alive;
+        carry = w.sits.carried.carry;
+        away = carried_away s code root input state h forked taken l t run c seat.place w.sits.carried;
+        paid = λ free. let paid = fork_paid s seat made r paces free in omega (arith, paid, own);
+      })
   row_kinds c v made seat (Now (Begin r f b)) e paces =
-      let w = within s code root input state h forked taken [] t (halves run) c seat (Now (Begin r f b)) e in
-      let paid = begin_paid s seat made r f b paces in
-      let own = own_kind seat.place seat.restart.kind w.kind in
-      inr (record { place = seat.place; kind = Run f 0; there = w.place; kinds = kinds_then seat.place (begun f b) w.place w.here; sets = tt; alive = w.sits.carried.lives.alive; carry = w.sits.carried.carry; paid = omega (arith, paid, own) })
+      let w = within s code root input state h forked taken l t run c seat (Now (Begin r f b)) e in
+      let own = own_kind seat.place seat.restart.kind w.sits.at.kind in
+      inr (record {
+        place = seat.place;
+        kind = Run f 0;
+        there = w.place;
+        kinds = kinds_then seat.place (begun f b) w.place w.here;
+        sets = tt;
+        alive = w.sits.carried.lives.alive;
+        carry = w.sits.carried.carry;
+        away = carried_away s code root input state h forked taken l t run c seat.place w.sits.carried;
+        paid = λ free. let paid = begin_paid s seat made r f b paces in omega (arith, paid, own);
+      })
   row_kinds c v made seat (Now (Load x)) e paces = inl (refl, λ z. z)
   row_kinds c v made seat (Now (Enter x)) e paces = inl (refl, λ z. z)
   row_kinds c v made seat (Now Again) e paces = inl (refl, λ z. z)
   row_kinds c v made seat (Now Broken) e paces = inl (refl, λ z. z)
   row_kinds c v made seat (Now (Move x)) e paces =
-      let w = within s code root input state h forked taken [] t (halves run) c seat (Now (Move x)) e in
+      let w = within s code root input state h forked taken l t run c seat (Now (Move x)) e in
       inl (elsewhere (CarryWord seat.own) x (subst (λ (n : ℕ). n < s.processors) (sym w.sits.own) w.sits.carried.lives.there) tt, λ z. z)
   row_kinds c v made seat (Store cell content next) e paces =
-      let w = within s code root input state h forked taken [] t (halves run) c seat (Store cell content next) e in
-      let pooled : IsPooled s cell = subst (IsPooledAt s) e ((turns_are_orderly s code places fair root input state h forked taken t run).pooled c) in
-      inl (elsewhere cell (word_of content) (cell_there s code cell w.here pooled) (stores_no_restart s code root input state h forked taken [] t (halves run) c seat cell content next w), λ z. z)
+      let w = within s code root input state h forked taken l t run c seat (Store cell content next) e in
+      let pooled : IsPooled s cell = subst (IsPooledAt s) e (pooled s code fair root input state h forked taken l t run agrees c) in
+      inl (elsewhere cell (word_of content) (cell_there s code cell w.here pooled) (stores_no_restart s code root input state h forked taken l t run c seat cell content next w), λ z. z)
   row_kinds c v made seat (Exchange cell old new next) e paces =
-      let w = within s code root input state h forked taken [] t (halves run) c seat (Exchange cell old new next) e in
-      let pooled : IsPooled s cell = subst (IsPooledAt s) e ((turns_are_orderly s code places fair root input state h forked taken t run).pooled c) in
-      inl (if_still (read s state.words cell == word_of old) cell (word_of new) (cell_there s code cell w.here pooled) (exchanges_no_restart s code root input state h forked taken [] t (halves run) c seat cell old new next w), λ z. z)
+      let w = within s code root input state h forked taken l t run c seat (Exchange cell old new next) e in
+      let pooled : IsPooled s cell = subst (IsPooledAt s) e (pooled s code fair root input state h forked taken l t run agrees c) in
+      inl (if_still (read s state.words cell == word_of old) cell (word_of new) (cell_there s code cell w.here pooled) (exchanges_no_restart s code root input state h forked taken l t run c seat cell old new next w), λ z. z)
 
   -- in a capsule
   rest_kinds : (c v made : ℕ) (seat : Seat) (rest : Rest) → stand_of state c ≡ IsRunning seat rest → Paces s made (IsRunning seat rest)
@@ -210,14 +260,23 @@ module _ (s : Shape) (code : CodeParts) (places : s.takeover ≡ ByPlaces) (fair
   rest_kinds c v made seat Breaks e paces = inl (refl, λ z. z)
   rest_kinds c v made seat Full e paces = inl (if_still (slice_index state.words 0 == 0) FinishWord _ tt tt, λ z. z)
   rest_kinds c v made seat (Installs kind) e paces =
-      let w = runs s code root input state h forked taken [] t (halves run) c seat (Installs kind) e in
-      let paid = capsule_paid s seat made kind paces in
+      let w = runs s code root input state h forked taken l t run c seat (Installs kind) e in
       let sees = subst (Sees s (spots.view s state.words) (spots.kinds s state.words) (spots.bottoms s state.words) c) e (run.lawful.1.sees c) in
-      inr (record { place = seat.place; kind = kind; there = w.place; kinds = kinds_then seat.place (record { kind = kind; bottom = seat.restart.bottom }) w.place w.here; sets = tt; alive = sees.0.carried.lives.alive; carry = sees.0.carried.carry; paid = omega (arith, paid) })
+      inr (record {
+        place = seat.place;
+        kind = kind;
+        there = w.place;
+        kinds = kinds_then seat.place (record { kind = kind; bottom = seat.restart.bottom }) w.place w.here;
+        sets = tt;
+        alive = sees.0.carried.lives.alive;
+        carry = sees.0.carried.carry;
+        away = carried_away s code root input state h forked taken l t run c seat.place sees.0.carried;
+        paid = λ free. let paid = capsule_paid s seat made kind paces in omega (arith, paid);
+      })
   rest_kinds c v made seat (Stores cell content rest) e paces =
-      let w = runs s code root input state h forked taken [] t (halves run) c seat (Stores cell content rest) e in
+      let w = runs s code root input state h forked taken l t run c seat (Stores cell content rest) e in
       let sees = subst (Sees s (spots.view s state.words) (spots.kinds s state.words) (spots.bottoms s state.words) c) e (run.lawful.1.sees c) in
-      let pooled : IsPooled s cell = subst (IsPooledAt s) e ((turns_are_orderly s code places fair root input state h forked taken t run).pooled c) in
+      let pooled : IsPooled s cell = subst (IsPooledAt s) e (pooled s code fair root input state h forked taken l t run agrees c) in
       inl (elsewhere cell (word_of content) (cell_there s code cell w.here pooled) (quiet_restart cell sees.2.0), λ z. z)
 
   -- a step
@@ -259,16 +318,16 @@ module _ (s : Shape) (code : CodeParts) (places : s.takeover ≡ ByPlaces) (fair
   carry_if d false cell w is none = refl
 
   row_carries : (c v : ℕ) (seat : Seat) (row : Row) → stand_of state c ≡ IsWithin seat row → (d : ℕ) → d ≢ c ⊎ (IsMove row → ⊥) → Carries d (words_after state.words (wanted_row s seat v row))
-  row_carries c v seat (Now (Install re)) e d out = let w = within s code root input state h forked taken [] t (halves run) c seat (Now (Install re)) e in carry_else d (RestartWord seat.place) (restart_word re) w.place tt
-  row_carries c v seat (Now (Fork r)) e d out = let w = within s code root input state h forked taken [] t (halves run) c seat (Now (Fork r)) e in carry_else d (RestartWord seat.place) (restart_word (forked_restart seat r)) w.place tt
-  row_carries c v seat (Now (Begin r f b)) e d out = let w = within s code root input state h forked taken [] t (halves run) c seat (Now (Begin r f b)) e in carry_else d (RestartWord seat.place) (restart_word (begun f b)) w.place tt
+  row_carries c v seat (Now (Install re)) e d out = let w = within s code root input state h forked taken l t run c seat (Now (Install re)) e in carry_else d (RestartWord seat.place) (restart_word re) w.place tt
+  row_carries c v seat (Now (Fork r)) e d out = let w = within s code root input state h forked taken l t run c seat (Now (Fork r)) e in carry_else d (RestartWord seat.place) (restart_word (forked_restart seat r)) w.place tt
+  row_carries c v seat (Now (Begin r f b)) e d out = let w = within s code root input state h forked taken l t run c seat (Now (Begin r f b)) e in carry_else d (RestartWord seat.place) (restart_word (begun f b)) w.place tt
   row_carries c v seat (Now (Load x)) e d out = refl
   row_carries c v seat (Now (Enter x)) e d out = refl
   row_carries c v seat (Now Again) e d out = refl
   row_carries c v seat (Now Broken) e d out = refl
   row_carries c v seat (Now (Move x)) e d (inr still) = absurd (still tt)
   row_carries c v seat (Now (Move x)) e d (inl ne) =
-      let w = within s code root input state h forked taken [] t (halves run) c seat (Now (Move x)) e in
+      let w = within s code root input state h forked taken l t run c seat (Now (Move x)) e in
       view_else s state.words (CarryWord seat.own) x (Carry d) (subst (λ (n : ℕ). n < s.processors) (sym w.sits.own) w.sits.carried.lives.there)
       (λ shown same. ne (carried_by same ∙ w.sits.own))
     where
@@ -279,23 +338,23 @@ module _ (s : Shape) (code : CodeParts) (places : s.takeover ≡ ByPlaces) (fair
       carried_by : CarryWord d ≡ CarryWord seat.own → d ≡ seat.own
       carried_by same = ap carrier same
   row_carries c v seat (Store cell content next) e d out =
-      let w = within s code root input state h forked taken [] t (halves run) c seat (Store cell content next) e in
-      let pooled : IsPooled s cell = subst (IsPooledAt s) e ((turns_are_orderly s code places fair root input state h forked taken t run).pooled c) in
-      carry_else d cell (word_of content) (cell_there s code cell w.here pooled) (stores_no_carry s code root input state h forked taken [] t (halves run) c seat cell content next w)
+      let w = within s code root input state h forked taken l t run c seat (Store cell content next) e in
+      let pooled : IsPooled s cell = subst (IsPooledAt s) e (pooled s code fair root input state h forked taken l t run agrees c) in
+      carry_else d cell (word_of content) (cell_there s code cell w.here pooled) (stores_no_carry s code root input state h forked taken l t run c seat cell content next w)
   row_carries c v seat (Exchange cell old new next) e d out =
-      let w = within s code root input state h forked taken [] t (halves run) c seat (Exchange cell old new next) e in
-      let pooled : IsPooled s cell = subst (IsPooledAt s) e ((turns_are_orderly s code places fair root input state h forked taken t run).pooled c) in
-      carry_if d (read s state.words cell == word_of old) cell (word_of new) (cell_there s code cell w.here pooled) (exchanges_no_carry s code root input state h forked taken [] t (halves run) c seat cell old new next w)
+      let w = within s code root input state h forked taken l t run c seat (Exchange cell old new next) e in
+      let pooled : IsPooled s cell = subst (IsPooledAt s) e (pooled s code fair root input state h forked taken l t run agrees c) in
+      carry_if d (read s state.words cell == word_of old) cell (word_of new) (cell_there s code cell w.here pooled) (exchanges_no_carry s code root input state h forked taken l t run c seat cell old new next w)
 
   rest_carries : (c : ℕ) (seat : Seat) (rest : Rest) → stand_of state c ≡ IsRunning seat rest → (d : ℕ) → Carries d (words_after state.words (wanted_rest s seat rest))
   rest_carries c seat (Loads cell go) e d = refl
   rest_carries c seat Breaks e d = refl
   rest_carries c seat Full e d = carry_if d (slice_index state.words 0 == 0) FinishWord _ tt tt
-  rest_carries c seat (Installs kind) e d = let w = runs s code root input state h forked taken [] t (halves run) c seat (Installs kind) e in carry_else d (RestartWord seat.place) _ w.place tt
+  rest_carries c seat (Installs kind) e d = let w = runs s code root input state h forked taken l t run c seat (Installs kind) e in carry_else d (RestartWord seat.place) _ w.place tt
   rest_carries c seat (Stores cell content rest) e d =
-      let w = runs s code root input state h forked taken [] t (halves run) c seat (Stores cell content rest) e in
+      let w = runs s code root input state h forked taken l t run c seat (Stores cell content rest) e in
       let sees = subst (Sees s (spots.view s state.words) (spots.kinds s state.words) (spots.bottoms s state.words) c) e (run.lawful.1.sees c) in
-      let pooled : IsPooled s cell = subst (IsPooledAt s) e ((turns_are_orderly s code places fair root input state h forked taken t run).pooled c) in
+      let pooled : IsPooled s cell = subst (IsPooledAt s) e (pooled s code fair root input state h forked taken l t run agrees c) in
       carry_else d cell (word_of content) (cell_there s code cell w.here pooled) (quiet_carry cell sees.2.0)
 
   step_carries : (c v : ℕ) (x : Standing) → stand_of state c ≡ x → (d : ℕ) → d ≢ c ⊎ (Moves x → ⊥) → Carries d (acts s code state c (Step v) x).words
@@ -336,24 +395,42 @@ module _ (s : Shape) (code : CodeParts) (places : s.takeover ≡ ByPlaces) (fair
 
   -- the most of the rows under way is no more than what is set aside at their places, and 172 for each place that runs
   abbrev G : ℕ → ℕ
-  G p = due (K p) + 172 * runs_at (K p)
+  G p = due (L p) + 172 * runs_at (L p)
+
+  -- a place that a processor carries which lives is none of those left out
+  kind_here : (p c : ℕ) → At p c → L p ≡ K p
+  kind_here p c at = kind_away l K p (away l run.lawful.1.board.gone p run.gone (here run.lawful.1.board p (open_ s.takeover run.lawful.1.rooted)))
+    where
+      told : Word → ℕ
+      told (Number q) = q
+      told _ = 0
+
+      number_is : Number p ≡ Number c → p ≡ c
+      number_is e = ap told e
+
+      open_ : (how : Takeover) → Rooted how m → Closed how m p → ⊥
+      open_ ByPlaces rooted shut = shut
+      open_ ByEntries rooted shut = at.0 (subst (λ (q : ℕ). IsDead (m (Dead q))) (number_is (sym at.1 ∙ rooted c)) shut)
 
   module _ (made : ℕ → ℕ) (claims : (c : ℕ) → Claim c (made c) (stand_of state c)) where
     abbrev There : ℕ → Standing → Type 0
     There c x = (most (made c) x ≡ 0) ⊎ ((p : ℕ) × (p < s.processors) × At p c × (most (made c) x ≤ G p))
 
-    own_most : (p : ℕ) (k : RestartKind) → (places_of s state).kind p ≡ k → cost k ≤ G p
-    own_most p k e = subst (λ (q : RestartKind). cost k ≤ due q + 172 * runs_at q) {x = k} (sym (sym (kinds_same s state.words p) ∙ e)) (cost_due k)
+    own_most : (p : ℕ) (k : RestartKind) → L p ≡ k → cost k ≤ G p
+    own_most p k e = subst (λ (q : RestartKind). cost k ≤ due q + 172 * runs_at q) {x = k} (sym e) (cost_due k)
+
+    kind_at : (p : ℕ) (k : RestartKind) → z.kind p ≡ k → L p ≡ k
+    kind_at p k e = sym (ap (λ (f : ℕ → RestartKind). f p) kinds_left) ∙ e
 
     most_there : (c : ℕ) (x : Standing) → stand_of state c ≡ x → Claim c (made c) x → There c x
-    most_there c (IsWithin seat row) e claim = let w = within s code root input state h forked taken [] t (halves run) c seat row e in
-        inr (seat.place, w.place, (w.sits.carried.lives.alive, w.sits.carried.carry), own_most seat.place seat.restart.kind w.kind)
+    most_there c (IsWithin seat row) e claim = let w = within s code root input state h forked taken l t run c seat row e in
+        inr (seat.place, w.place, (w.sits.carried.lives.alive, w.sits.carried.carry), own_most seat.place seat.restart.kind (kind_at seat.place seat.restart.kind w.kind))
     most_there c (IsRunning seat rest) e claim =
-        let w = runs s code root input state h forked taken [] t (halves run) c seat rest e in
+        let w = runs s code root input state h forked taken l t run c seat rest e in
         let sees = subst (Sees s (spots.view s state.words) (spots.kinds s state.words) (spots.bottoms s state.words) c) e (run.lawful.1.sees c) in
-        inr (seat.place, w.place, (sees.0.carried.lives.alive, sees.0.carried.carry), own_most seat.place seat.restart.kind w.kind)
+        inr (seat.place, w.place, (sees.0.carried.lives.alive, sees.0.carried.carry), own_most seat.place seat.restart.kind (kind_at seat.place seat.restart.kind w.kind))
     most_there c (IsBroken p) e (inl none) = inl none
-    most_there c (IsBroken p) e (inr claim) = inr (claim.0, claim.1, claim.2, let a = cost_due (K claim.0) in let b = claim.3 in omega (arith, a, b))
+    most_there c (IsBroken p) e (inr claim) = inr (claim.0, claim.1, claim.2, let a = own_most claim.0 (K claim.0) (kind_here claim.0 c claim.2) in let b = claim.3 in omega (arith, a, b))
     most_there c IsLost e claim = inl refl
     most_there c (IsPlaced p) e claim = inl refl
     most_there c (IsAt p r) e claim = inl refl
@@ -362,25 +439,75 @@ module _ (s : Shape) (code : CodeParts) (places : s.takeover ≡ ByPlaces) (fair
     rows_sum : sum s.processors (λ c. most (made c) (stand_of state c)) ≤ sum s.processors G
     rows_sum = sum_there s.processors s.processors (λ c. most (made c) (stand_of state c)) G At (λ c lt. most_there c (stand_of state c) refl (claims c)) one_at
 
-  runs_sum : sum s.processors (λ p. runs_at (K p)) ≤ sum s.processors (λ p. begin_in p t)
-  runs_sum = sum_le s.processors (λ p. runs_at (K p)) (λ p. begin_in p t)
-      (λ p lt. subst (λ (q : RestartKind). runs_at q ≤ begin_in p t) (kinds_same s state.words p) (runs_begin (image s code) fair root input (places_of s state) t run.kept p ((places_of s state).kind p) refl))
+  runs_sum : sum s.processors (λ p. runs_at (L p)) ≤ sum s.processors (λ p. begin_in p t)
+  runs_sum = subst (λ (f : ℕ → RestartKind). sum s.processors (λ p. runs_at (f p)) ≤ sum s.processors (λ p. begin_in p t)) kinds_left
+      (sum_le s.processors (λ p. runs_at (z.kind p)) (λ p. begin_in p t) (λ p lt. runs_begin (image s code) fair root input z t run.kept p (z.kind p) refl))
 
   -- so, with the capsules that are counted, it is within those of the depth-first run
   pub rows_within : (made : ℕ → ℕ) → ((c : ℕ) → Claim c (made c) (stand_of state c)) → (end : End Result) → EndsSo (strands s code) root input end
-      → sum s.processors (λ c. most (made c) (stand_of state c)) + 172 * run.kept.ahead.0.capsules ≤ sum s.processors (λ p. due (K p)) + 172 * end.counts.capsules
+      → sum s.processors (λ c. most (made c) (stand_of state c)) + 172 * run.kept.ahead.0.capsules ≤ sum s.processors (λ p. due (L p)) + 172 * end.counts.capsules
   rows_within made claims end ends =
       let d = (run.kept.ahead.1.ends end).0 ends in
-      let all : end.counts.capsules ≡ run.kept.ahead.0.capsules + d.0.counts.capsules = ap (λ (z : End Result). z.counts.capsules) d.2 in
-      let come = strands_are_counted (strands s code) (tree_of (places_of s state).words t) (arrays_at (places_of s state).words) d.0 d.1 in
-      let begun_ = begin_sum s.processors (places_of s state).words Root t in
+      let all : end.counts.capsules ≡ run.kept.ahead.0.capsules + d.0.counts.capsules = ap (λ (e : End Result). e.counts.capsules) d.2 in
+      let come = strands_are_counted (strands s code) (tree_of z.words t) (arrays_at z.words) d.0 d.1 in
+      let begun_ = begin_sum s.processors z.words Root t in
       let rows = rows_sum made claims in
       let runs_ = runs_sum in
-      let parts = sum_plus s.processors (λ p. due (K p)) (λ p. 172 * runs_at (K p)) in
-      let times = sum_times s.processors (λ p. runs_at (K p)) in
+      let parts = sum_plus s.processors (λ p. due (L p)) (λ p. 172 * runs_at (L p)) in
+      let times = sum_times s.processors (λ p. runs_at (L p)) in
       omega (arith, all, come, begun_, rows, runs_, parts, times)
 
   pub few_capsules : (end : End Result) → EndsSo (strands s code) root input end → run.kept.ahead.0.capsules ≤ end.counts.capsules
   few_capsules end ends =
       let d = (run.kept.ahead.1.ends end).0 ends in
-      let all : end.counts.capsules ≡ run.kept.ahead.0.capsules + d.0.counts.capsules = ap (λ (z : End Result). z.counts.capsules) d.2 in omega (arith, all)
+      let all : end.counts.capsules ≡ run.kept.ahead.0.capsules + d.0.counts.capsules = ap (λ (e : End Result). e.counts.capsules) d.2 in omega (arith, all)
+
+  -- what a closed place's heir goes on with is none of the kinds that search
+  goes_busy : (p w : ℕ) (closed new : RestartKind) → GoesOnBy (Closed s.takeover m) m K (spots.bottoms s state.words) h run.lawful.1.board p w closed new → IsIdle new → ⊥
+  goes_busy p w (Run f y) new g idle = subst IsIdle g idle
+  goes_busy p w (Bump r) new g idle = subst IsIdle g idle
+  goes_busy p w (Push1 r) new g idle = subst IsIdle g.0 idle
+  goes_busy p w (Push2 r) new (inl g) idle = subst IsIdle g.0 idle
+  goes_busy p w (Push2 r) new (inr g) idle = subst IsIdle g.0 idle
+  goes_busy p w (Unwind f) new g idle = subst IsIdle g idle
+  goes_busy p w (Arrive r d) new g idle = subst IsIdle g idle
+  goes_busy p w (Join r d) new g idle = subst IsIdle g idle
+  goes_busy p w _ new g idle = absurd g
+
+  -- by entries, where no place goes on with what it inherited
+  module _ (ih : s.takeover ≡ ByEntries) (c : ℕ) (seat : Seat) where
+    check_free : (v x : ℕ) (row : Row) → stand_of state c ≡ IsWithin seat row → seat.restart.kind ≡ Check v x → LooksOn (Check v x) row → IsFree row
+    check_free v x (Now (Install re)) e ke idle = elim (heirs_see s code ih state h forked taken run.lawful c seat (Now (Install re)) v x e ke) [
+      | inl seeks ↦ ap due seeks
+      | inr on ↦ absurd (goes_busy seat.place on.0.place (K on.0.place) re.kind on.1 idle)
+    ]
+    check_free v x (Now (Fork r)) e ke idle = absurd idle
+    check_free v x _ e ke idle = tt
+
+    looks_free : (k : RestartKind) (row : Row) → stand_of state c ≡ IsWithin seat row → seat.restart.kind ≡ k → IsLook k → CameBy s seat k row → LooksOn k row → IsFree row
+    looks_free Seek row e ke look came looks = comes_free s seat came.0 (row_of s seat Seek) row came.1 (searches_are_free s seat Seek look tt came.0)
+    looks_free (Steal v x) row e ke look came looks = comes_free s seat came.0 (row_of s seat (Steal v x)) row came.1 (searches_are_free s seat (Steal v x) look tt came.0)
+    looks_free (Take v x) row e ke look came looks = comes_free s seat came.0 (row_of s seat (Take v x)) row came.1 (searches_are_free s seat (Take v x) look tt came.0)
+    looks_free (Take2 v) row e ke look came looks = comes_free s seat came.0 (row_of s seat (Take2 v)) row came.1 (searches_are_free s seat (Take2 v) look tt came.0)
+    looks_free (Check v x) row e ke look came looks = check_free v x row e ke looks
+    looks_free _ row e ke look came looks = absurd look
+
+  -- nothing has to be set aside for what a row without work installs
+  pub free_at : (c : ℕ) (x : Standing) → stand_of state c ≡ x → InheritsNone s.takeover x → IsFreeAt x
+  free_at c (IsWithin seat row) e none = λ quiet.
+      let w = within s code root input state h forked taken l t run c seat row e in
+      let came = came_from s seat row (spots.with_restarts m K (spots.bottoms s state.words)) w.here w.seen in
+      let look = look_kind seat.restart.kind quiet in
+      elim none [
+        | inl places ↦ look_free s places seat seat.restart.kind row look came
+        | inr looks ↦ elim (how_or s.takeover) [
+          | inl places ↦ look_free s places seat seat.restart.kind row look came
+          | inr ih ↦ looks_free ih c seat seat.restart.kind row e refl look came looks
+        ]
+      ]
+  free_at c (IsRunning seat rest) e none = tt
+  free_at c (IsBroken p) e none = tt
+  free_at c IsLost e none = tt
+  free_at c (IsPlaced p) e none = tt
+  free_at c (IsAt p r) e none = tt
+  free_at c IsDone e none = tt

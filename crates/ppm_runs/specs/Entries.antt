@@ -1,8 +1,9 @@
 -- Whole runs with takeover by entries: each turn leads from one state of a run to the next, with some places
 -- left out that others have followed; and what all of them come to, whatever the takeover.
-use Rattle.std.specs.Prelude.{◌≡◌, ◌≤◌, ℕ, List, [], ◌++◌, Some}
+use Rattle.std.specs.Prelude.{◌≡◌, ◌≤◌, ℕ, List, [], ◌++◌, Some, length}
 use Rattle.std.specs.List.{AllByRecursion}
 use Rattle.ppm_strands.specs.Tree.{Words, Tree}
+use Rattle.ppm_strands.specs.Run.{End, Ends}
 use Rattle.ppm_strands.specs.Calm.{Calm}
 use Rattle.ppm_words.specs.declared.named_array.NamedArray.{NamedArray}
 use Rattle.ppm_cells.specs.Finish.{finish_of, IsOutcome}
@@ -121,3 +122,14 @@ RunsEndSo = (code : CodeParts) (input : List NamedArray) (s : Shape) (keeper : �
     → (t : Skeleton)
     × EndsAsRun s code (root_strand code input) (arrays_at (view s image.words)) (reached s code image.words turns)
     (forked_in s code (opening image.words s.processors) [] turns) (taken_in s code (opening image.words s.processors) [] turns) t finish
+
+-- where the depth-first run of the root ends, as many branches were forked as that run forks
+abbrev pub RunsForkSo : Type 0
+RunsForkSo = (code : CodeParts) (input : List NamedArray) (s : Shape) (keeper : ℕ) (image : RealImage)
+    → IsFair code → Opens code input s keeper image
+    → Calm (strands s code) (root_strand code input) (arrays_at (view s image.words))
+    → (turns : List Turn) → AllByRecursion (IsTurnAmong s.processors) turns
+    → (finish : Finish) → finish_of (read s (reached s code image.words turns).words FinishWord) ≡ Some finish
+    → IsOutcome finish
+    → (end : End Result) → Ends (strands s code) (root_strand code input) (arrays_at (view s image.words)) end
+    → length (forked_in s code (opening image.words s.processors) [] turns) ≡ end.counts.forks

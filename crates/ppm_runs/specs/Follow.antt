@@ -32,7 +32,7 @@ use Rattle.ppm_kept.specs.Kept.{IsKept}
 use Rattle.ppm_kept.specs.Births.{Births}
 use Rattle.ppm_kept.specs.Fates.{Agrees}
 use Rattle.ppm_kept.specs.Heirs.{handed, OpensAs}
-use Rattle.ppm_kept.specs.HeirTurns.{and_followed}
+use Rattle.ppm_kept.specs.HeirTurns.{Heired, and_followed}
 use Rattle.ppm_kept.specs.Laws.{kind_then}
 use Rattle.ppm_kept.specs.Left.{Followed, left, IsAway, AreApart, LooksOn}
 use Rattle.ppm_kept.specs.Places.{kinds_of, places_of}
@@ -83,6 +83,7 @@ HeirsLead = (s : Shape) (code : CodeParts) → s.takeover ≡ ByEntries → IsFa
     × Agrees (handed w seat.place t) (λ r. fate_of (by_row s state.words seat (Now next) h r))
     × IsHalves s code root input (happens s code state (record { processor = c; act = Step victim })) (by_row s state.words seat (Now next) h) (fork_row (Now next) ++ forked) (take_row (Now next) ++ taken)
     (and_followed (image s code) l (places_of s state) w) (handed w seat.place t)
+    × Heired (image s code) state l t c seat next w
 
 -- a turn by which no place goes on with what it inherited
 abbrev pub LooksOnly : Act → Standing → Type 0

@@ -129,6 +129,16 @@ LegsComeTo = (code : CodeParts) (input : List NamedArray) (s : Shape) (keeper : 
     × EndsWell s code (root_strand code input) (arrays_at (view s image.words)) (last_state s code image.words legs turns)
     (all_forked s code image.words legs turns) (all_taken s code image.words legs turns) t finish
 
+-- and where that run ends, as many branches were forked over all of them as it forks
+abbrev pub ForksOverLegs : Type 0
+ForksOverLegs = (code : CodeParts) (input : List NamedArray) (s : Shape) (keeper : ℕ) (image : RealImage)
+    → s.takeover ≡ ByPlaces → IsFair code → Opens code input s keeper image
+    → Calm (strands s code) (root_strand code input) (arrays_at (view s image.words))
+    → (legs : List Leg) → AreLegs s code image.words legs → (turns : List Turn) → AllByRecursion (IsTurnAmong s.processors) turns
+    → (finish : Finish) → finish_of (read s (last_state s code image.words legs turns).words FinishWord) ≡ Some finish → IsOutcome finish
+    → (end : End Result) → Ends (strands s code) (root_strand code input) (arrays_at (view s image.words)) end
+    → length (all_forked s code image.words legs turns) ≡ end.counts.forks
+
 -- where it says that a pool is full, and the depth-first run of the root comes to an end, that run takes more words than a pool has
 abbrev pub RoomOverLegs : Type 0
 RoomOverLegs = (code : CodeParts) (input : List NamedArray) (s : Shape) (keeper : ℕ) (image : RealImage)

@@ -1,6 +1,6 @@
 -- What holds of a run's state: of its words and processors, of where its branches are, and of the
 -- tree of its strands.
-use Rattle.std.specs.Prelude.{◌≡◌, ◌≤◌, ℕ, ◌+◌, List}
+use Rattle.std.specs.Prelude.{◌≡◌, ◌≤◌, ℕ, ◌+◌, true, List}
 use Rattle.ppm_strands.specs.Tree.{Words, Tree}
 use Rattle.ppm_cells.specs.declared.restart.RestartKind.TheVariants.{Run as RunFrame, Push1}
 use Rattle.ppm_cells.specs.declared.shape.Shape.{Shape}
@@ -26,7 +26,7 @@ use Rattle.ppm_kept.specs.Unruns.{HasUnrun}
 
 -- a shape with its code
 abbrev pub image : Shape → CodeParts → Image
-image s code = record { shape = s; code = code; counted = 0 }
+image s code = record { shape = s; code = code; counted = λ k. true }
 
 -- what has come of a right branch, by where it is
 abbrev pub fate_of : Home → Fate

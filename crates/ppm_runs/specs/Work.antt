@@ -1,20 +1,30 @@
 -- The work of all processors together, whatever the turns.
-use Rattle.std.specs.Prelude.{◌≡◌, ◌≤◌, ◌<◌, ℕ, ◌+◌, ◌*◌, List, length}
+use Rattle.std.specs.Prelude.{◌≡◌, ◌≤◌, ◌<◌, ℕ, ◌+◌, ◌*◌, ◌||◌, if◌then◌else◌, Bool, true, false, List, [], ◌∷◌, length, Option, Some, None}
 use Rattle.std.specs.List.{AllByRecursion}
 use Rattle.ppm_strands.specs.Calm.{Calm}
 use Rattle.ppm_strands.specs.Run.{End, Ends}
 use Rattle.ppm_words.specs.declared.named_array.NamedArray.{NamedArray}
+use Rattle.ppm_cells.specs.Memory.{read}
+use Rattle.ppm_cells.specs.Restart.{restart_of}
+use Rattle.ppm_cells.specs.declared.cell.Cell.TheVariants.{RestartWord}
+use Rattle.ppm_cells.specs.declared.restart.Restart.{Restart}
+use Rattle.ppm_cells.specs.declared.restart.RestartKind.{RestartKind}
+use Rattle.ppm_cells.specs.declared.restart.RestartKind.TheVariants.{Push2}
 use Rattle.ppm_cells.specs.declared.shape.Shape.{Shape}
-use Rattle.ppm_cells.specs.declared.shape.Takeover.TheVariants.{ByPlaces}
+use Rattle.ppm_cells.specs.declared.shape.Takeover.{Takeover}
+use Rattle.ppm_cells.specs.declared.shape.Takeover.TheVariants.{ByPlaces, ByEntries}
 use Rattle.ppm_code.specs.Strands.{Result}
 use Rattle.ppm_code.specs.declared.code.CodeParts.{CodeParts}
 use Rattle.ppm_layout.specs.Correct.{Opens}
 use Rattle.ppm_layout.specs.Root.{root_strand}
 use Rattle.ppm_layout.specs.declared.images.Image.{Image as RealImage}
 use Rattle.ppm_step.specs.Among.{IsTurnAmong}
-use Rattle.ppm_step.specs.State.{along, opening, work_of}
+use Rattle.ppm_step.specs.Standings.{Standing}
+use Rattle.ppm_step.specs.State.{State, stand_of, along, opening, is_done_at, work_of}
+use Rattle.ppm_step.specs.declared.turn.Act.{Act}
+use Rattle.ppm_step.specs.declared.turn.Act.TheVariants.{Hard}
 use Rattle.ppm_step.specs.declared.turn.Turn.{Turn}
-use Rattle.ppm_paces.specs.Paces.{strikes_of}
+use Rattle.ppm_paces.specs.Paces.{is_strike, strikes_of}
 use Rattle.ppm_frames.specs.Views.{view}
 use Rattle.ppm_frames.specs.Seen.{arrays_at}
 use Rattle.ppm_kept.specs.Running.{IsFair, strands}
@@ -46,3 +56,50 @@ WorkIsWithin256 = (code : CodeParts) (input : List NamedArray) (s : Shape) (keep
     → (turns : List Turn) → AllByRecursion (IsTurnAmong s.processors) turns
     → (end : End Result) → Ends (strands s code) (root_strand code input) (arrays_at (view s image.words)) end
     → work_in s code image.words turns < 256 * (end.counts.capsules + strikes_in s code image.words turns)
+
+-- whether a place is at Push2
+abbrev pub is_push : RestartKind → Bool
+is_push (Push2 block) = true
+is_push _ = false
+
+abbrev pub is_at_push : Option Restart → Bool
+is_at_push None = false
+is_at_push (Some restart) = is_push restart.kind
+
+-- Whether a fault undoes work: it strikes a row of work. With takeover by entries it also does where it closes a place at Push2, by its
+-- restart word, though no row of that be under way: who follows begins at Push1, and makes that row again.
+abbrev pub undoes : Takeover → Act → Standing → Option Restart → Bool
+undoes ByEntries Hard standing restart = is_strike Hard standing || (if is_done_at standing then false else is_at_push restart)
+undoes how act standing restart = is_strike act standing
+
+-- which turns do so, told as the processor; by entries its place has its own number
+abbrev pub undone_of : Shape → State → Turn → List ℕ
+undone_of s state turn =
+    if undoes s.takeover turn.act (stand_of state turn.processor) (restart_of (read s state.words (RestartWord turn.processor)))
+    then turn.processor ∷ [] else []
+
+-- by places these are the faults that strike a row
+abbrev pub UndoneAreStruck : Type 0
+UndoneAreStruck = (s : Shape) → s.takeover ≡ ByPlaces → (state : State) (turn : Turn) → undone_of s state turn ≡ strikes_of state turn
+
+abbrev pub undone_in : Shape → CodeParts → (words : List ℕ) → List Turn → ℕ
+undone_in s code words turns = length (along s code (undone_of s) (opening words s.processors) turns)
+
+-- With either takeover all work turns together are no more than 218 for each capsule of the depth-first run, 171 for each fault that undoes
+-- work, and 6
+abbrev pub WorkIsBoundedSo : Type 0
+WorkIsBoundedSo = (code : CodeParts) (input : List NamedArray) (s : Shape) (keeper : ℕ) (image : RealImage)
+    → IsFair code → Opens code input s keeper image
+    → Calm (strands s code) (root_strand code input) (arrays_at (view s image.words))
+    → (turns : List Turn) → AllByRecursion (IsTurnAmong s.processors) turns
+    → (end : End Result) → Ends (strands s code) (root_strand code input) (arrays_at (view s image.words)) end
+    → work_in s code image.words turns ≤ 218 * end.counts.capsules + 171 * undone_in s code image.words turns + 6
+
+-- so fewer than 256 for each capsule and each such fault
+abbrev pub WorkIsWithin256So : Type 0
+WorkIsWithin256So = (code : CodeParts) (input : List NamedArray) (s : Shape) (keeper : ℕ) (image : RealImage)
+    → IsFair code → Opens code input s keeper image
+    → Calm (strands s code) (root_strand code input) (arrays_at (view s image.words))
+    → (turns : List Turn) → AllByRecursion (IsTurnAmong s.processors) turns
+    → (end : End Result) → Ends (strands s code) (root_strand code input) (arrays_at (view s image.words)) end
+    → work_in s code image.words turns < 256 * (end.counts.capsules + undone_in s code image.words turns)

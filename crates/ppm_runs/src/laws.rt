@@ -1,6 +1,7 @@
 //! What turns owe, shown by calls that do nothing.
 ghost use Rattle.ppm_runs.specs.Deques.{DequesAreSound};
-ghost use Rattle.ppm_runs.specs.Entries.{HeirsLeadOn, OnceByEntries, OnceInEachRun, RunsEndByEntries, RunsEndSo, RunsStayHeired};
+ghost use Rattle.ppm_runs.specs.Entries.{HeirsLeadOn, OnceByEntries, OnceInEachRun, RunsEndByEntries, RunsEndSo};
+ghost use Rattle.ppm_runs.specs.Entries.{RunsForkSo, RunsStayHeired};
 ghost use Rattle.ppm_runs.specs.Follow.{HalvesGoOn, HalvesOwe, HeirsLead};
 ghost use Rattle.ppm_runs.specs.Joint.{JointsStay};
 ghost use Rattle.ppm_runs.specs.Laws.{BirthsFollow, BrokenFollow, TakersHave, TurnsAreOrderly, TurnsGoOn};
@@ -11,7 +12,7 @@ ghost use Rattle.ppm_runs.specs.Renewals.{PartsComeTo, RunsComeBack};
 ghost use Rattle.ppm_runs.specs.Spent.{RoomIsSpent, RoomIsSpentSo};
 ghost use Rattle.ppm_runs.specs.Unbroken.{NothingBreaks};
 ghost use Rattle.ppm_runs.specs.Whole.{JoinsStay, RunsComeTo, TurnsLead};
-ghost use Rattle.ppm_runs.specs.Work.{WorkIsBounded, WorkIsWithin256};
+ghost use Rattle.ppm_runs.specs.Work.{UndoneAreStruck, WorkIsBounded, WorkIsBoundedSo, WorkIsWithin256, WorkIsWithin256So};
 
 /// With takeover by places each turn is orderly in a state of a run: block words that it changes
 /// are those of pools, a block that it forks was not forked before, and a branch that it begins
@@ -101,10 +102,14 @@ pub fn nothing_breaks()
 
 /// From an image of a sound code, with takeover by places, whatever the turns: where the depth-first run
 /// of the root ends, all work turns together are no more than 218 for each of its capsules, 171 for each
-/// fault that strikes a row of work, and 6; so they are fewer than 256 for each.
+/// fault that strikes a row of work, and 6; so they are fewer than 256 for each. With either takeover that
+/// is so of the faults that undo work; by places these are those that strike.
 pub fn work_is_bounded()
     ensures law { WorkIsBounded }
     ensures within { WorkIsWithin256 }
+    ensures so { WorkIsBoundedSo }
+    ensures within_so { WorkIsWithin256So }
+    ensures struck { UndoneAreStruck }
 {}
 
 /// With takeover by entries, a turn by which a place goes on with what it inherited leads to words that are
@@ -135,8 +140,9 @@ pub fn runs_stay_heired()
 /// Whatever the takeover, from an image of a sound code, whatever the turns: at each moment no right
 /// branch was forked twice, and none was taken twice; where the finish word says an outcome the
 /// depth-first run of the root ends so, with the words of the arrays as they are, and each branch that
-/// was forked was taken.
+/// was forked was taken: as many as that run forks.
 pub fn runs_end_so()
     ensures once { OnceInEachRun }
     ensures ends { RunsEndSo }
+    ensures forks { RunsForkSo }
 {}

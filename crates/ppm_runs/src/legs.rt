@@ -1,15 +1,17 @@
 //! Runs in legs, shown by calls that do nothing.
-ghost use Rattle.ppm_runs.specs.Legs.{LegsComeTo, LegsStay, OnceOverLegs, RoomOverLegs};
+ghost use Rattle.ppm_runs.specs.Legs.{ForksOverLegs, LegsComeTo, LegsStay, OnceOverLegs, RoomOverLegs};
 ghost use Rattle.ppm_runs.specs.Legs.{WorkOverLegs, WorkOverLegsIsWithin256};
 ghost use Rattle.ppm_runs.specs.Tags.{TagsStayLow};
 
 /// With takeover by places, from an image of a sound code, whatever the legs, which are turns and
 /// the words that then came back, and whatever the turns behind them: a run's state is come to. No
-/// right branch is forked or taken twice over all of it, and an outcome is the depth-first run's.
+/// right branch is forked or taken twice over all of it, and an outcome is the depth-first run's, which
+/// forks as many.
 pub fn legs_come_to()
     ensures stay { LegsStay }
     ensures once { OnceOverLegs }
     ensures law { LegsComeTo }
+    ensures forks { ForksOverLegs }
 {}
 
 /// Where the finish word says that a pool is full, then or when words came back, and the depth-first

@@ -15,12 +15,14 @@ returns c = record {
       meant = c.end_as_meant.ensures.law;
       shown = c.images_begin_the_depth_first_run.ensures.shown;
       runs = c.runs_end_so.ensures.ends;
+      forks = c.runs_end_so.ensures.forks;
       once = c.runs_end_so.ensures.once;
       room = c.room_is_spent.ensures.so;
       work = c.work_is_bounded.ensures.within;
       whole = c.nothing_breaks.ensures.law;
     };
     legs = c.legs_come_to.ensures.law;
+    forks = c.legs_come_to.ensures.forks;
     once = c.legs_come_to.ensures.once;
     room = c.room_over_legs.ensures.law;
     work = c.work_over_legs.ensures.within;

@@ -14,6 +14,7 @@ returns c = record {
     meant = c.end_as_meant.ensures.law;
     shown = c.images_begin_the_depth_first_run.ensures.shown;
     runs = c.runs_end_so.ensures.ends;
+    forks = c.runs_end_so.ensures.forks;
     once = c.runs_end_so.ensures.once;
     room = c.room_is_spent.ensures.so;
     work = c.work_is_bounded.ensures.within;
