@@ -372,7 +372,7 @@ module _ (s : Shape) (code : CodeParts) (fair : IsFair code) (root : Tree (Frame
       pub load_opens : (point : RowPoint) → ChecksSo (Closed s.takeover m) m (spots.kinds s state.words) (spots.bottoms s state.words) h run.lawful.1.board seat.place (Now (Load point)) → Within s code root input state h forked taken l t run c seat (Now (Load point))
           → found_at s seat v point (content_of (reading_at point) (read s state.words (cell_at seat v point))) ≡ Now next → Right
       load_opens (ClosedLink q) sees at e = link_load q (link_of (read s state.words (BlockWord q))) refl e
-      load_opens (ClosedRestart x j b) sees at e = restart_load x j b at.here sees (restart_of (read s state.words (RestartWord x))) refl e
+      load_opens (ClosedRestart x j b) sees at e = restart_load x j b at.here sees.0 (restart_of (read s state.words (RestartWord x))) refl e
       load_opens (ClosedBottom x j q) sees at e = entry_load x j q sees at.here (entry_of (read s state.words (EntryWord x j))) refl e
       load_opens (TakenMessage p x j) sees at e = message_load p x j _ e
       load_opens (TakenEntry p x j en) sees at e = taken_load p x j en _ e

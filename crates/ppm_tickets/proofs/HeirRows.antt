@@ -208,7 +208,7 @@ module _ (s : Shape) (words : List ℕ) (stand : List Standing) (h : ℕ → Hom
 
       -- a job that it had won
       jobs : (t r : ℕ) → Steps c (Now2 (Job t r)) (Now (Load (TakenEntry w x2 i2 (entries.Job t r))))
-      jobs t r [] le saw = tt
+      jobs t r [] le saw = (thief saw.0, said_is (Job t r) saw)
       jobs t r (Taken n q ∷ us) le saw =
           either c (Now3 (Job t r) (Taken n q)) ((n == t + 1) && (q == w)) (Now (Load (Offset r (b p)))) (Now (Install (record { kind = Seek; bottom = b p })))
           (λ is. beginning c (Now3 (Job t r) (Taken n q)) r (λ a.
@@ -237,7 +237,7 @@ module _ (s : Shape) (words : List ℕ) (stand : List Standing) (h : ℕ → Hom
 
       -- another that it had inherited from
       locals : (t r : ℕ) → Steps c (Now2 (Local t r)) (Now (Load (TakenEntry w x2 i2 (entries.Local t r))))
-      locals t r [] le saw = tt
+      locals t r [] le saw = (thief saw.0, said_is (Local t r) saw)
       locals t r (Taken n q ∷ us) le saw =
           either c (Now3 (Local t r) (Taken n q)) ((n == t + 1) && (q == w + 64)) (Now (Load (ClosedRestart x2 i2 r))) (Now (Install (record { kind = Seek; bottom = b p })))
           (λ is. more x2 i2 r (w ∷ l) (Now3 (Local t r) (Taken n q)) (λ a.
@@ -258,7 +258,7 @@ module _ (s : Shape) (words : List ℕ) (stand : List Standing) (h : ℕ → Hom
       locals t r (_ ∷ d ∷ us) le saw = absurd saw
 
       messages : Steps c Now1 (Now (Load (TakenMessage w x2 i2)))
-      messages [] le saw = tt
+      messages [] le saw = thief saw
       messages (Job t r ∷ us) le saw = jobs t r us (omega (arith, le)) saw
       messages (Local t r ∷ us) le saw =
           either c (Now2 (Local t r)) (can_be_taken s.takeover (entries.Local t r)) (Now (Load (TakenEntry w x2 i2 (entries.Local t r)))) (Now Broken) (λ is. locals t r) (λ is. broken c (Now2 (Local t r)))
@@ -439,7 +439,7 @@ module _ (s : Shape) (words : List ℕ) (stand : List Standing) (h : ℕ → Hom
 
   -- all links
   follow : (c w j z : ℕ) (l : List ℕ) (before : Type 0) → (before → Node w j z l) → Steps c before (Now (Load (ClosedRestart w j z)))
-  follow c w j z l before node [] le saw = λ at. (inherits w j z l (node saw) at, refl)
+  follow c w j z l before node [] le saw = (λ at. (inherits w j z l (node saw) at, refl), ((node saw).note, was_local w j z l (node saw)))
   follow zero w j z l before node (y ∷ us) le saw = absurd (omega (arith, le))
   follow (suc c) w j z l before node (Restarts K B ∷ us) le saw =
       link_step c (λ w2 j2 z2 l2 before2 node2. follow c w2 j2 z2 l2 before2 node2) w j z l before node B K us (omega (arith, le)) saw
@@ -448,7 +448,7 @@ module _ (s : Shape) (words : List ℕ) (stand : List Standing) (h : ℕ → Hom
 
   -- what it inherited itself
   inherited : (t0 y0 : ℕ) → (c : ℕ) → Steps c (Unit {0} × Knows s.takeover SC v M (TakenMessage p x i) (Local t0 y0)) (Now (Load (TakenEntry p x i (entries.Local t0 y0))))
-  inherited t0 y0 c [] le saw = tt
+  inherited t0 y0 c [] le saw = (inr e, sym (message_is s.takeover ih p x i (Local t0 y0) saw.1))
   inherited t0 y0 c (Taken n q ∷ us) le saw =
       either c ((Unit {0} × Knows s.takeover SC v M (TakenMessage p x i) (Local t0 y0)) × May o p (Slot x i) (Taken n q) (m (Slot x i))) ((n == t0 + 1) && (q == p + 64)) (Now (Load (ClosedRestart x i y0))) (Now (Install (record { kind = Seek; bottom = b p })))
       (λ is. follow c x i y0 [] ((Unit {0} × Knows s.takeover SC v M (TakenMessage p x i) (Local t0 y0)) × May o p (Slot x i) (Taken n q) (m (Slot x i))) (λ a.
@@ -470,7 +470,7 @@ module _ (s : Shape) (words : List ℕ) (stand : List Standing) (h : ℕ → Hom
 
   -- what it stole itself
   won : (t0 r : ℕ) → (c : ℕ) → Steps c (Unit {0} × Knows s.takeover SC v M (TakenMessage p x i) (Job t0 r)) (Now (Load (TakenEntry p x i (entries.Job t0 r))))
-  won t0 r c [] le saw = tt
+  won t0 r c [] le saw = (inr e, sym (message_is s.takeover ih p x i (Job t0 r) saw.1))
   won t0 r c (Taken n q ∷ us) le saw =
       either c ((Unit {0} × Knows s.takeover SC v M (TakenMessage p x i) (Job t0 r)) × May o p (Slot x i) (Taken n q) (m (Slot x i))) ((n == t0 + 1) && (q == p)) (Now (Load (Offset r (b p)))) (Now (Install (record { kind = Seek; bottom = b p })))
       (λ is. beginning c ((Unit {0} × Knows s.takeover SC v M (TakenMessage p x i) (Job t0 r)) × May o p (Slot x i) (Taken n q) (m (Slot x i))) r (λ a.
@@ -490,7 +490,7 @@ module _ (s : Shape) (words : List ℕ) (stand : List Standing) (h : ℕ → Hom
 
   -- the whole row
   checks : (c : ℕ) → Steps c (Unit {0}) (Now (Load (TakenMessage p x i)))
-  checks c [] le saw = tt
+  checks c [] le saw = inr e
   checks c (Job t r ∷ us) le saw = won t r c us (omega (arith, le)) saw
   checks c (Local t r ∷ us) le saw =
       either c (Unit {0} × Knows s.takeover SC v M (TakenMessage p x i) (Local t r)) (can_be_taken s.takeover (entries.Local t r)) (Now (Load (TakenEntry p x i (entries.Local t r)))) (Now Broken)

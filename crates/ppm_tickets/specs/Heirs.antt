@@ -9,6 +9,7 @@ use Rattle.ppm_cells.specs.declared.shape.Takeover.TheVariants.{ByEntries}
 use Rattle.ppm_code.specs.declared.code.CodeParts.{CodeParts}
 use Rattle.ppm_step.specs.Standings.{IsWithin}
 use Rattle.ppm_step.specs.State.{State, stand_of, happens, fork_row, take_row, row_by, step_by}
+use Rattle.ppm_step.specs.declared.content.Content.TheVariants.{AnEntry}
 use Rattle.ppm_step.specs.declared.row.Point.TheVariants.{Offset, TakenMessage, TakenEntry, ClosedRestart, ClosedLink, ClosedBottom}
 use Rattle.ppm_step.specs.declared.row.Row.{Row}
 use Rattle.ppm_step.specs.declared.row.Row.TheVariants.{Now, Store, Exchange}
@@ -20,8 +21,8 @@ use Rattle.ppm_tickets.specs.Along.{by_install, by_act, IsOrderly}
 use Rattle.ppm_tickets.specs.Homes.{Home, Pushing, Popping, Stolen}
 use Rattle.ppm_tickets.specs.Lawful.{IsLocal, IsThief, IsDead, IsTrail, Closed, Estate, active_at, is_local}
 use Rattle.ppm_tickets.specs.Renewal.{IsLawful}
-use Rattle.ppm_tickets.specs.View.{view, kinds, bottoms}
-use Rattle.ppm_tickets.specs.Words.{Word, Spot, Slot, Dead, put, has}
+use Rattle.ppm_tickets.specs.View.{word_as, view, kinds, bottoms}
+use Rattle.ppm_tickets.specs.Words.{Word, Local, Spot, Message, Slot, Dead, put, has}
 
 module _ (shut : ℕ → Type 0) (m : Spot → Word) (k : ℕ → RestartKind) (b : ℕ → ℕ) (h : ℕ → Home) (e : Estate shut m k b h) (p : ℕ) where
   -- a closed place that p inherits from, through others, and that none has followed
@@ -56,7 +57,12 @@ module _ (shut : ℕ → Type 0) (m : Spot → Word) (k : ℕ → RestartKind) (
   abbrev pub InheritsFrom : (place : ℕ) → Type 0
   InheritsFrom w = (i : Inherits) × (i.place ≡ w)
 
-  -- how the row of such a place ends, or what it loads next
+  -- the entry of a closed place was a local one with this payload, before it was inherited
+  abbrev pub WasLocal : (place slot block : ℕ) → Type 0
+  WasLocal w j r = (t : ℕ) × (e.ghost (Slot w j) ≡ Local t r)
+
+  -- how the row of such a place ends, or what it loads next: it looks at the message and at the entry of a place
+  -- that steals, with the message as it is
   abbrev pub ChecksSo : Row → Type 0
   ChecksSo (Now (Install restart)) = (restart.kind ≡ Seek)
       ⊎ ((i : Inherits) × GoesOnBy i.place (k i.place) restart.kind × (restart.bottom ≡ b p))
@@ -64,11 +70,11 @@ module _ (shut : ℕ → Type 0) (m : Spot → Word) (k : ℕ → RestartKind) (
   ChecksSo (Now (Begin r frame bottom)) = MayBegin r
   ChecksSo (Now (Load (Offset r bottom))) = MayBegin r
   ChecksSo (Now (Load (ClosedLink r))) = (i : Inherits) × (k i.place ≡ Bump r)
-  ChecksSo (Now (Load (ClosedRestart w j block))) = j ≡ active_at e.ghost k b w → InheritsFrom w
+  ChecksSo (Now (Load (ClosedRestart w j block))) = (j ≡ active_at e.ghost k b w → InheritsFrom w) × WasLocal w j block
   ChecksSo (Now (Load (ClosedBottom w j r))) = (k w ≡ Push2 r) × (is_local (e.ghost (Slot w (b w))) ≡ false → InheritsFrom w)
       × (j ≡ b w)
-  ChecksSo (Now (Load (TakenMessage by w j))) = Unit {0}
-  ChecksSo (Now (Load (TakenEntry by w j message))) = Unit {0}
+  ChecksSo (Now (Load (TakenMessage by w j))) = IsThief (k by) w j
+  ChecksSo (Now (Load (TakenEntry by w j message))) = IsThief (k by) w j × (m (Message by) ≡ word_as (AnEntry message))
   ChecksSo (Now (Load point)) = ⊥
   ChecksSo (Store cell content next) = ⊥
   ChecksSo (Exchange cell old new next) = ⊥
