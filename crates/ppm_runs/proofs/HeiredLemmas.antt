@@ -124,15 +124,15 @@ alone_of how Hard x looks = tt
 alone_of how (Quit why) x looks = tt
 
 module _ (s : Shape) (code : CodeParts) (ih : s.takeover ≡ ByEntries) (fair : IsFair code) (root : Tree (Frame FrameWord Point) Result) (input : Words) (state : RunState) (h : ℕ → Home) (forked taken : List ℕ) (l : List Followed) (t : Skeleton)
-    (run : IsHeired s code root input state h forked taken l t) where
+    (run : IsHalves s code root input state h forked taken l t) (joint : AreJoint s code state h l t) where
   -- where an order word says that one strand runs both branches nothing is above the bottom
   module _ (c : ℕ) (seat : Seat) (re : Restart) (e : stand_of state c ≡ IsWithin seat (Now (Install re))) where
     empty_above : (b f y : ℕ) → seat.restart.kind ≡ Push1 b → re.kind ≡ Run f y → IsEmpty (spots.view s state.words (Slot seat.place (seat.restart.bottom + 1)))
     empty_above b f y ek er =
-        let w = within s code root input state h forked taken l t run.halves c seat (Now (Install re)) e in
-        let held = run.joint.ready seat.place b f y re.bottom (w.kind ∙ ek) (w.doing ∙ ap (λ (k : RestartKind). InRow (Now (Install (record { kind = k; bottom = re.bottom })))) er) in
-        let home : h b ≡ Pushing seat.place = pushing_home s code root input state h forked taken l t run.halves seat.place b (not_followed s code root input state h forked taken l t run.halves c seat.place w.sits.carried) (w.kind ∙ ek) in
-        subst (λ (n : ℕ). IsEmpty (spots.view s state.words (Slot seat.place (n + 1)))) w.sits.at.bottom (subst (λ (how : Takeover). IsCapped how s state.words seat.place) ih (run.joint.last b seat.place held home))
+        let w = within s code root input state h forked taken l t run c seat (Now (Install re)) e in
+        let held = joint.ready seat.place b f y re.bottom (w.kind ∙ ek) (w.doing ∙ ap (λ (k : RestartKind). InRow (Now (Install (record { kind = k; bottom = re.bottom })))) er) in
+        let home : h b ≡ Pushing seat.place = pushing_home s code root input state h forked taken l t run seat.place b (not_followed s code root input state h forked taken l t run c seat.place w.sits.carried) (w.kind ∙ ek) in
+        subst (λ (n : ℕ). IsEmpty (spots.view s state.words (Slot seat.place (n + 1)))) w.sits.at.bottom (subst (λ (how : Takeover). IsCapped how s state.words seat.place) ih (joint.last b seat.place held home))
 
     inlined_by : (k new : RestartKind) → seat.restart.kind ≡ k → re.kind ≡ new → IsInlined ByEntries s state.words seat k new
     inlined_by (Push1 b) (Run f y) ek er = empty_above b f y ek er
@@ -151,9 +151,11 @@ module _ (s : Shape) (code : CodeParts) (ih : s.takeover ≡ ByEntries) (fair : 
     inlined_by (Take v j) new ek er = tt
     inlined_by (Take2 v) new ek er = tt
 
-    inlined : IsInlined s.takeover s state.words seat seat.restart.kind re.kind
+    pub inlined : IsInlined s.takeover s state.words seat seat.restart.kind re.kind
     inlined = subst (λ (how : Takeover). IsInlined how s state.words seat seat.restart.kind re.kind) (sym ih) (inlined_by seat.restart.kind re.kind refl refl)
 
+module _ (s : Shape) (code : CodeParts) (ih : s.takeover ≡ ByEntries) (fair : IsFair code) (root : Tree (Frame FrameWord Point) Result) (input : Words) (state : RunState) (h : ℕ → Home) (forked taken : List ℕ) (l : List Followed) (t : Skeleton)
+    (run : IsHeired s code root input state h forked taken l t) where
   -- behind an act, by where its processor stood
   abbrev Leads : (c : ℕ) (act : Act) → Standing → Type 0
   Leads c act x = (m : List Followed) × (u : Skeleton)
@@ -162,7 +164,7 @@ module _ (s : Shape) (code : CodeParts) (ih : s.takeover ≡ ByEntries) (fair : 
   others_lead : (c : ℕ) (act : Act) → IsTurnAmong s.processors (record { processor = c; act = act }) → LooksOnly act (stand_of state c) → Leads c act (stand_of state c)
   others_lead c act among looks =
       let turn : Turn = record { processor = c; act = act } in
-      let orderly = (halves_owe s code fair root input state h forked taken l t run.halves run.joint.agrees (λ d seat re e. inlined d seat re e)).orderly turn among in
+      let orderly = (halves_owe s code fair root input state h forked taken l t run.halves run.joint.agrees (λ d seat re e. inlined s code ih fair root input state h forked taken l t run.halves run.joint d seat re e)).orderly turn among in
       let next = halves_go_on s code ih fair root input state h forked taken l t run.halves run.joint.agrees run.broken turn among.processor orderly looks in (
         l,
         act_with (image s code) (left (image s code) l (places_of s state)).words state.words act (stand_of state c) t,
