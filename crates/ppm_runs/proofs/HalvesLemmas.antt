@@ -148,7 +148,7 @@ module _ (s : Shape) (code : CodeParts) (ih : s.takeover ≡ ByEntries) (fair : 
   leaves_so c (IsBroken p) e = tt
   leaves_so c IsDone e = tt
 
-  acts_so : (c : ℕ) (act : Act) → c < s.processors → ActsSo i state t c act (stand_of state c)
+  pub acts_so : (c : ℕ) (act : Act) → c < s.processors → ActsSo i state t c act (stand_of state c)
   acts_so c (Step victim) there = (record { words = run.lawful.0; there = there }, stands_so c (stand_of state c) refl)
   acts_so c Soft there = (record { words = run.lawful.0; there = there }, leaves_so c (stand_of state c) refl)
   acts_so c Hard there = (record { words = run.lawful.0; there = there }, leaves_so c (stand_of state c) refl)
@@ -172,7 +172,7 @@ module _ (s : Shape) (code : CodeParts) (ih : s.takeover ≡ ByEntries) (fair : 
   none_of victim (IsBroken p) looks = tt
   none_of victim IsDone looks = tt
 
-  steps_away : (c : ℕ) (act : Act) → LooksOnly act (stand_of state c) → StepsAway i l act (stand_of state c)
+  pub steps_away : (c : ℕ) (act : Act) → LooksOnly act (stand_of state c) → StepsAway i l act (stand_of state c)
   steps_away c (Step victim) looks = (stands_away c (stand_of state c) refl, none_of victim (stand_of state c) looks)
   steps_away c Soft looks = tt
   steps_away c Hard looks = tt

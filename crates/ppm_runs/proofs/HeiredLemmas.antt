@@ -46,8 +46,8 @@ use Rattle.ppm_kept.specs.Steps.{act_with}
 use Rattle.ppm_kept.proofs.AnswerLemmas.{left_ends_as_meant}
 use Rattle.ppm_kept.proofs.FateLemmas.{none_is_left}
 use Rattle.ppm_runs.specs.Run.{image, fate_of}
-use Rattle.ppm_runs.specs.Follow.{GoesOn, LooksOnly}
-use Rattle.ppm_runs.specs.Joint.{IsCapped, StepsAlone}
+use Rattle.ppm_runs.specs.Follow.{IsHalves, GoesOn, LooksOnly}
+use Rattle.ppm_runs.specs.Joint.{IsCapped, AreJoint, StepsAlone}
 use Rattle.ppm_runs.specs.Entries.{IsHeired, HeirsLeadOn, RunsStayHeired, OnceByEntries, RunsEndByEntries, HalvesStay, OnceInEachRun, RunsEndSo}
 use Rattle.ppm_runs.proofs.ShownLemmas.{halves, within}
 use Rattle.ppm_runs.proofs.OrderlyLemmas.{halves_owe, how_or}
@@ -80,7 +80,7 @@ idle_or (Take v j) = inl tt
 idle_or (Take2 v) = inl tt
 
 -- a row by which a place goes on with what it inherited
-abbrev Inherits : RestartKind → Row → Type 0
+abbrev pub Inherits : RestartKind → Row → Type 0
 Inherits k row = (v : ℕ) × (j : ℕ) × (next : Then) × (k ≡ Check v j) × (row ≡ Now next) × GoesOn next
 
 check_or : (v j : ℕ) (next : Then) → LooksOn (Check v j) (Now next) ⊎ Inherits (Check v j) (Now next)
@@ -93,7 +93,7 @@ check_or v j (Enter x) = inl tt
 check_or v j Again = inl tt
 check_or v j Broken = inl tt
 
-looks_or : (k : RestartKind) (row : Row) → LooksOn k row ⊎ Inherits k row
+pub looks_or : (k : RestartKind) (row : Row) → LooksOn k row ⊎ Inherits k row
 looks_or (Check v j) (Now next) = check_or v j next
 looks_or (Check v j) (Store cell content next) = inl tt
 looks_or (Check v j) (Exchange cell old new next) = inl tt
@@ -111,7 +111,7 @@ looks_or (Steal v j) row = inl tt
 looks_or (Take v j) row = inl tt
 looks_or (Take2 v) row = inl tt
 
-alone_of : (how : Takeover) (act : Act) (x : Standing) → LooksOnly act x → StepsAlone how act x
+pub alone_of : (how : Takeover) (act : Act) (x : Standing) → LooksOnly act x → StepsAlone how act x
 alone_of how (Step v) (IsWithin seat row) looks = inr looks
 alone_of how (Step v) IsLost looks = tt
 alone_of how (Step v) (IsPlaced p) looks = tt
@@ -226,12 +226,12 @@ not_within x seat row is e = elim is [
   | inr a ↦ absurd (let z : IsDone ≡ IsWithin seat row = sym a ∙ e in cc)
 ]
 
-pub runs_stay_heired : RunsStayHeired
-runs_stay_heired code input s keeper im ih fair opens calm turns all =
+pub runs_open_heired : (code : CodeParts) (input : List NamedArray) (s : Shape) (keeper : ℕ) (im : RealImage) → Opens code input s keeper im
+    → Calm (strands s code) (root_strand code input) (arrays_at (view s im.words))
+    → IsHeired s code (root_strand code input) (arrays_at (view s im.words)) (opening im.words s.processors) (λ r. Unborn) [] [] [] (Leaf (InPlace keeper) (Begins 0) (pool_at s keeper) (slots_of code code.root))
+runs_open_heired code input s keeper im opens calm =
     let run = runs_open code input s keeper im opens calm in
-    let state : RunState = opening im.words s.processors in
-    all_lead s code ih fair (root_strand code input) (arrays_at (view s im.words)) state (λ r. Unborn) [] [] []
-    (Leaf (InPlace keeper) (Begins 0) (pool_at s keeper) (slots_of code code.root)) turns all (record {
+    let state : RunState = opening im.words s.processors in record {
       halves = halves run;
       joint = record {
         agrees = run.agrees;
@@ -241,7 +241,12 @@ runs_stay_heired code input s keeper im ih fair opens calm turns all =
         opens = λ c seat next v slot stand ke on w r shut aw kw by. absurd (not_within (stand_of state c) seat (Now next) (elim (lost_or s.processors c) [ inl a ↦ inl a.0 | inr a ↦ inr a ]) stand);
       };
       broken = run.broken;
-    })
+    }
+
+pub runs_stay_heired : RunsStayHeired
+runs_stay_heired code input s keeper im ih fair opens calm turns all =
+    all_lead s code ih fair (root_strand code input) (arrays_at (view s im.words)) (opening im.words s.processors) (λ r. Unborn) [] [] []
+    (Leaf (InPlace keeper) (Begins 0) (pool_at s keeper) (slots_of code code.root)) turns all (runs_open_heired code input s keeper im opens calm)
 
 pub once_by_entries : OnceByEntries
 once_by_entries code input s keeper im ih fair opens calm turns all =

@@ -53,6 +53,7 @@ pub mod WellRuns
 pub mod WellStands
 pub mod WellCapsules
 pub mod WellTurns
+pub mod HeirWell
 pub mod RaisedLemmas
 pub mod UnbrokenLemmas
 pub mod TagLemmas

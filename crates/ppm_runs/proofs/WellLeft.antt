@@ -10,7 +10,7 @@ use Rattle.ppm_code.specs.declared.location.FrameWord.{FrameWord}
 use Rattle.ppm_frames.specs.Skeletons.{Skeleton, count}
 use Rattle.ppm_kept.specs.Kept.{Image, State, IsKept}
 use Rattle.ppm_kept.specs.Left.{Followed, left, IsAway, AreApart}
-use Rattle.ppm_kept.proofs.LeftLemmas.{shown}
+use Rattle.ppm_kept.proofs.LeftLemmas.{IsIn, NotSettled, left_same, in_use}
 use Rattle.ppm_runs.specs.Well.{IsWell}
 use Rattle.ppm_runs.proofs.WellWords.{crit_low, well_same}
 
@@ -27,8 +27,11 @@ beyond (v ∷ l) = let more = beyond l in record {
 }
 
 module _ (i : Image) (root : Tree (Frame FrameWord Point) Result) (input : Words) (s : State) (l : List Followed) (apart : AreApart l) (t : Skeleton) (law : IsKept i root input (left i l s) t) where
+  pub tree_out : (x : ℕ) → (count Root t x ≡ 0 → ⊥) → (v : Followed) → IsIn v l → NotSettled i v (BlockWord x)
+  tree_out x some = let out = beyond l in in_use i root input s l apart t law out.place (out.away out.place (le_refl out.place)) (BlockWord x) (inl (law.below x some).1)
+
   pub tree_same : (x : ℕ) → (count Root t x ≡ 0 → ⊥) → (left i l s).words (BlockWord x) ≡ s.words (BlockWord x)
-  tree_same x some = let out = beyond l in shown i root input s l apart t law out.place (out.away out.place (le_refl out.place)) (BlockWord x) (inl (law.below x some).1)
+  tree_same x some = left_same i l s.words (BlockWord x) (tree_out x some)
 
   pub well_left : IsWell i.code s.words Root t → IsWell i.code (left i l s).words Root t
   well_left well = well_same i.code s.words (left i l s).words Root t (λ x one. tree_same x (λ none. let low = crit_low Root t x in omega (arith, low, one, none))) well
