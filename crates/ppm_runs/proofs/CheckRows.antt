@@ -52,7 +52,7 @@ use Rattle.ppm_frames.specs.Good.{link_or, link_at}
 use Rattle.ppm_frames.specs.Skeletons.{Skeleton}
 use Rattle.ppm_kept.specs.Fates.{Offered, Agrees}
 use Rattle.ppm_kept.specs.Kept.{State}
-use Rattle.ppm_kept.specs.Left.{Followed, left}
+use Rattle.ppm_kept.specs.Left.{Followed, left, IsAway}
 use Rattle.ppm_kept.specs.Places.{places_of}
 use Rattle.ppm_kept.specs.Running.{IsFair}
 use Rattle.ppm_kept.proofs.LeftLemmas.{kind_away}
@@ -252,7 +252,7 @@ module _ (s : Shape) (code : CodeParts) (ih : s.takeover ≡ ByEntries) (fair : 
     by_link : (r : ℕ) (it : Heir) → k it.place ≡ Bump r → nat_lt r (word_count s) ≡ true → Sound (found_at s seat 0 (ClosedLink r) (content_of (reading_at (ClosedLink r)) (read s ws (cells.BlockWord r))))
     by_link r it e there = by (link_of (read s ws (cells.BlockWord r))) refl
       where
-        aw : _
+        aw : IsAway l it.place
         aw = away l run.lawful.1.board.gone it.place run.gone it.stays
 
         kz : z.kind it.place ≡ Bump r
