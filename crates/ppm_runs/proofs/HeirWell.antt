@@ -47,8 +47,8 @@ module _ (s : Shape) (code : CodeParts) (ih : s.takeover ≡ ByEntries) (fair : 
   pub record Leads (c : ℕ) (act : Act) (x : Standing) : Type 0 where
     pub left_out : List Followed
     pub tree : Skeleton
-    pub run : IsHeired s code root input (happens s code state (record { processor = c; act = act })) (by_act s state.words act x h) (step_by (row_by fork_row) act x ++ forked) (step_by (row_by take_row) act x ++ taken) left_out tree
-    pub well : IsWell code (view s (happens s code state (record { processor = c; act = act })).words) Root tree
+    pub heired : IsHeired s code root input (happens s code state (record { processor = c; act = act })) (by_act s state.words act x h) (step_by (row_by fork_row) act x ++ forked) (step_by (row_by take_row) act x ++ taken) left_out tree
+    pub good : IsWell code (view s (happens s code state (record { processor = c; act = act })).words) Root tree
 
   others_lead : (c : ℕ) (act : Act) → IsTurnAmong s.processors (record { processor = c; act = act }) → LooksOnly act (stand_of state c) → Leads c act (stand_of state c)
   others_lead c act among looks =
@@ -58,12 +58,12 @@ module _ (s : Shape) (code : CodeParts) (ih : s.takeover ≡ ByEntries) (fair : 
       let next = halves_go_on s code ih fair root input state h forked taken l t run.halves agrees run.broken turn among.processor orderly looks in record {
         left_out = l;
         tree = act_with (image s code) (left (image s code) l (places_of s state)).words state.words act (stand_of state c) t;
-        run = record {
+        heired = record {
           halves = next;
           joint = joints_stay s code fair root input state h forked taken l t run.halves run.joint turn among (alone_of s.takeover act (stand_of state c) looks) next;
           broken = broken_stays s code state h forked taken run.halves.lawful run.broken turn;
         };
-        well = well_stays_left s code fair root input state l run.halves.apart t run.halves.kept well turn
+        good = well_stays_left s code fair root input state l run.halves.apart t run.halves.kept well turn
             (acts_so s code ih fair root input state h forked taken l t run.halves agrees run.broken c act among.processor)
             (steps_away s code ih fair root input state h forked taken l t run.halves agrees run.broken c act looks) next.kept;
       }
@@ -77,12 +77,12 @@ module _ (s : Shape) (code : CodeParts) (ih : s.takeover ≡ ByEntries) (fair : 
       subst (λ (x : Row). Leads c (Step victim) (IsWithin seat x)) (sym goes.4) (record {
         left_out = and_followed (image s code) l (places_of s state) lead.0;
         tree = handed lead.0 seat.place t;
-        run = record {
+        heired = record {
           halves = lead.2;
           joint = heir_joint s code ih fair root input state h forked taken l t run.halves run.joint c victim seat goes.2 goes.0 goes.1 at goes.3 goes.5 lead.0 lead.1 lead.2;
           broken = broken_stays s code state h forked taken run.halves.lawful run.broken (record { processor = c; act = Step victim });
         };
-        well = heir_well s code state n lead.0 seat.place t (λ x. ap (λ (m : Cell → ℕ). m (BlockWord x)) same) well;
+        good = heir_well s code state n lead.0 seat.place t (λ x. ap (λ (m : Cell → ℕ). m (BlockWord x)) same) well;
       })
 
   steps_lead : (c victim : ℕ) → IsTurnAmong s.processors (record { processor = c; act = Step victim }) → (x : Standing) → stand_of state c ≡ x → Leads c (Step victim) x

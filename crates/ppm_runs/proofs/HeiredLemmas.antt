@@ -2,6 +2,8 @@
 use Rattle.std.proofs.Common.{◌≡◌, ◌≢◌, ◌⊎◌, ◌+◌, ℕ, List, [], ◌∷◌, ◌++◌, inl, inr, refl, sym, ap, ◌∙◌, subst}
 use Rattle.std.specs.List.{AllByRecursion}
 use Rattle.ppm_strands.specs.Tree.{Words, Tree}
+use Rattle.ppm_strands.specs.Calm.{Calm}
+use Rattle.ppm_words.specs.declared.named_array.NamedArray.{NamedArray}
 use Rattle.ppm_cells.specs.Cells.{pool_at}
 use Rattle.ppm_cells.specs.declared.restart.Restart.{Restart}
 use Rattle.ppm_cells.specs.declared.restart.RestartKind.{RestartKind}
@@ -15,6 +17,8 @@ use Rattle.ppm_code.specs.Strands.{Point, Result}
 use Rattle.ppm_code.specs.declared.code.CodeParts.{CodeParts}
 use Rattle.ppm_code.specs.declared.location.FrameWord.{FrameWord}
 use Rattle.ppm_layout.specs.Root.{root_strand}
+use Rattle.ppm_layout.specs.Correct.{Opens}
+use Rattle.ppm_layout.specs.declared.images.Image.{Image as RealImage}
 use Rattle.ppm_step.specs.Among.{IsTurnAmong}
 use Rattle.ppm_step.specs.Laws.{reached}
 use Rattle.ppm_step.specs.Standings.{Standing, IsLost, IsPlaced, IsAt, IsWithin, IsRunning, IsBroken, IsDone}
@@ -36,7 +40,7 @@ use Rattle.ppm_tickets.proofs.Theorem.{lost_or}
 use Rattle.ppm_frames.specs.Views.{view}
 use Rattle.ppm_frames.specs.Seen.{arrays_at}
 use Rattle.ppm_frames.specs.Skeletons.{Begins, Over, InPlace, Skeleton, Leaf}
-use Rattle.ppm_kept.specs.Running.{IsFair}
+use Rattle.ppm_kept.specs.Running.{IsFair, strands}
 use Rattle.ppm_kept.specs.Kept.{InRow}
 use Rattle.ppm_kept.specs.Fates.{Agrees}
 use Rattle.ppm_kept.specs.Left.{Followed, left, LooksOn}

@@ -222,10 +222,10 @@ module _ (s : Shape) (code : CodeParts) (ih : s.takeover ≡ ByEntries) (fair : 
       all_heired (raised_by made state turn) (work + one_if (is_work_turn turn.act (stand_of state turn.processor))) (happens s code state turn) (by_act s state.words turn.act (stand_of state turn.processor) h) (forks_of state turn ++ f) (takes_of state turn ++ tk) next.left_out next.tree more all.1
       (half_stays s code s.processors made work state turn fair.code_is all.0.processor half)
       (omega (arith, few))
-      next.run
+      next.heired
       (deques_stay_sound s code fair root input state h f tk l t run.halves run.joint made (rises made (about s code s.processors state) work (works s code state (turn ∷ more)) half few) sound
       (halves_sound s code fair root input state h f tk l t run.halves made sound well) turn all.0)
-      next.well
+      next.good
     where
       -- half of the work turns are fewer than a tag counts
       rises : (made some work more : ℕ) → 2 * made + some ≤ work → work + more ≤ 2 ^ 34 → made + 1 < 2 ^ 34
