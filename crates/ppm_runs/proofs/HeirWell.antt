@@ -54,7 +54,7 @@ module _ (s : Shape) (code : CodeParts) (ih : s.takeover ≡ ByEntries) (fair : 
   others_lead c act among looks =
       let turn : Turn = record { processor = c; act = act } in
       let agrees = run.joint.agrees in
-      let orderly = (halves_owe s code fair root input state h forked taken l t run.halves agrees (λ d seat re e. inlined s code ih fair root input state h forked taken l t run.halves run.joint d seat re e)).orderly turn among in
+      let orderly = (halves_owe s code fair root input state h forked taken l t run.halves agrees (λ d seat re e. inlined s code ih fair root input state h forked taken l t run d seat re e)).orderly turn among in
       let next = halves_go_on s code ih fair root input state h forked taken l t run.halves agrees run.broken turn among.processor orderly looks in record {
         left_out = l;
         tree = act_with (image s code) (left (image s code) l (places_of s state)).words state.words act (stand_of state c) t;

@@ -16,8 +16,8 @@ use Rattle.ppm_code.specs.Sizes.{slots_of}
 use Rattle.ppm_code.specs.Strands.{Point, Result}
 use Rattle.ppm_code.specs.declared.code.CodeParts.{CodeParts}
 use Rattle.ppm_code.specs.declared.location.FrameWord.{FrameWord}
-use Rattle.ppm_layout.specs.Root.{root_strand}
 use Rattle.ppm_layout.specs.Correct.{Opens}
+use Rattle.ppm_layout.specs.Root.{root_strand}
 use Rattle.ppm_layout.specs.declared.images.Image.{Image as RealImage}
 use Rattle.ppm_step.specs.Among.{IsTurnAmong}
 use Rattle.ppm_step.specs.Laws.{reached}
@@ -155,11 +155,14 @@ module _ (s : Shape) (code : CodeParts) (ih : s.takeover ≡ ByEntries) (fair : 
     inlined_by (Take v j) new ek er = tt
     inlined_by (Take2 v) new ek er = tt
 
-    pub inlined : IsInlined s.takeover s state.words seat seat.restart.kind re.kind
-    inlined = subst (λ (how : Takeover). IsInlined how s state.words seat seat.restart.kind re.kind) (sym ih) (inlined_by seat.restart.kind re.kind refl refl)
+    pub inlined_so : IsInlined s.takeover s state.words seat seat.restart.kind re.kind
+    inlined_so = subst (λ (how : Takeover). IsInlined how s state.words seat seat.restart.kind re.kind) (sym ih) (inlined_by seat.restart.kind re.kind refl refl)
 
 module _ (s : Shape) (code : CodeParts) (ih : s.takeover ≡ ByEntries) (fair : IsFair code) (root : Tree (Frame FrameWord Point) Result) (input : Words) (state : RunState) (h : ℕ → Home) (forked taken : List ℕ) (l : List Followed) (t : Skeleton)
     (run : IsHeired s code root input state h forked taken l t) where
+  pub inlined : (c : ℕ) (seat : Seat) (re : Restart) → stand_of state c ≡ IsWithin seat (Now (Install re)) → IsInlined s.takeover s state.words seat seat.restart.kind re.kind
+  inlined c seat re e = inlined_so s code ih fair root input state h forked taken l t run.halves run.joint c seat re e
+
   -- behind an act, by where its processor stood
   abbrev Leads : (c : ℕ) (act : Act) → Standing → Type 0
   Leads c act x = (m : List Followed) × (u : Skeleton)
@@ -168,7 +171,7 @@ module _ (s : Shape) (code : CodeParts) (ih : s.takeover ≡ ByEntries) (fair : 
   others_lead : (c : ℕ) (act : Act) → IsTurnAmong s.processors (record { processor = c; act = act }) → LooksOnly act (stand_of state c) → Leads c act (stand_of state c)
   others_lead c act among looks =
       let turn : Turn = record { processor = c; act = act } in
-      let orderly = (halves_owe s code fair root input state h forked taken l t run.halves run.joint.agrees (λ d seat re e. inlined s code ih fair root input state h forked taken l t run.halves run.joint d seat re e)).orderly turn among in
+      let orderly = (halves_owe s code fair root input state h forked taken l t run.halves run.joint.agrees (λ d seat re e. inlined d seat re e)).orderly turn among in
       let next = halves_go_on s code ih fair root input state h forked taken l t run.halves run.joint.agrees run.broken turn among.processor orderly looks in (
         l,
         act_with (image s code) (left (image s code) l (places_of s state)).words state.words act (stand_of state c) t,
@@ -224,25 +227,24 @@ module _ (s : Shape) (code : CodeParts) (ih : s.takeover ≡ ByEntries) (fair : 
       all_lead (happens s code state turn) (by_act s state.words turn.act (stand_of state turn.processor) h) (forks_of state turn ++ f) (takes_of state turn ++ tk) next.0 next.1 more all.1 next.2
 
 -- where a run opens nobody is in a row
-not_within : (x : Standing) (seat : Seat) (row : Row) → (x ≡ IsLost) ⊎ (x ≡ IsDone) → x ≡ IsWithin seat row → ⊥
+pub not_within : (x : Standing) (seat : Seat) (row : Row) → (x ≡ IsLost) ⊎ (x ≡ IsDone) → x ≡ IsWithin seat row → ⊥
 not_within x seat row is e = elim is [
   | inl a ↦ absurd (let z : IsLost ≡ IsWithin seat row = sym a ∙ e in cc)
   | inr a ↦ absurd (let z : IsDone ≡ IsWithin seat row = sym a ∙ e in cc)
 ]
 
-pub runs_open_heired : (code : CodeParts) (input : List NamedArray) (s : Shape) (keeper : ℕ) (im : RealImage) → Opens code input s keeper im
-    → Calm (strands s code) (root_strand code input) (arrays_at (view s im.words))
+-- where a run opens none was followed
+unfoldable pub heired_first : (code : CodeParts) (input : List NamedArray) (s : Shape) (keeper : ℕ) (im : RealImage) → Opens code input s keeper im → Calm (strands s code) (root_strand code input) (arrays_at (view s im.words))
     → IsHeired s code (root_strand code input) (arrays_at (view s im.words)) (opening im.words s.processors) (λ r. Unborn) [] [] [] (Leaf (InPlace keeper) (Begins 0) (pool_at s keeper) (slots_of code code.root))
-runs_open_heired code input s keeper im opens calm =
-    let run = runs_open code input s keeper im opens calm in
-    let state : RunState = opening im.words s.processors in record {
+heired_first code input s keeper im opens calm =
+    let run = runs_open code input s keeper im opens calm in record {
       halves = halves run;
       joint = record {
         agrees = run.agrees;
         last = λ r p held home. absurd held;
         ready = run.ready;
         unheld = λ e p r row ke de on held. held;
-        opens = λ c seat next v slot stand ke on w r shut aw kw by. absurd (not_within (stand_of state c) seat (Now next) (elim (lost_or s.processors c) [ inl a ↦ inl a.0 | inr a ↦ inr a ]) stand);
+        opens = λ c seat next v slot stand ke on w r shut aw kw by. absurd (not_within (stand_of (opening im.words s.processors) c) seat (Now next) (elim (lost_or s.processors c) [ inl a ↦ inl a.0 | inr a ↦ inr a ]) stand);
       };
       broken = run.broken;
     }
@@ -250,7 +252,7 @@ runs_open_heired code input s keeper im opens calm =
 pub runs_stay_heired : RunsStayHeired
 runs_stay_heired code input s keeper im ih fair opens calm turns all =
     all_lead s code ih fair (root_strand code input) (arrays_at (view s im.words)) (opening im.words s.processors) (λ r. Unborn) [] [] []
-    (Leaf (InPlace keeper) (Begins 0) (pool_at s keeper) (slots_of code code.root)) turns all (runs_open_heired code input s keeper im opens calm)
+    (Leaf (InPlace keeper) (Begins 0) (pool_at s keeper) (slots_of code code.root)) turns all (heired_first code input s keeper im opens calm)
 
 pub once_by_entries : OnceByEntries
 once_by_entries code input s keeper im ih fair opens calm turns all =

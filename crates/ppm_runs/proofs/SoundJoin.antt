@@ -54,7 +54,7 @@ use Rattle.ppm_runs.specs.Follow.{IsHalves}
 use Rattle.ppm_runs.specs.Laws.{Owes, IsTakers}
 use Rattle.ppm_runs.specs.Deques.{DequesAreSound, DequesStaySound}
 use Rattle.ppm_runs.proofs.CheckRows.{checks_sound}
-use Rattle.ppm_runs.proofs.HeiredLemmas.{inlined}
+use Rattle.ppm_runs.proofs.HeiredLemmas.{inlined_so as inlined_by_entries}
 use Rattle.ppm_runs.proofs.JoinLemmas.{joint_of}
 use Rattle.ppm_runs.proofs.OrderlyLemmas.{halves_owe}
 use Rattle.ppm_runs.proofs.ShownLemmas.{away, halves, within, pool_is}
@@ -166,7 +166,7 @@ deques_stay_sound s code fair root input state h forked taken l t run joint made
 
     inlined_so : (how : Takeover) → s.takeover ≡ how → (c : ℕ) (seat : Seat) (re : Restart) → stand_of state c ≡ IsWithin seat (Now (Install re)) → IsInlined s.takeover s state.words seat seat.restart.kind re.kind
     inlined_so ByPlaces e c seat re at = subst (λ (how : Takeover). IsInlined how s state.words seat seat.restart.kind re.kind) (sym e) tt
-    inlined_so ByEntries e c seat re at = inlined s code e fair root input state h forked taken l t run joint c seat re at
+    inlined_so ByEntries e c seat re at = inlined_by_entries s code e fair root input state h forked taken l t run joint c seat re at
 
     owes : Owes s code root input state h forked taken t
     owes = halves_owe s code fair root input state h forked taken l t run joint.agrees (λ c seat re e. inlined_so s.takeover refl c seat re e)

@@ -66,7 +66,7 @@ use Rattle.ppm_runs.specs.Well.{IsWell}
 use Rattle.ppm_runs.proofs.MomentLemmas.{turns_lead_on}
 use Rattle.ppm_runs.proofs.OpenLemmas.{runs_open}
 use Rattle.ppm_runs.proofs.RaisedLemmas.{about, half_stays, half_opens}
-use Rattle.ppm_runs.proofs.HeiredLemmas.{runs_open_heired}
+use Rattle.ppm_runs.proofs.HeiredLemmas.{heired_first}
 use Rattle.ppm_runs.proofs.HeirWell.{acts_lead}
 use Rattle.ppm_runs.proofs.OrderlyLemmas.{how_or}
 use Rattle.ppm_runs.proofs.SoundJoin.{deques_are_sound, deques_stay_sound}
@@ -237,6 +237,6 @@ nothing_breaks code input s keeper im fair opens calm turns all few = elim (how_
       (Leaf (InPlace keeper) (Begins 0) (pool_at s keeper) (slots_of code code.root)) turns all (half_opens s code im.words s.processors) (omega (arith, few)) (runs_open code input s keeper im opens calm)
       (opens_sound code input s keeper im fair opens calm) (opens_well code input s keeper im fair opens calm)
   | inr ih ↦ all_heired s code ih fair (root_strand code input) (arrays_at (frames.view s im.words)) 0 0 (opening im.words s.processors) (λ r. Unborn) [] [] []
-      (Leaf (InPlace keeper) (Begins 0) (pool_at s keeper) (slots_of code code.root)) turns all (half_opens s code im.words s.processors) (omega (arith, few)) (runs_open_heired code input s keeper im opens calm)
+      (Leaf (InPlace keeper) (Begins 0) (pool_at s keeper) (slots_of code code.root)) turns all (half_opens s code im.words s.processors) (omega (arith, few)) (heired_first code input s keeper im opens calm)
       (opens_sound code input s keeper im fair opens calm) (opens_well code input s keeper im fair opens calm)
 ]
