@@ -38,6 +38,8 @@ use Rattle.ppm_tickets.proofs.ViewLemmas.{bottoms_put, view_else}
 use Rattle.ppm_tickets.proofs.WriteLemmas.{put_here, put_else}
 use Rattle.ppm_frames.specs.Skeletons.{Fresh, Held, Skeleton}
 use Rattle.ppm_frames.specs.Good.{link_at}
+use Rattle.ppm_frames.specs.Views as frames
+use Rattle.ppm_frames.proofs.ViewLemmas.{others_are_unseen}
 use Rattle.ppm_kept.specs.Running.{IsFair}
 use Rattle.ppm_kept.specs.Kept.{State, InRow}
 use Rattle.ppm_kept.specs.Fates.{Agrees}
@@ -107,6 +109,10 @@ module _ (s : Shape) (code : CodeParts) (ih : s.takeover ≡ ByEntries) (fair : 
 
   words_are : n.words ≡ store s state.words (RestartWord p) (restart_word (restart_then seat next))
   words_are = ap (λ (x : Standing). (acts s code state c (Step victim) x).words) at ∙ words_by next on
+
+  -- which frames don't see
+  pub view_same : frames.view s n.words ≡ frames.view s state.words
+  view_same = ap (frames.view s) words_are ∙ others_are_unseen s state.words (RestartWord p) (restart_word (restart_then seat next)) here.place refl
 
   restart_here : (x : Then) → GoesOn x → row_is_there s seat (Now x) ≡ true → restart_is_there s (restart_then seat x) ≡ true
   restart_here (Install re) on e = e

@@ -50,8 +50,8 @@ use Rattle.ppm_kept.specs.Steps.{act_with}
 use Rattle.ppm_kept.proofs.AnswerLemmas.{left_ends_as_meant}
 use Rattle.ppm_kept.proofs.FateLemmas.{none_is_left}
 use Rattle.ppm_runs.specs.Run.{image, fate_of}
-use Rattle.ppm_runs.specs.Follow.{GoesOn, LooksOnly}
-use Rattle.ppm_runs.specs.Joint.{IsCapped, StepsAlone}
+use Rattle.ppm_runs.specs.Follow.{IsHalves, GoesOn, LooksOnly}
+use Rattle.ppm_runs.specs.Joint.{IsCapped, AreJoint, StepsAlone}
 use Rattle.ppm_runs.specs.Entries.{IsHeired, HeirsLeadOn, RunsStayHeired, OnceByEntries, RunsEndByEntries, HalvesStay, OnceInEachRun, RunsEndSo}
 use Rattle.ppm_runs.proofs.ShownLemmas.{halves, within}
 use Rattle.ppm_runs.proofs.OrderlyLemmas.{halves_owe, how_or}
@@ -128,15 +128,15 @@ alone_of how Hard x looks = tt
 alone_of how (Quit why) x looks = tt
 
 module _ (s : Shape) (code : CodeParts) (ih : s.takeover ≡ ByEntries) (fair : IsFair code) (root : Tree (Frame FrameWord Point) Result) (input : Words) (state : RunState) (h : ℕ → Home) (forked taken : List ℕ) (l : List Followed) (t : Skeleton)
-    (run : IsHeired s code root input state h forked taken l t) where
+    (run : IsHalves s code root input state h forked taken l t) (joint : AreJoint s code state h l t) where
   -- where an order word says that one strand runs both branches nothing is above the bottom
   module _ (c : ℕ) (seat : Seat) (re : Restart) (e : stand_of state c ≡ IsWithin seat (Now (Install re))) where
     empty_above : (b f y : ℕ) → seat.restart.kind ≡ Push1 b → re.kind ≡ Run f y → IsEmpty (spots.view s state.words (Slot seat.place (seat.restart.bottom + 1)))
     empty_above b f y ek er =
-        let w = within s code root input state h forked taken l t run.halves c seat (Now (Install re)) e in
-        let held = run.joint.ready seat.place b f y re.bottom (w.kind ∙ ek) (w.doing ∙ ap (λ (k : RestartKind). InRow (Now (Install (record { kind = k; bottom = re.bottom })))) er) in
-        let home : h b ≡ Pushing seat.place = pushing_home s code root input state h forked taken l t run.halves seat.place b (not_followed s code root input state h forked taken l t run.halves c seat.place w.sits.carried) (w.kind ∙ ek) in
-        subst (λ (n : ℕ). IsEmpty (spots.view s state.words (Slot seat.place (n + 1)))) w.sits.at.bottom (subst (λ (how : Takeover). IsCapped how s state.words seat.place) ih (run.joint.last b seat.place held home))
+        let w = within s code root input state h forked taken l t run c seat (Now (Install re)) e in
+        let held = joint.ready seat.place b f y re.bottom (w.kind ∙ ek) (w.doing ∙ ap (λ (k : RestartKind). InRow (Now (Install (record { kind = k; bottom = re.bottom })))) er) in
+        let home : h b ≡ Pushing seat.place = pushing_home s code root input state h forked taken l t run seat.place b (not_followed s code root input state h forked taken l t run c seat.place w.sits.carried) (w.kind ∙ ek) in
+        subst (λ (n : ℕ). IsEmpty (spots.view s state.words (Slot seat.place (n + 1)))) w.sits.at.bottom (subst (λ (how : Takeover). IsCapped how s state.words seat.place) ih (joint.last b seat.place held home))
 
     inlined_by : (k new : RestartKind) → seat.restart.kind ≡ k → re.kind ≡ new → IsInlined ByEntries s state.words seat k new
     inlined_by (Push1 b) (Run f y) ek er = empty_above b f y ek er
@@ -155,8 +155,13 @@ module _ (s : Shape) (code : CodeParts) (ih : s.takeover ≡ ByEntries) (fair : 
     inlined_by (Take v j) new ek er = tt
     inlined_by (Take2 v) new ek er = tt
 
-    pub inlined : IsInlined s.takeover s state.words seat seat.restart.kind re.kind
-    inlined = subst (λ (how : Takeover). IsInlined how s state.words seat seat.restart.kind re.kind) (sym ih) (inlined_by seat.restart.kind re.kind refl refl)
+    pub inlined_so : IsInlined s.takeover s state.words seat seat.restart.kind re.kind
+    inlined_so = subst (λ (how : Takeover). IsInlined how s state.words seat seat.restart.kind re.kind) (sym ih) (inlined_by seat.restart.kind re.kind refl refl)
+
+module _ (s : Shape) (code : CodeParts) (ih : s.takeover ≡ ByEntries) (fair : IsFair code) (root : Tree (Frame FrameWord Point) Result) (input : Words) (state : RunState) (h : ℕ → Home) (forked taken : List ℕ) (l : List Followed) (t : Skeleton)
+    (run : IsHeired s code root input state h forked taken l t) where
+  pub inlined : (c : ℕ) (seat : Seat) (re : Restart) → stand_of state c ≡ IsWithin seat (Now (Install re)) → IsInlined s.takeover s state.words seat seat.restart.kind re.kind
+  inlined c seat re e = inlined_so s code ih fair root input state h forked taken l t run.halves run.joint c seat re e
 
   -- behind an act, by where its processor stood
   abbrev Leads : (c : ℕ) (act : Act) → Standing → Type 0

@@ -7,10 +7,10 @@
 -- `MomentLemmas`, a pool that was found full `SpentLemmas`, and words that come back `BackLemmas`. Runs in legs
 -- are `LegLemmas`; their work is `BoundLemmas`, turn by turn, and `LegWork`, leg by leg.
 -- That nothing breaks has two halves. Of deques, places and processors: each load of a row
--- (`SoundRows`), each write (`SoundLemmas`), each act (`SoundTurns`, `SoundJoin`). Of frames: headers are
--- numbers of capsules and what is over has an outcome (`WellWords`), so rows and capsules of strands
--- meet no broken words (`WellRows`, `ArrayLemmas`, `WellRuns`, `WellStands`), and that stays
--- (`WellCapsules`, `WellTurns`). Half of the work turns at most raise a tag (`RaisedLemmas`), and
+-- (`SoundRows`, and of an heir `CheckRows`), each write (`SoundLemmas`), each act (`SoundTurns`, `SoundJoin`). Of frames: headers
+-- are numbers of capsules and what is over has an outcome (`WellWords`, with places left out `WellLeft`), so rows and
+-- capsules of strands meet no broken words (`WellRows`, `ArrayLemmas`, `WellRuns`, `WellStands`), and that stays
+-- (`WellCapsules`, `WellTurns`, `HeirWell`). Half of the work turns at most raise a tag (`RaisedLemmas`), and
 -- `UnbrokenLemmas` has all of it in whole runs.
 
 pub mod TameLemmas
@@ -32,21 +32,7 @@ pub mod MomentLemmas
 pub mod SpentLemmas
 pub mod BackLemmas
 pub mod LegLemmas
-pub mod SoundRows
-pub mod SoundLemmas
-pub mod SoundTurns
-pub mod SoundJoin
-pub mod ArrayLemmas
-pub mod WellRows
-pub mod WellRuns
-pub mod WellStands
-pub mod WellWords
-pub mod WellCapsules
-pub mod WellTurns
 pub mod SumLemmas
-pub mod RaisedLemmas
-pub mod UnbrokenLemmas
-pub mod TagLemmas
 pub mod BegunLemmas
 pub mod WorkLemmas
 pub mod BoundLemmas
@@ -58,5 +44,22 @@ pub mod LongLemmas
 pub mod CountedLemmas
 pub mod ForkLemmas
 pub mod LegForks
+pub mod SoundRows
+pub mod CheckRows
+pub mod SoundLemmas
+pub mod SoundTurns
+pub mod WellWords
+pub mod WellLeft
+pub mod SoundJoin
+pub mod ArrayLemmas
+pub mod WellRows
+pub mod WellRuns
+pub mod WellStands
+pub mod WellCapsules
+pub mod WellTurns
+pub mod HeirWell
+pub mod RaisedLemmas
+pub mod UnbrokenLemmas
+pub mod TagLemmas
 pub mod LegWork
 pub mod HeirWork

@@ -137,7 +137,7 @@ module _ (s : Shape) (code : CodeParts) (fair : IsFair code) (root : Tree (Frame
   owner_of w r kz = let home = run.born.homes w r kz in owned i w r home.0 home.1
 
   -- its link, as a load finds it
-  link_read : (w r : ℕ) → w < s.processors → IsAway l w → z.kind w ≡ Bump r → z.words (BlockWord r) ≡ read s state.words (BlockWord r)
+  pub link_read : (w r : ℕ) → w < s.processors → IsAway l w → z.kind w ≡ Bump r → z.words (BlockWord r) ≡ read s state.words (BlockWord r)
   link_read w r there aw kz =
       let can = link_shown i fair root input z t run.kept w r kz w there in
       shown i root input (places_of s state) l run.apart t run.kept w aw (BlockWord r) can.in_use ∙ view_is s state.words (BlockWord r) can.cell_is

@@ -11,6 +11,8 @@ use Rattle.ppm_cells.specs.declared.restart.Restart.{Restart}
 use Rattle.ppm_cells.specs.declared.restart.RestartKind.{RestartKind}
 use Rattle.ppm_cells.specs.declared.restart.RestartKind.TheVariants.{Run, Bump, Push1, Push2, Unwind, Arrive, Join, Pop1, Pop2, Seek, Steal, Check, Take, Take2}
 use Rattle.ppm_cells.specs.declared.shape.Shape.{Shape}
+use Rattle.ppm_cells.specs.declared.shape.Takeover.{Takeover}
+use Rattle.ppm_cells.specs.declared.shape.Takeover.TheVariants.{ByPlaces}
 use Rattle.ppm_cells.proofs.CellLemmas.{few_words}
 use Rattle.ppm_cells.proofs.MemoryLemmas.{others, read_back}
 use Rattle.ppm_cells.proofs.RestartLemmas.{restarts_exact}
@@ -21,7 +23,7 @@ use Rattle.ppm_step.specs.Standings.{Standing, IsLost, IsPlaced, IsAt, IsWithin,
 use Rattle.ppm_step.specs.State.{State as RunState, stand_in, stand_of}
 use Rattle.ppm_step.specs.There.{restart_is_there}
 use Rattle.ppm_step.specs.declared.content.Content.{Content}
-use Rattle.ppm_step.specs.declared.content.Content.TheVariants.{AHolder}
+use Rattle.ppm_step.specs.declared.content.Content.TheVariants.{ANumber, AHolder}
 use Rattle.ppm_step.specs.declared.row.Row.{Row}
 use Rattle.ppm_step.specs.declared.row.Row.TheVariants.{Now, Store, Exchange}
 use Rattle.ppm_step.specs.declared.row.Seat.{Seat}
@@ -32,7 +34,7 @@ use Rattle.ppm_tickets.specs.Words.{Word, Empty, Local, Job, Taken, Held, Number
 use Rattle.ppm_tickets.proofs.StepLemmas.{stand_own, stand_other}
 use Rattle.ppm_tickets.proofs.ViewLemmas.{view_else, restarts_kept, kinds_put}
 use Rattle.ppm_tickets.proofs.WriteLemmas.{put_here, put_else}
-use Rattle.ppm_runs.specs.Sound.{IsHeld, IsRising, Noted, IsNoted, IsNotedAt, RaisesHolder, TriesSo, IsSoundRow, IsSoundAt, IsRestartThere, IsHolderSound, IsTagLow, SaysNoBreak, one_dead, deads, IsSound}
+use Rattle.ppm_runs.specs.Sound.{IsHeld, IsRising, Noted, IsNoted, IsNotedAt, RaisesHolder, RaisesTop, TriesSo, IsSoundRow, IsSoundAt, IsRestartThere, IsHolderSound, IsTopLow, IsTagLow, SaysNoBreak, one_dead, deads, IsSound}
 
 -- what cells name
 abbrev slot_place : Cell → ℕ
@@ -46,6 +48,10 @@ slot_index _ = 0
 abbrev message_place : Cell → ℕ
 message_place (cells.MessageWord q) = q
 message_place _ = 0
+
+abbrev top_place : Cell → ℕ
+top_place (cells.Top q) = q
+top_place _ = 0
 
 abbrev holder_place : Cell → ℕ
 holder_place (cells.HolderWord q) = q
@@ -124,7 +130,7 @@ module _ (m n : Spot → Word) (c : ℕ) (here : one_dead (n (Dead c)) ≡ 1) (w
 noted_same : (s : Shape) (m n : Spot → Word) (p : ℕ) → n (Message p) ≡ m (Message p) → n (Bid p) ≡ m (Bid p) → (k : RestartKind) → Noted s m p k → Noted s n p k
 noted_same s m n p message bid (Steal v i) a = subst (IsRising s) (sym message) a
 noted_same s m n p message bid (Check v i) a = subst (IsRising s) (sym message) a
-noted_same s m n p message bid (Take2 v) a = subst IsHeld (sym bid) a
+noted_same s m n p message bid (Take2 v) a = (a.0, subst IsHeld (sym bid) a.1)
 noted_same s m n p message bid (Run f y) a = tt
 noted_same s m n p message bid (Bump r) a = tt
 noted_same s m n p message bid (Push1 r) a = tt
@@ -135,7 +141,7 @@ noted_same s m n p message bid (Join r d) a = tt
 noted_same s m n p message bid Pop1 a = tt
 noted_same s m n p message bid (Pop2 r) a = tt
 noted_same s m n p message bid Seek a = tt
-noted_same s m n p message bid (Take v d) a = tt
+noted_same s m n p message bid (Take v d) a = a
 
 module _ (s : Shape) (code : CodeParts) (m n : Spot → Word) (seat : Seat) (message : n (Message seat.place) ≡ m (Message seat.place)) (bid : n (Bid seat.place) ≡ m (Bid seat.place)) where
   next_noted : (next : Then) → IsNoted s code m seat next → IsNoted s code n seat next
@@ -153,11 +159,15 @@ module _ (s : Shape) (code : CodeParts) (m n : Spot → Word) (seat : Seat) (mes
   holder_tried v (AHolder old) _ a = absurd a
   holder_tried v _ new a = absurd a
 
+  top_tried : (new : Content) → RaisesTop s code m seat new → RaisesTop s code n seat new
+  top_tried (ANumber x) a = a
+  top_tried _ a = absurd a
+
   tried_same : (c : Cell) (old new : Content) → TriesSo s code m seat c old new → TriesSo s code n seat c old new
   tried_same (cells.HolderWord v) old new a = holder_tried v old new a
   tried_same cells.FinishWord old new a = a
   tried_same (cells.BlockWord x) old new a = a
-  tried_same (cells.Top v) old new a = a
+  tried_same (cells.Top v) old new a = top_tried new a
   tried_same (cells.EntryWord v i) old new a = a
   tried_same _ old new a = absurd a
 
@@ -192,6 +202,7 @@ tells (cells.EntryWord v i) = true
 tells (cells.HolderWord v) = true
 tells (cells.DeadWord c) = true
 tells (cells.RestartWord p) = true
+tells (cells.Top v) = true
 tells cells.FinishWord = true
 tells _ = false
 
@@ -230,6 +241,7 @@ module _ (s : Shape) (code : CodeParts) (made : ℕ) (state : RunState) (sound :
       noted = sound.noted;
       holders = sound.holders;
       finish = sound.finish;
+      tops = sound.tops;
       tags = λ v i. tag_more made more le (m (Slot v i)) (sound.tags v i);
     }
 
@@ -265,6 +277,9 @@ module _ (s : Shape) (code : CodeParts) (made : ℕ) (state : RunState) (sound :
       holders_same : ((v : ℕ) → cells.HolderWord v ≢ at) → ((q : ℕ) → cells.DeadWord q ≢ at) → (v : ℕ) → v < s.processors → IsHolderSound s n (n (Holder v))
       holders_same ne alive v lt = subst (IsHolderSound s n) (sym (same (Holder v) (ne v))) (holder_same s m n (λ q. same (Dead q) (alive q)) (m (Holder v)) (sound.holders v lt))
 
+      tops_same : ((v : ℕ) → cells.Top v ≢ at) → (v : ℕ) → v < s.processors → IsTopLow s.takeover s (read s after (cells.Top v))
+      tops_same ne v lt = subst (IsTopLow s.takeover s) (sym (others s ws at (cells.Top v) w there lt (ne v))) (sound.tops v lt)
+
       -- of which nothing is said
       pub quiet_write : tells at ≡ false → (y : Standing) → IsSoundAt s code m y → IsSound s code more (record { words = after; stand = slice_set state.stand c y })
       quiet_write quiet y here =
@@ -276,6 +291,7 @@ module _ (s : Shape) (code : CodeParts) (made : ℕ) (state : RunState) (sound :
             noted = noted_all (λ q. apart (cells.RestartWord q) refl) messages bids;
             holders = holders_same (λ v. apart (cells.HolderWord v) refl) (λ q. apart (cells.DeadWord q) refl);
             finish = finish_same (apart cells.FinishWord refl);
+            tops = tops_same (λ v. apart (cells.Top v) refl);
             tags = tags_same (λ v i. apart (cells.EntryWord v i) refl);
           }
 
@@ -291,6 +307,7 @@ module _ (s : Shape) (code : CodeParts) (made : ℕ) (state : RunState) (sound :
           noted = noted_all at w there (λ q e. cc) messages bids;
           holders = holders_same at w there (λ q e. cc) (λ q e. cc);
           finish = finish_same at w there (λ e. cc);
+          tops = tops_same at w there (λ q e. cc);
           tags = λ x j. elim (cases_eq x v) [
             | inr ne ↦ one at w there x j (λ e. ne (ap slot_place e))
             | inl xe ↦ elim (cases_eq j i) [
@@ -302,6 +319,25 @@ module _ (s : Shape) (code : CodeParts) (made : ℕ) (state : RunState) (sound :
       where
         one : (at : Cell) (w : ℕ) (there : IsCell s at) (x j : ℕ) → cells.EntryWord x j ≢ at → IsTagLow more (view s (store s ws at w) (Slot x j))
         one at w there x j ne = subst (IsTagLow more) (sym (same at w there (Slot x j) ne)) (tag_more made more le (m (Slot x j)) (sound.tags x j))
+
+    -- a top that stays low
+    pub top_write : (v w : ℕ) → IsCell s (cells.Top v) → IsTopLow s.takeover s (read s (store s ws (cells.Top v) w) (cells.Top v)) → (y : Standing) → IsSoundAt s code m y
+        → IsSound s code more (record { words = store s ws (cells.Top v) w; stand = slice_set state.stand c y })
+    top_write v w there low y here =
+        let at = cells.Top v in
+        let messages : (q : ℕ) → view s (store s ws at w) (Message q) ≡ m (Message q) = λ q. same at w there (Message q) (λ e. cc) in
+        let bids : (q : ℕ) → view s (store s ws at w) (Bid q) ≡ m (Bid q) = λ q. same at w there (Bid q) (λ e. cc) in record {
+          stands = stands_then (view s (store s ws at w)) y (stand_same s code m (view s (store s ws at w)) y (sees_same (view s (store s ws at w)) messages bids y) here) (λ d ne. sees_same (view s (store s ws at w)) messages bids (stand_of state d));
+          restarts = restarts_same at w there (λ q e. cc);
+          noted = noted_all at w there (λ q e. cc) messages bids;
+          holders = holders_same at w there (λ q e. cc) (λ q e. cc);
+          finish = finish_same at w there (λ e. cc);
+          tops = λ q lt. elim (cases_eq q v) [
+            | inl e ↦ subst (λ (x : ℕ). IsTopLow s.takeover s (read s (store s ws at w) (cells.Top x))) (sym e) low
+            | inr ne ↦ subst (IsTopLow s.takeover s) (sym (others s ws at (cells.Top q) w there lt (λ e. ne (ap top_place e)))) (sound.tops q lt)
+          ];
+          tags = tags_same at w there (λ x i e. cc);
+        }
 
     -- the message of a place that seeks
     pub message_write : (p w : ℕ) → IsCell s (cells.MessageWord p) → kinds s ws p ≡ Seek → ((d : ℕ) → d ≢ c → (seat : Seat) (row : Row) → stand_of state d ≡ IsWithin seat row → seat.place ≢ p)
@@ -317,6 +353,7 @@ module _ (s : Shape) (code : CodeParts) (made : ℕ) (state : RunState) (sound :
           ]);
           holders = holders_same at w there (λ q e. cc) (λ q e. cc);
           finish = finish_same at w there (λ e. cc);
+          tops = tops_same at w there (λ q e. cc);
           tags = tags_same at w there (λ v i e. cc);
         }
       where
@@ -351,6 +388,7 @@ module _ (s : Shape) (code : CodeParts) (made : ℕ) (state : RunState) (sound :
             | inr ne ↦ subst (IsHolderSound s (view s (store s ws at w))) (sym (same at w there (Holder q) (λ e. ne (ap holder_place e)))) (holder_same s m (view s (store s ws at w)) dead (m (Holder q)) (sound.holders q lt))
           ];
           finish = finish_same at w there (λ e. cc);
+          tops = tops_same at w there (λ q e. cc);
           tags = tags_same at w there (λ x i e. cc);
         }
 
@@ -367,6 +405,7 @@ module _ (s : Shape) (code : CodeParts) (made : ℕ) (state : RunState) (sound :
           holders = λ q lq. subst (IsHolderSound s (view s (store s ws at w))) (sym (same at w there (Holder q) (λ e. cc)))
               (holder_dies m (view s (store s ws at w)) c now was (λ x ne. same at w there (Dead x) (λ e. ne (ap dead_one e))) s lt (m (Holder q)) (sound.holders q lq));
           finish = finish_same at w there (λ e. cc);
+          tops = tops_same at w there (λ q e. cc);
           tags = tags_same at w there (λ x i e. cc);
         }
 
@@ -392,6 +431,7 @@ module _ (s : Shape) (code : CodeParts) (made : ℕ) (state : RunState) (sound :
           ];
           holders = holders_same at w there (λ q e. cc) (λ q e. cc);
           finish = finish_same at w there (λ e. cc);
+          tops = tops_same at w there (λ q e. cc);
           tags = tags_same at w there (λ x i e. cc);
         }
 
@@ -407,5 +447,10 @@ module _ (s : Shape) (code : CodeParts) (made : ℕ) (state : RunState) (sound :
           noted = noted_all at w tt (λ q e. cc) messages bids;
           holders = holders_same at w tt (λ q e. cc) (λ q e. cc);
           finish = says;
+          tops = tops_same at w tt (λ q e. cc);
           tags = tags_same at w tt (λ x i e. cc);
         }
+
+-- by places nothing is said of tops
+pub tops_by_places : (s : Shape) → s.takeover ≡ ByPlaces → (words : List ℕ) (v : ℕ) → v < s.processors → IsTopLow s.takeover s (read s words (cells.Top v))
+tops_by_places s places words v lt = subst (λ (how : Takeover). IsTopLow how s (read s words (cells.Top v))) (sym places) tt

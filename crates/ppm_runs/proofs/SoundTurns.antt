@@ -1,9 +1,8 @@
--- By places, each turn of a run's state that is sound leads to a sound one, if rows and capsules of
--- strands meet no broken words.
+-- Each turn of a lawful state that is sound leads to a sound one, if rows and capsules of strands, and rows of
+-- heirs, meet no broken words.
 use Rattle.std.proofs.Common.{◌≡◌, ◌≢◌, ◌⊎◌, ◌≤◌, ◌<◌, ℕ, zero, suc, ◌+◌, ◌==◌, ◌&&◌, Bool, true, false, if◌then◌else◌, List, Option, Some, None, inl, inr, refl, sym, ap, ap₂, ◌∙◌, subst, arith, slice_set}
 use Rattle.std.specs.Prelude.{nat_lt, slice_get, slice_index, ◌^◌}
 use Rattle.std.proofs.lemmas.Bool.{cases_lt, ltb-true, lt-ltb, le-ltb, eqb-true}
-use Rattle.ppm_strands.specs.Tree.{Words, Tree}
 use Rattle.ppm_cells.specs.Cells.{IsCell}
 use Rattle.ppm_cells.specs.Entry.{IsEntry}
 use Rattle.ppm_cells.specs.Finish.{finish_word, IsFinish, IsOutcome}
@@ -19,13 +18,10 @@ use Rattle.ppm_cells.specs.declared.restart.Restart.{Restart}
 use Rattle.ppm_cells.specs.declared.restart.RestartKind.{RestartKind}
 use Rattle.ppm_cells.specs.declared.restart.RestartKind.TheVariants.{Run, Bump, Push1, Push2, Unwind, Arrive, Join, Pop1, Pop2, Seek, Steal, Check, Take, Take2}
 use Rattle.ppm_cells.specs.declared.shape.Shape.{Shape}
-use Rattle.ppm_cells.specs.declared.shape.Takeover.TheVariants.{ByPlaces}
+use Rattle.ppm_cells.specs.declared.shape.Takeover.TheVariants.{ByEntries}
 use Rattle.ppm_cells.proofs.MemoryLemmas.{read_back}
-use Rattle.ppm_capsules.specs.Strand.{Frame}
-use Rattle.ppm_code.specs.Strands.{Point as StrandPoint, Result}
 use Rattle.ppm_code.specs.declared.code.Capsule.{Capsule as CodeCapsule}
 use Rattle.ppm_code.specs.declared.code.CodeParts.{CodeParts}
-use Rattle.ppm_code.specs.declared.location.FrameWord.{FrameWord}
 use Rattle.ppm_deque.specs.Change.{tag_of}
 use Rattle.ppm_step.specs.Among.{IsActAmong, IsTurnAmong}
 use Rattle.ppm_step.specs.Contents.{content_of, word_of}
@@ -36,7 +32,7 @@ use Rattle.ppm_step.specs.Standings.{Standing, IsLost, IsPlaced, IsAt, IsWithin,
 use Rattle.ppm_step.specs.State.{State as RunState, stand_of, happens, acts, quit_with, is_work, is_step}
 use Rattle.ppm_step.specs.There.{is_there, kind_is_there, bottom_is_there, restart_is_there}
 use Rattle.ppm_step.specs.declared.content.Content.{Content}
-use Rattle.ppm_step.specs.declared.content.Content.TheVariants.{AnEntry, AHolder, AFinish}
+use Rattle.ppm_step.specs.declared.content.Content.TheVariants.{ANumber, AnEntry, AHolder, AFinish}
 use Rattle.ppm_step.specs.declared.content.Reading.TheVariants.{AsEntry, AsHolder}
 use Rattle.ppm_step.specs.declared.row.Point.{Point}
 use Rattle.ppm_step.specs.declared.row.Point.TheVariants.{Offset}
@@ -54,36 +50,36 @@ use Rattle.ppm_tickets.specs.Along.{IsPooled}
 use Rattle.ppm_tickets.specs.Entries.{IsPooledAt}
 use Rattle.ppm_tickets.specs.Homes.{Home}
 use Rattle.ppm_tickets.specs.Lawful.{IsDead, IsAlive, Dooms, Names, tag}
-use Rattle.ppm_tickets.specs.Saw.{IsStrand, IsQuietCell, Sits, Sees}
-use Rattle.ppm_tickets.specs.View.{word_as, view, kinds, bottoms, is_shown, absent, restart_or, seeking, restart_at}
+use Rattle.ppm_tickets.specs.Renewal.{IsLawful}
+use Rattle.ppm_tickets.specs.Saw.{IsStrand, IsQuietCell, Carried, Sits, Sees}
+use Rattle.ppm_tickets.specs.View.{word_as, view, kinds, bottoms, is_shown, absent}
 use Rattle.ppm_tickets.specs.Words.{Word, Empty, Local, Job, Taken, Held, Number, Linked, Restarts, Unread, Spot, Message, Slot, Holder, Carry, Dead}
 use Rattle.ppm_tickets.proofs.ViewLemmas.{shows, view_here, again, if_true, if_false}
-use Rattle.ppm_frames.specs.Skeletons.{Skeleton}
 use Rattle.ppm_kept.specs.Branches.{is_taker}
 use Rattle.ppm_kept.specs.Fates.{Offered}
 use Rattle.ppm_kept.proofs.BlockLemmas.{finish_back}
-use Rattle.ppm_runs.specs.Run.{fate_of, IsRun}
-use Rattle.ppm_runs.specs.Sound.{IsJobEntry, IsRising, IsTakenEntry, Noted, NotedBy, IsNoted, IsNotedAt, IsLoadOf, GoesWell, IsSoundRow, IsSoundAt, IsUnbroken, TriesSo, RaisesEntry, RaisesHolder, SetsFinish, IsRestartThere, IsHolderSound, IsTagLow, IsNoBreak, SaysNoBreak, one_dead, IsSound}
+use Rattle.ppm_runs.specs.Run.{fate_of}
+use Rattle.ppm_runs.specs.Sound.{IsRisingEntry, IsRising, IsTakenEntry, Noted, NotedBy, IsNoted, IsNotedAt, IsLoadOf, GoesWell, IsSoundRow, IsSoundAt, IsUnbroken, RaisesTop, TriesSo, RaisesEntry, RaisesHolder, SetsFinish, IsRestartThere, IsHolderSound, IsTopLow, IsTagLow, IsNoBreak, SaysNoBreak, one_dead, IsSound}
 use Rattle.ppm_runs.specs.Deques.{StrandsAreSound, one_if, is_entry, tries_entry, raises, raised_by}
-use Rattle.ppm_runs.proofs.SoundRows.{Here, Blocks, IsDequeKind, seat_of, loads_sound, begins_sound, and_is, and_left, and_right}
-use Rattle.ppm_runs.proofs.SoundLemmas.{tells, waits, quiet_write, entry_write, message_write, holder_write, dead_write, restart_write, finish_write}
+use Rattle.ppm_runs.proofs.SoundRows.{Here, Blocks, IsDequeKind, here_of, seat_of, loads_sound, begins_sound, and_is, and_left, and_right}
+use Rattle.ppm_runs.proofs.SoundLemmas.{tells, waits, quiet_write, top_write, entry_write, message_write, holder_write, dead_write, restart_write, finish_write}
 
 -- a kind is of a strand, or looks at deques and places
-strand_or : (base : Shape) (code : CodeParts) (k : RestartKind) → IsStrand k ⊎ IsDequeKind base code k
-strand_or base code (Run f y) = inl tt
-strand_or base code (Bump r) = inl tt
-strand_or base code (Unwind f) = inl tt
-strand_or base code (Arrive r d) = inl tt
-strand_or base code (Join r d) = inl tt
-strand_or base code (Push1 r) = inr tt
-strand_or base code (Push2 r) = inr tt
-strand_or base code Pop1 = inr tt
-strand_or base code (Pop2 r) = inr tt
-strand_or base code Seek = inr tt
-strand_or base code (Steal v i) = inr tt
-strand_or base code (Check v i) = inr tt
-strand_or base code (Take v d) = inr tt
-strand_or base code (Take2 v) = inr tt
+strand_or : (s : Shape) (code : CodeParts) (k : RestartKind) → IsStrand k ⊎ IsDequeKind s code k
+strand_or s code (Run f y) = inl tt
+strand_or s code (Bump r) = inl tt
+strand_or s code (Unwind f) = inl tt
+strand_or s code (Arrive r d) = inl tt
+strand_or s code (Join r d) = inl tt
+strand_or s code (Push1 r) = inr tt
+strand_or s code (Push2 r) = inr tt
+strand_or s code Pop1 = inr tt
+strand_or s code (Pop2 r) = inr tt
+strand_or s code Seek = inr tt
+strand_or s code (Steal v i) = inr tt
+strand_or s code (Check v i) = inr tt
+strand_or s code (Take v d) = inr tt
+strand_or s code (Take2 v) = inr tt
 
 quiet_tells : (c : Cell) → IsQuietCell c → (c ≢ cells.FinishWord) → tells c ≡ false
 quiet_tells cells.FinishWord q ne = absurd (ne refl)
@@ -159,44 +155,24 @@ one_least : (n : ℕ) (b : Bool) → n ≤ n + one_if b
 one_least n true = omega arith
 one_least n false = omega arith
 
-module _ (base : Shape) (code : CodeParts) (root : Tree (Frame FrameWord StrandPoint) Result) (input : Words) (state : RunState) (h : ℕ → Home) (forked_ taken_ : List ℕ) (t : Skeleton) where
-  abbrev pub s : Shape
-  s = record base { takeover = ByPlaces }
-
+module _ (s : Shape) (code : CodeParts) (state : RunState) (h : ℕ → Home) (forked_ taken_ : List ℕ) where
   abbrev ws : List ℕ
   ws = state.words
 
   abbrev m : Spot → Word
   m = view s ws
 
-  module _ (run : IsRun s code root input state h forked_ taken_ t) (made : ℕ) (few : made + 1 < 2 ^ 34) (sound : IsSound s code made state) (blocks : Blocks base code ws h) (strands : StrandsAreSound s code state)
+  module _ (lawful : IsLawful s code state h forked_ taken_) (made : ℕ) (few : made + 1 < 2 ^ 34) (sound : IsSound s code made state) (blocks : Blocks s code ws lawful.1.board.gone h) (strands : StrandsAreSound s code state)
       (pooled : (c : ℕ) → IsPooledAt s (stand_of state c)) (fates : (c : ℕ) (seat : Seat) (r low : ℕ) → stand_of state c ≡ IsWithin seat (Now (Load (Offset r low))) → is_taker seat.restart.kind ≡ true → fate_of (h r) ≡ Offered)
-      (apart : (c d : ℕ) (seat other : Seat) (row rest : Row) → stand_of state c ≡ IsWithin seat row → d ≢ c → stand_of state d ≡ IsWithin other rest → other.place ≢ seat.place) where
-    -- the restart of a place is there
-    restart_known : (p : ℕ) → p < s.processors → restart_is_there s (restart_at s ws p) ≡ true
-    restart_known p lt = subst (λ (r : Restart). restart_is_there s r ≡ true) (sym (if_true (nat_lt p s.processors) (restart_or (restart_of (read s ws (cells.RestartWord p)))) seeking (lt-ltb p s.processors lt))) (by (restart_of (read s ws (cells.RestartWord p))) (sound.restarts p lt))
-      where
-        by : (o : Option Restart) → IsRestartThere s o → restart_is_there s (restart_or o) ≡ true
-        by None a = absurd a
-        by (Some r) a = a
-
-    here_of : (c p : ℕ) → p < s.processors → (K : RestartKind) → kinds s ws p ≡ K → Here base code ws state.stand h forked_ taken_ made c p K
-    here_of c p lt K e = record {
-      law = run.lawful.1;
-      few = few;
-      holders = sound.holders;
-      tags = sound.tags;
-      noted = sound.noted;
-      blocks = blocks;
-      bottoms_there = λ v lv. and_left (bottom_is_there s (bottoms s ws v)) (kind_is_there s (kinds s ws v)) (restart_known v lv);
-      place = lt;
-      kind = e;
-      there = subst (λ (k : RestartKind). restart_is_there s (record { kind = k; bottom = bottoms s ws p }) ≡ true) e (restart_known p lt);
-    }
+      (apart : (c d : ℕ) (seat other : Seat) (row rest : Row) → stand_of state c ≡ IsWithin seat row → d ≢ c → stand_of state d ≡ IsWithin other rest → other.place ≢ seat.place)
+      (checks : s.takeover ≡ ByEntries → (c : ℕ) (seat : Seat) (point : Point) (v i : ℕ) → stand_of state c ≡ IsWithin seat (Now (Load point)) → seat.restart.kind ≡ Check v i → (u : ℕ)
+      → IsSoundRow s code m seat (found_at s seat u point (content_of (reading_at point) (read s ws (cell_at seat u point))))) where
+    abbrev own_here : (c p : ℕ) → Carried s m c p → (K : RestartKind) → kinds s ws p ≡ K → Here s code ws state.stand h forked_ taken_ made c p K
+    own_here c p carried K e = here_of s code state h forked_ taken_ lawful made few sound blocks c p carried K e
 
     module _ (c : ℕ) (there : c < s.processors) where
       sees_at : (x : Standing) → stand_of state c ≡ x → Sees s m (kinds s ws) (bottoms s ws) c x
-      sees_at x e = subst (Sees s m (kinds s ws) (bottoms s ws) c) e (run.lawful.1.sees c)
+      sees_at x e = subst (Sees s m (kinds s ws) (bottoms s ws) c) e (lawful.1.sees c)
 
       sound_at : (x : Standing) → stand_of state c ≡ x → IsSoundAt s code m x
       sound_at x e = subst (IsSoundAt s code m) e (sound.stands c)
@@ -214,25 +190,26 @@ module _ (base : Shape) (code : CodeParts) (root : Tree (Frame FrameWord StrandP
         more : ℕ
         more = made + one_if (raises (IsWithin seat row))
 
-        seat_is : seat_of base code ws c seat.place seat.restart.kind ≡ seat
+        seat_is : seat_of s code ws c seat.place seat.restart.kind ≡ seat
         seat_is = λ i. record { own = sym sits.own i; place = seat.place; restart = record { kind = seat.restart.kind; bottom = sits.at.bottom i } }
 
-        own : Here base code ws state.stand h forked_ taken_ made c seat.place seat.restart.kind
-        own = here_of c seat.place sits.carried.place seat.restart.kind sits.at.kind
+        own : Here s code ws state.stand h forked_ taken_ made c seat.place seat.restart.kind
+        own = own_here c seat.place sits.carried seat.restart.kind sits.at.kind
 
       -- what a load finds
       loaded : (seat : Seat) (point : Point) (e : stand_of state c ≡ IsWithin seat (Now (Load point))) (u : ℕ) → u < s.processors
           → IsSoundRow s code m seat (found_at s seat u point (content_of (reading_at point) (read s ws (cell_at seat u point))))
-      loaded seat point e u lt = elim (strand_or base code seat.restart.kind) [
+      loaded seat point e u lt = elim (strand_or s code seat.restart.kind) [
         | inl is ↦ strands.loads c seat point e is u
         | inr is ↦
             let path = seat_is seat (Now (Load point)) e in
             let a = (sound_at (IsWithin seat (Now (Load point))) e).0 in
-            let shown : point_is_there s (seat_of base code ws c seat.place seat.restart.kind) point ≡ true = subst (λ (z : Seat). point_is_there s z point ≡ true) (sym path) a.0 in
+            let shown : point_is_there s (seat_of s code ws c seat.place seat.restart.kind) point ≡ true = subst (λ (z : Seat). point_is_there s z point ≡ true) (sym path) a.0 in
             let fits = subst (λ (b : ℕ). IsLoadOf s seat.place b seat.restart.kind point) (sym (sits seat (Now (Load point)) e).at.bottom) a.1 in
             subst (λ (z : Seat). IsSoundRow s code m z (found_at s z u point (content_of (reading_at point) (read s ws (cell_at z u point))))) path
-            (loads_sound base code seat.restart.kind (own seat (Now (Load point)) e) is u lt point fits shown
-            (λ taker r low at_. fates c seat r low (e ∙ ap (λ (x : Point). IsWithin seat (Now (Load x))) at_) taker))
+            (loads_sound s code seat.restart.kind (own seat (Now (Load point)) e) is u lt point fits shown
+            (λ taker r low at_. fates c seat r low (e ∙ ap (λ (x : Point). IsWithin seat (Now (Load x))) at_) taker)
+            (λ entries v i ke. subst (λ (z : Seat). IsSoundRow s code m z (found_at s z u point (content_of (reading_at point) (read s ws (cell_at z u point))))) (sym path) (checks entries c seat point v i e ke u)))
       ]
 
       abbrev More : Seat → Row → ℕ
@@ -244,7 +221,7 @@ module _ (base : Shape) (code : CodeParts) (root : Tree (Frame FrameWord StrandP
       -- an install
       install : (seat : Seat) (next : Then) (e : stand_of state c ≡ IsWithin seat (Now next)) (r : Restart) → restart_is_there s r ≡ true → Noted s m seat.place r.kind
           → IsSound s code (More seat (Now next)) (record { words = store s ws (cells.RestartWord seat.place) (restart_word r); stand = slice_set state.stand c (IsAt seat.place (Some r)) })
-      install seat next e r is note = restart_write s code made state sound c (live seat (Now next) e) (More seat (Now next)) (least seat (Now next)) seat.place r (sits seat (Now next) e).carried.place run.lawful.0 is note
+      install seat next e r is note = restart_write s code made state sound c (live seat (Now next) e) (More seat (Now next)) (least seat (Now next)) seat.place r (sits seat (Now next) e).carried.place lawful.0 is note
 
       now_step : (seat : Seat) (next : Then) (e : stand_of state c ≡ IsWithin seat (Now next)) (u : ℕ) → u < s.processors → Goal (Step u) (IsWithin seat (Now next))
       now_step seat (Load point) e u lt = waits s code made state sound c (live seat (Now (Load point)) e) (More seat (Now (Load point))) (least seat (Now (Load point)))
@@ -264,11 +241,12 @@ module _ (base : Shape) (code : CodeParts) (root : Tree (Frame FrameWord StrandP
           → IsNoted s code (view s (store s ws (cells.MessageWord seat.place) (word_of content))) seat next
       stored_note seat content (Install r) lt a = by r.kind content a
         where
-          entry : (x : Entry) → IsJobEntry s x × IsEntry x → IsRising s (view s (store s ws (cells.MessageWord seat.place) (word_of (AnEntry x))) (Message seat.place))
-          entry x a = subst (IsRising s) (sym (view_here s ws (Message seat.place) (word_of (AnEntry x)) run.lawful.0 (lt-ltb seat.place s.processors lt) ∙ ap word_as (again (AnEntry x) tt a.1))) (job x a.0)
+          entry : (x : Entry) → IsRisingEntry s x × IsEntry x → IsRising s (view s (store s ws (cells.MessageWord seat.place) (word_of (AnEntry x))) (Message seat.place))
+          entry x a = subst (IsRising s) (sym (view_here s ws (Message seat.place) (word_of (AnEntry x)) lawful.0 (lt-ltb seat.place s.processors lt) ∙ ap word_as (again (AnEntry x) tt a.1))) (job x a.0)
             where
-              job : (x : Entry) → IsJobEntry s x → IsRising s (word_as (AnEntry x))
+              job : (x : Entry) → IsRisingEntry s x → IsRising s (word_as (AnEntry x))
               job (entries.Job t y) a = a
+              job (entries.Local t y) a = a
               job _ a = absurd a
 
           by : (k : RestartKind) (x : Content) → NotedBy s x k → Noted s (view s (store s ws (cells.MessageWord seat.place) (word_of x))) seat.place k
@@ -288,7 +266,8 @@ module _ (base : Shape) (code : CodeParts) (root : Tree (Frame FrameWord StrandP
           by Pop1 x a = tt
           by (Pop2 r) x a = tt
           by Seek x a = tt
-          by (Take v d) x a = tt
+          by (Take v d) (AnEntry x) a = a
+          by (Take v d) _ a = a
       stored_note seat content (Load x) lt a = tt
       stored_note seat content (Fork x) lt a = tt
       stored_note seat content (Begin x y z) lt a = tt
@@ -346,9 +325,14 @@ module _ (base : Shape) (code : CodeParts) (root : Tree (Frame FrameWord StrandP
         quiet_made : (x : Cell) → IsCell s x → tells x ≡ false → Made x
         quiet_made x is quiet = quiet_write s code made state sound c (live seat row e) (More seat row) (least seat row) x (word_of new) is quiet (stands_then s code seat next) goes
 
+        top_made : (v : ℕ) → v < s.processors → (x : Content) → new ≡ x → RaisesTop s code m seat x → Made (cells.Top v)
+        top_made v lv (ANumber n) is a = top_write s code made state sound c (live seat row e) (More seat row) (least seat row) v (word_of new) lv
+            (subst (IsTopLow s.takeover s) (sym (read_back s ws (cells.Top v) (word_of new) lawful.0 lv ∙ ap word_of is)) a) (stands_then s code seat next) goes
+        top_made v lv _ is a = absurd a
+
         finish_made : (x : Content) → new ≡ x → SetsFinish s code m seat x → Made cells.FinishWord
         finish_made (AFinish v) is a = finish_write s code made state sound c (live seat row e) (More seat row) (least seat row) (word_of new)
-            (subst SaysNoBreak (sym (read_back s ws cells.FinishWord (word_of new) run.lawful.0 tt ∙ ap word_of is)) (says_fine v a.1 (outcome_fine v a.0))) (stands_then s code seat next) goes
+            (subst SaysNoBreak (sym (read_back s ws cells.FinishWord (word_of new) lawful.0 tt ∙ ap word_of is)) (says_fine v a.1 (outcome_fine v a.0))) (stands_then s code seat next) goes
         finish_made _ is a = absurd a
 
         worked : is_entry cell ≡ true → is_work seat.restart.kind ≡ true → More seat row ≡ made + 1
@@ -359,7 +343,7 @@ module _ (base : Shape) (code : CodeParts) (root : Tree (Frame FrameWord StrandP
             let shown : is_shown s (Slot v i) ≡ true = and_is (nat_lt v s.processors) (nat_lt i s.slots) (lt-ltb v s.processors lv) (lt-ltb i s.slots li) in
             let before : m (Slot v i) ≡ word_as (AnEntry o) = shows s ws (Slot v i) shown ∙ ap (λ (w : ℕ). word_as (content_of AsEntry w)) (was ∙ ap word_of is) ∙ ap word_as (again (AnEntry o) tt a.2) in
             let after : view s (store s ws (cells.EntryWord v i) (word_of new)) (Slot v i) ≡ word_as (AnEntry n) =
-            view_here s ws (Slot v i) (word_of new) run.lawful.0 shown ∙ ap (λ (z : Content). word_as (content_of AsEntry (word_of z))) now ∙ ap word_as (again (AnEntry n) tt a.3) in
+            view_here s ws (Slot v i) (word_of new) lawful.0 shown ∙ ap (λ (z : Content). word_as (content_of AsEntry (word_of z))) now ∙ ap word_as (again (AnEntry n) tt a.3) in
             entry_write s code made state sound c (live seat row e) (More seat row) (least seat row) v i (word_of new) (lv, li)
             (subst (IsTagLow (More seat row)) (sym after) (tag_goes o n a.1 (subst (IsTagLow made) before (sound.tags v i)) a.0 a.4)) (stands_then s code seat next) goes
           where
@@ -402,8 +386,8 @@ module _ (base : Shape) (code : CodeParts) (root : Tree (Frame FrameWord StrandP
             let shown = lt-ltb v s.processors lv in
             let before : m (Holder v) ≡ Held o.tag o.processor = shows s ws (Holder v) shown ∙ ap (λ (w : ℕ). word_as (content_of AsHolder w)) (was ∙ ap word_of is) ∙ ap word_as (again (AHolder o) tt a.2) in
             let after : view s (store s ws (cells.HolderWord v) (word_of new)) (Holder v) ≡ Held n.tag n.processor =
-            view_here s ws (Holder v) (word_of new) run.lawful.0 shown ∙ ap (λ (z : Content). word_as (content_of AsHolder (word_of z))) now ∙ ap word_as (again (AHolder n) tt a.3) in
-            let doom : Dooms m seat.place (Take v o.processor) = subst (Dooms m seat.place) (at.at.kind ∙ a.4) (run.lawful.1.holding.doomed seat.place) in
+            view_here s ws (Holder v) (word_of new) lawful.0 shown ∙ ap (λ (z : Content). word_as (content_of AsHolder (word_of z))) now ∙ ap word_as (again (AHolder n) tt a.3) in
+            let doom : Dooms m seat.place (Take v o.processor) = subst (Dooms m seat.place) (at.at.kind ∙ a.4) (lawful.1.holding.doomed seat.place) in
             let bid : n.tag ≡ doom.0 + 1 = ap tag (sym a.5 ∙ doom.2) in
             let held : tag (m (Holder v)) ≡ o.tag = ap tag before in
             let up = a.0 in
@@ -420,7 +404,7 @@ module _ (base : Shape) (code : CodeParts) (root : Tree (Frame FrameWord StrandP
         made_so : (x : Cell) → cell ≡ x → read s ws x ≡ word_of old → Made x
         made_so cells.FinishWord is was = finish_made new refl (subst (λ (z : Cell). TriesSo s code m seat z old new) is told.1)
         made_so (cells.BlockWord x) is was = quiet_made (cells.BlockWord x) (subst (λ (z : Cell). IsPooled s z) is (subst (IsPooledAt s) e (pooled c))) refl
-        made_so (cells.Top v) is was = quiet_made (cells.Top v) (ltb-true v s.processors (subst (λ (z : Cell). is_there s z ≡ true) is told.0)) refl
+        made_so (cells.Top v) is was = top_made v (ltb-true v s.processors (subst (λ (z : Cell). is_there s z ≡ true) is told.0)) new refl (subst (λ (z : Cell). TriesSo s code m seat z old new) is told.1)
         made_so (cells.EntryWord v i) is was =
             let shown = subst (λ (z : Cell). is_there s z ≡ true) is told.0 in
             entry_made v i is (ltb-true v s.processors (and_left (nat_lt v s.processors) (nat_lt i s.slots) shown)) (ltb-true i s.slots (and_right (nat_lt v s.processors) (nat_lt i s.slots) shown)) old new refl refl was
@@ -470,12 +454,12 @@ module _ (base : Shape) (code : CodeParts) (root : Tree (Frame FrameWord StrandP
               where
                 full : (b : Bool) → IsSound s code (made + 0) (record { words = if b then slice_set ws 0 (finish_word (OutOfRoom seat.place)) else ws; stand = slice_set state.stand c (IsAt seat.place (Some seat.restart)) })
                 full true = finish_write s code made state sound c (alive Full e) (made + 0) up (finish_word (OutOfRoom seat.place))
-                    (subst SaysNoBreak (sym (read_back s ws cells.FinishWord (finish_word (OutOfRoom seat.place)) run.lawful.0 tt))
+                    (subst SaysNoBreak (sym (read_back s ws cells.FinishWord (finish_word (OutOfRoom seat.place)) lawful.0 tt))
                     (says_fine (OutOfRoom seat.place) (let lt = (sits_in Full e).carried.place in let few = s.within.processors_most in omega (arith, lt, few)) tt)) (IsAt seat.place (Some seat.restart)) (sits_in Full e).there
                 full false = waits s code made state sound c (alive Full e) (made + 0) up (IsAt seat.place (Some seat.restart)) (sits_in Full e).there
             by (Installs kind) e =
                 let sees = sees_at (IsRunning seat (Installs kind)) e in
-                restart_write s code made state sound c (alive (Installs kind) e) (made + 0) up seat.place (record { kind = kind; bottom = seat.restart.bottom }) (sits_in (Installs kind) e).carried.place run.lawful.0 sees.3 (strand_noted s m seat.place kind sees.2)
+                restart_write s code made state sound c (alive (Installs kind) e) (made + 0) up seat.place (record { kind = kind; bottom = seat.restart.bottom }) (sits_in (Installs kind) e).carried.place lawful.0 sees.3 (strand_noted s m seat.place kind sees.2)
             by Breaks e = absurd (let z = (sees_at (IsRunning seat Breaks) e).3 in cc)
 
       -- the place that is carried is one
@@ -484,7 +468,7 @@ module _ (base : Shape) (code : CodeParts) (root : Tree (Frame FrameWord StrandP
         | inl lt ↦ lt
         | inr ge ↦ absurd (
             let at : m (Carry c) ≡ Number (read s ws (cells.CarryWord c)) = shows s ws (Carry c) (lt-ltb c s.processors there) in
-            let named = run.lawful.1.holding.held c (read s ws (cells.CarryWord c)) alive at in
+            let named = lawful.1.holding.held c (read s ws (cells.CarryWord c)) alive at in
             let hidden : m (Holder (read s ws (cells.CarryWord c))) ≡ Held 0 (read s ws (cells.CarryWord c)) = if_false (is_shown s (Holder (read s ws (cells.CarryWord c)))) _ (absent (Holder (read s ws (cells.CarryWord c)))) (le-ltb (read s ws (cells.CarryWord c)) s.processors ge) in
             let same : read s ws (cells.CarryWord c) ≡ c = subst (λ (w : Word). Names w c) hidden named in
             omega (arith, same, ge, there))
@@ -504,10 +488,10 @@ module _ (base : Shape) (code : CodeParts) (root : Tree (Frame FrameWord StrandP
           let is = sound_at (IsAt p (Some r)) e in
           let sees = sees_at (IsAt p (Some r)) e in
           subst (λ (b : Bool). IsSoundAt s code m (begins_if s code (record { own = c; place = p; restart = r }) b)) (sym is)
-          (stands_sound s code m (record { own = c; place = p; restart = r }) is (row_of s (record { own = c; place = p; restart = r }) r.kind) (elim (strand_or base code r.kind) [
+          (stands_sound s code m (record { own = c; place = p; restart = r }) is (row_of s (record { own = c; place = p; restart = r }) r.kind) (elim (strand_or s code r.kind) [
             | inl strand ↦ strands.begins c p r e strand
             | inr deque ↦ subst (λ (z : Seat). IsSoundRow s code m z (row_of s z r.kind)) (λ i. record { own = c; place = p; restart = record { kind = r.kind; bottom = sees.1.bottom i } })
-                (begins_sound base code r.kind (here_of c p sees.0.place r.kind sees.1.kind) deque)
+                (begins_sound s code r.kind (own_here c p sees.0 r.kind sees.1.kind) deque)
           ]))
 
       still : made ≤ made + 0
@@ -545,8 +529,8 @@ module _ (base : Shape) (code : CodeParts) (root : Tree (Frame FrameWord StrandP
 
       hard_now : (live : stand_of state c ≢ IsDone) → IsSound s code (made + 0) (record { words = store s ws (cells.DeadWord c) 1; stand = slice_set state.stand c IsDone })
       hard_now live = dead_write s code made state sound c live (made + 0) still 1 there there
-          (ap one_dead (view_here s ws (Dead c) 1 run.lawful.0 (lt-ltb c s.processors there)))
-          (one_of (m (Dead c)) (alive_at (stand_of state c) live (run.lawful.1.sees c)))
+          (ap one_dead (view_here s ws (Dead c) 1 lawful.0 (lt-ltb c s.processors there)))
+          (one_of (m (Dead c)) (alive_at (stand_of state c) live (lawful.1.sees c)))
         where
           one_of : (w : Word) → (IsDead w → ⊥) → one_dead w ≡ 0
           one_of (Number zero) a = refl
@@ -566,7 +550,7 @@ module _ (base : Shape) (code : CodeParts) (root : Tree (Frame FrameWord StrandP
 
       quit_now : (why : Why) → stand_of state c ≢ IsDone → (b : Bool) → IsSound s code (made + 0) (record { words = if b then slice_set ws 0 (finish_word (quit_with c why)) else ws; stand = slice_set state.stand c IsLost })
       quit_now why live true = finish_write s code made state sound c live (made + 0) still (finish_word (quit_with c why))
-          (subst SaysNoBreak (sym (read_back s ws cells.FinishWord (finish_word (quit_with c why)) run.lawful.0 tt)) (says_fine (quit_with c why) (quit_fine why).0 (quit_fine why).1)) IsLost tt
+          (subst SaysNoBreak (sym (read_back s ws cells.FinishWord (finish_word (quit_with c why)) lawful.0 tt)) (says_fine (quit_with c why) (quit_fine why).0 (quit_fine why).1)) IsLost tt
       quit_now why live false = waits s code made state sound c live (made + 0) still IsLost tt
 
       other_sound : (act : Act) (x : Standing) → stand_of state c ≡ x → ((u : ℕ) → act ≢ Step u) → Goal act x

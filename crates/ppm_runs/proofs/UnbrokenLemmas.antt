@@ -10,7 +10,7 @@ use Rattle.ppm_cells.specs.Cells.{pool_at, word_count}
 use Rattle.ppm_cells.specs.Finish.{finish_of}
 use Rattle.ppm_cells.specs.Memory.{read}
 use Rattle.ppm_cells.specs.Restart.{restart_of}
-use Rattle.ppm_cells.specs.declared.cell.Cell.TheVariants.{FinishWord, DeadWord, RestartWord}
+use Rattle.ppm_cells.specs.declared.cell.Cell.TheVariants.{FinishWord, DeadWord, RestartWord, Top}
 use Rattle.ppm_cells.specs.declared.entry.Entry.{Entry}
 use Rattle.ppm_cells.specs.declared.entry.Entry.TheVariants.{Empty, Local, Taken}
 use Rattle.ppm_cells.specs.declared.finish.Finish.{Finish}
@@ -19,7 +19,8 @@ use Rattle.ppm_cells.specs.declared.holder.Holder.{Holder as AHold}
 use Rattle.ppm_cells.specs.declared.link.LinkKind.TheVariants.{Root}
 use Rattle.ppm_cells.specs.declared.restart.RestartKind.TheVariants.{Run, Seek}
 use Rattle.ppm_cells.specs.declared.shape.Shape.{Shape}
-use Rattle.ppm_cells.specs.declared.shape.Takeover.TheVariants.{ByPlaces}
+use Rattle.ppm_cells.specs.declared.shape.Takeover.{Takeover}
+use Rattle.ppm_cells.specs.declared.shape.Takeover.TheVariants.{ByPlaces, ByEntries}
 use Rattle.ppm_cells.proofs.CellLemmas.{place_end}
 use Rattle.ppm_capsules.specs.Strand.{Frame}
 use Rattle.ppm_code.specs.Sizes.{slots_of}
@@ -50,23 +51,28 @@ use Rattle.ppm_frames.specs.Skeletons.{Begins, InPlace, Skeleton, Leaf}
 use Rattle.ppm_frames.specs.Views as frames
 use Rattle.ppm_frames.proofs.WriteLemmas.{both}
 use Rattle.ppm_kept.specs.Kept.{State, put}
+use Rattle.ppm_kept.specs.Left.{Followed}
 use Rattle.ppm_kept.specs.Running.{IsFair, strands}
 use Rattle.ppm_kept.specs.Steps.{tree_after}
 use Rattle.ppm_kept.proofs.BeginLemmas.{machines_open}
 use Rattle.ppm_kept.proofs.ImageLemmas.{images_open as frames_open}
 use Rattle.ppm_kept.proofs.PutLemmas.{put_here, put_else}
 use Rattle.ppm_runs.specs.Deques.{one_if, raised_by}
+use Rattle.ppm_runs.specs.Entries.{IsHeired}
 use Rattle.ppm_runs.specs.Run.{image, IsRun}
-use Rattle.ppm_runs.specs.Sound.{Noted, IsSoundAt, IsRestartThere, IsHolderSound, IsTagLow, IsNoBreak, SaysNoBreak, one_dead, IsSound}
+use Rattle.ppm_runs.specs.Sound.{Noted, IsSoundAt, IsRestartThere, IsHolderSound, IsTopLow, IsTagLow, IsNoBreak, SaysNoBreak, one_dead, IsSound}
 use Rattle.ppm_runs.specs.Unbroken.{works, IsWhole, NothingBreaks}
 use Rattle.ppm_runs.specs.Well.{IsWell}
 use Rattle.ppm_runs.proofs.MomentLemmas.{turns_lead_on}
 use Rattle.ppm_runs.proofs.OpenLemmas.{runs_open}
 use Rattle.ppm_runs.proofs.RaisedLemmas.{about, half_stays, half_opens}
-use Rattle.ppm_runs.proofs.SoundJoin.{deques_are_sound}
-use Rattle.ppm_runs.proofs.SoundRows.{and_is}
+use Rattle.ppm_runs.proofs.HeiredLemmas.{heired_first}
+use Rattle.ppm_runs.proofs.HeirWell.{acts_lead}
+use Rattle.ppm_runs.proofs.OrderlyLemmas.{how_or}
+use Rattle.ppm_runs.proofs.SoundJoin.{deques_are_sound, deques_stay_sound}
+use Rattle.ppm_runs.proofs.SoundRows.{and_is, by_how}
 use Rattle.ppm_runs.proofs.StandLemmas.{kinds_same}
-use Rattle.ppm_runs.proofs.WellStands.{strands_sound}
+use Rattle.ppm_runs.proofs.WellStands.{strands_sound, halves_sound}
 use Rattle.ppm_runs.proofs.WellTurns.{well_stays}
 
 -- the capsule of a strand
@@ -160,6 +166,11 @@ module _ (code : CodeParts) (input : List NamedArray) (s : Shape) (keeper : ℕ)
     | inr e ↦ subst (IsTagLow 0) (sym (if_false (is_shown s (Slot v i)) (word_as (content_of (reading_of (Slot v i)) (read s ws (cell_of (Slot v i))))) (absent (Slot v i)) e)) (tag_absent v i)
   ]
 
+  -- tops are 1
+  top_at : (v : ℕ) → v < s.processors → IsTopLow s.takeover s (read s ws (Top v))
+  top_at v lt = subst (IsTopLow s.takeover s) (sym ((images_open code input s keeper im opens.image_is).0.opened (Top v) lt))
+      (by_how (λ (how : Takeover). IsTopLow how s 1) tt (let a = s.within.slots_least in omega (arith, a)) s.takeover)
+
   pub opens_sound : IsSound s code 0 (opening ws s.processors)
   opens_sound = record {
     stands = λ c. elim (lost_or s.processors c) [
@@ -170,6 +181,7 @@ module _ (code : CodeParts) (input : List NamedArray) (s : Shape) (keeper : ℕ)
     noted = λ p. subst (Noted s m p) (sym (kind_is p)) (noted_at p);
     holders = holder_at;
     finish = unset_no_break (read s ws FinishWord) (stands_for code input s keeper im opens).finish;
+    tops = top_at;
     tags = tag_at;
   }
 
@@ -198,8 +210,33 @@ module _ (s : Shape) (code : CodeParts) (places : s.takeover ≡ ByPlaces) (fair
       rises : (made some work more : ℕ) → 2 * made + some ≤ work → work + more ≤ 2 ^ 34 → made + 1 < 2 ^ 34
       rises made some work more half few = omega (arith, half, few)
 
+-- by entries
+module _ (s : Shape) (code : CodeParts) (ih : s.takeover ≡ ByEntries) (fair : IsFair code) (root : Tree (Frame FrameWord Point) Result) (input : Words) where
+  all_heired : (made work : ℕ) (state : RunState) (h : ℕ → Home) (f tk : List ℕ) (l : List Followed) (t : Skeleton) (turns : List Turn) → AllByRecursion (IsTurnAmong s.processors) turns
+      → 2 * made + about s code s.processors state ≤ work → work + works s code state turns ≤ 2 ^ 34
+      → IsHeired s code root input state h f tk l t → IsSound s code made state → IsWell code (frames.view s state.words) Root t
+      → IsWhole s (after s code state turns)
+  all_heired made work state h f tk l t [] all half few run sound well = whole_of s code made state sound
+  all_heired made work state h f tk l t (turn ∷ more) all half few run sound well =
+      let next = acts_lead s code ih fair root input state h f tk l t run well turn.processor turn.act all.0 in
+      all_heired (raised_by made state turn) (work + one_if (is_work_turn turn.act (stand_of state turn.processor))) (happens s code state turn) (by_act s state.words turn.act (stand_of state turn.processor) h) (forks_of state turn ++ f) (takes_of state turn ++ tk) next.left_out next.tree more all.1
+      (half_stays s code s.processors made work state turn fair.code_is all.0.processor half)
+      (omega (arith, few))
+      next.heired
+      (deques_stay_sound s code fair root input state h f tk l t run.halves run.joint made (rises made (about s code s.processors state) work (works s code state (turn ∷ more)) half few) sound
+      (halves_sound s code fair root input state h f tk l t run.halves made sound well) turn all.0)
+      next.good
+    where
+      -- half of the work turns are fewer than a tag counts
+      rises : (made some work more : ℕ) → 2 * made + some ≤ work → work + more ≤ 2 ^ 34 → made + 1 < 2 ^ 34
+      rises made some work more half few = omega (arith, half, few)
+
 pub nothing_breaks : NothingBreaks
-nothing_breaks code input s keeper im places fair opens calm turns all few =
-    all_whole s code places fair (root_strand code input) (arrays_at (frames.view s im.words)) 0 0 (opening im.words s.processors) (λ r. Unborn) [] []
-    (Leaf (InPlace keeper) (Begins 0) (pool_at s keeper) (slots_of code code.root)) turns all (half_opens s code im.words s.processors) (omega (arith, few)) (runs_open code input s keeper im opens calm)
-    (opens_sound code input s keeper im fair opens calm) (opens_well code input s keeper im fair opens calm)
+nothing_breaks code input s keeper im fair opens calm turns all few = elim (how_or s.takeover) [
+  | inl places ↦ all_whole s code places fair (root_strand code input) (arrays_at (frames.view s im.words)) 0 0 (opening im.words s.processors) (λ r. Unborn) [] []
+      (Leaf (InPlace keeper) (Begins 0) (pool_at s keeper) (slots_of code code.root)) turns all (half_opens s code im.words s.processors) (omega (arith, few)) (runs_open code input s keeper im opens calm)
+      (opens_sound code input s keeper im fair opens calm) (opens_well code input s keeper im fair opens calm)
+  | inr ih ↦ all_heired s code ih fair (root_strand code input) (arrays_at (frames.view s im.words)) 0 0 (opening im.words s.processors) (λ r. Unborn) [] [] []
+      (Leaf (InPlace keeper) (Begins 0) (pool_at s keeper) (slots_of code code.root)) turns all (half_opens s code im.words s.processors) (omega (arith, few)) (heired_first code input s keeper im opens calm)
+      (opens_sound code input s keeper im fair opens calm) (opens_well code input s keeper im fair opens calm)
+]

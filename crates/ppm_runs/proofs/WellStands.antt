@@ -32,19 +32,22 @@ use Rattle.ppm_step.specs.declared.row.Row.TheVariants.{Now}
 use Rattle.ppm_step.specs.declared.row.Seat.{Seat}
 use Rattle.ppm_step.specs.declared.row.Then.TheVariants.{Load}
 use Rattle.ppm_tickets.specs.Homes.{Home}
-use Rattle.ppm_tickets.specs.Saw.{IsStrand, IsQuiet, HasSeen, Strand, Looks, Sees}
+use Rattle.ppm_tickets.specs.Saw.{IsStrand, IsQuiet, HasSeen, Strand, Looks, Carried, Sits, Sees}
 use Rattle.ppm_tickets.proofs.QuietLemmas.{rest_quiet, begun_quiet}
 use Rattle.ppm_tickets.specs.View as spots
 use Rattle.ppm_tickets.specs.Words.{Spot, Word}
-use Rattle.ppm_frames.specs.Views.{is_cell, view}
+use Rattle.ppm_frames.specs.Views.{view}
 use Rattle.ppm_frames.specs.Skeletons.{Begins, InPlace, Skeleton, Leaf}
 use Rattle.ppm_frames.proofs.ViewLemmas.{view_is}
 use Rattle.ppm_kept.specs.Running.{IsFair, number_at, limit, LiesApart, HasCome}
 use Rattle.ppm_kept.specs.Kept.{Image, seat_at, State, start, end_of, ceiling, Under, Going, IsKept}
 use Rattle.ppm_kept.specs.Copies.{IsKnown}
+use Rattle.ppm_kept.specs.Left.{Followed, left}
+use Rattle.ppm_kept.specs.Loads.{IsLoadable}
 use Rattle.ppm_kept.specs.Moves.{stores}
 use Rattle.ppm_kept.specs.Places.{places_of}
 use Rattle.ppm_kept.proofs.BlockLemmas.{header_is}
+use Rattle.ppm_kept.proofs.LeftLemmas.{shown as left_shown}
 use Rattle.ppm_kept.proofs.LoadLemmas.{all_loads_show}
 use Rattle.ppm_frames.proofs.SkeletonLemmas.{inside_at}
 use Rattle.ppm_kept.proofs.PlaceLemmas.{not_free}
@@ -52,12 +55,13 @@ use Rattle.ppm_kept.proofs.OfLemmas.{begins as begins_so}
 use Rattle.ppm_kept.proofs.RunLemmas.{by_loads, by_stores}
 use Rattle.ppm_kept.proofs.Rows.{run_row_keeps}
 use Rattle.ppm_runs.specs.Deques.{StrandsAreSound}
+use Rattle.ppm_runs.specs.Follow.{IsHalves}
 use Rattle.ppm_runs.specs.Run.{image, IsRun}
 use Rattle.ppm_runs.specs.Sound.{IsSoundRow, IsSoundAt, IsUnbroken, IsSound}
 use Rattle.ppm_runs.specs.Well.{IsWell}
-use Rattle.ppm_runs.proofs.ShownLemmas.{halves, Within, within, Runs, runs}
+use Rattle.ppm_runs.proofs.ShownLemmas.{halves, carried_away, carried_kind, Within, within, Runs, runs}
 use Rattle.ppm_runs.proofs.SoundRows.{and_left}
-use Rattle.ppm_runs.proofs.StandLemmas.{kinds_same}
+use Rattle.ppm_runs.proofs.WellLeft.{well_left}
 use Rattle.ppm_runs.proofs.WellRows.{strand_walk, strand_sound, UpAt, up_found, up_there, NoneAt, arrive_row, BumpAt, bump_found, bump_there, JoinAt, join_found, join_there, part_well}
 use Rattle.ppm_runs.proofs.WellRuns.{at_leaf, runs as run_at, low, come_there, own_low}
 
@@ -76,13 +80,13 @@ abbrev HeaderAt : (f y : ℕ) → RowPoint → Type 0
 HeaderAt f y (Header g z) = (g ≡ f) × (z ≡ y)
 HeaderAt f y _ = ⊥
 
-module _ (s : Shape) (code : CodeParts) (fair : IsFair code) (root : Tree (Frame FrameWord Point) Result) (input : Words) (state : RunState) (h : ℕ → Home) (forked taken : List ℕ) (t : Skeleton) (run : IsRun s code root input state h forked taken t)
-    (made : ℕ) (sound : IsSound s code made state) (well : IsWell code (view s state.words) Root t) where
+module _ (s : Shape) (code : CodeParts) (fair : IsFair code) (root : Tree (Frame FrameWord Point) Result) (input : Words) (state : RunState) (h : ℕ → Home) (forked taken : List ℕ) (l : List Followed) (t : Skeleton) (run : IsHalves s code root input state h forked taken l t)
+    (made : ℕ) (sound : IsSound s code made state) (well_seen : IsWell code (view s state.words) Root t) where
   abbrev i : Image
   i = image s code
 
   abbrev z : State
-  z = places_of s state
+  z = left i l (places_of s state)
 
   law : IsKept i root input z t
   law = run.kept
@@ -90,9 +94,12 @@ module _ (s : Shape) (code : CodeParts) (fair : IsFair code) (root : Tree (Frame
   abbrev spotted : Spot → Word
   spotted = spots.view s state.words
 
+  well : IsWell code z.words Root t
+  well = well_left i root input (places_of s state) l run.apart t law well_seen
+
   -- what a load of a strand finds is what the frames see
-  seen_at : (cell : Cell) → is_cell s cell ≡ true → z.words cell ≡ read s state.words cell
-  seen_at cell is = view_is s state.words cell is
+  seen_at : (c p : ℕ) → Carried s spotted c p → (cell : Cell) → IsLoadable i z p cell → z.words cell ≡ read s state.words cell
+  seen_at c p carried cell can = left_shown i root input (places_of s state) l run.apart t law p (carried_away s code root input state h forked taken l t run c p carried) cell can.in_use ∙ view_is s state.words cell can.cell_is
 
   header_there : (seat : Seat) (p f y : ℕ) → p < s.processors → z.kind p ≡ Run f y → (point : RowPoint) → HeaderAt f y point → point_is_there s seat point ≡ true
   header_there seat p f y lt kind (Header g x) a = subst₂ (λ (g x : ℕ). is_there s (header_word g x) ≡ true) (sym a.0) (sym a.1)
@@ -130,8 +137,8 @@ module _ (s : Shape) (code : CodeParts) (fair : IsFair code) (root : Tree (Frame
       → IsSoundRow s code spotted seat (found_at s seat u point (content_of (reading_at point) (read s state.words (cell_at seat u point))))
   load_row c seat point e k ke is u = by k ke is
     where
-      w : Within s code root input state h forked taken [] t (halves run) c seat (Now (Load point))
-      w = within s code root input state h forked taken [] t (halves run) c seat (Now (Load point)) e
+      w : Within s code root input state h forked taken l t run c seat (Now (Load point))
+      w = within s code root input state h forked taken l t run c seat (Now (Load point)) e
 
       there : restart_is_there s seat.restart ≡ true
       there = w.sits.there
@@ -146,17 +153,17 @@ module _ (s : Shape) (code : CodeParts) (fair : IsFair code) (root : Tree (Frame
       does k ke = subst (λ (a : RestartKind). Under i z.words seat.place a (Now (Load point))) ke w.does
 
       -- the word that is found, of a cell that frames have
-      shown : (k : RestartKind) → seat.restart.kind ≡ k → IsKnown k → is_cell s (cell_at seat u point) ≡ true
-      shown k ke known = subst (λ (x : Seat). is_cell s (cell_at x u point) ≡ true) (λ a. record { own = seat.own; place = seat.place; restart = record { kind = sym ke a; bottom = seat.restart.bottom } })
-          ((all_loads_show i fair root input z t law seat.place w.place).rows k known (kind k ke) seat.own seat.restart.bottom u point w.doing).cell_is
+      shown : (k : RestartKind) → seat.restart.kind ≡ k → IsKnown k → IsLoadable i z seat.place (cell_at seat u point)
+      shown k ke known = subst (λ (x : Seat). IsLoadable i z seat.place (cell_at x u point)) (λ a. record { own = seat.own; place = seat.place; restart = record { kind = sym ke a; bottom = seat.restart.bottom } })
+          ((all_loads_show i fair root input z t law seat.place w.place).rows k known (kind k ke) seat.own seat.restart.bottom u point w.doing)
 
-      found_as : (cell : is_cell s (cell_at seat u point) ≡ true) → IsSoundRow s code spotted seat (found_at s seat u point (content_of (reading_at point) (z.words (cell_at seat u point))))
+      found_as : IsLoadable i z seat.place (cell_at seat u point) → IsSoundRow s code spotted seat (found_at s seat u point (content_of (reading_at point) (z.words (cell_at seat u point))))
           → IsSoundRow s code spotted seat (found_at s seat u point (content_of (reading_at point) (read s state.words (cell_at seat u point))))
-      found_as cell a = subst (λ (x : ℕ). IsSoundRow s code spotted seat (found_at s seat u point (content_of (reading_at point) x))) (seen_at (cell_at seat u point) cell) a
+      found_as can a = subst (λ (x : ℕ). IsSoundRow s code spotted seat (found_at s seat u point (content_of (reading_at point) x))) (seen_at c seat.place w.sits.carried (cell_at seat u point) can) a
 
       by : (k : RestartKind) → seat.restart.kind ≡ k → IsStrand k → IsSoundRow s code spotted seat (found_at s seat u point (content_of (reading_at point) (read s state.words (cell_at seat u point))))
       by (Run f y) ke is = subst (λ (x : RowPoint). IsSoundRow s code spotted seat (found_at s seat u x (content_of (reading_at x) (read s state.words (cell_at seat u x))))) (sym (point_is (does (Run f y) ke))) (
-        subst (λ (x : ℕ). IsUnbroken (enters s code seat seat.restart.kind (slice_get code.capsules x))) (seen_at (header_word f y) (((all_loads_show i fair root input z t law seat.place w.place).headers f y (kind (Run f y) ke)).cell_is))
+        subst (λ (x : ℕ). IsUnbroken (enters s code seat seat.restart.kind (slice_get code.capsules x))) (seen_at c seat.place w.sits.carried (header_word f y) ((all_loads_show i fair root input z t law seat.place w.place).headers f y (kind (Run f y) ke)))
             (enters_well seat f y ke w.place (kind (Run f y) ke) there),
         tt,
       )
@@ -203,11 +210,14 @@ module _ (s : Shape) (code : CodeParts) (fair : IsFair code) (root : Tree (Frame
 
   -- a capsule under way
   module _ (c : ℕ) (seat : Seat) (rest : Rest) (e : stand_of state c ≡ IsRunning seat rest) where
-    w_ : Runs s code root input state h forked taken [] t (halves run) c seat rest
-    w_ = runs s code root input state h forked taken [] t (halves run) c seat rest e
+    w_ : Runs s code root input state h forked taken l t run c seat rest
+    w_ = runs s code root input state h forked taken l t run c seat rest e
+
+    sees_running : Sits s spotted (spots.kinds s state.words) (spots.bottoms s state.words) c seat
+    sees_running = (subst (Sees s spotted (spots.kinds s state.words) (spots.bottoms s state.words) c) e (run.lawful.1.sees c)).0
 
     restart_there : restart_is_there s seat.restart ≡ true
-    restart_there = (subst (Sees s spotted (spots.kinds s state.words) (spots.bottoms s state.words) c) e (run.lawful.1.sees c)).0.there
+    restart_there = sees_running.there
 
     bottom_ok : bottom_is_there s seat.restart.bottom ≡ true
     bottom_ok = and_left (bottom_is_there s seat.restart.bottom) (kind_is_there s seat.restart.kind) restart_there
@@ -234,9 +244,9 @@ module _ (s : Shape) (code : CodeParts) (fair : IsFair code) (root : Tree (Frame
   rests_there c seat cell next e =
       let g = framing c seat (Loads cell next) e in
       let w = w_ c seat (Loads cell next) e in
-      let is = ((all_loads_show i fair root input z t law seat.place w.place).capsules g.frame g.copy cell next g.kind w.doing w.here).cell_is in
+      let can = ((all_loads_show i fair root input z t law seat.place w.place).capsules g.frame g.copy cell next g.kind w.doing w.here) in
       let low_ : pool_at s seat.place ≤ z.words (RoomCounter seat.place) = subst (λ (k : RestartKind). start i seat.place ≤ ceiling i z.words seat.place k) g.kind (law.rooms seat.place).0 in
-      subst (λ (x : ℕ). rest_is_there s seat (next x) ≡ true) (seen_at cell is)
+      subst (λ (x : ℕ). rest_is_there s seat (next x) ≡ true) (seen_at c seat.place (sees_running c seat (Loads cell next) e).carried cell can)
       (come_there i fair root input z t law seat.place w.place g.frame g.copy g.kind seat (bottom_ok c seat (Loads cell next) e) (next (z.words cell)) (by_loads s code fair z.words seat.place g.frame g.copy cell next g.come low_))
 
   -- words of the frame are no free ones
@@ -264,13 +274,18 @@ module _ (s : Shape) (code : CodeParts) (fair : IsFair code) (root : Tree (Frame
         | inr a ↦ elim a [ inl b ↦ (let x = sym q ∙ b.1 in cc) | inr b ↦ (let x = sym q ∙ b.1 in cc) ]
       ]
 
-  pub strands_sound : StrandsAreSound s code state
-  strands_sound = record {
+  pub halves_sound : StrandsAreSound s code state
+  halves_sound = record {
     begins = λ c p r e is.
         let sees = subst (Sees s spotted (spots.kinds s state.words) (spots.bottoms s state.words) c) e (run.lawful.1.sees c) in
-        begin_row (record { own = c; place = p; restart = r }) sees.0.place r.kind refl is is (kinds_same s state.words p ∙ sees.1.kind) (subst (IsSoundAt s code spotted) e (sound.stands c));
+        begin_row (record { own = c; place = p; restart = r }) sees.0.place r.kind refl is is (carried_kind s code root input state h forked taken l t run c p sees.0 ∙ sees.1.kind) (subst (IsSoundAt s code spotted) e (sound.stands c));
     loads = λ c seat point e is u. load_row c seat point e seat.restart.kind refl is u;
     rests = rests_there;
     stored = stored_there;
     spared = spared_there;
   }
+
+-- by places
+pub strands_sound : (s : Shape) (code : CodeParts) → IsFair code → (root : Tree (Frame FrameWord Point) Result) (input : Words) (state : RunState) (h : ℕ → Home) (forked taken : List ℕ) (t : Skeleton)
+    → IsRun s code root input state h forked taken t → (made : ℕ) → IsSound s code made state → IsWell code (view s state.words) Root t → StrandsAreSound s code state
+strands_sound s code fair root input state h forked taken t run made sound well = halves_sound s code fair root input state h forked taken [] t (halves run) made sound well

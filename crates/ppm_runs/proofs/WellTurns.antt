@@ -1,5 +1,5 @@
--- Each turn of a run's state keeps its tree well.
-use Rattle.std.proofs.Common.{◌≡◌, ◌<◌, ℕ, zero, suc, ◌+◌, ◌==◌, Bool, true, false, List, inl, inr, refl, sym, ap, ◌∙◌, subst, subst₂, arith, Option, Some, slice_set}
+-- Each turn keeps the tree of a run's state well.
+use Rattle.std.proofs.Common.{◌≡◌, ◌≤◌, ◌<◌, ℕ, zero, suc, ◌+◌, ◌==◌, Bool, true, false, List, [], inl, inr, refl, sym, ap, ◌∙◌, subst, subst₂, arith, Option, Some, slice_set}
 use Rattle.std.specs.Prelude.{cond, slice_index, if◌then◌else◌}
 use Rattle.ppm_strands.specs.Tree.{Words, Tree}
 use Rattle.ppm_cells.specs.Finish.{finish_word, IsOutcome}
@@ -49,6 +49,8 @@ use Rattle.ppm_frames.proofs.SkeletonLemmas.{branch_from, grow_plug}
 use Rattle.ppm_frames.proofs.SwapLemmas.{good_here}
 use Rattle.ppm_frames.proofs.ViewLemmas.{cells_are_viewed, others_are_unseen}
 use Rattle.ppm_frames.proofs.WriteLemmas.{address}
+use Rattle.ppm_kept.specs.Heirs.{handed}
+use Rattle.ppm_kept.specs.Left.{Followed, left, IsAway, AreApart, StandsAway, StepsAway}
 use Rattle.ppm_kept.specs.Kept.{Image, State, InRow, InRest, Doing, seat_at, carried, Reach, Under, Does, IsKept}
 use Rattle.ppm_kept.specs.Moves.{doing_of, installs}
 use Rattle.ppm_kept.specs.Others.{IsIdle}
@@ -58,7 +60,7 @@ use Rattle.ppm_kept.specs.Returns.{by_unwind, UnwindKeeps}
 use Rattle.ppm_kept.specs.Joins.{by_join}
 use Rattle.ppm_kept.specs.Arriving.{by_arrive}
 use Rattle.ppm_kept.specs.Running.{IsFair}
-use Rattle.ppm_kept.specs.Steps.{by_end, by_store, by_exchange, tree_by, by_act, tree_after, InRowSo, InRestSo, StandsSo, IsPresent, ActsSo}
+use Rattle.ppm_kept.specs.Steps.{by_end, by_store, by_exchange, tree_with, act_with, tree_after, InRowSo, InRestSo, StandsSo, IsPresent, ActsSo}
 use Rattle.ppm_kept.proofs.ArriveRow.{arrive_row_keeps}
 use Rattle.ppm_kept.proofs.BlockLemmas.{finish_back}
 use Rattle.ppm_kept.proofs.JoinLastRow.{join_row_keeps}
@@ -69,30 +71,54 @@ use Rattle.ppm_kept.proofs.PushRows.{push1_row_keeps, push2_row_keeps}
 use Rattle.ppm_kept.proofs.Rows.{run_row_keeps, bump_row_keeps}
 use Rattle.ppm_kept.proofs.LoadLemmas.{bump_exchanges_none}
 use Rattle.ppm_kept.proofs.StateLemmas.{doing_here, dead_unseen, turns_show}
-use Rattle.ppm_kept.proofs.StepRows.{look_cell, came_idle}
+use Rattle.ppm_kept.proofs.LeftLemmas.{kind_away, left_same}
+use Rattle.ppm_kept.proofs.StepRows.{look_cell, came_idle, act_away}
 use Rattle.ppm_kept.proofs.TurnLemmas.{stores_are_cells}
 use Rattle.ppm_kept.proofs.UnwindRow.{Overs, unwind_row_keeps}
 use Rattle.ppm_runs.specs.Run.{image, IsRun}
 use Rattle.ppm_runs.specs.Well.{SaysOutcome, IsWell}
 use Rattle.ppm_runs.proofs.GoingLemmas.{acts_so}
+use Rattle.ppm_runs.proofs.MomentLemmas.{turns_lead_on}
 use Rattle.ppm_runs.proofs.WellCapsules.{store_well, install_well}
 use Rattle.ppm_runs.proofs.WellRows.{StrandStore, StrandTry, strand_walk, linked, part_well, UpAt, overs, up_row, NoneAt, arrive_row, BumpAt, bump_found, JoinAt, join_found}
-use Rattle.ppm_runs.proofs.WellWords.{crit, crit_plain, well_written, well_swap, well_over_left, well_pushed, well_inlined, well_take_in, well_came, well_back, well_joined, well_back_over, well_joined_over}
+use Rattle.ppm_runs.proofs.WellLeft.{well_left, tree_out}
+use Rattle.ppm_runs.proofs.WellWords.{crit, crit_plain, crit_low, well_same, written_as, well_written, well_owned, well_swap, well_over_left, well_pushed, well_inlined, well_take_in, well_came, well_back, well_joined, well_back_over, well_joined_over}
 
-module _ (i : Image) (fair : IsFair i.code) (plain : i.shape.takeover ≡ ByPlaces) (root : Tree (Frame FrameWord Point) Result) (input : Words) (state : Machine) (t : Skeleton)
-    (law : IsKept i root input (places_of i.shape state) t) (well : IsWell i.code (view i.shape state.words) Root t) (c : ℕ) where
+module _ (i : Image) (fair : IsFair i.code) (root : Tree (Frame FrameWord Point) Result) (input : Words) (state : Machine) (l : List Followed) (t : Skeleton)
+    (law : IsKept i root input (left i l (places_of i.shape state)) t) (well : IsWell i.code (left i l (places_of i.shape state)).words Root t) (c : ℕ) where
+  -- the places, and the same with those that were followed left out
+  abbrev P : State
+  P = places_of i.shape state
+
   abbrev S : State
-  S = places_of i.shape state
+  S = left i l P
 
   abbrev words : List ℕ
   words = state.words
 
   abbrev m : Cell → ℕ
-  m = view i.shape words
+  m = S.words
 
-  -- so is a state by places
+  abbrev seen : Cell → ℕ
+  seen = view i.shape words
+
+  -- what says that the tree is well is no word of those left out
+  abbrev Clear : Skeleton → Type 0
+  Clear v = (x : ℕ) → 1 ≤ crit Root v x → m (BlockWord x) ≡ seen (BlockWord x)
+
+  -- so a state by places is well
   abbrev Well : State → Skeleton → Type 0
-  Well z v = IsWell i.code z.words Root v
+  Well z v = Clear v → IsWell i.code z.words Root v
+
+  as_seen : (v : Skeleton) → IsWell i.code m Root v → Clear v → IsWell i.code seen Root v
+  as_seen v good clear = well_same i.code m seen Root v (λ x one. sym (clear x one)) good
+
+  as_written : (cell : Cell) (w : ℕ) (v : Skeleton) → IsWell i.code (written m cell w) Root v → Clear v → IsWell i.code (written seen cell w) Root v
+  as_written cell w v good clear = well_same i.code (written m cell w) (written seen cell w) Root v (λ x one. written_as seen m cell w (BlockWord x) (sym (clear x one))) good
+
+  -- the place of a processor is none of them
+  stood : (p : ℕ) {k : RestartKind} → IsAway l p → P.kind p ≡ k → S.kind p ≡ k
+  stood p away e = kind_away l P.kind p away ∙ e
 
   abbrev Done : (victim : ℕ) → Skeleton → Type 0
   Done victim v = Well (acted i.shape i.code state c (Step victim)) v
@@ -104,12 +130,12 @@ module _ (i : Image) (fair : IsFair i.code) (plain : i.shape.takeover ≡ ByPlac
   doing_own p holds x e of = doing_here (stand_of state) (stand_of state) c p x e (λ d ne. refl) holds.own of holds.others i.shape.processors holds.there
 
   -- an exchange
-  tried_well : (x old new : ℕ) (cell : Cell) (v : Skeleton) → IsWell i.code m Root v → IsWell i.code (written m cell new) Root v → IsWell i.code (cond (x == old) (written m cell new) m) Root v
-  tried_well x old new cell v lost won = by (x == old)
+  tried_well : (x old new : ℕ) (cell : Cell) (v : Skeleton) → IsWell i.code m Root v → IsWell i.code (written m cell new) Root v → Clear v → IsWell i.code (cond (x == old) (written seen cell new) seen) Root v
+  tried_well x old new cell v lost won clear = by (x == old)
     where
-      by : (b : Bool) → IsWell i.code (cond b (written m cell new) m) Root v
-      by true = won
-      by false = lost
+      by : (b : Bool) → IsWell i.code (cond b (written seen cell new) seen) Root v
+      by true = as_written cell new v won clear
+      by false = as_seen v lost clear
 
   -- what kinds without a strand make of it
   pop_well : (p q : ℕ) (next : Then) → IsWell i.code m Root (by_end p (Pop2 q) next t)
@@ -168,7 +194,7 @@ module _ (i : Image) (fair : IsFair i.code) (plain : i.shape.takeover ≡ ByPlac
     seat = kind_seat own p k b
 
     abbrev At : Row → Type 0
-    At row = (stand_of state c ≡ IsWithin seat row) × InRowSo i state t c seat row
+    At row = (stand_of state c ≡ IsWithin seat row) × InRowSo i state t c seat row × IsAway l p
 
     show : (row : Row) → At row → RowShows i.shape i.code state c seat
     show row a = ((turns_show i.shape i.code state c).0 seat a.1.holds).0
@@ -178,21 +204,21 @@ module _ (i : Image) (fair : IsFair i.code) (plain : i.shape.takeover ≡ ByPlac
 
     -- the end of a row changes no word
     now_well : (v : Skeleton) → IsWell i.code m Root v → (next : Then) → At (Now next) → Done victim v
-    now_well v good (Load point) a = arrives (Step victim) _ v ((show (Now (Load point)) a).loads victim point a.0) good
-    now_well v good (Install r) a = arrives (Step victim) _ v ((show (Now (Install r)) a).installs victim (Install r) tt a.0 a.1.there) good
-    now_well v good (Fork r) a = arrives (Step victim) _ v ((show (Now (Fork r)) a).installs victim (Fork r) tt a.0 a.1.there) good
-    now_well v good (Begin r f x) a = arrives (Step victim) _ v ((show (Now (Begin r f x)) a).installs victim (Begin r f x) tt a.0 a.1.there) good
-    now_well v good (Move q) a = arrives (Step victim) _ v ((show (Now (Move q)) a).moves victim q a.0 a.1.own) good
+    now_well v good (Load point) a = arrives (Step victim) _ v ((show (Now (Load point)) a).loads victim point a.0) (as_seen v good)
+    now_well v good (Install r) a = arrives (Step victim) _ v ((show (Now (Install r)) a).installs victim (Install r) tt a.0 a.1.there) (as_seen v good)
+    now_well v good (Fork r) a = arrives (Step victim) _ v ((show (Now (Fork r)) a).installs victim (Fork r) tt a.0 a.1.there) (as_seen v good)
+    now_well v good (Begin r f x) a = arrives (Step victim) _ v ((show (Now (Begin r f x)) a).installs victim (Begin r f x) tt a.0 a.1.there) (as_seen v good)
+    now_well v good (Move q) a = arrives (Step victim) _ v ((show (Now (Move q)) a).moves victim q a.0 a.1.own) (as_seen v good)
     now_well v good (Enter x) a = absurd (let e = a.1.there in cc)
     now_well v good Again a = absurd (let e = a.1.there in cc)
     now_well v good Broken a = absurd (let e = a.1.there in cc)
 
     stores_well : (v : Skeleton) (cell : Cell) (content : Content) (next : Then) → IsWell i.code (written m cell (word_of content)) Root v → is_cell i.shape cell ≡ true → At (Store cell content next) → Done victim v
-    stores_well v cell content next good seen a = arrives (Step victim) _ v ((show (Store cell content next) a).stores victim 0 cell content next a.0 seen) good
+    stores_well v cell content next good cell_is a = arrives (Step victim) _ v ((show (Store cell content next) a).stores victim 0 cell content next a.0 cell_is) (as_written cell (word_of content) v good)
 
     tries_well : (v : Skeleton) (cell : Cell) (old new : Content) (next : Then) → IsWell i.code m Root v → IsWell i.code (written m cell (word_of new)) Root v → is_cell i.shape cell ≡ true → At (Exchange cell old new next) → Done victim v
-    tries_well v cell old new next lost won seen a =
-        arrives (Step victim) _ v ((show (Exchange cell old new next) a).exchanges victim 0 cell old new next a.0 seen) (tried_well (m cell) (word_of old) (word_of new) cell v lost won)
+    tries_well v cell old new next lost won cell_is a =
+        arrives (Step victim) _ v ((show (Exchange cell old new next) a).exchanges victim 0 cell old new next a.0 cell_is) (tried_well (seen cell) (word_of old) (word_of new) cell v lost won)
 
   -- stores and exchanges of rows of strands
   module _ (At_ : RowPoint → Type 0) (sits : Seat) where
@@ -212,22 +238,22 @@ module _ (i : Image) (fair : IsFair i.code) (plain : i.shape.takeover ≡ ByPlac
   under : (p : ℕ) (k : RestartKind) (row : Row) → S.kind p ≡ k → S.doing p ≡ InRow row → Under i m p k row
   under p k row ke de = subst₂ (λ (k : RestartKind) (d : Doing). Does i m p k d) ke de (law.does p)
 
-  run_step : (own p b victim f y : ℕ) (row : Row) → At own p b victim (Run f y) row → Done victim (tree_by i words (IsWithin (kind_seat own p (Run f y) b) row) t)
+  run_step : (own p b victim f y : ℕ) (row : Row) → At own p b victim (Run f y) row → Done victim (tree_with i m words (IsWithin (kind_seat own p (Run f y) b) row) t)
   run_step own p b victim f y (Now next) a = now_well own p b victim (Run f y) t well next a
-  run_step own p b victim f y (Store cell content next) a = absurd (let e = under p (Run f y) (Store cell content next) a.1.kind (does_row own p b victim (Run f y) (Store cell content next) a) in cc)
-  run_step own p b victim f y (Exchange cell old new next) a = absurd (let e = under p (Run f y) (Exchange cell old new next) a.1.kind (does_row own p b victim (Run f y) (Exchange cell old new next) a) in cc)
+  run_step own p b victim f y (Store cell content next) a = absurd (let e = under p (Run f y) (Store cell content next) (stood p a.2 a.1.kind) (does_row own p b victim (Run f y) (Store cell content next) a) in cc)
+  run_step own p b victim f y (Exchange cell old new next) a = absurd (let e = under p (Run f y) (Exchange cell old new next) (stood p a.2 a.1.kind) (does_row own p b victim (Run f y) (Exchange cell old new next) a) in cc)
 
-  bump_step : (own p b victim r : ℕ) (row : Row) → At own p b victim (Bump r) row → Done victim (tree_by i words (IsWithin (kind_seat own p (Bump r) b) row) t)
+  bump_step : (own p b victim r : ℕ) (row : Row) → At own p b victim (Bump r) row → Done victim (tree_with i m words (IsWithin (kind_seat own p (Bump r) b) row) t)
   bump_step own p b victim r (Now next) a = now_well own p b victim (Bump r) t well next a
   bump_step own p b victim r (Store cell content next) a =
       let de = does_row own p b victim (Bump r) (Store cell content next) a in
-      let u = under p (Bump r) (Store cell content next) a.1.kind de in
-      let At_ = BumpAt i fair root input S t law well p a.1.holds.place r a.1.kind in
+      let u = under p (Bump r) (Store cell content next) (stood p a.2 a.1.kind) de in
+      let At_ = BumpAt i fair root input S t law well p a.1.holds.place r (stood p a.2 a.1.kind) in
       let sits = seat_at p (Bump r) u.0 in
-      let row = strand_walk i t At_ sits m (bump_found i fair root input S t law well p a.1.holds.place r a.1.kind sits a.1.holds.place 0) u.1 (row_of i.shape sits (Bump r)) (Store cell content next) refl u.2 in
-      stores_well own p b victim (Bump r) t cell content next (stored_keeps At_ sits cell content row.0) ((bump_row_keeps i fair root input S t law p a.1.holds.place r a.1.kind).cells cell content next de) a
+      let row = strand_walk i t At_ sits m (bump_found i fair root input S t law well p a.1.holds.place r (stood p a.2 a.1.kind) sits a.1.holds.place 0) u.1 (row_of i.shape sits (Bump r)) (Store cell content next) refl u.2 in
+      stores_well own p b victim (Bump r) t cell content next (stored_keeps At_ sits cell content row.0) ((bump_row_keeps i fair root input S t law p a.1.holds.place r (stood p a.2 a.1.kind)).cells cell content next de) a
   bump_step own p b victim r (Exchange cell old new next) a =
-      absurd (bump_exchanges_none i fair root input S t law p a.1.holds.place r a.1.kind cell old new next (does_row own p b victim (Bump r) (Exchange cell old new next) a))
+      absurd (bump_exchanges_none i fair root input S t law p a.1.holds.place r (stood p a.2 a.1.kind) cell old new next (does_row own p b victim (Bump r) (Exchange cell old new next) a))
 
   -- the outcome of a branch that arrives stands at its fork
   module _ (p f : ℕ) (there : p < i.shape.processors) (ke : S.kind p ≡ Unwind f) (r : ℕ) (d : Side) (b : ℕ) (de : S.doing p ≡ InRow (Now (Install (record { kind = Arrive r d; bottom = b })))) where
@@ -324,22 +350,22 @@ module _ (i : Image) (fair : IsFair i.code) (plain : i.shape.takeover ≡ ByPlac
   unwind_next p f there ke Again de = well
   unwind_next p f there ke Broken de = well
 
-  unwind_step : (own p b victim f : ℕ) (row : Row) → At own p b victim (Unwind f) row → Done victim (tree_by i words (IsWithin (kind_seat own p (Unwind f) b) row) t)
+  unwind_step : (own p b victim f : ℕ) (row : Row) → At own p b victim (Unwind f) row → Done victim (tree_with i m words (IsWithin (kind_seat own p (Unwind f) b) row) t)
   unwind_step own p b victim f (Now next) a =
-      now_well own p b victim (Unwind f) (by_end p (Unwind f) next t) (unwind_next p f a.1.holds.place a.1.kind next (does_row own p b victim (Unwind f) (Now next) a)) next a
+      now_well own p b victim (Unwind f) (by_end p (Unwind f) next t) (unwind_next p f a.1.holds.place (stood p a.2 a.1.kind) next (does_row own p b victim (Unwind f) (Now next) a)) next a
   unwind_step own p b victim f (Store cell content next) a =
       let de = does_row own p b victim (Unwind f) (Store cell content next) a in
-      let u = under p (Unwind f) (Store cell content next) a.1.kind de in
-      let At_ = UpAt i fair root input S t law well p a.1.holds.place f a.1.kind in
-      let row = up_row i fair root input S t law well p a.1.holds.place f a.1.kind u.0 u.1 (Store cell content next) u.2 in
-      let keeps : UnwindKeeps i root input S t p f = unwind_row_keeps i fair root input S t law p a.1.holds.place f a.1.kind in
+      let u = under p (Unwind f) (Store cell content next) (stood p a.2 a.1.kind) de in
+      let At_ = UpAt i fair root input S t law well p a.1.holds.place f (stood p a.2 a.1.kind) in
+      let row = up_row i fair root input S t law well p a.1.holds.place f (stood p a.2 a.1.kind) u.0 u.1 (Store cell content next) u.2 in
+      let keeps : UnwindKeeps i root input S t p f = unwind_row_keeps i fair root input S t law p a.1.holds.place f (stood p a.2 a.1.kind) in
       stores_well own p b victim (Unwind f) t cell content next (stored_keeps At_ (seat_at p (Unwind f) u.0) cell content row.0) (keeps.cells cell content next de) a
   unwind_step own p b victim f (Exchange cell old new next) a =
       let de = does_row own p b victim (Unwind f) (Exchange cell old new next) a in
-      let u = under p (Unwind f) (Exchange cell old new next) a.1.kind de in
-      let At_ = UpAt i fair root input S t law well p a.1.holds.place f a.1.kind in
-      let row = up_row i fair root input S t law well p a.1.holds.place f a.1.kind u.0 u.1 (Exchange cell old new next) u.2 in
-      let keeps : UnwindKeeps i root input S t p f = unwind_row_keeps i fair root input S t law p a.1.holds.place f a.1.kind in
+      let u = under p (Unwind f) (Exchange cell old new next) (stood p a.2 a.1.kind) de in
+      let At_ = UpAt i fair root input S t law well p a.1.holds.place f (stood p a.2 a.1.kind) in
+      let row = up_row i fair root input S t law well p a.1.holds.place f (stood p a.2 a.1.kind) u.0 u.1 (Exchange cell old new next) u.2 in
+      let keeps : UnwindKeeps i root input S t p f = unwind_row_keeps i fair root input S t law p a.1.holds.place f (stood p a.2 a.1.kind) in
       tries_well own p b victim (Unwind f) t cell old new next well (tried_keeps At_ (seat_at p (Unwind f) u.0) cell new row.0) (keeps.exchange_cells cell old new next de) a
 
   -- the branch that came first is a leaf like another
@@ -350,18 +376,18 @@ module _ (i : Image) (fair : IsFair i.code) (plain : i.shape.takeover ≡ ByPlac
       by true = well_came i.code n p Root t good
       by false = good
 
-  arrive_step : (own p b victim r : ℕ) (d : Side) (row : Row) → At own p b victim (Arrive r d) row → Done victim (tree_by i words (IsWithin (kind_seat own p (Arrive r d) b) row) t)
+  arrive_step : (own p b victim r : ℕ) (d : Side) (row : Row) → At own p b victim (Arrive r d) row → Done victim (tree_with i m words (IsWithin (kind_seat own p (Arrive r d) b) row) t)
   arrive_step own p b victim r d (Now next) a = now_well own p b victim (Arrive r d) t well next a
   arrive_step own p b victim r d (Store cell content next) a =
-      absurd ((arrive_row_keeps i fair root input S t law p a.1.holds.place r d a.1.kind).stores_none cell content next (does_row own p b victim (Arrive r d) (Store cell content next) a))
+      absurd ((arrive_row_keeps i fair root input S t law p a.1.holds.place r d (stood p a.2 a.1.kind)).stores_none cell content next (does_row own p b victim (Arrive r d) (Store cell content next) a))
   arrive_step own p b victim r d (Exchange cell old new next) a =
       let de = does_row own p b victim (Arrive r d) (Exchange cell old new next) a in
-      let u = under p (Arrive r d) (Exchange cell old new next) a.1.kind de in
-      let At_ = NoneAt i fair root input S t law well p a.1.holds.place r d a.1.kind in
+      let u = under p (Arrive r d) (Exchange cell old new next) (stood p a.2 a.1.kind) de in
+      let At_ = NoneAt i fair root input S t law well p a.1.holds.place r d (stood p a.2 a.1.kind) in
       let sits = seat_at p (Arrive r d) u.0 in
-      let row = strand_walk i t At_ sits m (λ x e. absurd e) u.1 (row_of i.shape sits (Arrive r d)) (Exchange cell old new next) (arrive_row i fair root input S t law well p a.1.holds.place r d a.1.kind sits) u.2 in
+      let row = strand_walk i t At_ sits m (λ x e. absurd e) u.1 (row_of i.shape sits (Arrive r d)) (Exchange cell old new next) (arrive_row i fair root input S t law well p a.1.holds.place r d (stood p a.2 a.1.kind) sits) u.2 in
       tries_well own p b victim (Arrive r d) (by_arrive m p r t) cell old new next (came_well m p r well) (came_well (written m cell (word_of new)) p r (tried_keeps At_ sits cell new row.0))
-      ((arrive_row_keeps i fair root input S t law p a.1.holds.place r d a.1.kind).cells cell old new next de) a
+      ((arrive_row_keeps i fair root input S t law p a.1.holds.place r d (stood p a.2 a.1.kind)).cells cell old new next de) a
 
   -- the end of Join
   join_end : (p r : ℕ) (d : Side) (k : RestartKind) (b : ℕ) → IsWell i.code m Root (by_join p (Install (record { kind = k; bottom = b })) t)
@@ -390,22 +416,22 @@ module _ (i : Image) (fair : IsFair i.code) (plain : i.shape.takeover ≡ ByPlac
   join_next p r d Again = well
   join_next p r d Broken = well
 
-  join_step : (own p b victim r : ℕ) (d : Side) (row : Row) → At own p b victim (Join r d) row → Done victim (tree_by i words (IsWithin (kind_seat own p (Join r d) b) row) t)
+  join_step : (own p b victim r : ℕ) (d : Side) (row : Row) → At own p b victim (Join r d) row → Done victim (tree_with i m words (IsWithin (kind_seat own p (Join r d) b) row) t)
   join_step own p b victim r d (Now next) a = now_well own p b victim (Join r d) (by_end p (Join r d) next t) (join_next p r d next) next a
-  join_step own p b victim r d (Store cell content next) a = by (under p (Join r d) (Store cell content next) a.1.kind de)
+  join_step own p b victim r d (Store cell content next) a = by (under p (Join r d) (Store cell content next) (stood p a.2 a.1.kind) de)
     where
       de : S.doing p ≡ InRow (Store cell content next)
       de = does_row own p b victim (Join r d) (Store cell content next) a
 
       by : Under i m p (Join r d) (Store cell content next) → Done victim t
       by (inl u) =
-          let At_ = JoinAt i fair root input S t law well p a.1.holds.place r d a.1.kind u.0 in
+          let At_ = JoinAt i fair root input S t law well p a.1.holds.place r d (stood p a.2 a.1.kind) u.0 in
           let sits = seat_at p (Join r d) u.0 in
-          let row = strand_walk i t At_ sits m (join_found i fair root input S t law well p a.1.holds.place r d a.1.kind sits 0) u.1 (row_of i.shape sits (Join r d)) (Store cell content next) (refl, refl) u.2 in
-          stores_well own p b victim (Join r d) t cell content next (stored_keeps At_ sits cell content row.0) ((join_row_keeps i fair root input S t law p a.1.holds.place r d a.1.kind).cells cell content next de) a
+          let row = strand_walk i t At_ sits m (join_found i fair root input S t law well p a.1.holds.place r d (stood p a.2 a.1.kind) sits 0) u.1 (row_of i.shape sits (Join r d)) (Store cell content next) (refl, refl) u.2 in
+          stores_well own p b victim (Join r d) t cell content next (stored_keeps At_ sits cell content row.0) ((join_row_keeps i fair root input S t law p a.1.holds.place r d (stood p a.2 a.1.kind)).cells cell content next de) a
       by (inr x) = absurd (let q = x.is in cc)
   join_step own p b victim r d (Exchange cell old new next) a =
-      absurd ((join_row_keeps i fair root input S t law p a.1.holds.place r d a.1.kind).exchanges_none cell old new next (does_row own p b victim (Join r d) (Exchange cell old new next) a))
+      absurd ((join_row_keeps i fair root input S t law p a.1.holds.place r d (stood p a.2 a.1.kind)).exchanges_none cell old new next (does_row own p b victim (Join r d) (Exchange cell old new next) a))
 
   -- the order word of a fork whose strand runs both branches
   push_none : (p r : ℕ) → S.kind p ≡ Push1 r → crit Root t (r + 1) ≡ 0
@@ -425,29 +451,29 @@ module _ (i : Image) (fair : IsFair i.code) (plain : i.shape.takeover ≡ ByPlac
       by Over f n c_ is a = absurd a
       by Arrives f n c_ is a = absurd a
 
-  push1_step : (own p b victim r : ℕ) (row : Row) → At own p b victim (Push1 r) row → Done victim (tree_by i words (IsWithin (kind_seat own p (Push1 r) b) row) t)
+  push1_step : (own p b victim r : ℕ) (row : Row) → At own p b victim (Push1 r) row → Done victim (tree_with i m words (IsWithin (kind_seat own p (Push1 r) b) row) t)
   push1_step own p b victim r (Now next) a = now_well own p b victim (Push1 r) t well next a
   push1_step own p b victim r (Store cell content next) a =
-      let keeps : Push1Keeps i root input S t p r = push1_row_keeps i fair root input S t law p a.1.holds.place r a.1.kind in
+      let keeps : Push1Keeps i root input S t p r = push1_row_keeps i fair root input S t law p a.1.holds.place r (stood p a.2 a.1.kind) in
       let got = keeps.stores own b a.1.came.0 0 cell content next a.1.came.1 in
-      let none : (x : ℕ) → cell ≡ BlockWord x → crit Root t x ≡ 0 = λ x e. subst (λ (z : ℕ). crit Root t z ≡ 0) (ap address (sym got.0 ∙ e)) (push_none p r a.1.kind) in
+      let none : (x : ℕ) → cell ≡ BlockWord x → crit Root t x ≡ 0 = λ x e. subst (λ (z : ℕ). crit Root t z ≡ 0) (ap address (sym got.0 ∙ e)) (push_none p r (stood p a.2 a.1.kind)) in
       stores_well own p b victim (Push1 r) (over_left p (pushed Held) t) cell content next
       (well_over_left i.code (written m cell (word_of content)) p (pushed Held) (well_pushed i.code (written m cell (word_of content)) Held) Root t (well_written i.code m cell (word_of content) Root t none well)) got.3 a
   push1_step own p b victim r (Exchange cell old new next) a =
-      let keeps : Push1Keeps i root input S t p r = push1_row_keeps i fair root input S t law p a.1.holds.place r a.1.kind in
+      let keeps : Push1Keeps i root input S t p r = push1_row_keeps i fair root input S t law p a.1.holds.place r (stood p a.2 a.1.kind) in
       let got = keeps.exchanges own b a.1.came.0 0 cell old new next a.1.came.1 in
       let unseen = look_cell i.shape cell (subst IsLookCell (sym got.0) tt) a.1.there in
-      arrives (Step victim) _ t ((show own p b victim (Push1 r) (Exchange cell old new next) a).unseen_exchanges victim 0 cell old new next a.0 unseen) well
+      arrives (Step victim) _ t ((show own p b victim (Push1 r) (Exchange cell old new next) a).unseen_exchanges victim 0 cell old new next a.0 unseen) (as_seen t well)
 
-  push2_step : (own p b victim r : ℕ) (row : Row) → At own p b victim (Push2 r) row → Done victim (tree_by i words (IsWithin (kind_seat own p (Push2 r) b) row) t)
+  push2_step : (own p b victim r : ℕ) (row : Row) → At own p b victim (Push2 r) row → Done victim (tree_with i m words (IsWithin (kind_seat own p (Push2 r) b) row) t)
   push2_step own p b victim r (Now next) a = now_well own p b victim (Push2 r) t well next a
   push2_step own p b victim r (Store cell content next) a =
-      absurd ((push2_row_keeps i fair root input S t law p a.1.holds.place r a.1.kind).stores_none own b a.1.came.0 cell content next a.1.came.1)
+      absurd ((push2_row_keeps i fair root input S t law p a.1.holds.place r (stood p a.2 a.1.kind)).stores_none own b a.1.came.0 cell content next a.1.came.1)
   push2_step own p b victim r (Exchange cell old new next) a =
-      let keeps : Push2Keeps i root input S t p r = push2_row_keeps i fair root input S t law p a.1.holds.place r a.1.kind in
+      let keeps : Push2Keeps i root input S t p r = push2_row_keeps i fair root input S t law p a.1.holds.place r (stood p a.2 a.1.kind) in
       let got = keeps.exchanges own b a.1.came.0 0 cell old new next a.1.came.1 in
       let unseen = look_cell i.shape cell (subst IsLookCell (sym got.0) tt) a.1.there in
-      arrives (Step victim) _ _ ((show own p b victim (Push2 r) (Exchange cell old new next) a).unseen_exchanges victim 0 cell old new next a.0 unseen) (by (read i.shape words cell == word_of old))
+      arrives (Step victim) _ _ ((show own p b victim (Push2 r) (Exchange cell old new next) a).unseen_exchanges victim 0 cell old new next a.0 unseen) (as_seen _ (by (read i.shape words cell == word_of old)))
     where
       by : (made : Bool) → IsWell i.code m Root (by_exchange m p (Push2 r) made t)
       by true = well_over_left i.code m p (pushed Waiting) (well_pushed i.code m Waiting) Root t well
@@ -458,16 +484,16 @@ module _ (i : Image) (fair : IsFair i.code) (plain : i.shape.takeover ≡ ByPlac
     looks : (row : Row) → At own p b victim k row → LookRow i.shape k row
     looks row a = let sits = kind_seat own p k b in let q = came_idle i.shape sits k row idle a.1.came in comes_look i.shape sits k q.0 (row_of i.shape sits k) row (look_begins i.shape sits k idle) q.1
 
-    idle_step : (row : Row) → At own p b victim k row → Done victim (tree_by i words (IsWithin (kind_seat own p k b) row) t)
+    idle_step : (row : Row) → At own p b victim k row → Done victim (tree_with i m words (IsWithin (kind_seat own p k b) row) t)
     idle_step (Now next) a = now_well own p b victim k (by_end p k next t) (idle_end_well p k next idle) next a
     idle_step (Store cell content next) a =
-        arrives (Step victim) _ _ ((show own p b victim k (Store cell content next) a).unseen_stores victim 0 cell content next a.0 (look_cell i.shape cell (looks (Store cell content next) a).0 a.1.there)) (idle_store_well p k idle)
+        arrives (Step victim) _ _ ((show own p b victim k (Store cell content next) a).unseen_stores victim 0 cell content next a.0 (look_cell i.shape cell (looks (Store cell content next) a).0 a.1.there)) (as_seen _ (idle_store_well p k idle))
     idle_step (Exchange cell old new next) a =
         arrives (Step victim) _ _ ((show own p b victim k (Exchange cell old new next) a).unseen_exchanges victim 0 cell old new next a.0 (look_cell i.shape cell (looks (Exchange cell old new next) a).0 a.1.there))
-        (idle_try_well p k (read i.shape words cell == word_of old) idle)
+        (as_seen _ (idle_try_well p k (read i.shape words cell == word_of old) idle))
 
   -- by its kind
-  row_step : (own p b victim : ℕ) (k : RestartKind) (row : Row) → At own p b victim k row → Done victim (tree_by i words (IsWithin (kind_seat own p k b) row) t)
+  row_step : (own p b victim : ℕ) (k : RestartKind) (row : Row) → At own p b victim k row → Done victim (tree_with i m words (IsWithin (kind_seat own p k b) row) t)
   row_step own p b victim (Run f y) row a = run_step own p b victim f y row a
   row_step own p b victim (Bump r) row a = bump_step own p b victim r row a
   row_step own p b victim (Push1 r) row a = push1_step own p b victim r row a
@@ -485,89 +511,108 @@ module _ (i : Image) (fair : IsFair i.code) (plain : i.shape.takeover ≡ ByPlac
 
   -- a capsule
   abbrev InRestAt : (own p b : ℕ) → RestartKind → Rest → Type 0
-  InRestAt own p b k rest = (stand_of state c ≡ IsRunning (kind_seat own p k b) rest) × InRestSo i state c (kind_seat own p k b) rest
+  InRestAt own p b k rest = (stand_of state c ≡ IsRunning (kind_seat own p k b) rest) × InRestSo i state c (kind_seat own p k b) rest × IsAway l p
 
   does_rest : (own p b : ℕ) (k : RestartKind) (rest : Rest) → InRestAt own p b k rest → S.doing p ≡ InRest rest
   does_rest own p b k rest a = doing_own p a.1.holds (IsRunning (kind_seat own p k b) rest) a.0 refl
 
-  capsule_step : (own p b victim f y : ℕ) (rest : Rest) → InRestAt own p b (Run f y) rest → Done victim (tree_by i words (IsRunning (kind_seat own p (Run f y) b) rest) t)
+  capsule_step : (own p b victim f y : ℕ) (rest : Rest) → InRestAt own p b (Run f y) rest → Done victim (tree_with i m words (IsRunning (kind_seat own p (Run f y) b) rest) t)
   capsule_step own p b victim f y (Loads cell next) a =
-      arrives (Step victim) _ t (((turns_show i.shape i.code state c).0 (kind_seat own p (Run f y) b) a.1.holds).1.loads victim cell next a.0) well
+      arrives (Step victim) _ t (((turns_show i.shape i.code state c).0 (kind_seat own p (Run f y) b) a.1.holds).1.loads victim cell next a.0) (as_seen t well)
   capsule_step own p b victim f y (Stores cell content next) a =
       let de = does_rest own p b (Run f y) (Stores cell content next) a in
-      let cells = (run_row_keeps i fair root input S t law p a.1.holds.place f y a.1.kind).cells cell content next de in
-      let is = stores_are_cells i fair root input S t law p a.1.holds.place f y a.1.kind cell cells a.1.there in
+      let cells = (run_row_keeps i fair root input S t law p a.1.holds.place f y (stood p a.2 a.1.kind)).cells cell content next de in
+      let is = stores_are_cells i fair root input S t law p a.1.holds.place f y (stood p a.2 a.1.kind) cell cells a.1.there in
       arrives (Step victim) _ t (((turns_show i.shape i.code state c).0 (kind_seat own p (Run f y) b) a.1.holds).1.stores victim 0 cell content next a.0 is)
-      (store_well i fair root input S t law well p a.1.holds.place f y a.1.kind cell content next de)
+      (as_written cell (word_of content) t (store_well i fair root input S t law well p a.1.holds.place f y (stood p a.2 a.1.kind) cell content next de))
   capsule_step own p b victim f y Full a =
       arrives (Step victim) _ t (((turns_show i.shape i.code state c).0 (kind_seat own p (Run f y) b) a.1.holds).1.full victim a.0)
-      (tried_well (m FinishWord) 0 (finish_word (OutOfRoom p)) FinishWord t well (well_written i.code m FinishWord (finish_word (OutOfRoom p)) Root t (λ x e. absurd (cc)) well))
+      (tried_well (seen FinishWord) 0 (finish_word (OutOfRoom p)) FinishWord t well (well_written i.code m FinishWord (finish_word (OutOfRoom p)) Root t (λ x e. absurd (cc)) well))
   capsule_step own p b victim f y (Installs kind) a =
       arrives (Step victim) _ _ (((turns_show i.shape i.code state c).0 (kind_seat own p (Run f y) b) a.1.holds).1.installs victim kind a.0 a.1.there)
-      (install_well i fair root input S t law well p a.1.holds.place f y a.1.kind kind (does_rest own p b (Run f y) (Installs kind) a))
+      (as_seen _ (install_well i fair root input S t law well p a.1.holds.place f y (stood p a.2 a.1.kind) kind (does_rest own p b (Run f y) (Installs kind) a)))
   capsule_step own p b victim f y Breaks a = absurd (let e = a.1.there in cc)
 
   going_none : (p : ℕ) (k : RestartKind) (rest : Rest) → S.kind p ≡ k → S.doing p ≡ InRest rest → Does i m p k (InRest rest)
   going_none p k rest ke de = subst₂ (λ (k : RestartKind) (d : Doing). Does i m p k d) ke de (law.does p)
 
-  rest_step : (own p b victim : ℕ) (k : RestartKind) (rest : Rest) → InRestAt own p b k rest → Done victim (tree_by i words (IsRunning (kind_seat own p k b) rest) t)
+  rest_step : (own p b victim : ℕ) (k : RestartKind) (rest : Rest) → InRestAt own p b k rest → Done victim (tree_with i m words (IsRunning (kind_seat own p k b) rest) t)
   rest_step own p b victim (Run f y) rest a = capsule_step own p b victim f y rest a
-  rest_step own p b victim (Bump r) rest a = absurd (going_none p (Bump r) rest a.1.kind (does_rest own p b (Bump r) rest a))
-  rest_step own p b victim (Push1 r) rest a = absurd (going_none p (Push1 r) rest a.1.kind (does_rest own p b (Push1 r) rest a))
-  rest_step own p b victim (Push2 r) rest a = absurd (going_none p (Push2 r) rest a.1.kind (does_rest own p b (Push2 r) rest a))
-  rest_step own p b victim (Unwind f) rest a = absurd (going_none p (Unwind f) rest a.1.kind (does_rest own p b (Unwind f) rest a))
-  rest_step own p b victim (Arrive r d) rest a = absurd (going_none p (Arrive r d) rest a.1.kind (does_rest own p b (Arrive r d) rest a))
-  rest_step own p b victim (Join r d) rest a = absurd (going_none p (Join r d) rest a.1.kind (does_rest own p b (Join r d) rest a))
-  rest_step own p b victim Pop1 rest a = absurd (going_none p Pop1 rest a.1.kind (does_rest own p b Pop1 rest a))
-  rest_step own p b victim (Pop2 r) rest a = absurd (going_none p (Pop2 r) rest a.1.kind (does_rest own p b (Pop2 r) rest a))
-  rest_step own p b victim Seek rest a = absurd (going_none p Seek rest a.1.kind (does_rest own p b Seek rest a))
-  rest_step own p b victim (Steal v x) rest a = absurd (going_none p (Steal v x) rest a.1.kind (does_rest own p b (Steal v x) rest a))
-  rest_step own p b victim (Check v x) rest a = absurd (going_none p (Check v x) rest a.1.kind (does_rest own p b (Check v x) rest a))
-  rest_step own p b victim (Take v x) rest a = absurd (going_none p (Take v x) rest a.1.kind (does_rest own p b (Take v x) rest a))
-  rest_step own p b victim (Take2 v) rest a = absurd (going_none p (Take2 v) rest a.1.kind (does_rest own p b (Take2 v) rest a))
+  rest_step own p b victim (Bump r) rest a = absurd (going_none p (Bump r) rest (stood p a.2 a.1.kind) (does_rest own p b (Bump r) rest a))
+  rest_step own p b victim (Push1 r) rest a = absurd (going_none p (Push1 r) rest (stood p a.2 a.1.kind) (does_rest own p b (Push1 r) rest a))
+  rest_step own p b victim (Push2 r) rest a = absurd (going_none p (Push2 r) rest (stood p a.2 a.1.kind) (does_rest own p b (Push2 r) rest a))
+  rest_step own p b victim (Unwind f) rest a = absurd (going_none p (Unwind f) rest (stood p a.2 a.1.kind) (does_rest own p b (Unwind f) rest a))
+  rest_step own p b victim (Arrive r d) rest a = absurd (going_none p (Arrive r d) rest (stood p a.2 a.1.kind) (does_rest own p b (Arrive r d) rest a))
+  rest_step own p b victim (Join r d) rest a = absurd (going_none p (Join r d) rest (stood p a.2 a.1.kind) (does_rest own p b (Join r d) rest a))
+  rest_step own p b victim Pop1 rest a = absurd (going_none p Pop1 rest (stood p a.2 a.1.kind) (does_rest own p b Pop1 rest a))
+  rest_step own p b victim (Pop2 r) rest a = absurd (going_none p (Pop2 r) rest (stood p a.2 a.1.kind) (does_rest own p b (Pop2 r) rest a))
+  rest_step own p b victim Seek rest a = absurd (going_none p Seek rest (stood p a.2 a.1.kind) (does_rest own p b Seek rest a))
+  rest_step own p b victim (Steal v x) rest a = absurd (going_none p (Steal v x) rest (stood p a.2 a.1.kind) (does_rest own p b (Steal v x) rest a))
+  rest_step own p b victim (Check v x) rest a = absurd (going_none p (Check v x) rest (stood p a.2 a.1.kind) (does_rest own p b (Check v x) rest a))
+  rest_step own p b victim (Take v x) rest a = absurd (going_none p (Take v x) rest (stood p a.2 a.1.kind) (does_rest own p b (Take v x) rest a))
+  rest_step own p b victim (Take2 v) rest a = absurd (going_none p (Take2 v) rest (stood p a.2 a.1.kind) (does_rest own p b (Take2 v) rest a))
 
   -- an act, by where the processor stands
   abbrev GoalAt : Act → Standing → Type 0
-  GoalAt act x = IsWell i.code (view i.shape (acts i.shape i.code state c act x).words) Root (by_act i words act x t)
+  GoalAt act x = Clear (act_with i m words act x t) → IsWell i.code (view i.shape (acts i.shape i.code state c act x).words) Root (act_with i m words act x t)
 
-  at_stand : (act : Act) (x : Standing) (v : Skeleton) → stand_of state c ≡ x → Well (acted i.shape i.code state c act) v → IsWell i.code (view i.shape (acts i.shape i.code state c act x).words) Root v
-  at_stand act x v e good = subst (λ (y : Standing). IsWell i.code (view i.shape (acts i.shape i.code state c act y).words) Root v) e good
+  at_stand : (act : Act) (x : Standing) (v : Skeleton) → stand_of state c ≡ x → Well (acted i.shape i.code state c act) v → Clear v → IsWell i.code (view i.shape (acts i.shape i.code state c act x).words) Root v
+  at_stand act x v e good clear = subst (λ (y : Standing). IsWell i.code (view i.shape (acts i.shape i.code state c act y).words) Root v) e (good clear)
 
   -- a finish that is proposed
-  proposed_well : AreWordsOf i.shape words → (w : ℕ) (b : Bool) → IsWell i.code (view i.shape (if b then slice_set words 0 w else words)) Root t
-  proposed_well here w true = subst (λ (n : Cell → ℕ). IsWell i.code n Root t) (sym (cells_are_viewed i.shape words FinishWord w here refl))
-      (well_written i.code m FinishWord w Root t (λ x e. absurd (cc)) well)
-  proposed_well here w false = well
+  proposed_well : AreWordsOf i.shape words → (w : ℕ) (b : Bool) → Clear t → IsWell i.code (view i.shape (if b then slice_set words 0 w else words)) Root t
+  proposed_well here w true clear = subst (λ (n : Cell → ℕ). IsWell i.code n Root t) (sym (cells_are_viewed i.shape words FinishWord w here refl))
+      (as_written FinishWord w t (well_written i.code m FinishWord w Root t (λ x e. absurd (cc)) well) clear)
+  proposed_well here w false clear = as_seen t well clear
 
-  step_act : (victim : ℕ) (x : Standing) → stand_of state c ≡ x → IsPresent i.shape state c → StandsSo i state t c x → GoalAt (Step victim) x
-  step_act victim IsDone e here so = well
-  step_act victim IsLost e here so = at_stand (Step victim) IsLost t e (arrives (Step victim) S t ((turns_show i.shape i.code state c).1.lost victim e) well)
-  step_act victim (IsPlaced p) e here so = at_stand (Step victim) (IsPlaced p) t e (arrives (Step victim) S t ((turns_show i.shape i.code state c).1.placed victim p e) well)
-  step_act victim (IsAt p r) e here so = at_stand (Step victim) (IsAt p r) t e (arrives (Step victim) _ t ((turns_show i.shape i.code state c).1.begins victim p r e so.0) well)
-  step_act victim (IsWithin chair row) e here so =
-      at_stand (Step victim) (IsWithin chair row) (tree_by i words (IsWithin chair row) t) e (row_step chair.own chair.place chair.restart.bottom victim chair.restart.kind row (e, so))
-  step_act victim (IsRunning chair rest) e here so =
-      at_stand (Step victim) (IsRunning chair rest) (tree_by i words (IsRunning chair rest) t) e (rest_step chair.own chair.place chair.restart.bottom victim chair.restart.kind rest (e, so))
-  step_act victim (IsBroken p) e here so = proposed_well here.words (finish_word (BrokenAt p)) (slice_index words 0 == 0)
+  step_act : (victim : ℕ) (x : Standing) → stand_of state c ≡ x → IsPresent i.shape state c → StandsSo i state t c x → StandsAway l x → GoalAt (Step victim) x
+  step_act victim IsDone e here so away = as_seen t well
+  step_act victim IsLost e here so away = at_stand (Step victim) IsLost t e (arrives (Step victim) P t ((turns_show i.shape i.code state c).1.lost victim e) (as_seen t well))
+  step_act victim (IsPlaced p) e here so away = at_stand (Step victim) (IsPlaced p) t e (arrives (Step victim) P t ((turns_show i.shape i.code state c).1.placed victim p e) (as_seen t well))
+  step_act victim (IsAt p r) e here so away = at_stand (Step victim) (IsAt p r) t e (arrives (Step victim) _ t ((turns_show i.shape i.code state c).1.begins victim p r e so.0) (as_seen t well))
+  step_act victim (IsWithin chair row) e here so away =
+      at_stand (Step victim) (IsWithin chair row) (tree_with i m words (IsWithin chair row) t) e (row_step chair.own chair.place chair.restart.bottom victim chair.restart.kind row (e, so, away))
+  step_act victim (IsRunning chair rest) e here so away =
+      at_stand (Step victim) (IsRunning chair rest) (tree_with i m words (IsRunning chair rest) t) e (rest_step chair.own chair.place chair.restart.bottom victim chair.restart.kind rest (e, so, away))
+  step_act victim (IsBroken p) e here so away = proposed_well here.words (finish_word (BrokenAt p)) (slice_index words 0 == 0)
 
-  hard_act : IsPresent i.shape state c → IsWell i.code (view i.shape (write i.shape words (DeadWord c) 1)) Root t
-  hard_act here = let out = dead_unseen i.shape i.code state c here.there in
-      subst (λ (n : Cell → ℕ). IsWell i.code n Root t) (sym (others_are_unseen i.shape words (DeadWord c) 1 out.there out.no_frame)) well
+  hard_act : IsPresent i.shape state c → Clear t → IsWell i.code (view i.shape (write i.shape words (DeadWord c) 1)) Root t
+  hard_act here clear = let out = dead_unseen i.shape i.code state c here.there in
+      subst (λ (n : Cell → ℕ). IsWell i.code n Root t) (sym (others_are_unseen i.shape words (DeadWord c) 1 out.there out.no_frame)) (as_seen t well clear)
 
-  act_step : (act : Act) (x : Standing) → stand_of state c ≡ x → ActsSo i state t c act x → GoalAt act x
-  act_step (Step victim) x e so = step_act victim x e so.0 so.1
-  act_step Soft IsDone e so = well
-  act_step Soft _ e so = well
-  act_step Hard IsDone e so = well
-  act_step Hard _ e so = hard_act so.0
-  act_step (Quit why) IsDone e so = well
-  act_step (Quit why) _ e so = proposed_well so.0.words (finish_word (quit_with c why)) (slice_index words 0 == 0)
+  act_step : (act : Act) (x : Standing) → stand_of state c ≡ x → ActsSo i state t c act x → StepsAway i l act x → GoalAt act x
+  act_step (Step victim) x e so away = step_act victim x e so.0 so.1 away.0
+  act_step Soft IsDone e so away = as_seen t well
+  act_step Soft _ e so away = as_seen t well
+  act_step Hard IsDone e so away = as_seen t well
+  act_step Hard _ e so away = hard_act so.0
+  act_step (Quit why) IsDone e so away = as_seen t well
+  act_step (Quit why) _ e so away = proposed_well so.0.words (finish_word (quit_with c why)) (slice_index words 0 == 0)
 
--- a turn keeps the tree well
+-- by which no place goes on with what it inherited, and behind which words are kept
+pub well_stays_left : (s : Shape) (code : CodeParts) → IsFair code
+    → (root : Tree (Frame FrameWord Point) Result) (input : Words) (state : Machine) (l : List Followed) → AreApart l → (t : Skeleton)
+    → IsKept (image s code) root input (left (image s code) l (places_of s state)) t → IsWell code (view s state.words) Root t → (turn : Turn)
+    → ActsSo (image s code) state t turn.processor turn.act (stand_of state turn.processor) → StepsAway (image s code) l turn.act (stand_of state turn.processor)
+    → IsKept (image s code) root input (left (image s code) l (places_of s (happens s code state turn)))
+    (act_with (image s code) (left (image s code) l (places_of s state)).words state.words turn.act (stand_of state turn.processor) t)
+    → IsWell code (view s (happens s code state turn).words) Root (act_with (image s code) (left (image s code) l (places_of s state)).words state.words turn.act (stand_of state turn.processor) t)
+well_stays_left s code fair root input state l apart t kept well turn so away after =
+    act_step (image s code) fair root input state l t kept (well_left (image s code) root input (places_of s state) l apart t kept well) turn.processor turn.act (stand_of state turn.processor) refl so away
+    (λ x one. left_same (image s code) l (view s state.words) (BlockWord x) (tree_out (image s code) root input (places_of s (happens s code state turn)) l apart
+    (act_with (image s code) (left (image s code) l (places_of s state)).words state.words turn.act (stand_of state turn.processor) t) after x
+    (λ none. let low = crit_low Root (act_with (image s code) (left (image s code) l (places_of s state)).words state.words turn.act (stand_of state turn.processor) t) x in omega (arith, low, one, none))))
+
+-- by places
 pub well_stays : (s : Shape) (code : CodeParts) → s.takeover ≡ ByPlaces → IsFair code
     → (root : Tree (Frame FrameWord Point) Result) (input : Words) (state : Machine) (h : ℕ → Home) (forked taken : List ℕ) (t : Skeleton)
     → IsRun s code root input state h forked taken t → IsWell code (view s state.words) Root t → (turn : Turn) → IsTurnAmong s.processors turn
     → IsWell code (view s (happens s code state turn).words) Root (tree_after (image s code) state turn t)
 well_stays s code places fair root input state h forked taken t run well turn among =
-    act_step (image s code) fair places root input state t run.kept well turn.processor turn.act (stand_of state turn.processor) refl
-    (acts_so s code places fair root input state h forked taken t run turn.processor turn.act among.processor)
+    well_stays_left s code fair root input state [] tt t run.kept well turn (acts_so s code places fair root input state h forked taken t run turn.processor turn.act among.processor)
+    (act_away (image s code) places turn.act (stand_of state turn.processor)) (turns_lead_on s code places fair root input state h forked taken t run turn among).kept
+
+-- so does one by which a place goes on with what it inherited, and stores its restart word alone
+pub heir_well : (s : Shape) (code : CodeParts) (state after : Machine) (w p : ℕ) (t : Skeleton)
+    → ((x : ℕ) → view s after.words (BlockWord x) ≡ view s state.words (BlockWord x)) → IsWell code (view s state.words) Root t → IsWell code (view s after.words) Root (handed w p t)
+heir_well s code state after w p t same well = well_same code (view s state.words) (view s after.words) Root (handed w p t) (λ x one. same x) (well_owned code (view s state.words) w (InPlace p) Root t well)

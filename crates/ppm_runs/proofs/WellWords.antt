@@ -12,7 +12,7 @@ use Rattle.ppm_cells.specs.declared.side.Side.TheVariants.{Left, Right}
 use Rattle.ppm_code.specs.declared.code.CodeParts.{CodeParts}
 use Rattle.ppm_frames.specs.Good.{given, given_both, is_over, ended, Good}
 use Rattle.ppm_frames.specs.Skeletons.{Stand, Begins, Over, Arrives, Who, InPlace, Fresh, Waiting, Held, Came, Skeleton, Leaf, Calling, Forking, header, arrival, inside, hung, count, plain, holds, grow, back, joined, over_left, readied, pushed, passed, roused, inlined, take_in, awake, Around, Top, AtCall, AtLeft, AtRight, plug, hook_at, rim}
-use Rattle.ppm_frames.specs.Views.{written}
+use Rattle.ppm_frames.specs.Views.{same_cell, written}
 use Rattle.ppm_frames.proofs.SkeletonLemmas.{inside_from, inside_one, inside_at, count_plug, plain_count}
 use Rattle.ppm_frames.proofs.WriteLemmas.{write_else}
 use Rattle.ppm_kept.proofs.BlockLemmas.{finish_back}
@@ -88,6 +88,11 @@ crit_none t c u x is most one none =
     let part = crit_rim Root c u x in
     let same : crit Root t x ≡ crit Root (plug c u) x = ap (λ (v : Skeleton). crit Root v x) is in
     omega (arith, sum, part, same, most, one, none)
+
+-- a word that is the same before a store is so behind it
+pub written_as : (m n : Cell → ℕ) (c : Cell) (w : ℕ) (d : Cell) → m d ≡ n d → written m c w d ≡ written n c w d
+unfolding written
+written_as m n c w d e = ap (λ (y : ℕ). cond (same_cell d c) w y) e
 
 -- those words stay, and so a tree stays well
 module _ (code : CodeParts) (m n : Cell → ℕ) where
@@ -172,16 +177,20 @@ module _ (code : CodeParts) (m : Cell → ℕ) where
       by true left right = (a.0, a.1, well_awake p (Branch Right q) c a.2)
       by false left right = (a.0, left, right)
 
-  -- a branch came first
-  pub well_came : (p : ℕ) (h : LinkKind) (t : Skeleton) → Well h t → Well h (grow p (λ st f n. Leaf Came st f n) t)
-  well_came p h (Leaf (InPlace q) st f n) a = by (q == p)
+  -- a place's leaf becomes another's
+  pub well_owned : (p : ℕ) (own : Who) (h : LinkKind) (t : Skeleton) → Well h t → Well h (grow p (λ st f n. Leaf own st f n) t)
+  well_owned p own h (Leaf (InPlace q) st f n) a = by (q == p)
     where
-      by : (x : Bool) → Well h (cond x (Leaf Came st f n) (Leaf (InPlace q) st f n))
+      by : (x : Bool) → Well h (cond x (Leaf own st f n) (Leaf (InPlace q) st f n))
       by true = a
       by false = a
-  well_came p h (Leaf w st f n) a = a
-  well_came p h (Calling f n y t) a = (a.0, well_came p (Called f y) t a.1)
-  well_came p h (Forking f n y r b c) a = (a.0, well_came p (Branch Left r) b a.1, well_came p (Branch Right r) c a.2)
+  well_owned p own h (Leaf w st f n) a = a
+  well_owned p own h (Calling f n y t) a = (a.0, well_owned p own (Called f y) t a.1)
+  well_owned p own h (Forking f n y r b c) a = (a.0, well_owned p own (Branch Left r) b a.1, well_owned p own (Branch Right r) c a.2)
+
+  -- a branch came first
+  pub well_came : (p : ℕ) (h : LinkKind) (t : Skeleton) → Well h t → Well h (grow p (λ st f n. Leaf Came st f n) t)
+  well_came p h t a = well_owned p Came h t a
 
   -- the frame that waited goes on: its header is a capsule's
   pub well_back : (p : ℕ) (h : LinkKind) (t : Skeleton) → Well h t → Well h (back p (λ z. Begins z) t)

@@ -1,4 +1,4 @@
--- By places, rows of the deques and of the places meet no broken words.
+-- Rows of the deques and of the places meet no broken words.
 use Rattle.std.specs.Prelude.{◌≡◌, ◌≢◌, ◌<◌, ℕ, ◌+◌, ◌^◌, Bool, true, false, ◌&&◌, Some, List}
 use Rattle.ppm_strands.specs.Tree.{Words, Tree}
 use Rattle.ppm_cells.specs.Memory.{read}
@@ -29,7 +29,10 @@ use Rattle.ppm_tickets.specs.Homes.{Home}
 use Rattle.ppm_tickets.specs.Saw.{IsStrand}
 use Rattle.ppm_tickets.specs.View.{view}
 use Rattle.ppm_frames.specs.Skeletons.{Skeleton}
+use Rattle.ppm_kept.specs.Left.{Followed}
 use Rattle.ppm_kept.specs.Running.{IsFair}
+use Rattle.ppm_runs.specs.Follow.{IsHalves}
+use Rattle.ppm_runs.specs.Joint.{AreJoint}
 use Rattle.ppm_runs.specs.Run.{IsRun}
 use Rattle.ppm_runs.specs.Sound.{IsSoundRow, IsSound}
 
@@ -75,6 +78,15 @@ abbrev pub DequesAreSound : Type 0
 DequesAreSound = (s : Shape) (code : CodeParts) → s.takeover ≡ ByPlaces → IsFair code
     → (root : Tree (Frame FrameWord StrandPoint) Result) (input : Words) (state : RunState) (h : ℕ → Home) (forked taken : List ℕ) (t : Skeleton)
     → IsRun s code root input state h forked taken t
+    → (made : ℕ) → made + 1 < 2 ^ 34 → IsSound s code made state → StrandsAreSound s code state
+    → (turn : Turn) → IsTurnAmong s.processors turn
+    → IsSound s code (raised_by made state turn) (happens s code state turn)
+
+-- so it is with either takeover, where both halves hold, with those places left out that were followed
+abbrev pub DequesStaySound : Type 0
+DequesStaySound = (s : Shape) (code : CodeParts) → IsFair code
+    → (root : Tree (Frame FrameWord StrandPoint) Result) (input : Words) (state : RunState) (h : ℕ → Home) (forked taken : List ℕ) (l : List Followed) (t : Skeleton)
+    → IsHalves s code root input state h forked taken l t → AreJoint s code state h l t
     → (made : ℕ) → made + 1 < 2 ^ 34 → IsSound s code made state → StrandsAreSound s code state
     → (turn : Turn) → IsTurnAmong s.processors turn
     → IsSound s code (raised_by made state turn) (happens s code state turn)

@@ -1,5 +1,5 @@
--- What a processor has come to that meets no broken words: by places, of the rows under way and of the
--- words of deques, places and processors.
+-- What a processor has come to that meets no broken words: of the rows under way and of the words of deques,
+-- places and processors.
 use Rattle.std.specs.Prelude.{◌≡◌, ◌⊎◌, ◌≤◌, ◌<◌, ℕ, zero, suc, ◌+◌, ◌^◌, true, Option, Some, None}
 use Rattle.std.specs.Prelude.{nat_lt}
 use Rattle.ppm_cells.specs.Cells.{word_count}
@@ -11,22 +11,24 @@ use Rattle.ppm_cells.specs.Restart.{restart_of}
 use Rattle.ppm_cells.specs.declared.cell.Cell.{Cell}
 use Rattle.ppm_cells.specs.declared.cell.Cell.TheVariants.{FinishWord, RestartWord, MessageWord, HolderWord, Top, RoomCounter, EntryWord, BlockWord, ArrayWord}
 use Rattle.ppm_cells.specs.declared.entry.Entry.{Entry}
-use Rattle.ppm_cells.specs.declared.entry.Entry.TheVariants.{Job, Taken}
+use Rattle.ppm_cells.specs.declared.entry.Entry.TheVariants.{Local, Job, Taken}
 use Rattle.ppm_cells.specs.declared.finish.Finish.{Finish}
 use Rattle.ppm_cells.specs.declared.finish.Finish.TheVariants.{Broken as BrokenAt}
 use Rattle.ppm_cells.specs.declared.restart.Restart.{Restart}
 use Rattle.ppm_cells.specs.declared.restart.RestartKind.{RestartKind}
 use Rattle.ppm_cells.specs.declared.restart.RestartKind.TheVariants.{Push1, Push2, Pop1, Pop2, Seek, Steal, Check, Take, Take2}
 use Rattle.ppm_cells.specs.declared.shape.Shape.{Shape}
+use Rattle.ppm_cells.specs.declared.shape.Takeover.{Takeover}
+use Rattle.ppm_cells.specs.declared.shape.Takeover.TheVariants.{ByPlaces, ByEntries}
 use Rattle.ppm_code.specs.declared.code.CodeParts.{CodeParts}
 use Rattle.ppm_deque.specs.Change.{tag_of}
 use Rattle.ppm_step.specs.Standings.{Standing, IsLost, IsPlaced, IsAt, IsWithin, IsRunning, IsBroken, IsDone, point_is_there, forked, begun, stands_then}
 use Rattle.ppm_step.specs.State.{State as RunState, stand_of, is_work}
 use Rattle.ppm_step.specs.There.{is_there, restart_is_there}
 use Rattle.ppm_step.specs.declared.content.Content.{Content}
-use Rattle.ppm_step.specs.declared.content.Content.TheVariants.{AnEntry, AHolder, AFinish}
+use Rattle.ppm_step.specs.declared.content.Content.TheVariants.{ANumber, AnEntry, AHolder, AFinish}
 use Rattle.ppm_step.specs.declared.row.Point.{Point}
-use Rattle.ppm_step.specs.declared.row.Point.TheVariants.{PushAbove, PushBottom, Offset, PopBelow, PopAgain, PopAbove, SeekHolder, SeekDead, SeekTop, SeekEntry, StealMessage, TakenMessage, TakenEntry, BidMessage, BidAgain, BidHolder}
+use Rattle.ppm_step.specs.declared.row.Point.TheVariants.{PushOrder, PushAbove, PushBottom, Offset, PopBelow, PopAgain, PopAbove, SeekHolder, SeekDead, SeekTop, SeekEntry, SeekClosed, StealMessage, TakenMessage, TakenEntry, ClosedRestart, ClosedLink, ClosedBottom, BidMessage, BidAgain, BidHolder}
 use Rattle.ppm_step.specs.declared.row.Row.{Row}
 use Rattle.ppm_step.specs.declared.row.Row.TheVariants.{Now, Store, Exchange}
 use Rattle.ppm_step.specs.declared.row.Seat.{Seat}
@@ -42,40 +44,65 @@ abbrev pub IsHeld : Word → Type 0
 IsHeld (Held t c) = Unit {0}
 IsHeld _ = ⊥
 
--- a job whose tag can rise, of a block that lies within the words
+-- by entries what is local may be taken, if its tag can rise
+abbrev pub LocalRises : Takeover → (tag : ℕ) → Type 0
+LocalRises ByPlaces t = ⊥
+LocalRises ByEntries t = t + 1 < 2 ^ 34
+
+-- what may be taken: a job whose tag can rise, of a block that lies within the words, or what is local
 abbrev pub IsRising : Shape → Word → Type 0
 IsRising s (words.Job t x) = (t + 1 < 2 ^ 34) × (x + 4 < word_count s)
+IsRising s (words.Local t x) = LocalRises s.takeover t
 IsRising s _ = ⊥
 
--- the entry is such a job
-abbrev pub IsJobEntry : Shape → Entry → Type 0
-IsJobEntry s (Job t x) = (t + 1 < 2 ^ 34) × (x + 4 < word_count s)
-IsJobEntry s _ = ⊥
+-- so is the entry
+abbrev pub IsRisingEntry : Shape → Entry → Type 0
+IsRisingEntry s (Job t x) = (t + 1 < 2 ^ 34) × (x + 4 < word_count s)
+IsRisingEntry s (Local t x) = LocalRises s.takeover t
+IsRisingEntry s _ = ⊥
 
 -- it is taken
 abbrev pub IsTakenEntry : Entry → Type 0
 IsTakenEntry (Taken t x) = Unit {0}
 IsTakenEntry _ = ⊥
 
--- what the message of a place says, by what the place is at: who steals has noted a job, and who looks
--- whether its bid stands has made one
+-- by places alone a place is taken over
+abbrev pub TakesPlaces : Takeover → Type 0
+TakesPlaces ByPlaces = Unit {0}
+TakesPlaces ByEntries = ⊥
+
+-- what the message of a place says, by what the place is at: who steals has noted what may be taken, and who
+-- looks whether its bid stands has made one
 abbrev pub Noted : Shape → (Spot → Word) → (place : ℕ) → RestartKind → Type 0
 Noted s m p (Steal v i) = IsRising s (m (Message p))
 Noted s m p (Check v i) = IsRising s (m (Message p))
-Noted s m p (Take2 v) = IsHeld (m (Bid p))
+Noted s m p (Take v d) = TakesPlaces s.takeover
+Noted s m p (Take2 v) = TakesPlaces s.takeover × IsHeld (m (Bid p))
 Noted s m p kind = Unit {0}
 
 -- so it is behind the store of this content
 abbrev pub NotedBy : Shape → Content → RestartKind → Type 0
-NotedBy s (AnEntry entry) (Steal v i) = IsJobEntry s entry × IsEntry entry
+NotedBy s (AnEntry entry) (Steal v i) = IsRisingEntry s entry × IsEntry entry
 NotedBy s content (Steal v i) = ⊥
 NotedBy s content (Check v i) = ⊥
+NotedBy s content (Take v d) = TakesPlaces s.takeover
 NotedBy s content (Take2 v) = ⊥
 NotedBy s content kind = Unit {0}
+
+-- what a load of a Check knows by places; by entries it is what tickets say of it
+abbrev pub Told : Takeover → Type 0 → Type 0
+Told ByPlaces A = A
+Told ByEntries A = Unit {0}
+
+-- by entries a top stays a slot
+abbrev pub IsTopLow : Takeover → Shape → ℕ → Type 0
+IsTopLow ByPlaces s n = Unit {0}
+IsTopLow ByEntries s n = n < s.slots
 
 -- Which loads a row of a kind makes, with what it knows of them; of kinds of strands nothing is said here.
 module _ (s : Shape) (place bottom : ℕ) where
   abbrev AtPush1 : (block : ℕ) → Point → Type 0
+  AtPush1 r (PushOrder x) = (x ≡ r) × (bottom + 1 < s.slots)
   AtPush1 r (PushAbove x) = x ≡ r
   AtPush1 r _ = ⊥
 
@@ -95,9 +122,10 @@ module _ (s : Shape) (place bottom : ℕ) where
 
   abbrev AtSeek : Point → Type 0
   AtSeek SeekHolder = Unit {0}
-  AtSeek (SeekDead v holder) = (v < s.processors) × (holder.tag + 1 < 2 ^ 58) × (holder.processor < s.processors)
+  AtSeek (SeekDead v holder) = (v < s.processors) × (holder.tag + 1 < 2 ^ 58) × (holder.processor < s.processors) × TakesPlaces s.takeover
   AtSeek (SeekTop v) = v < s.processors
   AtSeek (SeekEntry v i) = (v < s.processors) × (i < s.slots)
+  AtSeek (SeekClosed v i entry) = (v < s.processors) × (i < s.slots) × IsRisingEntry s entry × IsEntry entry
   AtSeek _ = ⊥
 
   abbrev AtSteal : (victim slot : ℕ) → Point → Type 0
@@ -105,8 +133,11 @@ module _ (s : Shape) (place bottom : ℕ) where
   AtSteal v i _ = ⊥
 
   abbrev AtCheck : (victim slot : ℕ) → Point → Type 0
-  AtCheck v i (TakenMessage by w j) = (by ≡ place) × (w ≡ v) × (j ≡ i)
-  AtCheck v i (TakenEntry by w j entry) = (by ≡ place) × (w ≡ v) × (j ≡ i) × IsJobEntry s entry
+  AtCheck v i (TakenMessage by w j) = Told s.takeover ((by ≡ place) × (w ≡ v) × (j ≡ i))
+  AtCheck v i (TakenEntry by w j entry) = Told s.takeover ((by ≡ place) × (w ≡ v) × (j ≡ i) × IsRisingEntry s entry)
+  AtCheck v i (ClosedRestart w j x) = Told s.takeover ⊥
+  AtCheck v i (ClosedLink x) = Told s.takeover ⊥
+  AtCheck v i (ClosedBottom w j x) = Told s.takeover ⊥
   AtCheck v i (Offset x low) = low ≡ bottom
   AtCheck v i _ = ⊥
 
@@ -187,10 +218,15 @@ module _ (s : Shape) (code : CodeParts) (m : Spot → Word) (seat : Seat) where
       × (seat.restart.kind ≡ Take v old.processor) × (m (Bid seat.place) ≡ Held new.tag new.processor)
   RaisesHolder v old new = ⊥
 
+  -- a top rises
+  abbrev pub RaisesTop : Content → Type 0
+  RaisesTop (ANumber n) = IsTopLow s.takeover s n
+  RaisesTop content = ⊥
+
   abbrev pub TriesSo : Cell → (old new : Content) → Type 0
   TriesSo FinishWord old new = SetsFinish new
   TriesSo (BlockWord at) old new = Unit {0}
-  TriesSo (Top place) old new = Unit {0}
+  TriesSo (Top place) old new = RaisesTop new
   TriesSo (EntryWord place slot) old new = RaisesEntry old new
   TriesSo (HolderWord place) old new = RaisesHolder place old new
   TriesSo cell old new = ⊥
@@ -256,4 +292,5 @@ pub record IsSound (s : Shape) (code : CodeParts) (made : ℕ) (state : RunState
   pub noted : (p : ℕ) → Noted s (view s state.words) p (kinds s state.words p)
   pub holders : (v : ℕ) → v < s.processors → IsHolderSound s (view s state.words) (view s state.words (words.Holder v))
   pub finish : SaysNoBreak (read s state.words FinishWord)
+  pub tops : (v : ℕ) → v < s.processors → IsTopLow s.takeover s (read s state.words (Top v))
   pub tags : (v i : ℕ) → IsTagLow made (view s state.words (Slot v i))

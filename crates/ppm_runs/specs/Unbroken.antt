@@ -1,4 +1,4 @@
--- In a run by places, of at most 2^34 work turns, nobody meets broken words.
+-- In a run of at most 2^34 work turns nobody meets broken words.
 use Rattle.std.specs.Prelude.{◌≡◌, ◌≤◌, ℕ, ◌+◌, ◌^◌, List, [], ◌∷◌}
 use Rattle.std.specs.List.{AllByRecursion}
 use Rattle.ppm_strands.specs.Calm.{Calm}
@@ -6,7 +6,6 @@ use Rattle.ppm_words.specs.declared.named_array.NamedArray.{NamedArray}
 use Rattle.ppm_cells.specs.Memory.{read}
 use Rattle.ppm_cells.specs.declared.cell.Cell.TheVariants.{FinishWord}
 use Rattle.ppm_cells.specs.declared.shape.Shape.{Shape}
-use Rattle.ppm_cells.specs.declared.shape.Takeover.TheVariants.{ByPlaces}
 use Rattle.ppm_code.specs.declared.code.CodeParts.{CodeParts}
 use Rattle.ppm_layout.specs.Correct.{Opens}
 use Rattle.ppm_layout.specs.Root.{root_strand}
@@ -31,11 +30,10 @@ pub record IsWhole (s : Shape) (state : RunState) : Type 0 where
   pub stands : (c p : ℕ) → stand_of state c ≡ IsBroken p → ⊥
   pub finish : SaysNoBreak (read s state.words FinishWord)
 
--- with takeover by places, from an image of a sound code, whatever the turns, as long as at most 2^34 of
--- them are work
+-- from an image of a sound code, whatever the takeover and the turns, as long as at most 2^34 of them are work
 abbrev pub NothingBreaks : Type 0
 NothingBreaks = (code : CodeParts) (input : List NamedArray) (s : Shape) (keeper : ℕ) (image : RealImage)
-    → s.takeover ≡ ByPlaces → IsFair code → Opens code input s keeper image
+    → IsFair code → Opens code input s keeper image
     → Calm (strands s code) (root_strand code input) (arrays_at (view s image.words))
     → (turns : List Turn) → AllByRecursion (IsTurnAmong s.processors) turns
     → works s code (opening image.words s.processors) turns ≤ 2 ^ 34

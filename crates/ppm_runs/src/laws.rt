@@ -1,5 +1,5 @@
 //! What turns owe, shown by calls that do nothing.
-ghost use Rattle.ppm_runs.specs.Deques.{DequesAreSound};
+ghost use Rattle.ppm_runs.specs.Deques.{DequesAreSound, DequesStaySound};
 ghost use Rattle.ppm_runs.specs.Entries.{HeirsLeadOn, OnceByEntries, OnceInEachRun, RunsEndByEntries, RunsEndSo};
 ghost use Rattle.ppm_runs.specs.Entries.{RunsForkSo, RunsStayHeired};
 ghost use Rattle.ppm_runs.specs.Follow.{HalvesGoOn, HalvesOwe, HeirsLead};
@@ -92,11 +92,12 @@ pub fn runs_come_back()
     ensures parts { PartsComeTo }
 {}
 
-/// With takeover by places, from an image of a sound code, whatever the turns, as long as at most 2^34 of
-/// them are work: no processor meets broken words, and the finish word says of none that one has. The
-/// deques' half is that a turn keeps what is sound of rows, entries, holders and restart words.
+/// From an image of a sound code, whatever the takeover and the turns, as long as at most 2^34 of them are
+/// work: no processor meets broken words, and the finish word says of none that one has. The deques' half
+/// is that a turn keeps what is sound of rows, entries, tops, holders and restart words.
 pub fn nothing_breaks()
     ensures deques { DequesAreSound }
+    ensures halves { DequesStaySound }
     ensures law { NothingBreaks }
 {}
 
