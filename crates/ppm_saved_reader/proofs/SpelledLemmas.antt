@@ -33,7 +33,7 @@ use Rattle.ppm_saved_reader.specs.Correct.{IsRead, AreRunsRead, sizes_of, IsSave
 use Rattle.ppm_saved_reader.proofs.LineLemmas.{first_line_back, halves_back, split_some}
 use Rattle.ppm_saved_reader.proofs.FormLemmas.{version_back, sizes_back, count_back, array_back, array_spelled, run_back, run_spelled, worded}
 use Rattle.ppm_saved_reader.proofs.NameLemmas.{names_more, no_names, len_within}
-use Rattle.ppm_saved_reader.proofs.CountLemmas.{counted_line, times_sum}
+use Rattle.ppm_saved_reader.proofs.CountLemmas.{counted_line, counted_end, times_sum, length-words_of}
 use Rattle.ppm_saved_reader.proofs.PlaceLemmas.{reads_on, reads_all}
 
 -- sizes of `stop`
@@ -293,6 +293,10 @@ read_sizes_fit text k = (read_at text k).has.sizes
 pub read_names : (text : List ℕ) {z : Sizes} {arrays : List NamedLength} {r : List ℕ} {line : ℕ} → IsRead text (AtArrays z arrays) line r → AreNames arrays
 read_names text k = (read_at text k).has.names
 
+pub read_front : (text : List ℕ) {z : Sizes} {arrays : List NamedLength} {code : CodeParts} {r : List ℕ} {line : ℕ} → IsRead text (AtWords z arrays code) line r
+    → (sizes_fit z ≡ true) × AreNames arrays
+read_front text k = let h = (read_at text k).has.front in (h.sizes, h.names)
+
 pub read_named : (text : List ℕ) {z : Sizes} {arrays : List NamedLength} {code : CodeParts} {r : List ℕ} {line : ℕ} → IsRead text (AtWords z arrays code) line r
     → NamesArrays (length arrays) code
 read_named text k = (read_at text k).has.named
@@ -321,6 +325,13 @@ lens_fit [] h = tt
 lens_fit (a ∷ arrays) h =
     let e : sum (lengths_of (a ∷ arrays)) ≡ a.len + sum (lengths_of arrays) = sum_by-cons (λ (n : ℕ). n) a.len (lengths_of arrays) in
     (omega (arith, h, e), lens_fit arrays (omega (arith, h, e)))
+
+-- the words of all runs are as many as the machine has
+pub read_count : (text : List ℕ) {z : Sizes} {arrays : List NamedLength} {code : CodeParts} {rs : List Run} {last : ℕ}
+    → IsRead text (AtRuns z arrays code rs) last [] → length (words_of rs) ≡ words_for z arrays
+read_count text {rs = rs} k =
+    let h = (read_at text k).has in
+    omega (arith, length-words_of rs, h.count, counted_end h.left [] refl h.others)
 
 -- a text that was read to its end is that of its state
 pub read_text : (text : List ℕ) (s : Shape) (z : Sizes) (arrays : List NamedLength) (code : CodeParts) (rs : List Run) (words : List ℕ) (last : ℕ)

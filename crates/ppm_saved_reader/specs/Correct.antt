@@ -67,8 +67,22 @@ pub record IsSavedText (text : List ℕ) (s : Shape) (arrays : List NamedLength)
   pub tidy : IsTidy code
   pub same : text ≡ saved_text s arrays code words
 
--- the text of a state is wrong nowhere, if it is not too long, and no text is wrong in two ways
+-- the text of a state
+pub record HasState (text : List ℕ) : Type 0 where
+  pub shape : Shape
+  pub arrays : List NamedLength
+  pub code : CodeParts
+  pub words : List ℕ
+  pub is : IsSavedText text shape arrays code words
+
+-- The text of a state is wrong nowhere, and so it is not too long; a text that is wrong nowhere is that of a state. It is that of one state, and no
+-- text is wrong in two ways.
 pub record FaultsTellSavedTexts : Type 0 where
   pub excludes : (text : List ℕ) (s : Shape) (arrays : List NamedLength) (code : CodeParts) (words : List ℕ) (f : Fault) (line : ℕ)
-      → length text ≤ text_limit → IsSavedText text s arrays code words → IsWrongAt text f line → ⊥
+      → IsSavedText text s arrays code words → IsWrongAt text f line → ⊥
+  pub covers : (text : List ℕ) → ((f : Fault) (line : ℕ) → IsWrongAt text f line → ⊥) → HasState text
+  pub short : (text : List ℕ) (s : Shape) (arrays : List NamedLength) (code : CodeParts) (words : List ℕ) → IsSavedText text s arrays code words
+      → length text ≤ text_limit
+  pub one_state : (text : List ℕ) (s t : Shape) (xs ys : List NamedLength) (c d : CodeParts) (ws vs : List ℕ)
+      → IsSavedText text s xs c ws → IsSavedText text t ys d vs → (s ≡ t) × (xs ≡ ys) × (c ≡ d) × (ws ≡ vs)
   pub one : (text : List ℕ) (f g : Fault) (line later : ℕ) → IsWrongAt text f line → IsWrongAt text g later → (f ≡ g) × (line ≡ later)
