@@ -49,6 +49,7 @@ pub mod UnbrokenLemmas
 pub mod TagLemmas
 pub mod BegunLemmas
 pub mod WorkLemmas
+pub mod AgainLemmas
 pub mod BoundLemmas
 pub mod FollowLemmas
 pub mod HalvesLemmas

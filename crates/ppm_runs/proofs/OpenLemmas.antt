@@ -1,5 +1,5 @@
 -- A machine that opens an image is in the state of a run.
-use Rattle.std.proofs.Common.{◌≡◌, ◌⊎◌, ℕ, true, false, [], inl, inr, sym, ap, ◌∙◌, subst}
+use Rattle.std.proofs.Common.{◌≡◌, ◌⊎◌, ℕ, true, false, [], inl, inr, refl, sym, ap, ◌∙◌, subst}
 use Rattle.ppm_cells.specs.Cells.{pool_at}
 use Rattle.ppm_step.specs.Standings.{Standing, IsLost, IsBroken, IsDone}
 use Rattle.ppm_step.specs.State.{State as RunState, stand_of, opening}
