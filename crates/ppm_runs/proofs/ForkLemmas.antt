@@ -181,7 +181,7 @@ module _ (s : Shape) (code : CodeParts) (fair : IsFair code) (root : Tree (Frame
 -- with takeover by places
 module _ (s : Shape) (code : CodeParts) (places : s.takeover ≡ ByPlaces) (fair : IsFair code) (root : Tree (Frame FrameWord Point) Result) (input : Words) where
   module _ (state : RunState) (h : ℕ → Home) (forked taken : List ℕ) (t : Skeleton) (now : IsForked s code root input state h forked taken [] t) where
-    pub as_run : IsRun s code root input state h forked taken t
+    abbrev pub as_run : IsRun s code root input state h forked taken t
     as_run = record {
       lawful = now.run.halves.lawful;
       kept = now.run.halves.kept;

@@ -67,7 +67,8 @@ use Rattle.ppm_runs.specs.Run.{image, fate_of}
 use Rattle.ppm_runs.specs.Follow.{IsHalves, GoesOn, LooksOnly}
 use Rattle.ppm_runs.specs.Entries.{IsHeired}
 use Rattle.ppm_runs.specs.Work.{undone_of, WorkIsBoundedSo, WorkIsWithin256So}
-use Rattle.ppm_runs.proofs.BoundLemmas.{again, again_not, again_live, left_at, row_live, live_stands, length_both, finish_still, undone_is, Stage, Pays, dues, agains, goes_on, alone_goes, made_all, work_of_stage, first_run, first_stage, first_tree}
+use Rattle.ppm_runs.proofs.AgainLemmas.{again, again_not, again_live, left_at, row_live}
+use Rattle.ppm_runs.proofs.BoundLemmas.{live_stands, length_both, finish_still, undone_is, Stage, Pays, dues, agains, goes_on, alone_goes, made_all, work_of_stage, first_run, first_stage, first_tree}
 use Rattle.ppm_runs.proofs.BrokenLemmas.{broken_stays}
 use Rattle.ppm_runs.proofs.FollowLemmas.{heirs_lead}
 use Rattle.ppm_runs.proofs.HalvesLemmas.{acts_so, steps_away, halves_go_on}

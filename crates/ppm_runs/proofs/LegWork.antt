@@ -34,7 +34,8 @@ use Rattle.ppm_runs.specs.Work.{work_in, strikes_in, WorkIsBounded, WorkIsWithin
 use Rattle.ppm_runs.specs.Run.{IsRun}
 use Rattle.ppm_runs.specs.Legs.{Leg, GoOn, words_then, state_then, AreLegs, homes_then, forked_then, taken_then, work_then, strikes_then, last_state, all_homes, all_forked, all_taken, all_work, all_strikes, WorkOverLegs, WorkOverLegsIsWithin256}
 use Rattle.ppm_runs.proofs.BackLemmas.{kinds_back}
-use Rattle.ppm_runs.proofs.BoundLemmas.{Stage, again, again_none, all_struck, work_of_stage, lost_paces, lost_claims, lost_most, first_run, first_stage, first_tree}
+use Rattle.ppm_runs.proofs.AgainLemmas.{again, again_none}
+use Rattle.ppm_runs.proofs.BoundLemmas.{Stage, all_struck, work_of_stage, lost_paces, lost_claims, lost_most, first_run, first_stage, first_tree}
 use Rattle.ppm_runs.proofs.LegLemmas.{goes_on_back, counted_back}
 use Rattle.ppm_runs.proofs.ShownLemmas.{halves}
 use Rattle.ppm_runs.proofs.StandLemmas.{kinds_same}

@@ -35,6 +35,7 @@ pub mod LegLemmas
 pub mod SumLemmas
 pub mod BegunLemmas
 pub mod WorkLemmas
+pub mod AgainLemmas
 pub mod BoundLemmas
 pub mod FollowLemmas
 pub mod HalvesLemmas
