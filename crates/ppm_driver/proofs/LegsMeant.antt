@@ -1,7 +1,8 @@
 -- With takeover by places runs in legs end as their programs do: as of a run without legs, an outcome is the depth-first run's, and that is the
 -- program's.
-use Rattle.std.proofs.Common.{◌≡◌, ℕ, ◌≤◌, List, [], ◌∷◌, length, map, Some, refl, sym, ap, ◌∙◌, subst, arith}
+use Rattle.std.proofs.Common.{◌≡◌, ◌≢◌, ℕ, ◌≤◌, ◌<◌, ◌^◌, List, [], ◌∷◌, length, map, Some, None, inl, inr, refl, sym, ap, ◌∙◌, subst, arith}
 use Rattle.std.specs.List.{AllByRecursion, sum}
+use Rattle.std.proofs.lemmas.Bool.{cases_lt}
 use Rattle.ppm_words.specs.declared.named_array.NamedArray.{NamedArray}
 use Rattle.ppm_words.specs.declared.outcome.Outcome.{Outcome}
 use Rattle.ppm_words.specs.declared.outcome.Outcome.TheVariants as outcome
@@ -29,6 +30,7 @@ use Rattle.ppm_frames.specs.Views.{view}
 use Rattle.ppm_runs.specs.Legs.{Leg, words_then, state_then, AreLegs, last_state, all_forked, all_taken, all_work, OnceOverLegs, LegsComeTo, RoomOverLegs, WorkOverLegsIsWithin256}
 use Rattle.ppm_runs.specs.Moments.{AreOnce}
 use Rattle.ppm_runs.specs.Outcomes.{EndsWell}
+use Rattle.ppm_runs.specs.UnbrokenLegs.{NothingBreaksOverLegs, FinishStandsOverLegs}
 use Rattle.ppm_core.specs.Situation.{Situation, loaded}
 use Rattle.ppm_loading.specs.declared.loading.Sizes.{Sizes}
 use Rattle.ppm_loading.specs.Loading.{Opens}
@@ -48,6 +50,8 @@ pub record Laws : Type 0 where
   pub once : OnceOverLegs
   pub room : RoomOverLegs
   pub work : WorkOverLegsIsWithin256
+  pub whole : NothingBreaksOverLegs
+  pub stands : FinishStandsOverLegs
 
 module _ (laws : Laws) (text : List ℕ) (t : ProgramTree) (has : HasProgram text t) where
   abbrev code : CodeParts
@@ -131,8 +135,22 @@ module _ (laws : Laws) (text : List ℕ) (t : ProgramTree) (has : HasProgram tex
           laws.work code input s keeper b.image (b.sized.takeover ∙ places) (meant.fair laws.base text t has) (meant.opened laws.base text t has sizes keeper m b) (meant.calm laws.base text t has sizes keeper m b) legs are turns among e
           (ends_as (sym (meant.shown laws.base text t has sizes keeper m b).strands) (sym (meant.shown laws.base text t has sizes keeper m b).root) (sym (meant.shown laws.base text t has sizes keeper m b).arrays) e comes)
 
+      -- the finish word stands for a finish, and for broken words behind much work alone
+      stands : finish_of (read s last.words FinishWord) ≢ None
+      stands none =
+          let k = laws.stands code input s keeper b.image (meant.fair laws.base text t has) (meant.opened laws.base text t has sizes keeper m b) legs are turns among in
+          let no : Some k.0 ≡ None = sym k.1 ∙ none in
+          cc
+
+      breaks : length legs ≤ 2 ^ 50 → (place : ℕ) → Says (finishes.Broken place) → 2 ^ 34 < all_work s code words legs turns
+      breaks low place says = elim (cases_lt (2 ^ 34) (all_work s code words legs turns)) [
+        | inl much ↦ much
+        | inr few ↦ absurd ((laws.whole code input s keeper b.image (b.sized.takeover ∙ places) (meant.fair laws.base text t has) (meant.opened laws.base text t has sizes keeper m b)
+            (meant.calm laws.base text t has sizes keeper m b) legs are turns among low few).finish (finishes.Broken place) says)
+      ]
+
       as_program : IsAsProgramInAll start legs turns t
-      as_program = record { once = none_twice; ended = when_ended; trapped = when_trapped; work = works; full = needs_more }
+      as_program = record { once = none_twice; ended = when_ended; trapped = when_trapped; work = works; full = needs_more; stands = stands; unbroken = breaks }
         where
           when_ended : Says finishes.Ended → EndsAsProgramInAll start legs turns t (outcome.Ended (arrays_from s b.image.lengths last.words 0 input))
           when_ended says =

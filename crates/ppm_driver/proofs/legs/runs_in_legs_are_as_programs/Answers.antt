@@ -24,5 +24,7 @@ returns c = record {
     once = c.legs_come_to.ensures.once;
     room = c.room_over_legs.ensures.law;
     work = c.work_over_legs.ensures.within;
+    whole = c.nothing_breaks_over_legs.ensures.law;
+    stands = c.nothing_breaks_over_legs.ensures.stands;
   });
 }
