@@ -1,6 +1,6 @@
 -- What a run of a program leaves: its state, whatever the turns are, is one that the program's source left; and what fresh processors find of such a
 -- state are words that come back.
-use Rattle.std.proofs.Common.{◌≡◌, ◌≤◌, ◌<◌, ◌+◌, ℕ, ◌^◌, List, [], length, refl, sym, ◌∙◌, subst, arith}
+use Rattle.std.proofs.Common.{◌≡◌, ℕ, List, [], refl, sym, subst, arith}
 use Rattle.std.specs.List.{AllByRecursion}
 use Rattle.ppm_cells.specs.declared.shape.Shape.{Shape}
 use Rattle.ppm_cells.specs.declared.shape.Takeover.TheVariants.{ByPlaces}
@@ -11,12 +11,8 @@ use Rattle.ppm_cut_code.specs.Routines.{code_of}
 use Rattle.ppm_step.specs.Among.{IsTurnAmong}
 use Rattle.ppm_step.specs.State.{after, opening}
 use Rattle.ppm_step.specs.declared.turn.Turn.{Turn}
-use Rattle.ppm_tickets.specs.Renewal.{IsRenewal}
-use Rattle.ppm_runs.specs.Legs.{Leg, AreLegs}
-use Rattle.ppm_runs.specs.Tags.{TagsStayLow}
-use Rattle.ppm_runs.proofs.LegSound.{few_risen}
 use Rattle.ppm_resumed.specs.Resumed.{TagsMayRise, RenewedWordsComeBack}
-use Rattle.ppm_core.specs.Situation.{Situation, loaded}
+use Rattle.ppm_core.specs.Situation.{Situation}
 use Rattle.ppm_loading.specs.declared.loading.Sizes.{Sizes}
 use Rattle.ppm_loading.specs.Loading.{Opens}
 use Rattle.ppm_plan.specs.declared.schedule_item.ScheduleItem.{ScheduleItem}
@@ -29,13 +25,11 @@ use Rattle.ppm_cli.specs.declared.stop.StopOptions.{StopOptions}
 use Rattle.ppm_cli.specs.Words.{AreStopped}
 use Rattle.ppm_following.proofs.ScheduledLemmas.{scheduled_among}
 use Rattle.ppm_loading.proofs.LoadingLemmas.{opens_processors}
-use Rattle.ppm_saved.specs.Renewal.{AreRenewed}
 use Rattle.ppm_saved.specs.Text.{saved_text}
 use Rattle.ppm_stop.specs.Stops.{sizes_of, ProgramHas as StoppedHas}
-use Rattle.ppm_driver.specs.Legs.{words_at_last}
+use Rattle.ppm_driver.specs.Legs.{TagsMayRiseInLegs}
 use Rattle.ppm_driver.specs.RunOf.{words_behind}
 use Rattle.ppm_driver.specs.Resumes.{SavedState, state_behind, IsLeftBy, RunsLeaveStates, StopsLeaveStates, LeftWordsComeBack}
-use Rattle.ppm_driver.proofs.MeantLemmas.{Laws, calm, fair, opened}
 
 module _ (text : List ℕ) (t : ProgramTree) (has : HasProgram text t) (sizes : Sizes) (places : sizes.takeover ≡ ByPlaces)
     (keeper : ℕ) (m : Situation) (b : Opens sizes (code_of t) (initial_arrays t) keeper m) where
@@ -58,26 +52,6 @@ module _ (text : List ℕ) (t : ProgramTree) (has : HasProgram text t) (sizes : 
     words_are = subst (λ (x : Situation). words_behind x turns ≡ (after x.shape x.code (opening x.state.words x.shape.processors) turns).words) (sym b.loads) refl;
     few = omega arith;
   }
-
-  -- no tag is the last, where words came back so few times
-  module _ (laws : Laws) (low : TagsStayLow) (legs : List Leg) (few : length legs < 2 ^ 50) (turns : List Turn) where
-    abbrev begun : Situation
-    begun = loaded b.shape (code_of t) b.image.lengths b.image.words
-
-    may_rise : AreLegs begun.shape begun.code begun.state.words legs → AllByRecursion (IsTurnAmong b.shape.processors) turns
-        → TagsMayRise begun.shape (words_at_last begun legs turns)
-    may_rise are among place there =
-        let k = low (code_of t) (initial_arrays t) b.shape keeper b.image (b.sized.takeover ∙ places) (fair laws text t has)
-        (opened laws text t has sizes keeper m b) (calm laws text t has sizes keeper m b) legs are turns among place there in
-        let most = b.shape.within.processors_most in
-        let risen = few_risen b.shape.processors (length legs) most (omega (arith, few)) in
-        let tag = k.2 in
-        (k.0, k.1, omega (arith, tag, most, risen))
-
-    tags_rise : AreLegs m.shape m.code m.state.words legs → AllByRecursion (IsTurnAmong m.shape.processors) turns → TagsMayRise m.shape (words_at_last m legs turns)
-    tags_rise are among =
-        subst (λ (x : Situation). AreLegs x.shape x.code x.state.words legs → AllByRecursion (IsTurnAmong x.shape.processors) turns → TagsMayRise x.shape (words_at_last x legs turns))
-        (sym b.loads) may_rise are among
 
 -- so it is with each text's program
 pub runs_leave_states : RunsLeaveStates
@@ -104,9 +78,9 @@ pub stops_leave_states : StopsLeaveStates
 stops_leave_states options are schedule items accepted text t has answer h = stop_leaves options are schedule items accepted text t has answer h
 
 -- the words of a state that was left come back
-pub left_words_come_back : Laws → TagsStayLow → RenewedWordsComeBack → LeftWordsComeBack
-left_words_come_back laws low comes source z left words renewed =
+pub left_words_come_back : TagsMayRiseInLegs → RenewedWordsComeBack → LeftWordsComeBack
+left_words_come_back tags comes source z left words renewed =
     comes z.shape z.words words
     (subst (λ (s : Shape). TagsMayRise s z.words) (sym left.shape_is) (subst (λ (w : List ℕ). TagsMayRise left.start.shape w) (sym left.words_are)
-    (tags_rise source left.tree left.has left.sizes left.places left.keeper left.start left.opens laws low left.legs left.few left.turns left.are left.among)))
+    (tags source left.tree left.has left.sizes left.places left.keeper left.start left.opens left.legs left.are left.turns left.among left.few)))
     renewed

@@ -74,16 +74,16 @@ module _ (law : RunsInLegsAreAsPrograms) (comes : LeftWordsComeBack) (source : L
   abbrev legs : List Leg
   legs = legs_with left back
 
-  shape_is : start.shape ≡ m.shape
+  pub shape_is : start.shape ≡ m.shape
   shape_is = ap (λ (x : Situation). x.shape) on.loads ∙ left.shape_is
 
-  code_is : start.code ≡ m.code
+  pub code_is : start.code ≡ m.code
   code_is = ap (λ (x : Situation). x.code) on.loads ∙ left.code_is
 
   back_is : back ≡ on.words
   back_is = ap (λ (x : Situation). x.state.words) on.loads
 
-  state_is : start.state ≡ opening back start.shape.processors
+  pub state_is : start.state ≡ opening back start.shape.processors
   state_is = subst (λ (x : Situation). x.state ≡ opening x.state.words x.shape.processors) (sym on.loads) refl
 
   goes_on : GoOn m.shape (words_at_last m left.legs left.turns) back
@@ -94,7 +94,7 @@ module _ (law : RunsInLegsAreAsPrograms) (comes : LeftWordsComeBack) (source : L
       (record { renewal = comes source z left on.words on.renewed; finish = saved_or_none z on.words on.renewed })))
 
   -- over all of it
-  is_program : IsAsProgramInAll m legs turns left.tree
+  pub is_program : IsAsProgramInAll m legs turns left.tree
   is_program =
       law source left.tree left.has left.sizes left.places left.keeper m left.opens legs (left.are, left.among, goes_on) turns
       (subst (λ (s : Shape). AllByRecursion (IsTurnAmong s.processors) turns) shape_is all)
@@ -155,7 +155,7 @@ module _ (law : RunsInLegsAreAsPrograms) (comes : LeftWordsComeBack) (options : 
   abbrev Resumed : Answer → Type 0
   Resumed a = ResumedHas options before now items z a
 
-  abbrev among : (a : Answer) (h : Resumed a) → AllByRecursion (IsTurnAmong h.start.shape.processors) h.run.turns
+  abbrev pub among : (a : Answer) (h : Resumed a) → AllByRecursion (IsTurnAmong h.start.shape.processors) h.run.turns
   among a h = recursion_from_All (IsTurnAmong h.start.shape.processors) h.run.turns h.run.obey.among
 
   -- the finish that is said

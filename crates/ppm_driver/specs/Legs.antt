@@ -19,6 +19,7 @@ use Rattle.ppm_step.specs.declared.turn.Turn.{Turn}
 use Rattle.ppm_tickets.specs.Words.{has}
 use Rattle.ppm_runs.specs.Legs.{Leg, AreLegs, last_state, all_forked, all_taken, all_work, all_strikes}
 use Rattle.ppm_runs.specs.Moments.{AreOnce}
+use Rattle.ppm_resumed.specs.Resumed.{TagsMayRise}
 use Rattle.ppm_core.specs.Situation.{Situation}
 use Rattle.ppm_loading.specs.Loading.{Opens}
 use Rattle.ppm_loading.specs.Says.{arrays_from}
@@ -85,3 +86,11 @@ RunsInLegsAreAsPrograms = (text : List ℕ) (t : ProgramTree) → HasProgram tex
     → (keeper : ℕ) (m : Situation) → Opens sizes (code_of t) (initial_arrays t) keeper m
     → (legs : List Leg) → AreLegs m.shape m.code m.state.words legs
     → (turns : List Turn) → AllByRecursion (IsTurnAmong m.shape.processors) turns → IsAsProgramInAll m legs turns t
+
+-- and then no place's holder has the last tag, where words came back fewer than 2^50 times
+abbrev pub TagsMayRiseInLegs : Type 0
+TagsMayRiseInLegs = (text : List ℕ) (t : ProgramTree) → HasProgram text t → (sizes : Sizes) → sizes.takeover ≡ ByPlaces
+    → (keeper : ℕ) (m : Situation) → Opens sizes (code_of t) (initial_arrays t) keeper m
+    → (legs : List Leg) → AreLegs m.shape m.code m.state.words legs
+    → (turns : List Turn) → AllByRecursion (IsTurnAmong m.shape.processors) turns
+    → length legs < 2 ^ 50 → TagsMayRise m.shape (words_at_last m legs turns)

@@ -1,5 +1,5 @@
 //! That runs in legs end as their programs do, shown by a call that does nothing.
-ghost use Rattle.ppm_driver.specs.Legs.{RunsInLegsAreAsPrograms};
+ghost use Rattle.ppm_driver.specs.Legs.{RunsInLegsAreAsPrograms, TagsMayRiseInLegs};
 ghost use Rattle.ppm_driver.specs.Resumes.{LeftWordsComeBack, ResumesLeaveStates, RunsLeaveStates, StopsLeaveStates};
 
 use ppm_cut_code::keeps_the_rules;
@@ -21,8 +21,10 @@ use ppm_runs::{
 /// words than a pool has, or has no end. All work turns are fewer than 256 for each capsule that its
 /// code runs depth first, each fault that strikes a row of work, and each fresh processor. That words
 /// are broken it says only behind more than 2^34 work turns, if words came back at most 2^50 times.
+/// And no place's holder has the last tag then.
 pub fn runs_in_legs_are_as_programs()
     ensures law { RunsInLegsAreAsPrograms }
+    ensures tags { TagsMayRiseInLegs }
 {
     // The law rests on these; the calls do nothing.
     trees_are_within();
@@ -41,6 +43,7 @@ pub fn runs_in_legs_are_as_programs()
     room_over_legs();
     work_over_legs();
     nothing_breaks_over_legs();
+    tags_stay_low();
 }
 
 /// With takeover by places, whatever turns are made from the machine with which a run of a text's
@@ -61,19 +64,7 @@ pub fn left_words_come_back()
     ensures law { LeftWordsComeBack }
 {
     // The law rests on these; the calls do nothing.
-    trees_are_within();
-    keeps_the_rules();
-    code_is_sound();
-    start_with_input();
-    name_arrays();
-    ends_serially();
-    end_as_meant();
-    images_begin_the_depth_first_run();
-    runs_end_so();
-    room_is_spent();
-    work_is_bounded();
-    nothing_breaks();
-    tags_stay_low();
+    runs_in_legs_are_as_programs();
     renewed_words_come_back();
 }
 

@@ -4,6 +4,7 @@ use Rattle.std.specs.List.{AllByRecursion}
 use Rattle.std.specs.Prelude.{nat_lt}
 use Rattle.std.proofs.Math.Path.{fun_ext}
 use Rattle.std.proofs.lemmas.List.{length-append}
+use Rattle.std.proofs.lemmas.Nat.{mul-le}
 use Rattle.ppm_strands.specs.Tree.{Words, Tree}
 use Rattle.ppm_strands.specs.Calm.{Calm}
 use Rattle.ppm_words.specs.declared.named_array.NamedArray.{NamedArray}
@@ -241,21 +242,11 @@ finish_stands_over_legs code input s keeper im fair opens legs are turns all =
     (said_then s code fair.code_is im.words (Unset, (stands_for code input s keeper im opens).finish) legs are)
 
 -- tags rise at most so much
-few_risen : (n k : ℕ) → n ≤ 64 → k ≤ 2 ^ 50 → (n + 1) * k ≤ 2 ^ 57
-few_risen n k few legs = by (most (n + 1) 65 k (omega (arith, few)))
+pub few_risen : (n k : ℕ) → n ≤ 64 → k ≤ 2 ^ 50 → (n + 1) * k ≤ 2 ^ 57
+few_risen n k few legs = by ((n + 1) * k) (mul-le (n + 1) k 65 (2 ^ 50) (omega (arith, few)) legs)
   where
-    most : (a b k : ℕ) → a ≤ b → a * k ≤ b * k
-    most a b zero le = let e = none a in omega (arith, e)
-      where
-        none : (a : ℕ) → a * 0 ≡ 0
-        none a = grind arith
-    most a b (suc k) le = let rest = most a b k le in let e = next a k in let f = next b k in omega (arith, rest, e, f, le)
-      where
-        next : (a k : ℕ) → a * suc k ≡ a + a * k
-        next a k = grind arith
-
-    by : (n + 1) * k ≤ 65 * k → (n + 1) * k ≤ 2 ^ 57
-    by le = omega (arith, le, legs)
+    by : (x : ℕ) → x ≤ 65 * 2 ^ 50 → x ≤ 2 ^ 57
+    by x le = omega (arith, le)
 
 module _ (code : CodeParts) (input : List NamedArray) (s : Shape) (keeper : ℕ) (im : RealImage) (places : s.takeover ≡ ByPlaces) (fair : IsFair code) (opens : Opens code input s keeper im)
     (calm : Calm (strands s code) (root_strand code input) (arrays_at (frames.view s im.words))) where

@@ -10,7 +10,7 @@ use Rattle.ppm_words.specs.declared.named_array.NamedArray.{NamedArray}
 use Rattle.ppm_cells.specs.Cells.{IsCell, address}
 use Rattle.ppm_cells.specs.Finish.{finish_word}
 use Rattle.ppm_cells.specs.Holder.{holder_of}
-use Rattle.ppm_cells.specs.Memory.{read, write as store, AreWordsOf}
+use Rattle.ppm_cells.specs.Memory.{read, write as store}
 use Rattle.ppm_cells.specs.Restart.{restart_word}
 use Rattle.ppm_cells.specs.declared.cell.Cell.{Cell}
 use Rattle.ppm_cells.specs.declared.cell.Cell.TheVariants as cells
@@ -31,7 +31,7 @@ use Rattle.ppm_layout.proofs.ValueLemmas.{stands_for}
 use Rattle.ppm_step.specs.Among.{IsTurnAmong}
 use Rattle.ppm_step.specs.Contents.{content_of, word_of, read_so}
 use Rattle.ppm_step.specs.Frames.{Rest, Loads, Stores, Full, Installs, Breaks}
-use Rattle.ppm_step.specs.Standings.{Standing, IsLost, IsPlaced, IsAt, IsWithin, IsRunning, IsBroken, IsDone, wanted_row, wanted_rest}
+use Rattle.ppm_step.specs.Standings.{Standing, IsLost, IsPlaced, IsAt, IsWithin, IsRunning, IsBroken, IsDone, forked as forked_by, begun, wanted_row, wanted_rest}
 use Rattle.ppm_step.specs.State.{State as RunState, stand_of, words_after, want_of, happens, acts, after, opening, quit_with, forks_of, takes_of}
 use Rattle.ppm_step.specs.There.{is_there}
 use Rattle.ppm_step.specs.declared.ask.Want.TheVariants.{Exchanges}
@@ -100,7 +100,7 @@ dead_one _ = 0
 abbrev pub AreLow : (s : Shape) (raised : ℕ) → List ℕ → Type 0
 AreLow s raised ws = (v : ℕ) → v < s.processors → IsHolderWithin s raised (view s ws) (view s ws (Holder v))
 
-module _ (s : Shape) (raised : ℕ) (ws : List ℕ) (fit : AreWordsOf s ws) (low : AreLow s raised ws) where
+module _ (s : Shape) (raised : ℕ) (ws : List ℕ) (low : AreLow s raised ws) where
   abbrev first : Spot → Word
   first = view s ws
 
@@ -166,7 +166,7 @@ module _ (s : Shape) (code : CodeParts) (state : RunState) (h : ℕ → Home) (f
   sees_at x e = subst (Sees s m (kinds s ws) (bottoms s ws) c) e (lawful.1.sees c)
 
   quiet_store : (at : Cell) (w : ℕ) → IsCell s at → tells at ≡ false → Low (store s ws at w)
-  quiet_store at w is quiet = quiet_low s raised ws lawful.0 low at w is quiet
+  quiet_store at w is quiet = quiet_low s raised ws low at w is quiet
 
   quiet_try : (at : Cell) (old new : ℕ) → IsCell s at → tells at ≡ false → Low (words_after ws (Exchanges (address s at) old new))
   quiet_try at old new is quiet = by (read s ws at == old)
@@ -195,7 +195,7 @@ module _ (s : Shape) (code : CodeParts) (state : RunState) (h : ℕ → Home) (f
         let one = one_is (m (Dead o.processor)) killed in
         let own_ : n.processor ≡ c = a.1 ∙ sits.own in
         let none : one_dead (m (Dead n.processor)) ≡ 0 = ap (λ (q : ℕ). one_dead (m (Dead q))) own_ ∙ one_alive (m (Dead c)) sits.carried.lives.alive in
-        holder_low s raised ws lawful.0 low v (word_of (AHolder n)) lv
+        holder_low s raised ws low v (word_of (AHolder n)) lv
         (subst (IsHolderWithin s raised m) (sym behind) (subst (λ (q : ℕ). q < s.processors) (sym own_) there, omega (arith, below, one, none, up)))
     bid_low v lv (AHolder o) _ was a = absurd a
     bid_low v lv _ new was a = absurd a
@@ -236,8 +236,8 @@ module _ (s : Shape) (code : CodeParts) (state : RunState) (h : ℕ → Home) (f
   within_low : (seat : Seat) (u : ℕ) (row : Row) → stand_of state c ≡ IsWithin seat row → Low (words_after ws (wanted_row s seat u row))
   within_low seat u (Now (Load point)) e = low
   within_low seat u (Now (Install r)) e = install_low seat (Now (Install r)) e r
-  within_low seat u (Now (Fork block)) e = install_low seat (Now (Fork block)) e _
-  within_low seat u (Now (Begin block frame bottom)) e = install_low seat (Now (Begin block frame bottom)) e _
+  within_low seat u (Now (Fork block)) e = install_low seat (Now (Fork block)) e (forked_by seat block)
+  within_low seat u (Now (Begin block frame bottom)) e = install_low seat (Now (Begin block frame bottom)) e (begun frame bottom)
   within_low seat u (Now (Move place)) e = quiet_store (cells.CarryWord seat.own) place (subst (λ (q : ℕ). q < s.processors) (sym (sits seat (Now (Move place)) e).own) there) refl
   within_low seat u (Now (Enter capsule)) e = low
   within_low seat u (Now Again) e = low
@@ -272,7 +272,7 @@ module _ (s : Shape) (code : CodeParts) (state : RunState) (h : ℕ → Home) (f
 
   -- it dies, and lived before
   dies_low : (IsDead (m (Dead c)) → ⊥) → Low (store s ws (cells.DeadWord c) 1)
-  dies_low alive = dead_low s raised ws lawful.0 low c 1 there (ap one_dead (view_here s ws (Dead c) 1 lawful.0 (lt-ltb c s.processors there))) (one_alive (m (Dead c)) alive)
+  dies_low alive = dead_low s raised ws low c 1 there (ap one_dead (view_here s ws (Dead c) 1 lawful.0 (lt-ltb c s.processors there))) (one_alive (m (Dead c)) alive)
 
   act_low : (act : Act) (x : Standing) → stand_of state c ≡ x → Low (acts s code state c act x).words
   act_low (Step u) x e = step_low u x e

@@ -1,22 +1,6 @@
 use Rattle.ppm_driver.proofs.LeftLemmas.{left_words_come_back}
 use Rattle.ppm_driver.proofs.legs.left_words_come_back.Goals as goal
 
--- from the laws of texts, of codes, of images and of runs, that tags stay low, and of renewed words
+-- as no tag is the last
 pub returns : goal.returns
-returns c = record {
-  law = left_words_come_back (record {
-    within = c.trees_are_within.ensures.law;
-    rules = c.keeps_the_rules.ensures.law;
-    sound = c.code_is_sound.ensures.law;
-    starts = c.start_with_input.ensures.law;
-    names = c.name_arrays.ensures.law;
-    serially = c.ends_serially.ensures.law;
-    meant = c.end_as_meant.ensures.law;
-    shown = c.images_begin_the_depth_first_run.ensures.shown;
-    runs = c.runs_end_so.ensures.ends;
-    once = c.runs_end_so.ensures.once;
-    room = c.room_is_spent.ensures.so;
-    work = c.work_is_bounded.ensures.within;
-    whole = c.nothing_breaks.ensures.law;
-  }) c.tags_stay_low.ensures.law c.renewed_words_come_back.ensures.law;
-}
+returns c = record { law = left_words_come_back c.runs_in_legs_are_as_programs.ensures.tags c.renewed_words_come_back.ensures.law }
