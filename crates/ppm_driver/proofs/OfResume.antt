@@ -235,9 +235,9 @@ module _ (law : RunsInLegsAreAsPrograms) (comes : LeftWordsComeBack) (options : 
   of_ports = record { read_fault = λ f. f; write_fault = λ f. f; memory = tt }
 
   -- that words are broken comes late
-  late : (items : List PlanItem) (z : SavedState) (place : ℕ) (h : ItemsHave options o.told_before o.told_now items z (answers.Broken place)) → ComesLate options plan o {items = items} {z = z} {place = place} h
-  late items z place (inl k) = λ source left. left_stands law comes options o.told_before o.told_now items z source left k.0.none
-  late items z place (inr run) = resumed_breaks law comes options o.told_before o.told_now items z place run
+  late : (items : List PlanItem) (z : SavedState) (place : ℕ) → ItemsHave options o.told_before o.told_now items z (answers.Broken place) → ComesLate options plan o items z place
+  late items z place (inl k) source left = absurd (left_stands law comes options o.told_before o.told_now items z source left k.0.none)
+  late items z place (inr run) source left = (run, resumed_breaks law comes options o.told_before o.told_now items z place run source left)
 
   -- an answer that is written says the sentence of its status
   by : (answer : Answer) → Reads answer → IsWritten o.out o.err answer (status_of answer) → ResumeSays options plan o (status_of answer)

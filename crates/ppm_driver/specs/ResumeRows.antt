@@ -1,6 +1,6 @@
 -- What follows from each status of `resume`. What is said of programs is said of each source whose program left the state: a run of it came to
 -- the saved words, whatever was stopped and resumed how often before.
-use Rattle.std.specs.Prelude.{◌≡◌, ◌⊎◌, ℕ, ◌<◌, ◌≤◌, ◌^◌, List, [], ◌∷◌, Some, inl, inr}
+use Rattle.std.specs.Prelude.{◌≡◌, ◌⊎◌, ℕ, ◌<◌, ◌≤◌, ◌^◌, List, [], ◌∷◌, Some}
 use Rattle.ppm_words.specs.declared.named_array.NamedArray.{NamedArray}
 use Rattle.ppm_words.specs.declared.outcome.Outcome.TheVariants as outcome
 use Rattle.ppm_words.specs.declared.trap.Trap.{Trap}
@@ -28,7 +28,7 @@ use Rattle.ppm_driver.specs.Strikes.{fault_count}
 use Rattle.ppm_driver.specs.Completeness.{IsEnough}
 use Rattle.ppm_driver.specs.Legs.{worked_in_all, struck_in_all, NoneIsTakenTwiceInAll, EndsAsProgramInAll, IsAsProgramInAll}
 use Rattle.ppm_driver.specs.ResumeCompleteness.{faults_with}
-use Rattle.ppm_driver.specs.Resumes.{SavedState, saved_finish, IsTextOf, ResumedHas, ItemsHave, TextHas, IsLeftBy, legs_with}
+use Rattle.ppm_driver.specs.Resumes.{SavedState, saved_finish, IsTextOf, ResumedHas, TextHas, IsLeftBy, legs_with}
 use Rattle.ppm_plan.specs.declared.plan_item.PlanItem.{PlanItem}
 
 module _ (options : ResumeOptions) (plan : List ℕ) (o : Outside) where
@@ -111,19 +111,17 @@ module _ (options : ResumeOptions) (plan : List ℕ) (o : Outside) where
     pub once : IsOnce read.2.has.has
     pub gets : Gets o.err (room_text place)
 
-  -- that words are broken is said of no state that a program left, where the saved finish word stands for nothing; and where the run says it,
-  -- each program that left the state has made more than 2^34 work turns, in all its legs and this run
-  abbrev pub ComesLate : {items : List PlanItem} {z : SavedState} {place : ℕ} → ItemsHave options o.told_before o.told_now items z (answers.Broken place)
-      → Type 0
-  ComesLate {z = z} (inl before) = (source : List ℕ) → IsLeftBy source z → ⊥
-  ComesLate {z = z} (inr run) = (source : List ℕ) (left : IsLeftBy source z)
-      → 2 ^ 34 < worked_in_all left.start (legs_with left run.start.state.words) run.run.turns
+  -- that words are broken is said of a state that a program left only behind a run from it, and so late: that program has made more than 2^34
+  -- work turns then, in all its legs and this run
+  abbrev pub ComesLate : List PlanItem → SavedState → (place : ℕ) → Type 0
+  ComesLate items z place = (source : List ℕ) (left : IsLeftBy source z)
+      → (run : Resumed items z (answers.Broken place)) × (2 ^ 34 < worked_in_all left.start (legs_with left run.start.state.words) run.run.turns)
 
   -- the words are broken, so late, and err got exactly the line that says so
   pub record WritesBroken : Type 0 where
     pub place : ℕ
     pub read : HasRead (answers.Broken place)
-    pub late : ComesLate read.2.has.has
+    pub late : ComesLate read.2.has.items read.2.state place
     pub gets : Gets o.err (broken_text place)
 
   -- what each status says
