@@ -1,6 +1,6 @@
 -- By entries, each load of a place that checks what it stole leads to what is sound, through any number of
 -- closed places: by what tickets say of such a load.
-use Rattle.std.proofs.Common.{◌≡◌, ◌⊎◌, ◌≤◌, ◌<◌, ℕ, zero, suc, ◌+◌, ◌==◌, ◌-◌, Bool, true, false, if◌then◌else◌, List, Option, Some, None, inl, inr, refl, sym, ap, ◌∙◌, subst, arith}
+use Rattle.std.proofs.Common.{◌≡◌, ◌≤◌, ◌<◌, ℕ, ◌+◌, ◌==◌, ◌-◌, Bool, true, false, if◌then◌else◌, List, Option, Some, None, inl, inr, refl, sym, ap, ◌∙◌, subst, arith}
 use Rattle.std.specs.Prelude.{nat_lt, ◌&&◌, ◌^◌}
 use Rattle.std.proofs.lemmas.Bool.{ltb-true, lt-ltb, eqb-true}
 use Rattle.ppm_strands.specs.Tree.{Words, Tree}
@@ -28,7 +28,7 @@ use Rattle.ppm_code.specs.declared.location.FrameWord.{FrameWord}
 use Rattle.ppm_step.specs.Contents.{content_of, read_so}
 use Rattle.ppm_step.specs.Points.{cell_at, reading_at}
 use Rattle.ppm_step.specs.Rows.{on_restart, on_link, with_kind, taken_entry, took, goes_on_with, taken_message, at_bottom, above_bottom, below_bottom, by_slot, follows, closed_link, closed_bottom, found_at}
-use Rattle.ppm_step.specs.Standings.{Standing, IsWithin, point_is_there}
+use Rattle.ppm_step.specs.Standings.{IsWithin, point_is_there}
 use Rattle.ppm_step.specs.State.{State as RunState, stand_of}
 use Rattle.ppm_step.specs.There.{kind_is_there, bottom_is_there, restart_is_there}
 use Rattle.ppm_step.specs.declared.content.Content.TheVariants.{ARestart, AnEntry, ALink}
@@ -37,13 +37,13 @@ use Rattle.ppm_step.specs.declared.row.Point.TheVariants.{Offset, TakenMessage, 
 use Rattle.ppm_step.specs.declared.row.Row.{Row}
 use Rattle.ppm_step.specs.declared.row.Row.TheVariants.{Now}
 use Rattle.ppm_step.specs.declared.row.Seat.{Seat}
-use Rattle.ppm_step.specs.declared.row.Then.TheVariants.{Load, Install, Fork, Broken}
+use Rattle.ppm_step.specs.declared.row.Then.TheVariants.{Load, Install, Broken}
 use Rattle.ppm_tickets.specs.Heirs.{InheritsAt, MayBegin, ChecksSo}
 use Rattle.ppm_tickets.specs.Homes.{Home, Popping}
 use Rattle.ppm_tickets.specs.Lawful.{IsLocal, IsClaim, IsThief, Gives, Pops, Closed, active, active_at, is_local}
-use Rattle.ppm_tickets.specs.Saw.{Sees, Sits}
+use Rattle.ppm_tickets.specs.Saw.{Sees}
 use Rattle.ppm_tickets.specs.View.{word_as, view, kinds, bottoms, restart_or, seeking, restart_at}
-use Rattle.ppm_tickets.specs.Words.{Word, Empty, Local, Job, Taken, Held, Number, Linked, Restarts, Unread, Spot, Message, Slot}
+use Rattle.ppm_tickets.specs.Words.{Word, Local, Taken, Spot, Message, Slot}
 use Rattle.ppm_tickets.proofs.EffectLemmas.{deque_as, not_local_taken}
 use Rattle.ppm_tickets.proofs.EstateLemmas.{as_shown}
 use Rattle.ppm_tickets.proofs.HeirRows.{heirs_see}
@@ -62,7 +62,7 @@ use Rattle.ppm_runs.specs.Follow.{IsHalves}
 use Rattle.ppm_runs.specs.Sound.{IsRising, IsRisingEntry, Told, Noted, IsRestartThere, IsSoundAt, IsSoundRow, IsSound}
 use Rattle.ppm_runs.proofs.OpenedLemmas.{link_read}
 use Rattle.ppm_runs.proofs.ShownLemmas.{away}
-use Rattle.ppm_runs.proofs.SoundRows.{Here, Blocks, SoundAt, seat_of, seeks, goes_to, entry_there, by_slot as find_slot, by_rising, bottom_ok, bottom_low, bottom_high, offered, begins, restart_known, here_of, can_take, and_is, and_left, and_right}
+use Rattle.ppm_runs.proofs.SoundRows.{Here, Blocks, SoundAt, seat_of, seeks, goes_to, by_slot as find_slot, by_rising, bottom_ok, bottom_low, bottom_high, offered, begins, restart_known, here_of, can_take, and_is, and_left, and_right}
 use Rattle.ppm_runs.proofs.StandLemmas.{kinds_same}
 
 -- by entries a load of a Check needs no more than tickets say

@@ -11,7 +11,8 @@
 -- are numbers of capsules and what is over has an outcome (`WellWords`, with places left out `WellLeft`), so rows and
 -- capsules of strands meet no broken words (`WellRows`, `ArrayLemmas`, `WellRuns`, `WellStands`), and that stays
 -- (`WellCapsules`, `WellTurns`, `HeirWell`). Half of the work turns at most raise a tag (`RaisedLemmas`), and
--- `UnbrokenLemmas` has all of it in whole runs.
+-- `UnbrokenLemmas` has all of it in whole runs. Who holds a place changes by bids alone (`BidLemmas`), so tags
+-- of holders stay low over legs (`TagLemmas`), and what is sound is so again behind each (`LegSound`).
 
 pub mod TameLemmas
 pub mod StandLemmas
@@ -47,6 +48,8 @@ pub mod ForkLemmas
 pub mod LegForks
 pub mod SoundRows
 pub mod CheckRows
+pub mod BidLemmas
+pub mod HolderLemmas
 pub mod SoundLemmas
 pub mod SoundTurns
 pub mod WellWords
@@ -64,3 +67,4 @@ pub mod UnbrokenLemmas
 pub mod TagLemmas
 pub mod LegWork
 pub mod HeirWork
+pub mod LegSound

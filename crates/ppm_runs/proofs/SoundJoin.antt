@@ -1,6 +1,6 @@
 -- What the deques' rows ask of the frames, from a run's state.
 use Rattle.std.proofs.Common.{◌≡◌, ◌≢◌, ◌≤◌, ◌<◌, ℕ, ◌+◌, ◌==◌, true, false, List, inl, inr, refl, sym, ap, ◌∙◌, subst, arith, []}
-use Rattle.std.specs.Prelude.{nat_lt, ◌^◌}
+use Rattle.std.specs.Prelude.{nat_lt}
 use Rattle.std.proofs.lemmas.Bool.{cases_lt, le-ltb, eq-eqb}
 use Rattle.ppm_strands.specs.Tree.{Words, Tree}
 use Rattle.ppm_cells.specs.Cells.{word_count}
@@ -19,8 +19,9 @@ use Rattle.ppm_capsules.specs.Strand.{Frame}
 use Rattle.ppm_code.specs.Strands.{Point, Result}
 use Rattle.ppm_code.specs.declared.code.CodeParts.{CodeParts}
 use Rattle.ppm_code.specs.declared.location.FrameWord.{FrameWord}
+use Rattle.ppm_step.specs.Points.{offset_word}
 use Rattle.ppm_step.specs.Standings.{IsWithin}
-use Rattle.ppm_step.specs.State.{State as RunState, stand_of, happens}
+use Rattle.ppm_step.specs.State.{State as RunState, stand_of}
 use Rattle.ppm_step.specs.declared.row.Point.TheVariants.{Offset}
 use Rattle.ppm_step.specs.declared.row.Row.TheVariants.{Now}
 use Rattle.ppm_step.specs.declared.row.Seat.{Seat}
@@ -33,7 +34,7 @@ use Rattle.ppm_tickets.specs.View as spots
 use Rattle.ppm_tickets.proofs.TakingRows.{heirs_take}
 use Rattle.ppm_tickets.proofs.ViewLemmas.{if_false}
 use Rattle.ppm_frames.specs.Views.{is_cell}
-use Rattle.ppm_frames.specs.Skeletons.{Stand, Begins, Over, Arrives, InPlace, Waiting, Skeleton, Leaf, Forking, count, hook_at}
+use Rattle.ppm_frames.specs.Skeletons.{Stand, Begins, Over, Arrives, InPlace, Waiting, Skeleton, Leaf, Forking, count, Around, plug, hook_at}
 use Rattle.ppm_frames.specs.Good.{Match, Good}
 use Rattle.ppm_frames.proofs.SkeletonLemmas.{inside_at}
 use Rattle.ppm_frames.proofs.SwapLemmas.{good_here}
@@ -128,6 +129,9 @@ module _ (s : Shape) (code : CodeParts) (fair : IsFair code) (root : Tree (Frame
       let ke : kinds_of s state.words p ≡ k = kinds_same s state.words p ∙ e in
       left_there p r (seeks_out p k ke ne) k (kind_away l (places_of s state).kind p (away l run.lawful.1.board.gone p run.gone stays) ∙ ke) one at_
 
+  good_at : (c : Around) (u : Skeleton) → t ≡ plug c u → Good code z.words z.kind (hook_at Root c) u
+  good_at c u is = good_here code z.words z.kind Root c u (subst (Good code z.words z.kind Root) is law.good)
+
   pub blocks : Agrees t (λ r. fate_of (h r)) → Blocks s code state.words run.lawful.1.board.gone h
   blocks agrees = record {
     pushes = λ p r stays which. elim which [
@@ -142,11 +146,13 @@ module _ (s : Shape) (code : CodeParts) (fair : IsFair code) (root : Tree (Frame
         let one4 : 1 ≤ count (hook_at Root g.around) node (r + 4) = (let one = inside_at (r + 4) 1 (r + 4) 0 (omega arith) (omega arith) in omega (arith, one)) in
         let at4 = (in_part i fair root input z t law 0 some g.around node g.is (r + 4) one4).cell_is in
         let low = (in_part i fair root input z t law 0 some g.around node g.is waits.0 (let one = inside_at waits.0 (6 + g.low_slots) waits.0 0 (omega arith) (omega arith) in omega (arith, one))).cell_is in
-        let good = good_here code z.words z.kind Root g.around node (subst (Good code z.words z.kind Root) g.is law.good) in
+        let good = good_at g.around node g.is in
         let right : waits.0 ≡ r + z.words (BlockWord (r + 4)) = good.0.right in
         let sum = counted i fair root input z t law 0 g.around node (r + 4) g.is in
         let seen = tree_same i root input (places_of s state) l run.apart t law (r + 4) (λ none. omega (arith, none, sum, one4)) in
-        (cell_low s (r + 4) at4, subst (λ (x : ℕ). x < word_count s) (right ∙ ap (λ (w : ℕ). r + w) (seen ∙ view_is s state.words (BlockWord (r + 4)) at4)) (cell_low s waits.0 low));
+        let word : z.words (BlockWord (r + 4)) ≡ read s state.words (offset_word r) = seen ∙ view_is s state.words (BlockWord (r + 4)) at4 in
+        let there = cell_low s waits.0 low in
+        (cell_low s (r + 4) at4, omega (arith, right, word, there));
   }
 
 -- With either takeover, where what joins the halves does so.

@@ -30,7 +30,7 @@ use Rattle.ppm_step.specs.Points.{cell_at, reading_at}
 use Rattle.ppm_step.specs.Rows.{found_at, row_of}
 use Rattle.ppm_step.specs.Standings.{Standing, IsLost, IsPlaced, IsAt, IsWithin, IsRunning, IsBroken, IsDone, begun, forked, point_is_there, rest_is_there, within_if, running_if, running, enters, stands_then, stands, begins_if, at_finish, placed}
 use Rattle.ppm_step.specs.State.{State as RunState, stand_of, happens, acts, quit_with, is_work, is_step}
-use Rattle.ppm_step.specs.There.{is_there, kind_is_there, bottom_is_there, restart_is_there}
+use Rattle.ppm_step.specs.There.{is_there, restart_is_there}
 use Rattle.ppm_step.specs.declared.content.Content.{Content}
 use Rattle.ppm_step.specs.declared.content.Content.TheVariants.{ANumber, AnEntry, AHolder, AFinish}
 use Rattle.ppm_step.specs.declared.content.Reading.TheVariants.{AsEntry, AsHolder}
@@ -54,7 +54,7 @@ use Rattle.ppm_tickets.specs.Renewal.{IsLawful}
 use Rattle.ppm_tickets.specs.Saw.{IsStrand, IsQuietCell, Carried, Sits, Sees}
 use Rattle.ppm_tickets.specs.View.{word_as, view, kinds, bottoms, is_shown, absent}
 use Rattle.ppm_tickets.specs.Words.{Word, Empty, Local, Job, Taken, Held, Number, Linked, Restarts, Unread, Spot, Message, Slot, Holder, Carry, Dead}
-use Rattle.ppm_tickets.proofs.ViewLemmas.{shows, view_here, again, if_true, if_false}
+use Rattle.ppm_tickets.proofs.ViewLemmas.{shows, view_here, again, if_false}
 use Rattle.ppm_kept.specs.Branches.{is_taker}
 use Rattle.ppm_kept.specs.Fates.{Offered}
 use Rattle.ppm_kept.proofs.BlockLemmas.{finish_back}

@@ -60,7 +60,7 @@ pub fn places_stay_home()
 
 /// With takeover by entries, what a place that checks what it stole is about to go on with: a branch that
 /// it stole; or what a closed place was at, that none has followed and from which it inherits, through
-/// closed places that inherited one from another.
+/// closed places that inherited one from another. It looks at messages of places that steal alone.
 pub fn heirs_see()
     ensures law { HeirsSee }
     ensures takes { (s : Shape) (code : CodeParts) → HeirsTake s code }
