@@ -40,13 +40,16 @@ module _ (f g : List ℕ) (t u : Skeleton) (j k : Counts) (c : AreCounted f t j)
   pub counted_more : k.forks ≡ j.forks + 1 → (q : ℕ) → has f q ≡ false → OneChanges q IsNone (Is Fresh) t u → AreCounted g u k
   counted_more one q unforked change = record {
     blocks = q ∷ c.blocks;
-    once = (elim (cases_Bool (has c.blocks q)) [
-      | inr out ↦ out
-      | inl here ↦ elim (c.each q here) [
-        | inl was ↦ absurd (let e : true ≡ false = sym was ∙ unforked in cc)
-        | inr fresh ↦ absurd ((change.old Fresh tt).0 fresh)
-      ]
-    ], c.once);
+    once = (
+      elim (cases_Bool (has c.blocks q)) [
+        | inr out ↦ out
+        | inl here ↦ elim (c.each q here) [
+          | inl was ↦ absurd (let e : true ≡ false = sym was ∙ unforked in cc)
+          | inr fresh ↦ absurd ((change.old Fresh tt).0 fresh)
+        ]
+      ],
+      c.once,
+    );
     many = let e = c.many in omega (arith, e, one);
     made = λ r e. has_more q r c.blocks (made_then r e);
     fresh = λ r h. elim (cases_eq r q) [
