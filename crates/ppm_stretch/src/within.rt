@@ -19,7 +19,10 @@ use atomic_table::Seat;
 use ppm_cells::{Restart, Shape};
 use ppm_code::Code;
 use ppm_ports::Watch;
-use ppm_step::{Content, Point, Row, Seat as Place, Then, begun, cell_is_there, forked, found_at, reading_at, then_there, want_row};
+use ppm_step::{
+    Content, Point, Row, Seat as Place, Then, begun, cell_is_there, forked, found_at, reading_at,
+    then_there, want_row,
+};
 use ppm_table::{View, Words, tell};
 
 /// Whether a victim is due for the coming step of a row.
