@@ -11,4 +11,5 @@ mod RoundLemmas
 mod RowLemmas
 mod EndingLemmas
 mod AskingLemmas
+mod PassingLemmas
 mod WaitingLemmas

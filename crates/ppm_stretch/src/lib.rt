@@ -12,10 +12,12 @@ mod capsule;
 mod ending;
 mod entering;
 mod frames;
+mod passing;
 mod refusing;
 mod rows;
 mod waiting;
 mod way;
+mod within;
 
 pub use rows::{is_due, steps};
 pub use way::Steps;

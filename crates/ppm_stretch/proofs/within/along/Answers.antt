@@ -1,0 +1,117 @@
+use Rattle.std.proofs.Common.{◌≡◌, ◌∙◌, ◌+◌, Bool, not, true, false, sym, refl, ap, subst, arith}
+use Rattle.ppm_step.specs.declared.row.Row.{Row}
+use Rattle.ppm_stretch.specs.declared.way.Behind.{Behind}
+use Rattle.ppm_stretch.specs.declared.way.PassEnd.TheVariants.{Installed, Pauses, Refused}
+use Rattle.ppm_stretch.specs.declared.way.Pause.TheVariants.{Left, Moved}
+use Rattle.ppm_stretch.specs.Passing.{FitsBehind, stands_behind}
+use Rattle.ppm_stretch.proofs.PassingLemmas.{moves_on, pass_few, passes_to, within_there}
+use Rattle.ppm_stretch.proofs.SteadyLemmas.{fine_is, fine_not, moves_none, refuses_both}
+use Rattle.ppm_stretch.proofs.within.along.Goals as goal
+
+pub loop-made-init : goal.loop-made-init
+loop-made-init g c = (
+  omega arith,
+  refl,
+  c.requires.row,
+  moves_none g.W.Watch.told c.args.words.now.shared.key c.args.seat.now.own c.args.mine.now.me c.args.watch.now c.requires.sits,
+  c.requires.stands,
+)
+
+pub step_in-step-requires-clause-stands : goal.step_in-step-requires-clause-stands
+step_in-step-requires-clause-stands g c κs within =
+    c.loop-made.invariant.4
+    ∙ within_there c.args.shape.now c.args.code.now c.args.seat.now c.loop-made.left (c.if-not-is_free.ensures.there refl)
+
+pub step_in-step-requires-clause-there : goal.step_in-step-requires-clause-there
+step_in-step-requires-clause-there g c κs within = c.if-not-is_free.ensures.there refl
+
+pub step_in-step-requires-clause-due : goal.step_in-step-requires-clause-due
+step_in-step-requires-clause-due g c κs within = c.if-not-is_free.ensures.due refl
+
+pub loop-made-preserved : goal.loop-made-preserved
+loop-made-preserved g c =
+    let k = c.args.words.now.shared.key in
+    let i = c.loop-made.invariant in
+    let step = c.step_in-step in (
+      omega (arith, c.loop-made-test.true),
+      step.ensures.table ∙ i.1,
+      subst (λ (b : Behind). FitsBehind c.args.shape.now b) c.in-Left.is step.ensures.fits,
+      moves_on g.W.Watch.told k c.args.seat.now.own c.args.mine.now.me c.loop-made.mine.me step.new.mine.me c.args.watch.now c.loop-made.watch step.new.watch
+          c.loop-made.made c.loop-made.exchanged step.result.exchanged c.one_of-exchanged.result c.one_of-exchanged.ensures i.3 (step.ensures.moves (fine_is _ c.if-not-step.false)),
+      step.ensures.stands ∙ ap (λ (b : Behind). stands_behind c.args.shape.now c.args.code.now c.args.seat.now b) c.in-Left.is,
+    )
+
+pub returns-then-not-is_free-clause-few : goal.returns-then-not-is_free-clause-few
+returns-then-not-is_free-clause-few g c =
+    pass_few g.W.Watch.told c.loop-made.made c.loop-made.exchanged (Pauses (Left c.loop-made.left)) c.args.most c.passed.result c.passed.ensures c.loop-made.invariant.0
+
+pub returns-then-not-is_free-clause-passed : goal.returns-then-not-is_free-clause-passed
+returns-then-not-is_free-clause-passed g c =
+    let i = c.loop-made.invariant in
+    passes_to g.W.Watch.told c.args.words.now.shared.key c.args.shape.now c.args.code.now c.args.seat.now c.args.mine.now.me c.loop-made.mine.me c.args.watch.now c.loop-made.watch
+    c.args.most c.loop-made.made c.loop-made.exchanged (Pauses (Left c.loop-made.left)) c.passed.result c.passed.ensures (i.3, (c.requires.seat, i.2, i.4))
+
+pub returns-then-not-step-clause-few : goal.returns-then-not-step-clause-few
+returns-then-not-step-clause-few g c =
+    pass_few g.W.Watch.told c.loop-made.made c.loop-made.exchanged (Refused true) c.args.most c.passed-then-not-step.result c.passed-then-not-step.ensures c.loop-made.invariant.0
+
+pub returns-then-not-step-clause-passed : goal.returns-then-not-step-clause-passed
+returns-then-not-step-clause-passed g c =
+    let i = c.loop-made.invariant in
+    let step = c.step_in-step in
+    passes_to g.W.Watch.told c.args.words.now.shared.key c.args.shape.now c.args.code.now c.args.seat.now c.args.mine.now.me step.new.mine.me c.args.watch.now step.new.watch
+    c.args.most c.loop-made.made c.loop-made.exchanged (Refused true) c.passed-then-not-step.result c.passed-then-not-step.ensures
+    (refuses_both g.W.Watch.told c.args.words.now.shared.key c.args.seat.now.own c.args.mine.now.me c.loop-made.mine.me step.new.mine.me c.args.watch.now c.loop-made.watch step.new.watch
+    c.loop-made.made c.loop-made.made 0 c.loop-made.exchanged true 1 c.args.most (omega (arith, c.loop-made-test.true)) i.3 (step.ensures.refuses (fine_not _ c.if-not-step.true)))
+
+pub returns-in-Installed-clause-few : goal.returns-in-Installed-clause-few
+returns-in-Installed-clause-few g c =
+    pass_few g.W.Watch.told (c.loop-made.made + 1) c.one_of-exchanged.result (Installed c.in-Installed.restart) c.args.most c.passed-in-Installed.result c.passed-in-Installed.ensures
+    (omega (arith, c.loop-made-test.true))
+
+pub returns-in-Installed-clause-passed : goal.returns-in-Installed-clause-passed
+returns-in-Installed-clause-passed g c =
+    let k = c.args.words.now.shared.key in
+    let i = c.loop-made.invariant in
+    let step = c.step_in-step in
+    passes_to g.W.Watch.told k c.args.shape.now c.args.code.now c.args.seat.now c.args.mine.now.me step.new.mine.me c.args.watch.now step.new.watch
+    c.args.most (c.loop-made.made + 1) c.one_of-exchanged.result (Installed c.in-Installed.restart) c.passed-in-Installed.result c.passed-in-Installed.ensures (
+      omega arith,
+      moves_on g.W.Watch.told k c.args.seat.now.own c.args.mine.now.me c.loop-made.mine.me step.new.mine.me c.args.watch.now c.loop-made.watch step.new.watch
+          c.loop-made.made c.loop-made.exchanged step.result.exchanged c.one_of-exchanged.result c.one_of-exchanged.ensures i.3 (step.ensures.moves (fine_is _ c.if-not-step.false)),
+      (
+        refl,
+        subst (λ (b : Behind). FitsBehind c.args.shape.now b) c.in-Installed.is step.ensures.fits,
+        step.ensures.stands ∙ ap (λ (b : Behind). stands_behind c.args.shape.now c.args.code.now c.args.seat.now b) c.in-Installed.is,
+      ),
+    )
+
+pub returns-in-Moved-clause-few : goal.returns-in-Moved-clause-few
+returns-in-Moved-clause-few g c =
+    pass_few g.W.Watch.told (c.loop-made.made + 1) c.one_of-exchanged.result (Pauses (Moved c.in-Moved.place)) c.args.most c.passed-in-Moved.result c.passed-in-Moved.ensures
+    (omega (arith, c.loop-made-test.true))
+
+pub returns-in-Moved-clause-passed : goal.returns-in-Moved-clause-passed
+returns-in-Moved-clause-passed g c =
+    let k = c.args.words.now.shared.key in
+    let i = c.loop-made.invariant in
+    let step = c.step_in-step in
+    passes_to g.W.Watch.told k c.args.shape.now c.args.code.now c.args.seat.now c.args.mine.now.me step.new.mine.me c.args.watch.now step.new.watch
+    c.args.most (c.loop-made.made + 1) c.one_of-exchanged.result (Pauses (Moved c.in-Moved.place)) c.passed-in-Moved.result c.passed-in-Moved.ensures (
+      moves_on g.W.Watch.told k c.args.seat.now.own c.args.mine.now.me c.loop-made.mine.me step.new.mine.me c.args.watch.now c.loop-made.watch step.new.watch
+          c.loop-made.made c.loop-made.exchanged step.result.exchanged c.one_of-exchanged.result c.one_of-exchanged.ensures i.3 (step.ensures.moves (fine_is _ c.if-not-step.false)),
+      (
+        subst (λ (b : Behind). FitsBehind c.args.shape.now b) c.in-Moved.is step.ensures.fits,
+        step.ensures.stands ∙ ap (λ (b : Behind). stands_behind c.args.shape.now c.args.code.now c.args.seat.now b) c.in-Moved.is,
+      ),
+    )
+
+pub returns-clause-few : goal.returns-clause-few
+returns-clause-few g c =
+    pass_few g.W.Watch.told c.loop-made.made c.loop-made.exchanged (Pauses (Left c.loop-made.left)) c.args.most c.passed-2.result c.passed-2.ensures c.loop-made.invariant.0
+
+pub returns-clause-passed : goal.returns-clause-passed
+returns-clause-passed g c =
+    let i = c.loop-made.invariant in
+    passes_to g.W.Watch.told c.args.words.now.shared.key c.args.shape.now c.args.code.now c.args.seat.now c.args.mine.now.me c.loop-made.mine.me c.args.watch.now c.loop-made.watch
+    c.args.most c.loop-made.made c.loop-made.exchanged (Pauses (Left c.loop-made.left)) c.passed-2.result c.passed-2.ensures (i.3, (c.requires.seat, i.2, i.4))
