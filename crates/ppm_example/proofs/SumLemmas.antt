@@ -1,14 +1,16 @@
 -- What `sum` does to a region of values drawn: by halves it leaves their sum in the first word, and the last value in the last.
-use Rattle.std.proofs.Common.{◌≡◌, ◌≢◌, ◌∙◌, ◌⊎◌, inl, inr, ℕ, zero, suc, ◌+◌, ◌-◌, ◌*◌, ◌/◌, ◌<◌, ◌≤◌, Bool, true, false, nat_lt, nat_le, List, [], ◌∷◌, ◌++◌, length, get_or, refl, sym, ap, subst, arith, None}
-use Rattle.std.specs.Prelude.{ℤ, pos, codes, set, int_lt, int_div, Ok}
+use Rattle.std.proofs.Common.{◌≡◌, ◌≢◌, ◌∙◌, ◌⊎◌, inl, inr, ℕ, zero, suc, ◌+◌, ◌-◌, ◌*◌, ◌/◌, ◌<◌, ◌≤◌, Bool, true, cond, nat_lt, nat_le, List, [], ◌∷◌, ◌++◌, length, get_or, refl, sym, ap, subst, arith, None}
+use Rattle.std.specs.Prelude.{ℤ, pos, codes, set, int_lt, int_div, Ok, Err}
 use Rattle.std.specs.List.{sum_by}
 use Rattle.std.proofs.lemmas.Bool.{le-leb}
 use Rattle.std.proofs.lemmas.List.{length-set, get_or-set_same, get_or-set_other}
 use Rattle.std.proofs.lemmas.List.Sums.{sum_by-append}
 use Rattle.ppm_words.specs.Limits.{value_bound}
 use Rattle.ppm_tree.specs.declared.operator.Operator.TheVariants as operator
-use Rattle.ppm_tree.specs.Tree.{Number, Len, Binary, Block, Nil, Split}
-use Rattle.ppm_tree.specs.State.{then_with, Region, first_part, second_part, Frame, empty_frame, with_region, Arrays, split_at, evaluate}
+use Rattle.ppm_tree.specs.Tree.{Number, Len, Binary, Nil, Procedure}
+use Rattle.ppm_words.specs.declared.trap.Trap.TheVariants as trap
+use Rattle.ppm_tree.specs.Values.{fits}
+use Rattle.ppm_tree.specs.State.{TrapAt, then_with, at_line, tested, Region, first_part, second_part, Frame, empty_frame, with_region, Arrays, split_at, evaluate}
 use Rattle.ppm_tree.specs.Meaning.{Plain, Counts, spent, none, both, forked, End, Ended, stored, with_parts, Runs, Follows, Enters, Enter, Done, GoesOn, Ifs, Splits, Forks, Puts}
 use Rattle.ppm_cut_correct.specs.Correct.{words_begun}
 use Rattle.ppm_plan.specs.Sources.{value_at}
@@ -40,14 +42,14 @@ stretch s m = record { array = 0; start = s; length = m }
 abbrev pub frame_of : Region → Frame
 frame_of region = with_region empty_frame (codes "a") region
 
-abbrev pub sum_procedure : _
+abbrev pub sum_procedure : Procedure
 sum_procedure = procedure (sum 3) sum_body
 
 -- the words that a run takes for its calls and forks
 abbrev pub took : Counts → ℕ
 took k = sum_by (words_begun procedures) k.begun
 
-both_took : (j k : Counts) → took (both j k) ≡ took j + took k
+pub both_took : (j k : Counts) → took (both j k) ≡ took j + took k
 both_took j k = sum_by-append (words_begun procedures) j.begun k.begun
 
 -- the words of a region are values drawn
@@ -78,12 +80,15 @@ test_passes s m ws more = rw (one_is_less m more) refl
 half_is : (m : ℕ) → int_div (pos m) (pos 2) ≡ pos (m / 2)
 half_is m = refl
 
+passed_test : (stop : TrapAt) (h : ℕ) (b : Bool) → b ≡ true → tested b stop h ≡ Ok h
+passed_test stop h b holds = subst (λ (c : Bool). tested c stop h ≡ Ok h) (sym holds) refl
+
 split_passes : (s m h : ℕ) (ws : List ℤ) → int_div (pos m) (pos 2) ≡ pos h → h ≤ m → m ≤ 4096
     → then_with (evaluate (frame_of (stretch s m)) (ws ∷ []) (Binary operator.Div 3 (Len (a 3)) (Number (pos 2)))) (split_at 3 (stretch s m)) ≡ Ok h
 split_passes s m h ws half within small =
-    let fits : nat_lt h value_bound ≡ true = le-leb (suc h) value_bound (omega (arith, within, small)) in
-    let inside : nat_le h m ≡ true = le-leb h m within in
-    rw (half, fits, inside) refl
+    subst (λ (z : ℤ). then_with (at_line 3 (cond (fits z) (Ok z) (Err trap.Overflow))) (split_at 3 (stretch s m)) ≡ Ok h) (sym half)
+    (subst (λ (b : Bool). then_with (at_line 3 (cond b (Ok (pos h)) (Err trap.Overflow))) (split_at 3 (stretch s m)) ≡ Ok h)
+    (sym (le-leb (suc h) value_bound (omega (arith, within, small)))) (passed_test (trap.Split, 3) h (nat_le h m) (le-leb h m within)))
 
 -- the frame of the block, with both halves
 abbrev block_frame : (s m h : ℕ) → Frame
