@@ -1,5 +1,5 @@
 -- The example's tree keeps the rules of names and regions, by a test of each use, and the bounds of the compiler.
-use Rattle.std.proofs.Common.{◌≡◌, ◌≢◌, ◌<◌, ◌≤◌, ℕ, zero, suc, ◌+◌, ◌==◌, Bool, true, false, not, ◌&&◌, nat_le, List, [], ◌∷◌, Option, Some, None, length, codes, refl, sym, ap, subst, arith, inl, inr}
+use Rattle.std.proofs.Common.{◌≡◌, ◌≤◌, ℕ, zero, suc, ◌+◌, ◌==◌, Bool, true, false, not, ◌&&◌, nat_le, List, [], ◌∷◌, Option, Some, None, length, codes, refl, ap, subst, arith, inl, inr}
 use Rattle.std.specs.Bool.{Decides}
 use Rattle.std.specs.List.{Contains}
 use Rattle.std.specs.Str.{bytes_eq}
@@ -14,7 +14,7 @@ use Rattle.ppm_regions.specs.declared.ask.Ask.{Ask}
 use Rattle.ppm_regions.specs.declared.ask.Ask.TheVariants as ask
 use Rattle.ppm_regions.specs.declared.region_error.RegionError.{RegionError}
 use Rattle.ppm_regions.specs.Scope.{Declaration, Scope, declared}
-use Rattle.ppm_regions.specs.Uses.{Lending, Use, Asks, NoName, Declares, Calls, Delivers, Lends, Targets, Begins, MainTakes, MainGives, Fills}
+use Rattle.ppm_regions.specs.Uses.{Lending, Use, Asks, Declares, Calls, Lends, Begins, MainTakes, Fills}
 use Rattle.ppm_regions.specs.Uses.{Site, callee_of, sites_of}
 use Rattle.ppm_regions.specs.Faults.{fits, array_named, IsWrong}
 use Rattle.ppm_regions.specs.Faults as fault
@@ -22,12 +22,7 @@ use Rattle.ppm_regions.specs.Admission.{IsAdmitted}
 use Rattle.ppm_regions.proofs.Elements.{contains_cases}
 use Rattle.ppm_cut_bounds.specs.Bounds.{IsWithinBounds}
 use Rattle.ppm_example.specs.Example.{values_drawn, example_tree, procedure, named, alone, sum_of, a}
-
--- both parts of a test that holds
-both_hold : (a b : Bool) → (a && b) ≡ true → (a ≡ true) × (b ≡ true)
-both_hold true true h = (refl, refl)
-both_hold true false h = absurd (cc)
-both_hold false b h = absurd (cc)
+use Rattle.ppm_example.proofs.LexingLemmas.{both_hold}
 
 -- what fails does not hold
 no : false ≡ true → ⊥

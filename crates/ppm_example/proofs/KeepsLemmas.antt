@@ -1,5 +1,5 @@
 -- Tokens that count little pass no limit: those that count nothing, and those that pass none where more was counted before.
-use Rattle.std.proofs.Common.{◌≡◌, ℕ, zero, suc, ◌+◌, ◌<◌, ◌≤◌, Bool, true, false, nat_lt, nat_le, ◌==◌, ◌&&◌, List, [], ◌∷◌, ◌++◌, length, Some, None, refl, sym, subst, arith, cond}
+use Rattle.std.proofs.Common.{◌≡◌, ℕ, ◌+◌, ◌≤◌, Bool, true, false, nat_lt, nat_le, ◌==◌, ◌&&◌, List, [], ◌∷◌, ◌++◌, Some, None, refl, sym, subst, arith, cond}
 use Rattle.std.specs.Prelude.{Option}
 use Rattle.std.proofs.lemmas.Bool.{leb-true, ltb-true, ltb-false}
 use Rattle.ppm_grammar.specs.Derivation.{Mark}
@@ -7,6 +7,7 @@ use Rattle.ppm_grammar.specs.Limits.{Count, Anew, Adds, Tally, with_count, with_
 use Rattle.ppm_text.specs.declared.token.Token.{Token}
 use Rattle.ppm_rows.specs.Language.{Counted}
 use Rattle.ppm_rows.specs.Limits.{limits, counts}
+use Rattle.ppm_example.proofs.LexingLemmas.{both_hold}
 
 -- no more was counted of any number
 abbrev pub IsLess : Tally → Tally → Type 0
@@ -28,7 +29,8 @@ all_less : (xs : List Count) (c d : Tally) → IsLess c d → IsLess (with_count
 all_less [] c d less = less
 all_less (x ∷ xs) c d less = all_less xs (with_count x c) (with_count x d) (one_less x c d less)
 
-token_less : (cs : List Counted) (t : Token) (ts : List Token) (c d : Tally) → IsLess c d → IsLess (after_token limits cs t ts c) (after_token limits cs t ts d)
+token_less : (cs : List Counted) (t : Token) (ts : List Token) (c d : Tally) → IsLess c d
+    → IsLess (after_token limits cs t ts c) (after_token limits cs t ts d)
 token_less [] t ts c d less = less
 token_less (x ∷ cs) t ts c d less =
     token_less cs t ts (with_counts (counts x t ts) c) (with_counts (counts x t ts) d) (all_less (counts x t ts) c d less)
@@ -48,9 +50,11 @@ pub keeps_less : (ms : List (Mark Counted)) (ts : List Token) (c d : Tally) → 
 keeps_less [] ts c d less keeps = tt
 keeps_less (m ∷ ms) [] c d less keeps = absurd keeps
 keeps_less (m ∷ ms) (t ∷ ts) c d less keeps =
-    let next = token_less m.counts t ts c d less in
-    (keeps.0, passes_less limits.most (after_token limits m.counts t ts c) (after_token limits m.counts t ts d) next keeps.1,
-    keeps_less ms ts (after_token limits m.counts t ts c) (after_token limits m.counts t ts d) next keeps.2)
+    let next = token_less m.counts t ts c d less in (
+      keeps.0,
+      passes_less limits.most (after_token limits m.counts t ts c) (after_token limits m.counts t ts d) next keeps.1,
+      keeps_less ms ts (after_token limits m.counts t ts c) (after_token limits m.counts t ts d) next keeps.2,
+    )
 
 -- marks that count nothing, as many as tokens, in few openings
 abbrev pub ArePlain : List (Mark Counted) → List Token → Type 0
@@ -65,9 +69,11 @@ keeps_plain [] ns (t ∷ ts) us c plain none keeps = absurd plain
 keeps_plain (m ∷ ms) ns [] us c plain none keeps = absurd plain
 keeps_plain (m ∷ ms) ns (t ∷ ts) us c plain none keeps =
     let same : c ≡ after_token limits m.counts t (ts ++ us) c =
-    subst (λ (cs : List Counted). c ≡ after_token limits cs t (ts ++ us) c) (sym plain.1) refl in
-    (plain.0, subst (λ (e : Tally). passed limits.most e ≡ None) same none,
-    subst (λ (e : Tally). Keeps limits (ms ++ ns) (ts ++ us) e) same (keeps_plain ms ns ts us c plain.2 none keeps))
+    subst (λ (cs : List Counted). c ≡ after_token limits cs t (ts ++ us) c) (sym plain.1) refl in (
+      plain.0,
+      subst (λ (e : Tally). passed limits.most e ≡ None) same none,
+      subst (λ (e : Tally). Keeps limits (ms ++ ns) (ts ++ us) e) same (keeps_plain ms ns ts us c plain.2 none keeps),
+    )
 
 -- the same as a test
 abbrev is_none : Option ℕ → Bool
@@ -79,11 +85,6 @@ keeps_all [] ts c = true
 keeps_all (m ∷ ms) [] c = false
 keeps_all (m ∷ ms) (t ∷ ts) c =
     nat_le m.depth limits.depth && (is_none (passed limits.most (after_token limits m.counts t ts c)) && keeps_all ms ts (after_token limits m.counts t ts c))
-
-both_hold : (a b : Bool) → (a && b) ≡ true → (a ≡ true) × (b ≡ true)
-both_hold true true h = (refl, refl)
-both_hold true false h = absurd (cc)
-both_hold false b h = absurd (cc)
 
 none_is : (o : Option ℕ) → is_none o ≡ true → o ≡ None
 none_is None h = refl

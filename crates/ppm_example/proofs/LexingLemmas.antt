@@ -1,5 +1,5 @@
 -- Bytes that are written out are lexed by computing: piece by piece, whatever follows.
-use Rattle.std.proofs.Common.{◌≡◌, ℕ, zero, suc, ◌+◌, ◌<◌, ◌≤◌, Bool, true, false, nat_le, nat_lt, ◌&&◌, List, [], ◌∷◌, ◌++◌, length, take, drop, Some, None, refl, arith, subst, ap, sym, length-drop}
+use Rattle.std.proofs.Common.{◌≡◌, ℕ, zero, suc, ◌+◌, ◌<◌, Bool, true, false, nat_le, nat_lt, ◌&&◌, List, [], ◌∷◌, ◌++◌, length, take, drop, Some, None, refl, arith, subst, sym, length-drop}
 use Rattle.std.specs.Prelude.{Option, decimal}
 use Rattle.std.specs.List.{prefix_len, AllByRecursion}
 use Rattle.std.proofs.Math.Seq.{take-append_seam, drop-append_seam}
@@ -17,7 +17,6 @@ use Rattle.ppm_text.specs.declared.token.Token.{Token}
 use Rattle.ppm_text.specs.Bytes.{class_of, BeginsWith, value_from}
 use Rattle.ppm_text.specs.Spelling.{spelled, keywords, signs, keyword_of, sign_of, IsDigits, Spells, a_keyword, a_name, a_number, a_sign, Longest, IsInRange}
 use Rattle.ppm_text.specs.Lexing.{Skips, line_feed, blank, located, Lexes, here, skip, token}
-use Rattle.ppm_text.specs.Tokens.{HasForm}
 use Rattle.ppm_text.proofs.BytesLemmas.{prefix_first, digit_byte}
 use Rattle.ppm_text.proofs.SpellingLemmas.{longest_one, longest_two, longest_number}
 use Rattle.ppm_text.proofs.ScanLemmas.{front_keyword, front_name, front_number}
@@ -208,7 +207,8 @@ in_range (kind.Number value) h = ltb-true value value_bound h
 in_range (kind.Keyword word) h = tt
 in_range (kind.Sign mark) h = tt
 
-both_hold : (a b : Bool) → (a && b) ≡ true → (a ≡ true) × (b ≡ true)
+-- both parts of a test that holds
+pub both_hold : (a b : Bool) → (a && b) ≡ true → (a ≡ true) × (b ≡ true)
 both_hold true true h = (refl, refl)
 both_hold true false h = absurd (cc)
 both_hold false b h = absurd (cc)
@@ -264,7 +264,8 @@ pieces_sound count p q l bytes lexed there is fits =
     subst (λ at. Lexes at l bytes (placed p lexed.spots) (p + lexed.behind) lexed.line lexed.rest) place whole
 
 -- bytes that are lexed end where the rest begins
-pub lexed_length : {p l : ℕ} {bs : List ℕ} {ts : List Token} {q m : ℕ} {rest : List ℕ} → Lexes p l bs ts q m rest → q + length rest ≡ p + length bs
+pub lexed_length : {p l : ℕ} {bs : List ℕ} {ts : List Token} {q m : ℕ} {rest : List ℕ} → Lexes p l bs ts q m rest
+    → q + length rest ≡ p + length bs
 lexed_length here = refl
 lexed_length (skip {p = p} {n = n} {bs = bs} s more) = omega (arith, lexed_length more, length-drop n bs, (skips_bounds s).1)
 lexed_length (token {p = p} {n = n} {bs = bs} t fits more) = omega (arith, lexed_length more, length-drop n bs, t.within)

@@ -1,6 +1,6 @@
 -- What the example's program means: from the values drawn `main` sums the whole array.
-use Rattle.std.proofs.Common.{◌≡◌, ◌≢◌, ◌∙◌, ◌⊎◌, inl, inr, ℕ, zero, suc, ◌+◌, ◌-◌, ◌*◌, ◌<◌, ◌≤◌, List, [], ◌∷◌, ◌++◌, length, get_or, Some, refl, sym, ap, subst, arith}
-use Rattle.std.specs.Prelude.{ℤ, pos, codes, replicate, slice_get}
+use Rattle.std.proofs.Common.{◌≡◌, ◌≢◌, ◌∙◌, inl, inr, ℕ, zero, suc, ◌+◌, ◌-◌, ◌*◌, ◌<◌, ◌≤◌, List, [], ◌∷◌, ◌++◌, length, get_or, Some, refl, ap, subst, arith}
+use Rattle.std.specs.Prelude.{ℤ, pos, codes, replicate}
 use Rattle.std.proofs.lemmas.List.{length-append, get_or_append_left, length-replicate}
 use Rattle.std.proofs.lemmas.Option.{slice_get-get_or}
 use Rattle.ppm_words.specs.declared.named_array.NamedArray.{NamedArray}
@@ -8,21 +8,19 @@ use Rattle.ppm_words.specs.declared.outcome.Outcome.{Outcome}
 use Rattle.ppm_words.specs.declared.outcome.Outcome.TheVariants as outcome
 use Rattle.ppm_strands.specs.Run.{End as CapsuleEnd}
 use Rattle.ppm_code.specs.Strands.{Result}
-use Rattle.ppm_depth.specs.Run.{ComesTo, IsDepthRun, IsWithin as EndsWithin, IsNotWithin}
+use Rattle.ppm_depth.specs.Run.{ComesTo, IsDepthRun}
 use Rattle.ppm_depth.specs.declared.depth.DepthRun.{DepthRun}
 use Rattle.ppm_tree.specs.Tree.{Nil, Call, ProgramTree}
-use Rattle.ppm_tree.specs.Limits.{IsWithin}
-use Rattle.ppm_tree.specs.Meaning.{Plain, Whole, Call as Calling, Counts, spent, none, both, began, End, Ended, Enters, Enter, Done, GoesOn, Calls}
+use Rattle.ppm_tree.specs.Meaning.{Plain, Whole, Call as Calling, Counts, spent, none, both, began, Ended, Enter, Done, GoesOn, Calls}
 use Rattle.ppm_tree.specs.Program.{initial_arrays, values_of, Means, Serial, Within, main_of, main_frame}
 use Rattle.ppm_tree.specs.Correct.{HaveOneEnd, SpendTheirTurns, EndWhole}
 use Rattle.ppm_cut_code.specs.Routines.{code_of}
-use Rattle.ppm_cut_correct.specs.Correct.{words_taken, EndAsMeant, EndsAsMeant, IsEndOf}
-use Rattle.ppm_cut_correct.specs.Beginning.{StartWithInput}
+use Rattle.ppm_cut_correct.specs.Correct.{words_taken, EndsAsMeant, IsEndOf}
 use Rattle.ppm_plan.specs.Sources.{value_at}
-use Rattle.ppm_example.specs.Example.{values_drawn, sum_drawn, example_tree, procedures, procedure, named, alone, sum_of, a}
+use Rattle.ppm_example.specs.Example.{values_drawn, example_tree, procedures, procedure, named, alone, sum_of, a}
 use Rattle.ppm_example.specs.Correct.{IsSize, IsSummed, Sums}
 use Rattle.ppm_example.proofs.SumLemmas.{word, stretch, frame_of, took, both_took, AreDrawn, Halved, halved}
-use Rattle.ppm_example.proofs.AdmittedLemmas.{admitted, bounded, values_fill}
+use Rattle.ppm_example.proofs.AdmittedLemmas.{values_fill}
 
 -- a value drawn, by its number
 drawn_at : (x i n k : ℕ) → k < n → get_or (values_drawn x i n) k (pos 0) ≡ pos (value_at x (i + k))
@@ -42,8 +40,12 @@ module _ (size x : ℕ) (range : IsSize size) where
 
   beginning_long : length beginning ≡ size
   beginning_long =
-      omega (arith, length-append (values_drawn x 0 size) (replicate (size - length (values_drawn x 0 size)) (pos 0)), values_fill size x 0 size,
-      length-replicate (size - length (values_drawn x 0 size)) (pos 0))
+      omega (
+        arith,
+        length-append (values_drawn x 0 size) (replicate (size - length (values_drawn x 0 size)) (pos 0)),
+        values_fill size x 0 size,
+        length-replicate (size - length (values_drawn x 0 size)) (pos 0),
+      )
 
   beginning_drawn : AreDrawn x 0 size beginning
   beginning_drawn i from to =
@@ -79,8 +81,16 @@ module _ (size x : ℕ) (range : IsSize size) where
   words_few =
       let main : words_taken t all_counts ≡ 7 + took all_counts = refl in
       let call : took (began (Calling (codes "sum"))) ≡ 11 = refl in
-      omega (arith, main, call, both_took (spent 1) (both calls none), both_took calls none, both_took (began (Calling (codes "sum"))) (both whole.counts none),
-      both_took whole.counts none, whole.taken)
+      omega (
+        arith,
+        main,
+        call,
+        both_took (spent 1) (both calls none),
+        both_took calls none,
+        both_took (began (Calling (codes "sum"))) (both whole.counts none),
+        both_took whole.counts none,
+        whole.taken,
+      )
 
   -- the array in the end
   abbrev arrays : List NamedArray
@@ -113,7 +123,8 @@ module _ (size x : ℕ) (range : IsSize size) where
 
     -- every end of the code has these forks
     abbrev TheEnd : Type 0
-    TheEnd = (e : CapsuleEnd Result) × ComesTo (code_of t) (initial_arrays t) e × IsEndOf t (initial_arrays t) e all_counts (Ended (pos 0) (whole.words ∷ []))
+    TheEnd = (e : CapsuleEnd Result) × ComesTo (code_of t) (initial_arrays t) e
+        × IsEndOf t (initial_arrays t) e all_counts (Ended (pos 0) (whole.words ∷ []))
 
     the_end : TheEnd
     the_end = ends.ends all_counts (Ended (pos 0) (whole.words ∷ [])) whole_means
@@ -122,7 +133,7 @@ module _ (size x : ℕ) (range : IsSize size) where
     forks_of e comes =
         let o = ends.ends_only e comes in
         let same = (ended Whole procedures).procedure (main_of t) (main_frame t.arrays (main_of t).parameters) (values_of (initial_arrays t))
-            o.0 all_counts o.1 (Ended (pos 0) (whole.words ∷ [])) o.2 whole_means in
+        o.0 all_counts o.1 (Ended (pos 0) (whole.words ∷ [])) o.2 whole_means in
         o.3.forks ∙ ap (λ (k : Counts). k.forks) same.0 ∙ forks_are
 
     run_forks : (most : ℕ) → 14 * size ≤ most → (run : DepthRun) → IsDepthRun (code_of t) (initial_arrays t) most run → run.forks ≡ size - 1

@@ -1,5 +1,5 @@
 -- The tokens of both procedures derive them.
-use Rattle.std.proofs.Common.{◌≡◌, ℕ, suc, ◌+◌, List, [], ◌∷◌, ◌++◌, refl, None}
+use Rattle.std.proofs.Common.{◌≡◌, ℕ, suc, ◌+◌, List, [], ◌∷◌, ◌++◌, refl}
 use Rattle.std.specs.Prelude.{pos, codes}
 use Rattle.ppm_grammar.specs.Rows.{In, first, later, Take, Part}
 use Rattle.ppm_grammar.specs.Derivation.{Due, Within, due, mark, counting, inside, nothing, token, part}
@@ -21,7 +21,7 @@ use Rattle.ppm_rows.specs.Phrases.{Phrase, operand}
 use Rattle.ppm_rows.specs.Phrases as g
 use Rattle.ppm_rows.specs.Values.{Value, Lexed, Expr}
 use Rattle.ppm_rows.specs.Values as v
-use Rattle.ppm_rows.specs.Language.{Counted, Form, rows, language}
+use Rattle.ppm_rows.specs.Language.{Form, rows}
 use Rattle.ppm_printer.proofs.Reading.{Reads}
 use Rattle.ppm_example.specs.Example.{named, sum_of, both_halves, sum_body, procedures}
 use Rattle.ppm_example.specs.Example as example
@@ -147,20 +147,23 @@ first_value d p q r z l x ts xs vs rest next =
     (take refl (row d g.Index (later first) (take refl (of_operand (suc d) (literal (suc d) 0 r l _) _ _ _ (take refl done))) done)) next
 
 -- a comparison, a quotient and a sum
-abbrev compared : (d p l m j : ℕ) {e f : Expression} {ts us mid : List Token} → Front d (operand level.Comparison) ts (Expr l e) (located (kind.Sign s.Greater) p m ∷ us)
+abbrev compared : (d p l m j : ℕ) {e f : Expression} {ts us mid : List Token}
+    → Front d (operand level.Comparison) ts (Expr l e) (located (kind.Sign s.Greater) p m ∷ us)
     → Front d (operand level.Comparison) us (Expr j f) mid → Front d (g.Operation level.Comparison) ts (Expr l (tree.Binary o.Gt m e f)) mid
 compared d p l m j a b xs vs rest next =
     row d (g.Operation level.Comparison) first
     (a _ _ _ (row d (g.FromOperand level.Comparison) (later (later (later (later (later first))))) (take refl (b _ _ _ done)) done)) next
 
-abbrev divided : (d p l m j : ℕ) {e f : Expression} {ts us mid : List Token} → Front d (operand level.Product) ts (Expr l e) (located (kind.Sign s.Divide) p m ∷ us)
+abbrev divided : (d p l m j : ℕ) {e f : Expression} {ts us mid : List Token}
+    → Front d (operand level.Product) ts (Expr l e) (located (kind.Sign s.Divide) p m ∷ us)
     → Front d (operand level.Product) us (Expr j f) mid → Front d (g.Operation level.Product) ts (Expr l (tree.Binary o.Div m e f)) mid
 divided d p l m j a b xs vs rest next =
     row d (g.Operation level.Product) first
     (a _ _ _ (row d (g.FromOperand level.Product) (later (later first))
     (take refl (b _ _ _ (row d (g.FromOperand level.Product) first done done))) done)) next
 
-abbrev added : (d p l m j : ℕ) {e f : Expression} {ts us mid : List Token} → Front d (operand level.Sum) ts (Expr l e) (located (kind.Sign s.Plus) p m ∷ us)
+abbrev added : (d p l m j : ℕ) {e f : Expression} {ts us mid : List Token}
+    → Front d (operand level.Sum) ts (Expr l e) (located (kind.Sign s.Plus) p m ∷ us)
     → Front d (operand level.Sum) us (Expr j f) mid → Front d (g.Operation level.Sum) ts (Expr l (tree.Binary o.Add m e f)) mid
 added d p l m j a b xs vs rest next =
     row d (g.Operation level.Sum) first
@@ -181,20 +184,23 @@ lent d p q r l x ts xs vs rest next =
 
 abbrev called : (d f p q r l : ℕ) (x : List ℕ) (ts : List Token)
     → Front d g.Call
-    (located (kind.Name (codes "sum")) f l ∷ located (kind.Sign s.OpenParen) p l ∷ located (kind.Name x) q l ∷ located (kind.Sign s.CloseParen) r l ∷ ts)
+    (located (kind.Name (codes "sum")) f l ∷ located (kind.Sign s.OpenParen) p l ∷ located (kind.Name x) q l
+    ∷ located (kind.Sign s.CloseParen) r l ∷ ts)
     (v.OneSide (sum_of (named x l))) ts
 called d f p q r l x ts xs vs rest next = row d g.Call first (take refl (lent d p q r l x ts _ _ _ done)) next
 
 abbrev side : (d f p q r l : ℕ) (x : List ℕ) (ts : List Token)
     → Front d g.Side
-    (located (kind.Name (codes "sum")) f l ∷ located (kind.Sign s.OpenParen) p l ∷ located (kind.Name x) q l ∷ located (kind.Sign s.CloseParen) r l ∷ ts)
+    (located (kind.Name (codes "sum")) f l ∷ located (kind.Sign s.OpenParen) p l ∷ located (kind.Name x) q l
+    ∷ located (kind.Sign s.CloseParen) r l ∷ ts)
     (v.OneSide (sum_of (named x l))) ts
 side d f p q r l x ts xs vs rest next =
     row d g.Side first (take refl (row d g.AfterTarget (later first) (lent d p q r l x ts _ _ _ done) done)) next
 
 module _ (p : ℕ) where
   -- the statements of `sum`, from the innermost on
-  abbrev fork_reads : (d : ℕ) (ts : List Token) → Front d g.Statement (placed p fork_spots ++ ts) (v.OneStatement (tree.Fork (sum_of example.l) (sum_of example.r))) ts
+  abbrev fork_reads : (d : ℕ) (ts : List Token)
+      → Front d g.Statement (placed p fork_spots ++ ts) (v.OneStatement (tree.Fork (sum_of example.l) (sum_of example.r))) ts
   fork_reads d ts xs vs rest next =
       row d g.Statement (later (later (later (later (later first)))))
       (take refl (side d (p + 73) (p + 76) (p + 77) (p + 78) 3 (codes "l") _ _ _ _
@@ -252,7 +258,8 @@ module _ (p : ℕ) where
   -- `(mut a)`
   abbrev parameter_reads : (d q r z w l : ℕ) (ts : List Token)
       → Front d g.ParameterList
-      (located (kind.Sign s.OpenParen) q l ∷ located (kind.Keyword k.Mut) r l ∷ located (kind.Name (codes "a")) z l ∷ located (kind.Sign s.CloseParen) w l ∷ ts)
+      (located (kind.Sign s.OpenParen) q l ∷ located (kind.Keyword k.Mut) r l ∷ located (kind.Name (codes "a")) z l
+      ∷ located (kind.Sign s.CloseParen) w l ∷ ts)
       (v.Parameters (record { mode = mode.Mut; name = example.a l } ∷ [])) ts
   parameter_reads d q r z w l ts xs vs rest next =
       row d g.ParameterList first

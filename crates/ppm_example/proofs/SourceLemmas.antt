@@ -1,22 +1,20 @@
 -- The text of an example is lexed: what is written out by computing, and each number by itself.
-use Rattle.std.proofs.Common.{◌≡◌, ◌∙◌, ℕ, zero, suc, ◌+◌, ◌-◌, ◌*◌, ◌<◌, ◌≤◌, ◌^◌, Bool, true, List, [], ◌∷◌, ◌++◌, length, Some, refl, arith, subst, ap, sym, append_assoc}
+use Rattle.std.proofs.Common.{◌≡◌, ◌∙◌, ℕ, zero, suc, ◌+◌, ◌-◌, ◌*◌, ◌<◌, ◌≤◌, List, [], ◌∷◌, ◌++◌, length, refl, arith, subst, ap, sym, append_assoc}
 use Rattle.std.specs.Prelude.{codes, decimal}
 use Rattle.std.specs.List.{prefix_len}
 use Rattle.std.proofs.Math.Nat.{mod-lt}
 use Rattle.std.proofs.lemmas.Fmt.{length-decimal-le, decimal_nonempty}
 use Rattle.std.proofs.lemmas.List.{length-append}
-use Rattle.ppm_words.specs.Limits.{value_bound}
 use Rattle.ppm_words.specs.Names.{is_digit}
-use Rattle.ppm_text.specs.declared.byte_class.ByteClass.TheVariants.{Digit}
 use Rattle.ppm_text.specs.declared.token.Keyword.TheVariants as k
 use Rattle.ppm_text.specs.declared.token.Sign.TheVariants as s
 use Rattle.ppm_text.specs.declared.token.Kind.TheVariants as kind
 use Rattle.ppm_text.specs.declared.token.Token.{Token}
 use Rattle.ppm_text.specs.Limits.{text_limit}
-use Rattle.ppm_text.specs.Lexing.{located, Lexes, here, IsTextOf}
+use Rattle.ppm_text.specs.Lexing.{located, Lexes, IsTextOf}
 use Rattle.ppm_text.proofs.LexingLemmas.{joined}
 use Rattle.ppm_plan.specs.Sources.{value_at, values_from, procedures_text, source_of}
-use Rattle.ppm_example.proofs.LexingLemmas.{Spot, spot, placed, Lexed, pieces, all_in_range, pieces_sound, lexed_length, number_lexed}
+use Rattle.ppm_example.proofs.LexingLemmas.{Spot, spot, placed, pieces_sound, lexed_length, number_lexed}
 use Rattle.ppm_example.proofs.ReadingLemmas.{procedure_spots}
 
 -- a value is less than 1000
@@ -127,7 +125,7 @@ module _ (size x : ℕ) (small : size ≤ 4096) where
       let end = end_lexed (end_place size x) in
       let values = values_lexed x 1 (size - 1) (more_place size x) (codes ";\n" ++ procedures_text) refl end in
       let first = number_lexed (value_at x 0) (first_place size x) 2 (text_behind_first size x) (omega (arith, value_small x 0))
-          (behind_value x 1 (size - 1) (codes ";\n" ++ procedures_text) refl) values in
+      (behind_value x 1 (size - 1) (codes ";\n" ++ procedures_text) refl) values in
       let input = joined (input_lexed (behind_size size x) (decimal (value_at x 0) ++ text_behind_first size x)) first in
       let long = number_lexed size 8 1 (text_behind_size size x) (omega (arith, small)) refl input in
       joined
@@ -137,22 +135,33 @@ module _ (size x : ℕ) (small : size ≤ 4096) where
   pub source_lexed : IsTextOf (source_of size x) (example_tokens size x)
   source_lexed =
       let lexed = text_lexed in
-      let long : end_place size x + 151 ≡ length (text_in_order size x) = omega (arith, lexed_length lexed) in
-      (4, subst (λ (text : List ℕ). Lexes 0 1 text (example_tokens size x) (length text) 4 []) (sym (in_order size x))
-      (subst (λ q. Lexes 0 1 (text_in_order size x) (example_tokens size x) q 4 []) long lexed))
+      let long : end_place size x + 151 ≡ length (text_in_order size x) = omega (arith, lexed_length lexed) in (
+        4,
+        subst (λ (text : List ℕ). Lexes 0 1 text (example_tokens size x) (length text) 4 []) (sym (in_order size x))
+            (subst (λ q. Lexes 0 1 (text_in_order size x) (example_tokens size x) q 4 []) long lexed),
+      )
 
 -- a value has 3 digits at most, with its comma and blank 5 bytes
 values_short : (x i count : ℕ) → length (values_from x i count) ≤ 5 * count
 values_short x i zero = omega arith
 values_short x i (suc count) =
     let small = value_small x i in
-    omega (arith, values_short x (i + 1) count, length-append (decimal (value_at x i)) (values_from x (i + 1) count),
-    length-decimal-le 3 (value_at x i) (omega arith) (omega (arith, small)) (omega (arith, small)))
+    omega (
+      arith,
+      values_short x (i + 1) count,
+      length-append (decimal (value_at x i)) (values_from x (i + 1) count),
+      length-decimal-le 3 (value_at x i) (omega arith) (omega (arith, small)) (omega (arith, small)),
+    )
 
 -- a text of at most 4,096 values is short
 pub source_short : (size x : ℕ) → size ≤ 4096 → length (source_of size x) ≤ text_limit
 source_short size x small =
     let value = value_small x 0 in
-    omega (arith, ap length (in_order size x), lexed_length (text_lexed size x small), values_short x 1 (size - 1),
-    length-decimal-le 4 size (omega arith) (omega (arith, small)) (omega (arith, small)),
-    length-decimal-le 3 (value_at x 0) (omega arith) (omega (arith, value)) (omega (arith, value)))
+    omega (
+      arith,
+      ap length (in_order size x),
+      lexed_length (text_lexed size x small),
+      values_short x 1 (size - 1),
+      length-decimal-le 4 size (omega arith) (omega (arith, small)) (omega (arith, small)),
+      length-decimal-le 3 (value_at x 0) (omega arith) (omega (arith, value)) (omega (arith, value)),
+    )

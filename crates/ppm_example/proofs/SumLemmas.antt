@@ -1,5 +1,5 @@
 -- What `sum` does to a region of values drawn: by halves it leaves their sum in the first word, and the last value in the last.
-use Rattle.std.proofs.Common.{◌≡◌, ◌≢◌, ◌∙◌, ◌⊎◌, inl, inr, ℕ, zero, suc, ◌+◌, ◌-◌, ◌*◌, ◌/◌, ◌<◌, ◌≤◌, Bool, true, cond, nat_lt, nat_le, List, [], ◌∷◌, ◌++◌, length, get_or, refl, sym, ap, subst, arith, None}
+use Rattle.std.proofs.Common.{◌≡◌, ◌∙◌, ◌⊎◌, inl, inr, ℕ, zero, suc, ◌+◌, ◌-◌, ◌*◌, ◌/◌, ◌<◌, ◌≤◌, Bool, true, cond, nat_lt, nat_le, List, [], ◌∷◌, length, get_or, refl, sym, ap, subst, arith}
 use Rattle.std.specs.Prelude.{ℤ, pos, codes, set, int_lt, int_div, Ok, Err}
 use Rattle.std.specs.List.{sum_by}
 use Rattle.std.proofs.lemmas.Bool.{le-leb}
@@ -10,11 +10,12 @@ use Rattle.ppm_tree.specs.declared.operator.Operator.TheVariants as operator
 use Rattle.ppm_tree.specs.Tree.{Number, Len, Binary, Nil, Procedure}
 use Rattle.ppm_words.specs.declared.trap.Trap.TheVariants as trap
 use Rattle.ppm_tree.specs.Values.{fits}
-use Rattle.ppm_tree.specs.State.{TrapAt, then_with, at_line, tested, Region, first_part, second_part, Frame, empty_frame, with_region, Arrays, split_at, evaluate}
-use Rattle.ppm_tree.specs.Meaning.{Plain, Counts, spent, none, both, forked, End, Ended, stored, with_parts, Runs, Follows, Enters, Enter, Done, GoesOn, Ifs, Splits, Forks, Puts}
+use Rattle.ppm_tree.specs.State.{TrapAt, then_with, at_line, tested, Region, Frame, empty_frame, with_region, split_at, evaluate}
+use Rattle.ppm_tree.specs.Meaning.{Plain, Counts, spent, none, both, forked, End, Ended, stored, with_parts, Follows, Enters}
+use Rattle.ppm_tree.specs.Meaning.{Enter, Done, GoesOn, Ifs, Splits, Forks, Puts}
 use Rattle.ppm_cut_correct.specs.Correct.{words_begun}
 use Rattle.ppm_plan.specs.Sources.{value_at}
-use Rattle.ppm_example.specs.Example.{sum_drawn, a, l, r, sum, sum_of, alone, first_of, both_halves, sum_body, procedure, procedures}
+use Rattle.ppm_example.specs.Example.{sum_drawn, a, l, r, sum, sum_of, first_of, both_halves, sum_body, procedure, procedures}
 use Rattle.ppm_example.proofs.SourceLemmas.{value_small}
 
 -- the sum of values is that of their halves, and is small
@@ -151,10 +152,19 @@ inner x s m h ws half some less small within left right =
     let tests : Counts = both (spent 1) (both splits none) in
     let all : Counts = both (spent 1) (both tests none) in
     let took_all : took all ≡ took left.counts + took right.counts + 27 =
-    omega (arith, both_took (spent 1) (both tests none), both_took tests none, both_took (spent 1) (both splits none), both_took splits none,
-    both_took (spent 1) (both forks none), both_took forks none,
-    both_took (forked (sum_of l) (sum_of r)) (both left.counts (both right.counts puts)), both_took left.counts (both right.counts puts),
-    both_took right.counts puts, both_took (spent 1) none) in
+    omega (
+      arith,
+      both_took (spent 1) (both tests none),
+      both_took tests none,
+      both_took (spent 1) (both splits none),
+      both_took splits none,
+      both_took (spent 1) (both forks none),
+      both_took forks none,
+      both_took (forked (sum_of l) (sum_of r)) (both left.counts (both right.counts puts)),
+      both_took left.counts (both right.counts puts),
+      both_took right.counts puts,
+      both_took (spent 1) none,
+    ) in
     record {
       words = words;
       counts = all;
@@ -204,8 +214,8 @@ halved (suc n) x s (suc (suc j)) ws less some small within drawn =
     let first : 0 < h = omega arith in
     let front : h < m = omega arith in
     let left = halved n x s h ws (omega (arith, less, front)) first (omega (arith, small, front)) (omega (arith, within, front))
-        (λ i from to. drawn i from (omega (arith, to, front))) in
+    (λ i from to. drawn i from (omega (arith, to, front))) in
     let right = halved n x (s + h) (m - h) left.words (omega (arith, less, first)) (omega (arith, front)) (omega (arith, small))
-        (omega (arith, left.long, within, front))
-        (λ i from to. left.same i (inr from) ∙ drawn i (omega (arith, from)) (omega (arith, to, front))) in
+    (omega (arith, left.long, within, front))
+    (λ i from to. left.same i (inr from) ∙ drawn i (omega (arith, from)) (omega (arith, to, front))) in
     inner x s m h ws (half_is m) first front small within left right

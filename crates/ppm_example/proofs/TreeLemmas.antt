@@ -1,5 +1,5 @@
 -- The tokens of an example derive its tree, and pass no limit.
-use Rattle.std.proofs.Common.{◌≡◌, ◌∙◌, ℕ, zero, suc, ◌+◌, ◌-◌, ◌<◌, ◌≤◌, Bool, true, false, cond, ◌==◌, List, [], ◌∷◌, ◌++◌, length, None, refl, sym, ap, subst, arith, append_assoc, append-nil}
+use Rattle.std.proofs.Common.{◌≡◌, ◌∙◌, ℕ, zero, suc, ◌+◌, ◌-◌, ◌≤◌, Bool, true, false, cond, ◌==◌, List, [], ◌∷◌, ◌++◌, length, refl, ap, subst, arith, append_assoc, append-nil}
 use Rattle.std.specs.Prelude.{ℤ, pos, decimal, codes}
 use Rattle.std.proofs.lemmas.Bool.{leb-true}
 use Rattle.ppm_grammar.specs.Rows.{first, later, Part}
@@ -20,11 +20,11 @@ use Rattle.ppm_rows.specs.Values as v
 use Rattle.ppm_rows.specs.Language.{Counted, AnArray, ArrayWords, language}
 use Rattle.ppm_rows.specs.Limits.{limits, arrays, words}
 use Rattle.ppm_rows.specs.Correct.{HasTree}
-use Rattle.ppm_plan.specs.Sources.{value_at, values_from}
+use Rattle.ppm_plan.specs.Sources.{value_at}
 use Rattle.ppm_example.specs.Example.{values_drawn, a, procedures, example_tree}
 use Rattle.ppm_example.proofs.LexingLemmas.{placed}
 use Rattle.ppm_example.proofs.ReadingLemmas.{procedures_read, procedure_spots}
-use Rattle.ppm_example.proofs.SourceLemmas.{value_tokens, head_spots, input_spots, behind_size, first_place, more_place, end_place, later_tokens, example_tokens}
+use Rattle.ppm_example.proofs.SourceLemmas.{value_tokens, input_spots, behind_size, first_place, more_place, end_place, later_tokens, example_tokens}
 use Rattle.ppm_example.proofs.KeepsLemmas.{ArePlain, IsLess, passes_less, keeps_less, keeps_plain, keeps_sound}
 
 -- a token that counts nothing, in so many openings
@@ -134,9 +134,23 @@ module _ (size x : ℕ) where
   whole_keeps small =
       let z : 0 ≤ limits.depth = leb-true 0 limits.depth refl in
       let one : 1 ≤ limits.depth = leb-true 1 limits.depth refl in
-      let less = counted_less small in
-      (z, refl, (z, refl, (one, refl, (one, passes_less limits.most (counted size) (counted word_limit) less refl,
-      keeps_less (plain 1 ∷ plain 0 ∷ input_marks) (later_tokens size x) (counted size) (counted word_limit) less later_keeps))))
+      let less = counted_less small in (
+        z,
+        refl,
+        (
+          z,
+          refl,
+          (
+            one,
+            refl,
+            (
+              one,
+              passes_less limits.most (counted size) (counted word_limit) less refl,
+              keeps_less (plain 1 ∷ plain 0 ∷ input_marks) (later_tokens size x) (counted size) (counted word_limit) less later_keeps,
+            ),
+          ),
+        ),
+      )
 
   -- the values in front are all of them
   values_same : 1 ≤ size → values ≡ values_drawn x 0 size
