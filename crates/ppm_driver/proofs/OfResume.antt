@@ -38,10 +38,11 @@ use Rattle.ppm_cli.specs.declared.resume.ResumeOptions.{ResumeOptions}
 use Rattle.ppm_loading.specs.Says.{array_words, arrays_from, IsOfFinish}
 use Rattle.ppm_loading.proofs.LoadingLemmas.{opens_lengths}
 use Rattle.ppm_loading.proofs.SayLemmas.{said_of_word}
+use Rattle.ppm_stop.specs.Stops.{names_of}
 use Rattle.ppm_driver.specs.Legs.{words_at_last, finish_at_last, worked_in_all, struck_in_all, NoneIsTakenTwiceInAll, EndsAsProgramInAll, IsAsProgramInAll, RunsInLegsAreAsPrograms}
 use Rattle.ppm_driver.specs.Meant.{NeedsMoreRoom, NeedsMoreTurns}
 use Rattle.ppm_driver.specs.RunOf.{words_behind, finish_behind}
-use Rattle.ppm_driver.specs.Resumes.{SavedState, GoesOnFrom, named, names_of, limits_of, plan_of, ResumedHas, ResumeMay, IsLeftBy, legs_with}
+use Rattle.ppm_driver.specs.Resumes.{SavedState, GoesOnFrom, named, limits_of, plan_of, ResumedHas, ResumeMay, IsLeftBy, legs_with}
 use Rattle.ppm_driver.specs.ResumeRows.{Has, RefusesPlan, ResumeSays, ResumeRows}
 use Rattle.ppm_driver.proofs.MeantRows.{ended_run, trapped_run, full_run}
 use Rattle.ppm_driver.proofs.ResumeLemmas.{spent_has, filled_has, has_kind, fronts_decide, saved_or_none}
