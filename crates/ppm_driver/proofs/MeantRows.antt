@@ -1,4 +1,4 @@
--- What rows say of runs and replays that end: with takeover by places they end as their programs do.
+-- What rows say of runs and replays that end: they end as their programs do.
 use Rattle.std.proofs.Common.{◌≡◌, ◌<◌, ◌≤◌, ◌+◌, ◌*◌, ◌^◌, ℕ, List, [], length, Some, refl, sym, ap, ◌∙◌, subst, arith}
 use Rattle.std.proofs.lemmas.List.Elements.{recursion_from_All}
 use Rattle.std.proofs.lemmas.Nat.{mul-le}
@@ -32,7 +32,7 @@ use Rattle.ppm_cli.specs.declared.run.RunOptions.{RunOptions}
 use Rattle.ppm_cli.specs.declared.replay.ReplayOptions.{ReplayOptions}
 use Rattle.ppm_cli.specs.Words.{AreReplayed, AreRun}
 use Rattle.ppm_following.specs.Followed.{followed}
-use Rattle.ppm_driver.specs.Meant.{NeedsMoreRoom, NeedsMoreTurns, struck_in, NoneIsTakenTwice, EachIsTakenOnce, EndsAsProgram, IsAsProgram, IsWithinProgram, RunsAreAsPrograms}
+use Rattle.ppm_driver.specs.Meant.{NeedsMoreRoom, NeedsMoreTurns, undone_in, NoneIsTakenTwice, EachIsTakenOnce, EndsAsProgram, IsAsProgram, IsUnbroken, RunsAreAsPrograms}
 use Rattle.ppm_driver.specs.RunOf.{words_behind, finish_behind}
 use Rattle.ppm_loading.specs.Says.{arrays_from, IsOfFinish}
 use Rattle.ppm_driver.specs.Runs as runs
@@ -167,7 +167,7 @@ module _ (law : RunsAreAsPrograms) (text : List ℕ) (t : ProgramTree) (has : Ha
     abbrev Has : Answer → Type 0
     Has a = runs.ProgramHas options watching before now items t a
 
-    pub run_is : (a : Answer) (h : Has a) → IsAsProgram h.start h.run.turns t × (options.takeover ≡ ByPlaces → IsWithinProgram h.start h.run.turns t)
+    pub run_is : (a : Answer) (h : Has a) → IsAsProgram h.start h.run.turns t × (options.takeover ≡ ByPlaces → IsUnbroken h.start h.run.turns)
     run_is a h =
         law text t has (runs.sizes_of options) h.keeper h.start h.opens h.run.turns
         (recursion_from_All (IsTurnAmong h.start.shape.processors) h.run.turns h.run.obey.among)
@@ -206,18 +206,18 @@ module _ (law : RunsAreAsPrograms) (text : List ℕ) (t : ProgramTree) (has : Ha
         let k = said_of_word answers.Ended answers.Trapped (λ processor x. x ≡ answers.OutOfTurns processor) (λ x. ⊥) h.start.shape
         h.start.array_lengths w (initial_arrays t) (finish_behind h.start h.run.turns) (answers.Broken place) (λ none. none) h.run.says in
         let e = broken_run h.start.shape h.start.array_lengths w (initial_arrays t) k.0 place k.2 in
-        let many = ((run_is (answers.Broken place) h).1 places).unbroken place (k.1 ∙ ap (λ (f : Finish). Some f) e) in
+        let many = (run_is (answers.Broken place) h).1 places place (k.1 ∙ ap (λ (f : Finish). Some f) e) in
         let most = obeyed_work h.start.shape h.start.code (runs.plan_of options items) (runs.limits_of options) h.start.state h.run.turns h.run.obey
         (recursion_from_All (IsTurnAmong h.start.shape.processors) h.run.turns h.run.obey.among) in
         let count = opens_processors (runs.sizes_of options) (code_of t) (initial_arrays t) h.keeper h.start h.opens in
         past_most many most (subst (λ (n : ℕ). n * options.turns ≤ 2 ^ 34) (sym count) (few_turns options.processors options.turns are.0.1 are.1.1))
 
     -- what one processor made of its turns is within the work of all
-    pub run_needs_turns : options.takeover ≡ ByPlaces → (c : ℕ) (h : Has (answers.OutOfTurns c))
+    pub run_needs_turns : (c : ℕ) (h : Has (answers.OutOfTurns c))
         → work_made h.start.shape h.start.code c h.start.state h.run.turns ≡ options.turns
-        → NeedsMoreTurns t (struck_in h.start h.run.turns) options.turns
-    run_needs_turns places c h made e comes =
-        let within = ((run_is (answers.OutOfTurns c) h).1 places).work e comes in
+        → NeedsMoreTurns t (undone_in h.start h.run.turns) options.turns
+    run_needs_turns c h made e comes =
+        let within = (run_is (answers.OutOfTurns c) h).0.work e comes in
         let mine = of_all h.start.shape h.start.code c h.start.state h.run.turns in
         omega (arith, within, mine, made)
 
@@ -233,7 +233,7 @@ module _ (law : RunsAreAsPrograms) (text : List ℕ) (t : ProgramTree) (has : Ha
     abbrev turns_in : Situation → List Turn
     turns_in m = schedule_turns m.shape m.code m.state items options.turns
 
-    pub replay_is : (a : Answer) (h : HasReplay a) → IsAsProgram h.start (turns_in h.start) t × (options.takeover ≡ ByPlaces → IsWithinProgram h.start (turns_in h.start) t)
+    pub replay_is : (a : Answer) (h : HasReplay a) → IsAsProgram h.start (turns_in h.start) t × (options.takeover ≡ ByPlaces → IsUnbroken h.start (turns_in h.start))
     replay_is a h =
         law text t has (replays.sizes_of options) h.keeper h.start h.opens (turns_in h.start)
         (scheduled_among h.start.shape h.start.code (some h) schedule options.processors items (count h) accepted h.start.state options.turns)
@@ -300,7 +300,7 @@ module _ (law : RunsAreAsPrograms) (text : List ℕ) (t : ProgramTree) (has : Ha
         (λ processor x. ⊥) (λ x. x ≡ answers.Unfinished options.turns) m.shape m.array_lengths m.state.words (initial_arrays t) (finish_in m)
         (answers.Broken place) (no_other_broken options.turns place) h.says in
         let e = broken_replay m.shape m.array_lengths m.state.words (initial_arrays t) options.turns (tally_of m) k.0 place k.2 in
-        let many = ((replay_is (answers.Broken place) h).1 places).unbroken place (k.1 ∙ ap (λ (f : Finish). Some f) e) in
+        let many = (replay_is (answers.Broken place) h).1 places place (k.1 ∙ ap (λ (f : Finish). Some f) e) in
         past_most many (scheduled_work h.start.shape h.start.code h.start.state items options.turns) (let few = are.1.1 in omega (arith, few))
 
     pub replay_once : (a : Answer) (h : HasReplay a) → NoneIsTakenTwice h.start (turns_in h.start)

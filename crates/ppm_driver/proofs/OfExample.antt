@@ -46,7 +46,7 @@ module _ (law : RunsAreAsPrograms) (options : SelfOptions) (are : AreSelf option
     processor = c;
     runs = record { tree = h.0; program = h.1; has = h.2 };
     needs = run_needs_turns law (text_of options) h.0 h.1 (run_options_of options) options.processors o.told_before o.told_now
-        (items_of options) refl c h.2
+        (items_of options) c h.2
         (spent_has (run_options_of options) options.processors o.told_before o.told_now (items_of options) h.0 c h.2).1;
     once = run_once law (text_of options) h.0 h.1 (run_options_of options) options.processors o.told_before o.told_now (items_of options)
         (answers.OutOfTurns c) h.2;

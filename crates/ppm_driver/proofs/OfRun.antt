@@ -26,7 +26,7 @@ use Rattle.ppm_driver.specs.RunRows.{Has, RunSays, Completes, RunRows}
 use Rattle.ppm_driver.proofs.MeantRows.{run_is, run_ends, run_traps, run_needs, run_needs_turns, run_unbroken, run_once, other_takeover}
 use Rattle.ppm_loading.proofs.PlannedLemmas as planned
 use Rattle.ppm_driver.proofs.RunLemmas.{of_program, spent_has, filled_has, run_forgets}
-use Rattle.ppm_driver.proofs.StrikeLemmas.{strikes_are_planned}
+use Rattle.ppm_driver.proofs.StrikeLemmas.{undone_are_planned}
 
 module _ (law : RunsAreAsPrograms) (options : RunOptions) (are : AreRun options) (watching : ℕ) (plan : List ℕ) (o : Outside) where
   abbrev Read : Port → Answer → Type 0
@@ -60,10 +60,9 @@ module _ (law : RunsAreAsPrograms) (options : RunOptions) (are : AreRun options)
     processor = processor;
     read = h;
     spent = spent_has options watching o.told_before o.told_now h.2.items h.2.has.0 processor h.2.has.2;
-    needs = λ places.
-        run_needs_turns law h.0 h.2.has.0 h.2.has.1 options watching o.told_before o.told_now h.2.items places processor h.2.has.2
+    needs = run_needs_turns law h.0 h.2.has.0 h.2.has.1 options watching o.told_before o.told_now h.2.items processor h.2.has.2
         (spent_has options watching o.told_before o.told_now h.2.items h.2.has.0 processor h.2.has.2).1;
-    struck = strikes_are_planned (plan_of options h.2.items) (limits_of options) h.2.has.2.start h.2.has.2.run.turns h.2.has.2.run.obey;
+    undone = undone_are_planned (plan_of options h.2.items) (limits_of options) h.2.has.2.start h.2.has.2.run.turns h.2.has.2.run.obey;
     once =
         run_once law h.0 h.2.has.0 h.2.has.1 options watching o.told_before o.told_now h.2.items (answers.OutOfTurns processor) h.2.has.2;
     gets = w.err_takes.0;

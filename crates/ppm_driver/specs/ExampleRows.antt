@@ -16,7 +16,7 @@ use Rattle.ppm_answers.specs.declared.sums.Sums.{Sums}
 use Rattle.ppm_answers.specs.Texts.{refusal_text, room_text, sums_text, trap_text, turns_text}
 use Rattle.ppm_cli.specs.declared.example.SelfOptions.{SelfOptions}
 use Rattle.ppm_driver.specs.Examples.{HasRun, SumsUp, run_options_of, text_of}
-use Rattle.ppm_driver.specs.Meant.{EndsAsProgram, NeedsMoreRoom, NeedsMoreTurns, NoneIsTakenTwice, struck_in}
+use Rattle.ppm_driver.specs.Meant.{EndsAsProgram, NeedsMoreRoom, NeedsMoreTurns, NoneIsTakenTwice, undone_in}
 
 module _ (options : SelfOptions) (o : Outside) where
   -- the run of the example's program has this answer
@@ -52,7 +52,7 @@ module _ (options : SelfOptions) (o : Outside) where
   pub record WritesOutOfTurns : Type 0 where
     pub processor : ℕ
     pub runs : Runs (answers.OutOfTurns processor)
-    pub needs : NeedsMoreTurns runs.tree (struck_in runs.has.start runs.has.run.turns) (run_options_of options).turns
+    pub needs : NeedsMoreTurns runs.tree (undone_in runs.has.start runs.has.run.turns) (run_options_of options).turns
     pub once : NoneIsTakenTwice runs.has.start runs.has.run.turns
     pub gets : Gets o.err (turns_text processor)
 

@@ -25,7 +25,7 @@ use Rattle.ppm_loading.specs.MachineRows as machine
 use Rattle.ppm_choice.specs.Deeds.{work_made}
 use Rattle.ppm_core.specs.Situation.{Situation}
 use Rattle.ppm_step.specs.declared.turn.Turn.{Turn}
-use Rattle.ppm_driver.specs.Meant.{NeedsMoreTurns, NeedsMoreRoom, struck_in, NoneIsTakenTwice, EndsAsProgram, IsAsProgram}
+use Rattle.ppm_driver.specs.Meant.{NeedsMoreTurns, NeedsMoreRoom, undone_in, NoneIsTakenTwice, EndsAsProgram, IsAsProgram}
 use Rattle.ppm_loading.specs.Planned.{IsRefusedBy, HasByItems}
 use Rattle.ppm_driver.specs.Runs.{ProgramHas, RunHas, TextHas}
 use Rattle.ppm_driver.specs.Strikes.{fault_count}
@@ -75,20 +75,19 @@ module _ (options : RunOptions) (watching : ℕ) (plan : List ℕ) (o : Outside)
       (processor < options.processors)
       × (work_made p.start.shape p.start.code processor p.start.state p.run.turns ≡ options.turns)
 
-  -- with takeover by places they are too few
+  -- they are too few
   abbrev pub AreTooFew : (processor : ℕ) → HasRead (answers.OutOfTurns processor) → Type 0
   AreTooFew processor read =
-      let p = read.2.has in options.takeover ≡ ByPlaces → NeedsMoreTurns p.0 (struck_in p.2.start p.2.run.turns) options.turns
+      let p = read.2.has in NeedsMoreTurns p.0 (undone_in p.2.start p.2.run.turns) options.turns
 
-  -- So it is, and err got exactly the line that says so. With takeover by places so many turns are fewer than 256 for each capsule that the
-  -- program's code runs depth first and each fault that struck a row of work, or that run has no end; and no more faults struck one than the
-  -- plan has.
+  -- So it is, and err got exactly the line that says so. So many turns are fewer than 256 for each capsule that the program's code runs depth
+  -- first and each fault that undid work, or that run has no end; and no more faults undid some than the plan has.
   pub record WritesOutOfTurns : Type 0 where
     pub processor : ℕ
     pub read : HasRead (answers.OutOfTurns processor)
     pub spent : IsSpent processor read
     pub needs : AreTooFew processor read
-    pub struck : let p = read.2.has.2 in struck_in p.start p.run.turns ≤ fault_count read.2.items
+    pub undone : let p = read.2.has.2 in undone_in p.start p.run.turns ≤ fault_count read.2.items
     pub once : let p = read.2.has.2 in IsOnce p.start p.run.turns
     pub gets : Gets o.err (turns_text processor)
 

@@ -1,6 +1,6 @@
 //! That runs with turns and room enough end, shown by a call that does nothing.
 ghost use Rattle.ppm_driver.specs.Completeness.{RunsComplete};
-ghost use Rattle.ppm_driver.specs.Strikes.{StrikesArePlanned};
+ghost use Rattle.ppm_driver.specs.Strikes.{StrikesArePlanned, UndoneArePlanned};
 
 use crate::meant::runs_are_as_programs;
 use ppm_cut_correct::{end_as_meant, start_with_input};
@@ -14,6 +14,7 @@ use ppm_rows::trees_are_within;
 /// and a pool has as many words as that run takes, each answer of the text is that its run ended.
 pub fn runs_complete()
     ensures strikes { StrikesArePlanned }
+    ensures undone { UndoneArePlanned }
     ensures law { RunsComplete }
 {
     // The law rests on these; the calls do nothing.

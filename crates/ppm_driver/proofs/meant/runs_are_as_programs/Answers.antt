@@ -16,7 +16,7 @@ returns c = record {
     runs = c.runs_end_so.ensures.ends;
     once = c.runs_end_so.ensures.once;
     room = c.room_is_spent.ensures.so;
-    work = c.work_is_bounded.ensures.within;
+    work = c.work_is_bounded_by_either.ensures.within;
     whole = c.nothing_breaks.ensures.law;
   });
 }

@@ -1,0 +1,56 @@
+-- probes: laws that others prove
+use Rattle.std.specs.Prelude.{◌≡◌, ◌≤◌, ◌<◌, ℕ, ◌+◌, ◌*◌, ◌^◌, Bool, true, false, if◌then◌else◌, List, [], ◌∷◌, length, Option, None}
+use Rattle.std.specs.List.{AllByRecursion}
+use Rattle.ppm_strands.specs.Calm.{Calm}
+use Rattle.ppm_strands.specs.Run.{End, Ends}
+use Rattle.ppm_words.specs.declared.named_array.NamedArray.{NamedArray}
+use Rattle.ppm_cells.specs.declared.shape.Shape.{Shape}
+use Rattle.ppm_code.specs.Strands.{Result}
+use Rattle.ppm_code.specs.declared.code.CodeParts.{CodeParts}
+use Rattle.ppm_layout.specs.Correct.{Opens}
+use Rattle.ppm_layout.specs.Root.{root_strand}
+use Rattle.ppm_layout.specs.declared.images.Image.{Image as RealImage}
+use Rattle.ppm_step.specs.Among.{IsTurnAmong}
+use Rattle.ppm_step.specs.Standings.{Standing}
+use Rattle.ppm_step.specs.State.{State, after, opening, along, stand_of}
+use Rattle.ppm_step.specs.declared.turn.Act.{Act}
+use Rattle.ppm_step.specs.declared.turn.Act.TheVariants.{Step, Soft, Hard, Quit}
+use Rattle.ppm_step.specs.declared.turn.Turn.{Turn}
+use Rattle.ppm_cells.specs.declared.restart.Restart.{Restart}
+use Rattle.ppm_cells.specs.declared.shape.Takeover.{Takeover}
+use Rattle.ppm_cells.specs.declared.shape.Takeover.TheVariants.{ByPlaces, ByEntries}
+use Rattle.ppm_frames.specs.Views.{view}
+use Rattle.ppm_frames.specs.Seen.{arrays_at}
+use Rattle.ppm_kept.specs.Running.{IsFair, strands}
+use Rattle.ppm_runs.specs.Work.{work_in}
+use Rattle.ppm_paces.specs.Paces.{is_strike}
+use Rattle.ppm_runs.specs.Unbroken.{works, IsWhole}
+
+abbrev pub undoes : Takeover → Act → Standing → Option Restart → Bool
+undoes ByPlaces act x r = is_strike act x
+undoes ByEntries (Step v) x r = false
+undoes ByEntries Soft x r = is_strike Soft x
+undoes ByEntries Hard x r = true
+undoes ByEntries (Quit w) x r = false
+
+abbrev pub undone_of : Shape → State → Turn → List ℕ
+undone_of s state turn = if undoes s.takeover turn.act (stand_of state turn.processor) None then turn.processor ∷ [] else []
+
+abbrev pub undone_in : Shape → CodeParts → List ℕ → List Turn → ℕ
+undone_in s code words turns = length (along s code (undone_of s) (opening words s.processors) turns)
+
+abbrev pub WorkIsWithin256ByEither : Type 0
+WorkIsWithin256ByEither = (code : CodeParts) (input : List NamedArray) (s : Shape) (keeper : ℕ) (image : RealImage)
+    → IsFair code → Opens code input s keeper image
+    → Calm (strands s code) (root_strand code input) (arrays_at (view s image.words))
+    → (turns : List Turn) → AllByRecursion (IsTurnAmong s.processors) turns
+    → (end : End Result) → Ends (strands s code) (root_strand code input) (arrays_at (view s image.words)) end
+    → work_in s code image.words turns < 256 * (end.counts.capsules + undone_in s code image.words turns)
+
+abbrev pub NothingBreaksByEither : Type 0
+NothingBreaksByEither = (code : CodeParts) (input : List NamedArray) (s : Shape) (keeper : ℕ) (image : RealImage)
+    → IsFair code → Opens code input s keeper image
+    → Calm (strands s code) (root_strand code input) (arrays_at (view s image.words))
+    → (turns : List Turn) → AllByRecursion (IsTurnAmong s.processors) turns
+    → works s code (opening image.words s.processors) turns ≤ 2 ^ 34
+    → IsWhole s (after s code (opening image.words s.processors) turns)

@@ -1,0 +1,14 @@
+//! Probes: laws that others prove.
+ghost use Rattle.ppm_driver.specs.Probes.{WorkIsWithin256ByEither, NothingBreaksByEither};
+
+/// A probe.
+#[tactic(none)]
+pub fn work_is_bounded_by_either()
+    ensures within { WorkIsWithin256ByEither }
+{}
+
+/// A probe.
+#[tactic(none)]
+pub fn nothing_breaks_by_either()
+    ensures law { NothingBreaksByEither }
+{}
