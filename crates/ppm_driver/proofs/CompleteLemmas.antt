@@ -1,7 +1,6 @@
 -- Where turns and room are enough no other answer is left but that the run ended: each of the others says that they are not, or never comes.
 use Rattle.std.proofs.Common.{◌≡◌, ◌≤◌, ◌<◌, ℕ, ◌+◌, ◌*◌, List, sym, subst, arith}
 use Rattle.ppm_ports.specs.Outside.{ToldLists}
-use Rattle.ppm_cells.specs.declared.shape.Takeover.TheVariants.{ByPlaces}
 use Rattle.ppm_tree.specs.Tree.{ProgramTree}
 use Rattle.ppm_tree.specs.Program.{initial_arrays}
 use Rattle.ppm_rows.specs.Correct.{TreesAreWithin}
@@ -41,7 +40,7 @@ not_few : (t : ProgramTree) (faults undone turns room : ℕ) → undone ≤ faul
 not_few t faults undone turns room less enough needs =
     let few = needs enough.end enough.comes in let some = enough.for_turns in omega (arith, few, some, less)
 
-module _ (laws : Laws) (options : RunOptions) (are : AreRun options) (places : options.takeover ≡ ByPlaces) (plan : List ℕ) (items : List PlanItem)
+module _ (laws : Laws) (options : RunOptions) (are : AreRun options) (plan : List ℕ) (items : List PlanItem)
     (accepted : IsAccepted plan_form plan options.processors items) (text : List ℕ) (t : ProgramTree) (has : HasProgram text t)
     (enough : IsEnough t (fault_count items) options.turns options.room) (watching : ℕ) (before now : ToldLists) where
   -- enough room is not too little
@@ -80,10 +79,10 @@ module _ (laws : Laws) (options : RunOptions) (are : AreRun options) (places : o
       absurd (not_little (subst (λ (u : ProgramTree). NeedsMoreRoom u options.room) (same_tree h.has.0 h.has.1)
       (run_needs laws.runs text h.has.0 h.has.1 options watching before now h.items place h.has.2)))
   ends (answers.Broken place) h =
-      absurd (run_unbroken laws.runs text h.has.0 h.has.1 options watching before now h.items places are place h.has.2)
+      absurd (run_unbroken laws.runs text h.has.0 h.has.1 options watching before now h.items are place h.has.2)
   ends a h = absurd (of_program options watching before now h.items h.has.0 a h.has.2)
 
 -- so it is with all options and plans
 pub runs_complete : Laws → RunsComplete
-runs_complete laws options are places plan items accepted text t has enough watching before now a h =
-    ends laws options are places plan items accepted text t has enough watching before now a h
+runs_complete laws options are plan items accepted text t has enough watching before now a h =
+    ends laws options are plan items accepted text t has enough watching before now a h

@@ -17,7 +17,6 @@ use Rattle.ppm_cells.specs.declared.cell.Cell.TheVariants.{FinishWord}
 use Rattle.ppm_cells.specs.declared.finish.Finish.{Finish}
 use Rattle.ppm_cells.specs.declared.finish.Finish.TheVariants as finishes
 use Rattle.ppm_cells.specs.declared.shape.Shape.{Shape}
-use Rattle.ppm_cells.specs.declared.shape.Takeover.TheVariants.{ByPlaces}
 use Rattle.ppm_code.specs.Code.{IsCode}
 use Rattle.ppm_code.specs.Strands.{Point, Result, Gave, Trapped}
 use Rattle.ppm_code.specs.declared.code.CodeParts.{CodeParts}
@@ -57,12 +56,11 @@ use Rattle.ppm_runs.specs.Entries.{EndsAsRun, OnceInEachRun, RunsEndSo}
 use Rattle.ppm_runs.specs.Moments.{AreOnce}
 use Rattle.ppm_runs.specs.Run.{image}
 use Rattle.ppm_runs.specs.Spent.{RoomIsSpentSo}
-use Rattle.ppm_runs.specs.Unbroken.{NothingBreaks}
-use Rattle.ppm_driver.specs.Probes.{WorkIsWithin256ByEither}
+use Rattle.ppm_driver.specs.Probes.{WorkIsWithin256ByEither, NothingBreaksByEither}
 use Rattle.ppm_core.specs.Situation.{Situation, loaded}
 use Rattle.ppm_loading.specs.declared.loading.Sizes.{Sizes}
 use Rattle.ppm_loading.specs.Loading.{Opens}
-use Rattle.ppm_driver.specs.Meant.{HasOutcome, NeedsMoreRoom, NeedsMoreTurns, undone_in, EachIsTakenOnce, EndsAsProgram, worked_in, IsAsProgram, IsUnbroken, RunsAreAsPrograms}
+use Rattle.ppm_driver.specs.Meant.{HasOutcome, NeedsMoreRoom, NeedsMoreTurns, undone_in, EachIsTakenOnce, EndsAsProgram, worked_in, IsAsProgram, RunsAreAsPrograms}
 use Rattle.ppm_loading.specs.Says.{arrays_from}
 use Rattle.ppm_loading.proofs.ArrayLemmas.{same_arrays}
 use Rattle.ppm_driver.proofs.EndLemmas.{keeper_opened, words_opened}
@@ -83,7 +81,7 @@ pub record Laws : Type 0 where
   pub once : OnceInEachRun
   pub room : RoomIsSpentSo
   pub work : WorkIsWithin256ByEither
-  pub whole : NothingBreaks
+  pub whole : NothingBreaksByEither
 
 -- a machine has as many words after turns as before them
 module _ (s : Shape) (code : CodeParts) where
@@ -237,12 +235,12 @@ module _ (laws : Laws) (text : List ℕ) (t : ProgramTree) (has : HasProgram tex
           omega (arith, less, words_are)
 
       -- words are broken only behind more than 2^34 work turns
-      breaks : sizes.takeover ≡ ByPlaces → IsUnbroken start turns
-      breaks places place says =
+      breaks : (place : ℕ) → Says (finishes.Broken place) → 2 ^ 34 < worked_in start turns
+      breaks place says =
           let count = works_are s code (opening words s.processors) turns in
           elim (cases_lt (2 ^ 34) (worked_in start turns)) [
             | inl many ↦ many
-            | inr few ↦ absurd ((laws.whole code input s keeper b.image (b.sized.takeover ∙ places) fair opened calm turns among
+            | inr few ↦ absurd ((laws.whole code input s keeper b.image fair opened calm turns among
                 (omega (arith, few, count))).finish (finishes.Broken place) says)
           ]
 
@@ -253,7 +251,7 @@ module _ (laws : Laws) (text : List ℕ) (t : ProgramTree) (has : HasProgram tex
           (ends_as (sym shown.strands) (sym shown.root) (sym shown.arrays) e comes)
 
       as_program : IsAsProgram start turns t
-      as_program = record { once = none_twice; ended = when_ended; trapped = when_trapped; full = needs_more; work = works }
+      as_program = record { once = none_twice; ended = when_ended; trapped = when_trapped; full = needs_more; unbroken = breaks; work = works }
         where
           when_ended : Says finishes.Ended → EndsAsProgram start turns t (outcome.Ended (arrays_from s b.image.lengths last.words 0 input))
           when_ended says =
@@ -275,10 +273,10 @@ module _ (laws : Laws) (text : List ℕ) (t : ProgramTree) (has : HasProgram tex
                 branches = each r.0 (finishes.Trapped trap line) r.1;
               }
 
-    pub as_programs : (turns : List Turn) → AllByRecursion (IsTurnAmong m.shape.processors) turns → IsAsProgram m turns t × (sizes.takeover ≡ ByPlaces → IsUnbroken m turns)
+    pub as_programs : (turns : List Turn) → AllByRecursion (IsTurnAmong m.shape.processors) turns → IsAsProgram m turns t
     as_programs turns =
-        subst (λ (x : Situation). AllByRecursion (IsTurnAmong x.shape.processors) turns → IsAsProgram x turns t × (sizes.takeover ≡ ByPlaces → IsUnbroken x turns)) (sym b.loads)
-        (λ among. (as_program turns among, breaks turns among))
+        subst (λ (x : Situation). AllByRecursion (IsTurnAmong x.shape.processors) turns → IsAsProgram x turns t) (sym b.loads)
+        (λ among. as_program turns among)
 
 -- so it is with each text's program
 pub runs_are_as_programs : Laws → RunsAreAsPrograms

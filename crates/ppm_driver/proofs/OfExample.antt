@@ -1,5 +1,5 @@
 -- The rows of `self`.
-use Rattle.std.proofs.Common.{◌≡◌, ◌⊎◌, ℕ, refl, sym, subst, inl, inr}
+use Rattle.std.proofs.Common.{◌≡◌, ◌⊎◌, ℕ, sym, subst, inl, inr}
 use Rattle.ppm_ports.specs.Outside.{Outside, ToldLists}
 use Rattle.ppm_cli.specs.declared.example.SelfOptions.{SelfOptions}
 use Rattle.ppm_cli.specs.Words.{AreSelf}
@@ -63,7 +63,7 @@ module _ (law : RunsAreAsPrograms) (options : SelfOptions) (are : AreSelf option
   }
   by (answers.Broken place) h w =
       absurd (run_unbroken law (text_of options) h.0 h.1 (run_options_of options) options.processors o.told_before o.told_now (items_of options)
-      refl (example_are_run options are) place h.2)
+      (example_are_run options are) place h.2)
   by (answers.Ended arrays) h w = absurd h.2
   by a h w = absurd (kind options o.told_before o.told_now h.0 a h.2)
 

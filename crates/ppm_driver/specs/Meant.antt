@@ -7,7 +7,6 @@ use Rattle.ppm_words.specs.declared.outcome.Outcome.TheVariants as outcome
 use Rattle.ppm_words.specs.declared.trap.Trap.{Trap}
 use Rattle.ppm_cells.specs.Finish.{finish_of}
 use Rattle.ppm_cells.specs.declared.finish.Finish.TheVariants as finishes
-use Rattle.ppm_cells.specs.declared.shape.Takeover.TheVariants.{ByPlaces}
 use Rattle.ppm_code.specs.Strands.{Result}
 use Rattle.ppm_depth.specs.Run.{ComesTo}
 use Rattle.ppm_tree.specs.Tree.{ProgramTree}
@@ -79,8 +78,8 @@ module _ (m : Situation) (turns : List Turn) where
     pub branches : EachIsTakenOnce
 
   -- What holds behind these turns. No branch is taken twice. Where the finish word says an outcome the run ends as the program does, with the
-  -- arrays of the words then, or this trap; where it says that a pool is full, the program takes more words. All work turns are fewer than 256
-  -- for each capsule of the program's code and each fault that undoes work.
+  -- arrays of the words then, or this trap; where it says that a pool is full, the program takes more words. That words are broken it says only
+  -- behind more than 2^34 work turns. All work turns are fewer than 256 for each capsule of the program's code and each fault that undoes work.
   pub record IsAsProgram (t : ProgramTree) : Type 0 where
     pub once : NoneIsTakenTwice
     pub ended : finish_of (finish_behind m turns) ≡ Some finishes.Ended
@@ -88,16 +87,13 @@ module _ (m : Situation) (turns : List Turn) where
     pub trapped : (trap : Trap) (line : ℕ) → finish_of (finish_behind m turns) ≡ Some (finishes.Trapped trap line)
         → EndsAsProgram t (outcome.Trapped trap line)
     pub full : (place : ℕ) → finish_of (finish_behind m turns) ≡ Some (finishes.OutOfRoom place) → NeedsMoreRoom t m.shape.room
+    pub unbroken : (place : ℕ) → finish_of (finish_behind m turns) ≡ Some (finishes.Broken place) → 2 ^ 34 < worked_in
     pub work : NeedsMoreTurns t undone_in worked_in
 
-  -- that words are broken the finish word says only behind more than 2^34 work turns
-  abbrev pub IsUnbroken : Type 0
-  IsUnbroken = (place : ℕ) → finish_of (finish_behind m turns) ≡ Some (finishes.Broken place) → 2 ^ 34 < worked_in
-
 -- From the machine with which a run of a text's program begins, whatever the turns are that its processors make, and in whatever order, faults
--- and quits among them; with takeover by places no words are broken.
+-- and quits among them
 abbrev pub RunsAreAsPrograms : Type 0
 RunsAreAsPrograms = (text : List ℕ) (t : ProgramTree) → HasProgram text t → (sizes : Sizes)
     → (keeper : ℕ) (m : Situation) → Opens sizes (code_of t) (initial_arrays t) keeper m
     → (turns : List Turn) → AllByRecursion (IsTurnAmong m.shape.processors) turns
-    → IsAsProgram m turns t × (sizes.takeover ≡ ByPlaces → IsUnbroken m turns)
+    → IsAsProgram m turns t

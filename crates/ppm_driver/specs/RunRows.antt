@@ -3,7 +3,6 @@ use Rattle.std.specs.Prelude.{◌≡◌, ℕ, ◌<◌, ◌≤◌, List, [], ◌�
 use Rattle.ppm_words.specs.declared.named_array.NamedArray.{NamedArray}
 use Rattle.ppm_words.specs.declared.outcome.Outcome.TheVariants as outcome
 use Rattle.ppm_words.specs.declared.trap.Trap.{Trap}
-use Rattle.ppm_cells.specs.declared.shape.Takeover.TheVariants.{ByPlaces, ByEntries}
 use Rattle.ppm_ports.specs.Ports.{Gets}
 use Rattle.ppm_ports.specs.Outside.{Outside, ports_of}
 use Rattle.ppm_text.specs.Limits.{text_limit}
@@ -107,12 +106,7 @@ module _ (options : RunOptions) (watching : ℕ) (plan : List ℕ) (o : Outside)
     pub once : let p = read.2.has.2 in IsOnce p.start p.run.turns
     pub gets : Gets o.err (room_text place)
 
-  -- the words are broken at a place, and err got exactly the line that says so: with takeover by places this never comes
-  pub record WritesBroken : Type 0 where
-    pub broken : machine.WritesBroken plan_form plan options.processors Has (ports_of o)
-    pub by : options.takeover ≡ ByEntries
-
-  -- what each status says
+  -- what each status says; the others never come, broken words among them
   abbrev pub RunSays : Status → Type 0
   RunSays statuses.Ended = WritesArrays
   RunSays statuses.Trapped = WritesTrap
@@ -120,7 +114,6 @@ module _ (options : RunOptions) (watching : ℕ) (plan : List ℕ) (o : Outside)
   RunSays statuses.WordsRefused = machine.RefusesPlan plan_form plan options.processors (ports_of o) × IsUnread o.source
   RunSays statuses.OutOfTurns = WritesOutOfTurns
   RunSays statuses.OutOfRoom = WritesOutOfRoom
-  RunSays statuses.Broken = WritesBroken
   RunSays status = PortsSay (ports_of o) status
 
   -- each run that an answer is of is as its program, at each status: also where the answer's text failed
@@ -128,10 +121,10 @@ module _ (options : RunOptions) (watching : ℕ) (plan : List ℕ) (o : Outside)
   AreAsPrograms = (items : List PlanItem) (text : List ℕ) (t : ProgramTree) → HasProgram text t → (answer : Answer)
       (h : ProgramHas options watching o.told_before o.told_now items t answer) → IsAsProgram h.start h.run.turns t
 
-  -- completeness: with takeover by places, a plan that is accepted, and turns and room enough for its faults and for the program of the
-  -- source's bytes, which are known, the run ends with arrays or in a trap, where the ports hold and memory is there
+  -- completeness: with a plan that is accepted, and turns and room enough for its faults and for the program of the source's bytes, which are
+  -- known, the run ends with arrays or in a trap, where the ports hold and memory is there
   abbrev pub Completes : Status → Type 0
-  Completes status = options.takeover ≡ ByPlaces → (items : List PlanItem) → IsAccepted plan_form plan options.processors items
+  Completes status = (items : List PlanItem) → IsAccepted plan_form plan options.processors items
       → (all : List ℕ) → o.source.before ≡ Some all → (t : ProgramTree) → HasProgram all t
       → IsEnough t (fault_count items) options.turns options.room → GoesWell (ports_of o) status
       → IsOneOf status (statuses.Ended ∷ statuses.Trapped ∷ [])

@@ -17,6 +17,6 @@ returns c = record {
     once = c.runs_end_so.ensures.once;
     room = c.room_is_spent.ensures.so;
     work = c.work_is_bounded_by_either.ensures.within;
-    whole = c.nothing_breaks.ensures.law;
+    whole = c.nothing_breaks_by_either.ensures.law;
   });
 }
