@@ -4,6 +4,9 @@ use Rattle.std.specs.List.{AllByRecursion, list_any}
 use Rattle.std.proofs.lemmas.Bool.{cases_lt, eqb-true, eq-eqb, or_cases}
 use Rattle.std.proofs.lemmas.List.{length-append}
 use Rattle.std.proofs.lemmas.List.Elements.{recursion_from_All}
+use Rattle.ppm_cells.specs.Memory.{read}
+use Rattle.ppm_cells.specs.Restart.{restart_of}
+use Rattle.ppm_cells.specs.declared.cell.Cell.TheVariants.{RestartWord}
 use Rattle.ppm_cells.specs.declared.restart.Restart.{Restart}
 use Rattle.ppm_cells.specs.declared.shape.Shape.{Shape}
 use Rattle.ppm_cells.specs.declared.shape.Takeover.{Takeover}
@@ -38,29 +41,25 @@ is_fault Hard = true
 is_fault (Step victim) = false
 is_fault (Quit why) = false
 
+one_or_none : (b : Bool) (c : ℕ) → length (if b then c ∷ [] else []) ≤ 1
+one_or_none true c = omega arith
+one_or_none false c = omega arith
+
 -- a fault that strikes a row is one
 strike_faults : (act : Act) (x : Standing) (c : ℕ) → length (if is_strike act x then c ∷ [] else []) ≤ one_if (is_fault act)
 strike_faults (Step v) x c = omega arith
 strike_faults (Quit why) x c = omega arith
-strike_faults Soft x c = by (is_strike Soft x)
-  where
-    by : (b : Bool) → length (if b then c ∷ [] else []) ≤ 1
-    by true = omega arith
-    by false = omega arith
-strike_faults Hard x c = by (is_strike Hard x)
-  where
-    by : (b : Bool) → length (if b then c ∷ [] else []) ≤ 1
-    by true = omega arith
-    by false = omega arith
+strike_faults Soft x c = one_or_none (is_strike Soft x) c
+strike_faults Hard x c = one_or_none (is_strike Hard x) c
 
 -- so is one that undoes work
 undone_faults : (how : Takeover) (act : Act) (x : Standing) (r : Option Restart) (c : ℕ)
     → length (if undoes how act x r then c ∷ [] else []) ≤ one_if (is_fault act)
 undone_faults ByPlaces act x r c = strike_faults act x c
-undone_faults ByEntries (Step v) x r c = omega arith
-undone_faults ByEntries (Quit why) x r c = omega arith
+undone_faults ByEntries (Step v) x r c = strike_faults (Step v) x c
+undone_faults ByEntries (Quit why) x r c = strike_faults (Quit why) x c
 undone_faults ByEntries Soft x r c = strike_faults Soft x c
-undone_faults ByEntries Hard x r c = omega arith
+undone_faults ByEntries Hard x r c = one_or_none (undoes ByEntries Hard x r) c
 
 -- how many there are among acts
 abbrev faults_among : List Deed → ℕ
@@ -320,4 +319,5 @@ strikes_are_planned plan limits m turns obey =
 pub undone_are_planned : UndoneArePlanned
 undone_are_planned plan limits m turns obey =
     told_planned plan limits m turns obey (undone_of m.shape) (λ state turn.
-    undone_faults m.shape.takeover turn.act (stand_of state turn.processor) None turn.processor)
+    undone_faults m.shape.takeover turn.act (stand_of state turn.processor)
+    (restart_of (read m.shape state.words (RestartWord turn.processor))) turn.processor)

@@ -1,5 +1,6 @@
 //! Probes: laws that others prove.
 ghost use Rattle.ppm_driver.specs.Probes.{WorkIsWithin256ByEither, NothingBreaksByEither};
+ghost use Rattle.ppm_driver.specs.Strikes.{UndoneArePlanned};
 
 /// A probe.
 #[tactic(none)]
@@ -11,4 +12,9 @@ pub fn work_is_bounded_by_either()
 #[tactic(none)]
 pub fn nothing_breaks_by_either()
     ensures law { NothingBreaksByEither }
+{}
+
+/// A probe.
+pub fn probe()
+    ensures law { UndoneArePlanned }
 {}
