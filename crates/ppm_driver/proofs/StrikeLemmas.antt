@@ -12,6 +12,7 @@ use Rattle.ppm_cells.specs.declared.shape.Shape.{Shape}
 use Rattle.ppm_cells.specs.declared.shape.Takeover.{Takeover}
 use Rattle.ppm_cells.specs.declared.shape.Takeover.TheVariants.{ByPlaces, ByEntries}
 use Rattle.ppm_code.specs.declared.code.CodeParts.{CodeParts}
+use Rattle.ppm_core.specs.Situation.{Situation}
 use Rattle.ppm_plan.specs.declared.fault.Fault.{Fault}
 use Rattle.ppm_plan.specs.declared.fault.Fault.TheVariants as faults
 use Rattle.ppm_plan.specs.declared.plan_item.PlanItem.{PlanItem}
