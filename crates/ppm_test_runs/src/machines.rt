@@ -12,6 +12,7 @@ use ppm_cut_code::{
 };
 use ppm_cut_correct::{end_as_meant, ends_serially, name_arrays, start_with_input};
 use ppm_cut_sound::{code_is_sound, may_be_stopped, store_tidily};
+use ppm_example::{examples_are_programs, examples_sum};
 use ppm_layout::image;
 use ppm_listing_reader::read_listing;
 use ppm_words::{Input, Items, Name, NamedArray};
@@ -323,4 +324,10 @@ fn states_laws_of_the_compiler() {
     ends_serially();
     start_with_input();
     name_arrays();
+}
+
+#[test]
+fn states_laws_of_the_example() {
+    examples_are_programs();
+    examples_sum();
 }
