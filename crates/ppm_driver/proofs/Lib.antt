@@ -29,4 +29,5 @@ pub mod ResumeLemmas
 pub mod OfResume
 pub mod LeftLemmas
 pub mod ExampleLemmas
+pub mod ExampleSums
 pub mod OfExample

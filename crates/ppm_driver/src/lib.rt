@@ -25,6 +25,7 @@ mod replay;
 mod resuming;
 mod run;
 mod saying;
+mod sums;
 
 pub use complete::runs_complete;
 pub use example::self_command;
@@ -35,3 +36,4 @@ pub use one_run::answers_are_one;
 pub use replay::replay_command;
 pub use resuming::resume_command;
 pub use run::{WATCHERS, run_command};
+pub use sums::examples_sum_up;
