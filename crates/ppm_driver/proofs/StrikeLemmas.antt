@@ -28,7 +28,7 @@ use Rattle.ppm_step.specs.declared.turn.Turn.{Turn}
 use Rattle.ppm_step.specs.declared.turn.Why.TheVariants.{Turns}
 use Rattle.ppm_paces.specs.Paces.{is_strike, strikes_of}
 use Rattle.ppm_choice.specs.Deeds.{Deed, deeds_of}
-use Rattle.ppm_choice.specs.Obeying.{Past, nothing_done, Obeys, fault_of, faulted, behind, awake, next_act}
+use Rattle.ppm_choice.specs.Obeying.{Past, nothing_done, ObeyAll, Obeys, fault_of, faulted, behind, awake, next_act}
 use Rattle.ppm_choice.specs.declared.limits.Limits.{Limits}
 use Rattle.ppm_choice.proofs.ParkLemmas.{awake_acts}
 use Rattle.ppm_runs.specs.Deques.{one_if}
