@@ -292,7 +292,7 @@ module _ (s : Shape) (code : CodeParts) where
         omega (arith, rest, both, one, mine, all, two)
 
 module _ (plan : Planned) (limits : Limits) (m : Situation) (turns : List Turn) (obey : ObeyAll plan limits m.shape m.code m.state turns) where
-  deeds : ℕ → List Deed
+  abbrev deeds : ℕ → List Deed
   deeds c = deeds_of m.shape m.code c m.state turns
 
   none_plus : (n : ℕ) → 0 + n ≡ n
