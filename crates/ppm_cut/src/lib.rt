@@ -2,7 +2,7 @@
 //! Model: the code of a tree (`ppm_cut_code`, `specs/Routines`); counts along a tree have bounds of
 //! their own (`specs/Counts`).
 //! Contract: `cut` gives the code of an admitted program within the bounds, or memory was refused.
-//! Stands on `ppm_cut_code` and `ppm_code`; `ppm_driver` and `ppm_commands` call it. A translation
+//! Stands on `ppm_cut_code` and `ppm_code`; `ppm_loading` and `ppm_commands` call it. A translation
 //! with absolute numbers, which are counted before the capsules are made; this project's.
 #![tactic(auto)]
 

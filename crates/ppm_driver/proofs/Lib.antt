@@ -30,4 +30,5 @@ pub mod OfResume
 pub mod LeftLemmas
 pub mod ResumeComplete
 pub mod ExampleLemmas
+pub mod ExampleSums
 pub mod OfExample

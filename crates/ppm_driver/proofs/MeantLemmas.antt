@@ -1,4 +1,4 @@
--- With takeover by places runs end as their programs do. What the machine begins with is what the depth-first run of the program's code does
+-- Runs end as their programs do. What the machine begins with is what the depth-first run of the program's code does
 -- (`ShowsTheRun`), and that code is sound: so an outcome of the run is the depth-first run's, and that is the program's.
 use Rattle.std.proofs.Common.{◌≡◌, ℕ, ◌+◌, ◌^◌, ◌<◌, ◌≤◌, List, [], ◌∷◌, length, map, Some, refl, sym, ap, ap₂, ◌∙◌, subst, arith, inl, inr}
 use Rattle.std.proofs.lemmas.Bool.{cases_lt}
@@ -17,7 +17,6 @@ use Rattle.ppm_cells.specs.declared.cell.Cell.TheVariants.{FinishWord}
 use Rattle.ppm_cells.specs.declared.finish.Finish.{Finish}
 use Rattle.ppm_cells.specs.declared.finish.Finish.TheVariants as finishes
 use Rattle.ppm_cells.specs.declared.shape.Shape.{Shape}
-use Rattle.ppm_cells.specs.declared.shape.Takeover.TheVariants.{ByPlaces}
 use Rattle.ppm_code.specs.Code.{IsCode}
 use Rattle.ppm_code.specs.Strands.{Point, Result, Gave, Trapped}
 use Rattle.ppm_code.specs.declared.code.CodeParts.{CodeParts}
@@ -57,12 +56,11 @@ use Rattle.ppm_runs.specs.Entries.{EndsAsRun, OnceInEachRun, RunsEndSo, RunsFork
 use Rattle.ppm_runs.specs.Moments.{AreOnce}
 use Rattle.ppm_runs.specs.Run.{image}
 use Rattle.ppm_runs.specs.Spent.{RoomIsSpentSo}
-use Rattle.ppm_runs.specs.Unbroken.{NothingBreaks}
-use Rattle.ppm_runs.specs.Work.{WorkIsWithin256}
+use Rattle.ppm_driver.specs.Probes.{WorkIsWithin256ByEither, NothingBreaksByEither}
 use Rattle.ppm_core.specs.Situation.{Situation, loaded}
 use Rattle.ppm_loading.specs.declared.loading.Sizes.{Sizes}
 use Rattle.ppm_loading.specs.Loading.{Opens}
-use Rattle.ppm_driver.specs.Meant.{HasOutcome, NeedsMoreRoom, NeedsMoreTurns, struck_in, EachIsTakenOnce, EndsAsProgram, IsAsProgram, IsWithinProgram, RunsAreAsPrograms}
+use Rattle.ppm_driver.specs.Meant.{HasOutcome, NeedsMoreRoom, NeedsMoreTurns, undone_in, EachIsTakenOnce, EndsAsProgram, worked_in, IsAsProgram, RunsAreAsPrograms}
 use Rattle.ppm_loading.specs.Says.{arrays_from}
 use Rattle.ppm_loading.proofs.ArrayLemmas.{same_arrays}
 use Rattle.ppm_driver.proofs.EndLemmas.{keeper_opened, words_opened}
@@ -83,8 +81,8 @@ pub record Laws : Type 0 where
   pub forks : RunsForkSo
   pub once : OnceInEachRun
   pub room : RoomIsSpentSo
-  pub work : WorkIsWithin256
-  pub whole : NothingBreaks
+  pub work : WorkIsWithin256ByEither
+  pub whole : NothingBreaksByEither
 
 -- a machine has as many words after turns as before them
 module _ (s : Shape) (code : CodeParts) where
@@ -244,23 +242,23 @@ module _ (laws : Laws) (text : List ℕ) (t : ProgramTree) (has : HasProgram tex
           omega (arith, less, words_are)
 
       -- words are broken only behind more than 2^34 work turns
-      breaks : sizes.takeover ≡ ByPlaces → (place : ℕ) → Says (finishes.Broken place) → 2 ^ 34 < length (along s code work_of (opening words s.processors) turns)
-      breaks places place says =
+      breaks : (place : ℕ) → Says (finishes.Broken place) → 2 ^ 34 < worked_in start turns
+      breaks place says =
           let count = works_are s code (opening words s.processors) turns in
-          elim (cases_lt (2 ^ 34) (length (along s code work_of (opening words s.processors) turns))) [
+          elim (cases_lt (2 ^ 34) (worked_in start turns)) [
             | inl many ↦ many
-            | inr few ↦ absurd ((laws.whole code input s keeper b.image (b.sized.takeover ∙ places) fair opened calm turns among
+            | inr few ↦ absurd ((laws.whole code input s keeper b.image fair opened calm turns among
                 (omega (arith, few, count))).finish (finishes.Broken place) says)
           ]
 
       -- the work of all turns is within its bound
-      works : sizes.takeover ≡ ByPlaces → NeedsMoreTurns t (struck_in start turns) (length (along s code work_of (opening words s.processors) turns))
-      works places e comes =
-          laws.work code input s keeper b.image (b.sized.takeover ∙ places) fair opened calm turns among e
+      works : NeedsMoreTurns t (undone_in start turns) (worked_in start turns)
+      works e comes =
+          laws.work code input s keeper b.image fair opened calm turns among e
           (ends_as (sym shown.strands) (sym shown.root) (sym shown.arrays) e comes)
 
       as_program : IsAsProgram start turns t
-      as_program = record { once = none_twice; ended = when_ended; trapped = when_trapped; full = needs_more }
+      as_program = record { once = none_twice; ended = when_ended; trapped = when_trapped; full = needs_more; unbroken = breaks; work = works }
         where
           when_ended : Says finishes.Ended → EndsAsProgram start turns t (outcome.Ended (arrays_from s b.image.lengths last.words 0 input))
           when_ended says =
@@ -284,10 +282,10 @@ module _ (laws : Laws) (text : List ℕ) (t : ProgramTree) (has : HasProgram tex
                 forks = as_many (finishes.Trapped trap line) says tt;
               }
 
-    pub as_programs : (turns : List Turn) → AllByRecursion (IsTurnAmong m.shape.processors) turns → IsAsProgram m turns t × (sizes.takeover ≡ ByPlaces → IsWithinProgram m turns t)
+    pub as_programs : (turns : List Turn) → AllByRecursion (IsTurnAmong m.shape.processors) turns → IsAsProgram m turns t
     as_programs turns =
-        subst (λ (x : Situation). AllByRecursion (IsTurnAmong x.shape.processors) turns → IsAsProgram x turns t × (sizes.takeover ≡ ByPlaces → IsWithinProgram x turns t)) (sym b.loads)
-        (λ among. (as_program turns among, λ places. record { unbroken = breaks turns among places; work = works turns among places }))
+        subst (λ (x : Situation). AllByRecursion (IsTurnAmong x.shape.processors) turns → IsAsProgram x turns t) (sym b.loads)
+        (λ among. as_program turns among)
 
 -- so it is with each text's program
 pub runs_are_as_programs : Laws → RunsAreAsPrograms

@@ -1,4 +1,4 @@
--- What rows say of runs and replays that end: with takeover by places they end as their programs do.
+-- What rows say of runs and replays that end: they end as their programs do.
 use Rattle.std.proofs.Common.{◌≡◌, ◌<◌, ◌≤◌, ◌+◌, ◌*◌, ◌^◌, ℕ, List, [], length, Some, refl, sym, ap, ◌∙◌, subst, arith}
 use Rattle.std.proofs.lemmas.List.Elements.{recursion_from_All}
 use Rattle.std.proofs.lemmas.Nat.{mul-le}
@@ -9,8 +9,6 @@ use Rattle.ppm_ports.specs.Outside.{ToldLists}
 use Rattle.ppm_cells.specs.declared.finish.Finish.{Finish}
 use Rattle.ppm_cells.specs.declared.finish.Finish.TheVariants as finishes
 use Rattle.ppm_cells.specs.declared.shape.Shape.{Shape}
-use Rattle.ppm_cells.specs.declared.shape.Takeover.{Takeover}
-use Rattle.ppm_cells.specs.declared.shape.Takeover.TheVariants.{ByPlaces, ByEntries}
 use Rattle.ppm_plan.specs.declared.plan_item.PlanItem.{PlanItem}
 use Rattle.ppm_plan.specs.declared.schedule_item.ScheduleItem.{ScheduleItem}
 use Rattle.ppm_plan.specs.Forms.{schedule_form}
@@ -32,7 +30,7 @@ use Rattle.ppm_cli.specs.declared.run.RunOptions.{RunOptions}
 use Rattle.ppm_cli.specs.declared.replay.ReplayOptions.{ReplayOptions}
 use Rattle.ppm_cli.specs.Words.{AreReplayed, AreRun}
 use Rattle.ppm_following.specs.Followed.{followed}
-use Rattle.ppm_driver.specs.Meant.{NeedsMoreRoom, NeedsMoreTurns, forked_in, struck_in, NoneIsTakenTwice, EachIsTakenOnce, EndsAsProgram, IsAsProgram, IsWithinProgram, RunsAreAsPrograms}
+use Rattle.ppm_driver.specs.Meant.{NeedsMoreRoom, NeedsMoreTurns, forked_in, undone_in, NoneIsTakenTwice, EachIsTakenOnce, EndsAsProgram, IsAsProgram, RunsAreAsPrograms}
 use Rattle.ppm_driver.specs.RunOf.{words_behind, finish_behind}
 use Rattle.ppm_loading.specs.Says.{arrays_from, IsOfFinish}
 use Rattle.ppm_driver.specs.Runs as runs
@@ -152,11 +150,6 @@ no_other_room turns place e = cc
 past_most : {some most : ℕ} → 2 ^ 34 < some → some ≤ most → most ≤ 2 ^ 34 → ⊥
 past_most many few most = omega (arith, many, few, most)
 
--- a takeover that isn't by places
-pub other_takeover : (how : Takeover) → (how ≡ ByPlaces → ⊥) → how ≡ ByEntries
-other_takeover ByPlaces not = absurd (not refl)
-other_takeover ByEntries not = refl
-
 -- in their ranges so many processors make no more work turns of all than tags can count
 few_turns : (processors turns : ℕ) → processors ≤ 64 → turns ≤ 268435456 → processors * turns ≤ 2 ^ 34
 few_turns processors turns few most = let all = mul-le processors turns 64 268435456 few most in omega (arith, all)
@@ -167,7 +160,7 @@ module _ (law : RunsAreAsPrograms) (text : List ℕ) (t : ProgramTree) (has : Ha
     abbrev Has : Answer → Type 0
     Has a = runs.ProgramHas options watching before now items t a
 
-    pub run_is : (a : Answer) (h : Has a) → IsAsProgram h.start h.run.turns t × (options.takeover ≡ ByPlaces → IsWithinProgram h.start h.run.turns t)
+    pub run_is : (a : Answer) (h : Has a) → IsAsProgram h.start h.run.turns t
     run_is a h =
         law text t has (runs.sizes_of options) h.keeper h.start h.opens h.run.turns
         (recursion_from_All (IsTurnAmong h.start.shape.processors) h.run.turns h.run.obey.among)
@@ -179,7 +172,7 @@ module _ (law : RunsAreAsPrograms) (text : List ℕ) (t : ProgramTree) (has : Ha
         h.start.array_lengths w (initial_arrays t) (finish_behind h.start h.run.turns) (answers.Ended arrays) (λ none. none) h.run.says in
         let e = ended_run h.start.shape h.start.array_lengths w (initial_arrays t) k.0 arrays k.2 in
         subst (λ (l : List NamedArray). EndsAsProgram h.start h.run.turns t (outcome.Ended l)) (sym e.1)
-        ((run_is (answers.Ended arrays) h).0.ended (k.1 ∙ ap (λ (f : Finish). Some f) e.0))
+        ((run_is (answers.Ended arrays) h).ended (k.1 ∙ ap (λ (f : Finish). Some f) e.0))
 
     pub run_traps : (trap : Trap) (line : ℕ) (h : Has (answers.Trapped trap line))
         → EndsAsProgram h.start h.run.turns t (outcome.Trapped trap line)
@@ -188,7 +181,7 @@ module _ (law : RunsAreAsPrograms) (text : List ℕ) (t : ProgramTree) (has : Ha
         let k = said_of_word answers.Ended answers.Trapped (λ processor x. x ≡ answers.OutOfTurns processor) (λ x. ⊥) h.start.shape
         h.start.array_lengths w (initial_arrays t) (finish_behind h.start h.run.turns) (answers.Trapped trap line) (λ none. none) h.run.says in
         let e = trapped_run h.start.shape h.start.array_lengths w (initial_arrays t) k.0 trap line k.2 in
-        (run_is (answers.Trapped trap line) h).0.trapped trap line (k.1 ∙ ap (λ (f : Finish). Some f) e)
+        (run_is (answers.Trapped trap line) h).trapped trap line (k.1 ∙ ap (λ (f : Finish). Some f) e)
 
     pub run_needs : (place : ℕ) (h : Has (answers.OutOfRoom place)) → NeedsMoreRoom t options.room
     run_needs place h =
@@ -197,32 +190,32 @@ module _ (law : RunsAreAsPrograms) (text : List ℕ) (t : ProgramTree) (has : Ha
         h.start.array_lengths w (initial_arrays t) (finish_behind h.start h.run.turns) (answers.OutOfRoom place) (λ none. none) h.run.says in
         let e = full_run h.start.shape h.start.array_lengths w (initial_arrays t) k.0 place k.2 in
         subst (NeedsMoreRoom t) (opens_room (runs.sizes_of options) (code_of t) (initial_arrays t) h.keeper h.start h.opens)
-        ((run_is (answers.OutOfRoom place) h).0.full place (k.1 ∙ ap (λ (f : Finish). Some f) e))
+        ((run_is (answers.OutOfRoom place) h).full place (k.1 ∙ ap (λ (f : Finish). Some f) e))
 
-    -- with takeover by places and options in their ranges it is never that words are broken
-    pub run_unbroken : options.takeover ≡ ByPlaces → AreRun options → (place : ℕ) → Has (answers.Broken place) → ⊥
-    run_unbroken places are place h =
+    -- with options in their ranges it is never that words are broken
+    pub run_unbroken : AreRun options → (place : ℕ) → Has (answers.Broken place) → ⊥
+    run_unbroken are place h =
         let w = words_behind h.start h.run.turns in
         let k = said_of_word answers.Ended answers.Trapped (λ processor x. x ≡ answers.OutOfTurns processor) (λ x. ⊥) h.start.shape
         h.start.array_lengths w (initial_arrays t) (finish_behind h.start h.run.turns) (answers.Broken place) (λ none. none) h.run.says in
         let e = broken_run h.start.shape h.start.array_lengths w (initial_arrays t) k.0 place k.2 in
-        let many = ((run_is (answers.Broken place) h).1 places).unbroken place (k.1 ∙ ap (λ (f : Finish). Some f) e) in
+        let many = (run_is (answers.Broken place) h).unbroken place (k.1 ∙ ap (λ (f : Finish). Some f) e) in
         let most = obeyed_work h.start.shape h.start.code (runs.plan_of options items) (runs.limits_of options) h.start.state h.run.turns h.run.obey
         (recursion_from_All (IsTurnAmong h.start.shape.processors) h.run.turns h.run.obey.among) in
         let count = opens_processors (runs.sizes_of options) (code_of t) (initial_arrays t) h.keeper h.start h.opens in
         past_most many most (subst (λ (n : ℕ). n * options.turns ≤ 2 ^ 34) (sym count) (few_turns options.processors options.turns are.0.1 are.1.1))
 
     -- what one processor made of its turns is within the work of all
-    pub run_needs_turns : options.takeover ≡ ByPlaces → (c : ℕ) (h : Has (answers.OutOfTurns c))
+    pub run_needs_turns : (c : ℕ) (h : Has (answers.OutOfTurns c))
         → work_made h.start.shape h.start.code c h.start.state h.run.turns ≡ options.turns
-        → NeedsMoreTurns t (struck_in h.start h.run.turns) options.turns
-    run_needs_turns places c h made e comes =
-        let within = ((run_is (answers.OutOfTurns c) h).1 places).work e comes in
+        → NeedsMoreTurns t (undone_in h.start h.run.turns) options.turns
+    run_needs_turns c h made e comes =
+        let within = (run_is (answers.OutOfTurns c) h).work e comes in
         let mine = of_all h.start.shape h.start.code c h.start.state h.run.turns in
         omega (arith, within, mine, made)
 
     pub run_once : (a : Answer) (h : Has a) → NoneIsTakenTwice h.start h.run.turns
-    run_once a h = (run_is a h).0.once
+    run_once a h = (run_is a h).once
 
   -- of `replay`, whose schedule is accepted
   module _ (options : ReplayOptions) (schedule : List ℕ) (items : List ScheduleItem)
@@ -233,7 +226,7 @@ module _ (law : RunsAreAsPrograms) (text : List ℕ) (t : ProgramTree) (has : Ha
     abbrev turns_in : Situation → List Turn
     turns_in m = schedule_turns m.shape m.code m.state items options.turns
 
-    pub replay_is : (a : Answer) (h : HasReplay a) → IsAsProgram h.start (turns_in h.start) t × (options.takeover ≡ ByPlaces → IsWithinProgram h.start (turns_in h.start) t)
+    pub replay_is : (a : Answer) (h : HasReplay a) → IsAsProgram h.start (turns_in h.start) t
     replay_is a h =
         law text t has (replays.sizes_of options) h.keeper h.start h.opens (turns_in h.start)
         (scheduled_among h.start.shape h.start.code (some h) schedule options.processors items (count h) accepted h.start.state options.turns)
@@ -265,7 +258,7 @@ module _ (law : RunsAreAsPrograms) (text : List ℕ) (t : ProgramTree) (has : Ha
         (λ processor x. ⊥) (λ x. x ≡ answers.Unfinished options.turns) m.shape m.array_lengths m.state.words (initial_arrays t) (finish_in m)
         (answers.EndedWith arrays tally) (no_other options.turns arrays tally) h.says in
         let e = ended_replay m.shape m.array_lengths m.state.words (initial_arrays t) options.turns (tally_of m) k.0 arrays tally k.2 in
-        let ends = (replay_is (answers.EndedWith arrays tally) h).0.ended (k.1 ∙ ap (λ (f : Finish). Some f) e.0) in (
+        let ends = (replay_is (answers.EndedWith arrays tally) h).ended (k.1 ∙ ap (λ (f : Finish). Some f) e.0) in (
           subst (λ (l : List NamedArray). EndsAsProgram h.start (turns_in h.start) t (outcome.Ended l)) (sym e.1) ends,
           tallied h.start (ap (λ (x : Situation). x.forks) h.opens.loads) (ap (λ (x : Situation). x.takes) h.opens.loads) ends.branches tally e.2,
         )
@@ -278,7 +271,7 @@ module _ (law : RunsAreAsPrograms) (text : List ℕ) (t : ProgramTree) (has : Ha
         (λ processor x. ⊥) (λ x. x ≡ answers.Unfinished options.turns) m.shape m.array_lengths m.state.words (initial_arrays t) (finish_in m)
         (answers.TrappedWith trap line tally) (no_other_trap options.turns trap line tally) h.says in
         let e = trapped_replay m.shape m.array_lengths m.state.words (initial_arrays t) options.turns (tally_of m) k.0 trap line tally k.2 in
-        let ends = (replay_is (answers.TrappedWith trap line tally) h).0.trapped trap line (k.1 ∙ ap (λ (f : Finish). Some f) e.0) in (
+        let ends = (replay_is (answers.TrappedWith trap line tally) h).trapped trap line (k.1 ∙ ap (λ (f : Finish). Some f) e.0) in (
           ends,
           tallied h.start (ap (λ (x : Situation). x.forks) h.opens.loads) (ap (λ (x : Situation). x.takes) h.opens.loads) ends.branches tally e.1,
         )
@@ -291,17 +284,17 @@ module _ (law : RunsAreAsPrograms) (text : List ℕ) (t : ProgramTree) (has : Ha
         (answers.OutOfRoom place) (no_other_room options.turns place) h.says in
         let e = full_replay m.shape m.array_lengths m.state.words (initial_arrays t) options.turns (tally_of m) k.0 place k.2 in
         subst (NeedsMoreRoom t) (opens_room (replays.sizes_of options) (code_of t) (initial_arrays t) h.keeper h.start h.opens)
-        ((replay_is (answers.OutOfRoom place) h).0.full place (k.1 ∙ ap (λ (f : Finish). Some f) e))
+        ((replay_is (answers.OutOfRoom place) h).full place (k.1 ∙ ap (λ (f : Finish). Some f) e))
 
-    pub replay_unbroken : options.takeover ≡ ByPlaces → AreReplayed options → (place : ℕ) → HasReplay (answers.Broken place) → ⊥
-    replay_unbroken places are place h =
+    pub replay_unbroken : AreReplayed options → (place : ℕ) → HasReplay (answers.Broken place) → ⊥
+    replay_unbroken are place h =
         let m = last h.start in
         let k = said_of_word (λ values. answers.EndedWith values (tally_of m)) (λ trap line. answers.TrappedWith trap line (tally_of m))
         (λ processor x. ⊥) (λ x. x ≡ answers.Unfinished options.turns) m.shape m.array_lengths m.state.words (initial_arrays t) (finish_in m)
         (answers.Broken place) (no_other_broken options.turns place) h.says in
         let e = broken_replay m.shape m.array_lengths m.state.words (initial_arrays t) options.turns (tally_of m) k.0 place k.2 in
-        let many = ((replay_is (answers.Broken place) h).1 places).unbroken place (k.1 ∙ ap (λ (f : Finish). Some f) e) in
+        let many = (replay_is (answers.Broken place) h).unbroken place (k.1 ∙ ap (λ (f : Finish). Some f) e) in
         past_most many (scheduled_work h.start.shape h.start.code h.start.state items options.turns) (let few = are.1.1 in omega (arith, few))
 
     pub replay_once : (a : Answer) (h : HasReplay a) → NoneIsTakenTwice h.start (turns_in h.start)
-    replay_once a h = (replay_is a h).0.once
+    replay_once a h = (replay_is a h).once

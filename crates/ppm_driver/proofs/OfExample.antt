@@ -1,71 +1,46 @@
 -- The rows of `self`.
-use Rattle.std.proofs.Common.{◌≡◌, ◌⊎◌, ℕ, refl, sym, subst, inl, inr}
+use Rattle.std.proofs.Common.{◌≡◌, ◌⊎◌, ℕ, sym, subst, inl, inr}
+use Rattle.ppm_ports.specs.Ports.{Gets}
 use Rattle.ppm_ports.specs.Outside.{Outside, ToldLists}
 use Rattle.ppm_cli.specs.declared.example.SelfOptions.{SelfOptions}
 use Rattle.ppm_cli.specs.Words.{AreSelf}
 use Rattle.ppm_answers.specs.declared.answer.Answer.{Answer}
 use Rattle.ppm_answers.specs.declared.answer.Answer.TheVariants as answers
+use Rattle.ppm_answers.specs.declared.sums.Sums.{Sums}
 use Rattle.ppm_answers.specs.declared.status.Status.{Status}
 use Rattle.ppm_answers.specs.declared.status.Status.TheVariants as statuses
 use Rattle.ppm_answers.specs.Delivery.{Delivers, IsWritten}
 use Rattle.ppm_answers.specs.Reading.{Answers}
 use Rattle.ppm_answers.specs.Statuses.{status_of}
-use Rattle.ppm_answers.specs.Texts.{IsFixed}
+use Rattle.ppm_answers.specs.Texts.{IsFixed, sums_text}
 use Rattle.ppm_answers.proofs.Delivered.{own_or_fault, write_failed}
-use Rattle.ppm_driver.specs.Examples.{ExampleMay, items_of, run_options_of, text_of}
-use Rattle.ppm_driver.specs.ExampleRows.{ExampleSays}
+use Rattle.ppm_driver.specs.Examples.{ExampleMay, ExamplesSumUp, SumsUp, items_of, run_options_of, sums_drawn, text_of}
+use Rattle.ppm_driver.specs.ExampleRows.{ExampleSays, WritesSums}
 use Rattle.ppm_driver.specs.Meant.{RunsAreAsPrograms}
 use Rattle.ppm_driver.specs.Runs.{RunTells}
-use Rattle.ppm_driver.proofs.ExampleLemmas.{example_are_run, kind}
-use Rattle.ppm_driver.proofs.MeantRows.{run_ends, run_traps, run_needs, run_needs_turns, run_once, run_unbroken}
-use Rattle.ppm_driver.proofs.RunLemmas.{spent_has}
+use Rattle.ppm_driver.proofs.ExampleLemmas.{kind}
+use Rattle.ppm_driver.proofs.MeantRows.{run_ends}
 
-module _ (law : RunsAreAsPrograms) (options : SelfOptions) (are : AreSelf options) (o : Outside) where
+module _ (law : RunsAreAsPrograms) (all : ExamplesSumUp) (options : SelfOptions) (are : AreSelf options) (o : Outside) where
+  -- what is told is that of the example
+  summed : (sums : Sums) → sums ≡ sums_drawn options → ExampleMay options o.told_before o.told_now (answers.Summed sums)
+      → Gets o.out (sums_text sums) → WritesSums options o
+  summed sums same h gets =
+      let up = subst (SumsUp options o.told_before o.told_now h.0) same h.2 in
+      record {
+        tree = h.0;
+        program = h.1;
+        sums_up = up;
+        meant = run_ends law (text_of options) h.0 h.1 (run_options_of options) options.processors o.told_before o.told_now
+            (items_of options) up.arrays up.has;
+        gets = subst (λ (s : Sums). Gets o.out (sums_text s)) same gets;
+      }
+
   -- each answer's own status says its sentence
   by : (a : Answer) → ExampleMay options o.told_before o.told_now a → IsWritten o.out o.err a (status_of a) → ExampleSays options o (status_of a)
   by answers.NoMemory h w = tt
-  by (answers.SourceRefused r) h w = record { refusal = r; refused = h; gets = w.err_takes.0 }
-  by (answers.Summed sums) h w = record {
-    sums = sums;
-    tree = h.0;
-    program = h.1;
-    sums_up = h.2;
-    meant = run_ends law (text_of options) h.0 h.1 (run_options_of options) options.processors o.told_before o.told_now (items_of options)
-        h.2.arrays h.2.has;
-    gets = w.out_takes.0;
-  }
-  by (answers.Trapped trap line) h w = record {
-    trap = trap;
-    line = line;
-    runs = record { tree = h.0; program = h.1; has = h.2 };
-    meant = run_traps law (text_of options) h.0 h.1 (run_options_of options) options.processors o.told_before o.told_now (items_of options)
-        trap line h.2;
-    gets = w.out_takes.0;
-  }
-  by (answers.OutOfTurns c) h w = record {
-    processor = c;
-    runs = record { tree = h.0; program = h.1; has = h.2 };
-    needs = run_needs_turns law (text_of options) h.0 h.1 (run_options_of options) options.processors o.told_before o.told_now
-        (items_of options) refl c h.2
-        (spent_has (run_options_of options) options.processors o.told_before o.told_now (items_of options) h.0 c h.2).1;
-    once = run_once law (text_of options) h.0 h.1 (run_options_of options) options.processors o.told_before o.told_now (items_of options)
-        (answers.OutOfTurns c) h.2;
-    gets = w.err_takes.0;
-  }
-  by (answers.OutOfRoom place) h w = record {
-    place = place;
-    runs = record { tree = h.0; program = h.1; has = h.2 };
-    needs = run_needs law (text_of options) h.0 h.1 (run_options_of options) options.processors o.told_before o.told_now (items_of options)
-        place h.2;
-    once = run_once law (text_of options) h.0 h.1 (run_options_of options) options.processors o.told_before o.told_now (items_of options)
-        (answers.OutOfRoom place) h.2;
-    gets = w.err_takes.0;
-  }
-  by (answers.Broken place) h w =
-      absurd (run_unbroken law (text_of options) h.0 h.1 (run_options_of options) options.processors o.told_before o.told_now (items_of options)
-      refl (example_are_run options are) place h.2)
-  by (answers.Ended arrays) h w = absurd h.2
-  by a h w = absurd (kind options o.told_before o.told_now h.0 a h.2)
+  by (answers.Summed sums) h w = summed sums (all options are o.told_before o.told_now (answers.Summed sums) h) h w.out_takes.0
+  by a h w = absurd (all options are o.told_before o.told_now a h)
 
   -- all rows
   pub example_says : (status : Status) → Answers (ExampleMay options o.told_before o.told_now) (RunTells options.processors) o status

@@ -21,7 +21,7 @@ use Rattle.ppm_driver.specs.Meant.{RunsAreAsPrograms}
 use Rattle.ppm_loading.specs.Planned.{IsRefusedBy, HasByItems}
 use Rattle.ppm_driver.specs.Replays.{TextHas, ReplayMay, HaveOneAnswer}
 use Rattle.ppm_driver.specs.ReplayRows.{HasRead, WritesUnfinished, ReplaySays, ReplayRows}
-use Rattle.ppm_driver.proofs.MeantRows.{replay_is, replay_ends, replay_traps, replay_needs, replay_unbroken, replay_once, other_takeover}
+use Rattle.ppm_driver.proofs.MeantRows.{replay_is, replay_ends, replay_traps, replay_needs, replay_unbroken, replay_once}
 use Rattle.ppm_loading.proofs.PlannedLemmas as planned
 use Rattle.ppm_driver.proofs.ReplayLemmas.{of_program, filled_has}
 
@@ -82,11 +82,8 @@ module _ (law : RunsAreAsPrograms) (options : ReplayOptions) (are : AreReplayed 
         replay_once law h.0 h.2.has.0 h.2.has.1 options schedule h.2.items h.2.accepted (answers.OutOfRoom place) h.2.has.2;
     gets = w.err_takes.0;
   }
-  by (answers.Broken place) h w = record {
-    broken = (place, of_program options h.2.items h.2.has.0 (answers.Broken place) h.2.has.2, h, w.err_takes.0);
-    by = other_takeover options.takeover (λ places.
-        replay_unbroken law h.0 h.2.has.0 h.2.has.1 options schedule h.2.items h.2.accepted places are place h.2.has.2);
-  }
+  by (answers.Broken place) h w =
+      absurd (replay_unbroken law h.0 h.2.has.0 h.2.has.1 options schedule h.2.items h.2.accepted are place h.2.has.2)
   by answer h w = absurd (of_program options h.2.items h.2.has.0 answer h.2.has.2)
 
   module _ (status : Status) (a : DeliversAnswer (ReplayMay options schedule o.source) o status) where
@@ -112,5 +109,5 @@ module _ (law : RunsAreAsPrograms) (options : ReplayOptions) (are : AreReplayed 
       shown = λ all e well answer h.
           let k = (planned_rows plans one).rows.known all e well in
           subst (λ (x : Answer). IsWritten o.out o.err x status) (one.one options schedule all k.0 answer k.1 h) k.2;
-      meant = λ items accepted text t has answer h. (replay_is law text t has options schedule items accepted answer h).0;
+      meant = λ items accepted text t has answer h. replay_is law text t has options schedule items accepted answer h;
     }

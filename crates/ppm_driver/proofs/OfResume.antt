@@ -38,10 +38,11 @@ use Rattle.ppm_cli.specs.declared.resume.ResumeOptions.{ResumeOptions}
 use Rattle.ppm_loading.specs.Says.{array_words, arrays_from, IsOfFinish}
 use Rattle.ppm_loading.proofs.LoadingLemmas.{opens_lengths}
 use Rattle.ppm_loading.proofs.SayLemmas.{said_of_word}
+use Rattle.ppm_stop.specs.Stops.{names_of}
 use Rattle.ppm_driver.specs.Legs.{words_at_last, finish_at_last, worked_in_all, struck_in_all, NoneIsTakenTwiceInAll, EndsAsProgramInAll, IsAsProgramInAll, RunsInLegsAreAsPrograms}
 use Rattle.ppm_driver.specs.Meant.{NeedsMoreRoom, NeedsMoreTurns}
 use Rattle.ppm_driver.specs.RunOf.{words_behind, finish_behind}
-use Rattle.ppm_driver.specs.Resumes.{SavedState, GoesOnFrom, named, names_of, limits_of, plan_of, saved_finish, ResumedHas, ItemsHave, ResumeMay, IsLeftBy, LeftWordsComeBack, ResumesLeaveStates, legs_with}
+use Rattle.ppm_driver.specs.Resumes.{SavedState, GoesOnFrom, named, limits_of, plan_of, saved_finish, ResumedHas, ItemsHave, ResumeMay, IsLeftBy, LeftWordsComeBack, ResumesLeaveStates, legs_with}
 use Rattle.ppm_driver.specs.Completeness.{IsEnd}
 use Rattle.ppm_driver.specs.ResumeCompleteness.{ResumesComplete}
 use Rattle.ppm_driver.specs.ResumeRows.{Has, RefusesPlan, ResumeSays, ComesLate, Completes, ResumeRows}

@@ -23,10 +23,10 @@ use Rattle.ppm_loading.specs.Planned.{IsRefusedBy, HasByItems}
 use Rattle.ppm_driver.specs.Runs.{RunHas, RunMay, plan_of, limits_of, AnswersAreOne, FrontsDecideAnswers}
 use Rattle.ppm_driver.specs.Completeness.{IsEnd, RunsComplete}
 use Rattle.ppm_driver.specs.RunRows.{Has, RunSays, Completes, RunRows}
-use Rattle.ppm_driver.proofs.MeantRows.{run_is, run_ends, run_traps, run_needs, run_needs_turns, run_unbroken, run_once, other_takeover}
+use Rattle.ppm_driver.proofs.MeantRows.{run_is, run_ends, run_traps, run_needs, run_needs_turns, run_unbroken, run_once}
 use Rattle.ppm_loading.proofs.PlannedLemmas as planned
 use Rattle.ppm_driver.proofs.RunLemmas.{of_program, spent_has, filled_has, run_forgets}
-use Rattle.ppm_driver.proofs.StrikeLemmas.{strikes_are_planned}
+use Rattle.ppm_driver.proofs.StrikeLemmas.{undone_are_planned}
 
 module _ (law : RunsAreAsPrograms) (options : RunOptions) (are : AreRun options) (watching : ℕ) (plan : List ℕ) (o : Outside) where
   abbrev Read : Port → Answer → Type 0
@@ -60,10 +60,9 @@ module _ (law : RunsAreAsPrograms) (options : RunOptions) (are : AreRun options)
     processor = processor;
     read = h;
     spent = spent_has options watching o.told_before o.told_now h.2.items h.2.has.0 processor h.2.has.2;
-    needs = λ places.
-        run_needs_turns law h.0 h.2.has.0 h.2.has.1 options watching o.told_before o.told_now h.2.items places processor h.2.has.2
+    needs = run_needs_turns law h.0 h.2.has.0 h.2.has.1 options watching o.told_before o.told_now h.2.items processor h.2.has.2
         (spent_has options watching o.told_before o.told_now h.2.items h.2.has.0 processor h.2.has.2).1;
-    struck = strikes_are_planned (plan_of options h.2.items) (limits_of options) h.2.has.2.start h.2.has.2.run.turns h.2.has.2.run.obey;
+    undone = undone_are_planned (plan_of options h.2.items) (limits_of options) h.2.has.2.start h.2.has.2.run.turns h.2.has.2.run.obey;
     once =
         run_once law h.0 h.2.has.0 h.2.has.1 options watching o.told_before o.told_now h.2.items (answers.OutOfTurns processor) h.2.has.2;
     gets = w.err_takes.0;
@@ -81,16 +80,7 @@ module _ (law : RunsAreAsPrograms) (options : RunOptions) (are : AreRun options)
     gets = w.err_takes.0;
   }
   by (answers.Broken place) h w =
-      record {
-        broken = (
-          place,
-          of_program options watching o.told_before o.told_now h.2.items h.2.has.0 (answers.Broken place) h.2.has.2,
-          h,
-          w.err_takes.0,
-        );
-        by = other_takeover options.takeover (λ places.
-            run_unbroken law h.0 h.2.has.0 h.2.has.1 options watching o.told_before o.told_now h.2.items places are place h.2.has.2);
-      }
+      absurd (run_unbroken law h.0 h.2.has.0 h.2.has.1 options watching o.told_before o.told_now h.2.items are place h.2.has.2)
   by answer h w = absurd (of_program options watching o.told_before o.told_now h.2.items h.2.has.0 answer h.2.has.2)
 
   module _ (status : Status) (d : DeliversAnswer (RunMay options watching plan o.told_before o.told_now o.source) (ports_of o) status) where
@@ -126,15 +116,14 @@ module _ (law : RunsAreAsPrograms) (options : RunOptions) (are : AreRun options)
     ended _ is own = absurd is
 
     completes : Rows → RunsComplete → Completes options watching plan o status
-    completes rows complete places items accepted all e t has enough well =
+    completes rows complete items accepted all e t has enough well =
         let k = rows.rows.known all e well in
-        ended k.0 (complete options are places plan items accepted all t has enough watching o.told_before o.told_now k.0 k.1) k.2.own
+        ended k.0 (complete options are plan items accepted all t has enough watching o.told_before o.told_now k.0 k.1) k.2.own
 
     pub run_rows : PlansHaveOneAnswer → AnswersAreOne → FrontsDecideAnswers → RunsComplete → RunRows options watching plan o status
     run_rows plans one fronts complete = record {
       rows = planned_rows plans fronts;
       shown = shown (planned_rows plans fronts) one;
-      meant = λ items text t has answer h.
-          (run_is law text t has options watching o.told_before o.told_now items answer h).0;
+      meant = λ items text t has answer h. run_is law text t has options watching o.told_before o.told_now items answer h;
       completes = completes (planned_rows plans fronts) complete;
     }

@@ -4,8 +4,15 @@ use Rattle.std.specs.List.{AllByRecursion, list_any}
 use Rattle.std.proofs.lemmas.Bool.{cases_lt, eqb-true, eq-eqb, or_cases}
 use Rattle.std.proofs.lemmas.List.{length-append}
 use Rattle.std.proofs.lemmas.List.Elements.{recursion_from_All}
+use Rattle.ppm_cells.specs.Memory.{read}
+use Rattle.ppm_cells.specs.Restart.{restart_of}
+use Rattle.ppm_cells.specs.declared.cell.Cell.TheVariants.{RestartWord}
+use Rattle.ppm_cells.specs.declared.restart.Restart.{Restart}
 use Rattle.ppm_cells.specs.declared.shape.Shape.{Shape}
+use Rattle.ppm_cells.specs.declared.shape.Takeover.{Takeover}
+use Rattle.ppm_cells.specs.declared.shape.Takeover.TheVariants.{ByPlaces, ByEntries}
 use Rattle.ppm_code.specs.declared.code.CodeParts.{CodeParts}
+use Rattle.ppm_core.specs.Situation.{Situation}
 use Rattle.ppm_plan.specs.declared.fault.Fault.{Fault}
 use Rattle.ppm_plan.specs.declared.fault.Fault.TheVariants as faults
 use Rattle.ppm_plan.specs.declared.plan_item.PlanItem.{PlanItem}
@@ -21,12 +28,13 @@ use Rattle.ppm_step.specs.declared.turn.Turn.{Turn}
 use Rattle.ppm_step.specs.declared.turn.Why.TheVariants.{Turns}
 use Rattle.ppm_paces.specs.Paces.{is_strike, strikes_of}
 use Rattle.ppm_choice.specs.Deeds.{Deed, deeds_of}
-use Rattle.ppm_choice.specs.Obeying.{Past, nothing_done, Obeys, fault_of, faulted, behind, awake, next_act}
+use Rattle.ppm_choice.specs.Obeying.{Past, nothing_done, ObeyAll, Obeys, fault_of, faulted, behind, awake, next_act}
 use Rattle.ppm_choice.specs.declared.limits.Limits.{Limits}
 use Rattle.ppm_choice.proofs.ParkLemmas.{awake_acts}
 use Rattle.ppm_runs.specs.Deques.{one_if}
 use Rattle.ppm_runs.proofs.SumLemmas.{sum, sum_le, sum_plus, sum_same, sum_zero}
-use Rattle.ppm_driver.specs.Strikes.{fault_count, StrikesArePlanned}
+use Rattle.ppm_driver.specs.Probes.{undoes, undone_of}
+use Rattle.ppm_driver.specs.Strikes.{fault_count, StrikesArePlanned, UndoneArePlanned}
 
 abbrev is_fault : Act → Bool
 is_fault Soft = true
@@ -34,20 +42,25 @@ is_fault Hard = true
 is_fault (Step victim) = false
 is_fault (Quit why) = false
 
+one_or_none : (b : Bool) (c : ℕ) → length (if b then c ∷ [] else []) ≤ 1
+one_or_none true c = omega arith
+one_or_none false c = omega arith
+
 -- a fault that strikes a row is one
 strike_faults : (act : Act) (x : Standing) (c : ℕ) → length (if is_strike act x then c ∷ [] else []) ≤ one_if (is_fault act)
 strike_faults (Step v) x c = omega arith
 strike_faults (Quit why) x c = omega arith
-strike_faults Soft x c = by (is_strike Soft x)
-  where
-    by : (b : Bool) → length (if b then c ∷ [] else []) ≤ 1
-    by true = omega arith
-    by false = omega arith
-strike_faults Hard x c = by (is_strike Hard x)
-  where
-    by : (b : Bool) → length (if b then c ∷ [] else []) ≤ 1
-    by true = omega arith
-    by false = omega arith
+strike_faults Soft x c = one_or_none (is_strike Soft x) c
+strike_faults Hard x c = one_or_none (is_strike Hard x) c
+
+-- so is one that undoes work
+undone_faults : (how : Takeover) (act : Act) (x : Standing) (r : Option Restart) (c : ℕ)
+    → length (if undoes how act x r then c ∷ [] else []) ≤ one_if (is_fault act)
+undone_faults ByPlaces act x r c = strike_faults act x c
+undone_faults ByEntries (Step v) x r c = strike_faults (Step v) x c
+undone_faults ByEntries (Quit why) x r c = strike_faults (Quit why) x c
+undone_faults ByEntries Soft x r c = strike_faults Soft x c
+undone_faults ByEntries Hard x r c = one_or_none (undoes ByEntries Hard x r) c
 
 -- how many there are among acts
 abbrev faults_among : List Deed → ℕ
@@ -261,36 +274,51 @@ module _ (s : Shape) (code : CodeParts) where
       by true le = omega (arith, le)
       by false le = omega (arith, le)
 
-  strikes_within : (n : ℕ) (state : State) (turns : List Turn) → AllByRecursion (IsTurnAmong n) turns
-      → length (along s code strikes_of state turns) ≤ sum n (λ c. faults_among (deeds_of s code c state turns))
-  strikes_within n state [] among = omega arith
-  strikes_within n state (turn ∷ turns) among =
-      let rest = strikes_within n (happens s code state turn) turns among.1 in
-      let both = length-append (strikes_of state turn) (along s code strikes_of (happens s code state turn) turns) in
-      let one = strike_faults turn.act (stand_of state turn.processor) turn.processor in
-      let mine = one_there turn.processor n (is_fault turn.act) among.0.processor in
-      let all = sum_same n
-      (λ c. one_if ((turn.processor == c) && is_fault turn.act) + faults_among (deeds_of s code c (happens s code state turn) turns))
-      (λ c. faults_among (deeds_of s code c state (turn ∷ turns))) (λ c less. deeds_first c state turn turns) in
-      let two = sum_plus n (λ c. one_if ((turn.processor == c) && is_fault turn.act))
-      (λ c. faults_among (deeds_of s code c (happens s code state turn) turns)) in
-      omega (arith, rest, both, one, mine, all, two)
+  -- turns that are told of faults alone are no more than the faults of all
+  module _ (told : State → Turn → List ℕ) (few : (state : State) (turn : Turn) → length (told state turn) ≤ one_if (is_fault turn.act)) where
+    told_within : (n : ℕ) (state : State) (turns : List Turn) → AllByRecursion (IsTurnAmong n) turns
+        → length (along s code told state turns) ≤ sum n (λ c. faults_among (deeds_of s code c state turns))
+    told_within n state [] among = omega arith
+    told_within n state (turn ∷ turns) among =
+        let rest = told_within n (happens s code state turn) turns among.1 in
+        let both = length-append (told state turn) (along s code told (happens s code state turn) turns) in
+        let one = few state turn in
+        let mine = one_there turn.processor n (is_fault turn.act) among.0.processor in
+        let all = sum_same n
+        (λ c. one_if ((turn.processor == c) && is_fault turn.act) + faults_among (deeds_of s code c (happens s code state turn) turns))
+        (λ c. faults_among (deeds_of s code c state (turn ∷ turns))) (λ c less. deeds_first c state turn turns) in
+        let two = sum_plus n (λ c. one_if ((turn.processor == c) && is_fault turn.act))
+        (λ c. faults_among (deeds_of s code c (happens s code state turn) turns)) in
+        omega (arith, rest, both, one, mine, all, two)
+
+module _ (plan : Planned) (limits : Limits) (m : Situation) (turns : List Turn) (obey : ObeyAll plan limits m.shape m.code m.state turns) where
+  abbrev deeds : ℕ → List Deed
+  deeds c = deeds_of m.shape m.code c m.state turns
+
+  none_plus : (n : ℕ) → 0 + n ≡ n
+  none_plus n = omega arith
+
+  -- and so no more than the plan has
+  told_planned : (told : State → Turn → List ℕ) → ((state : State) (turn : Turn) → length (told state turn) ≤ one_if (is_fault turn.act))
+      → length (along m.shape m.code told m.state turns) ≤ fault_count plan.items
+  told_planned told few =
+      let some = told_within m.shape m.code told few m.shape.processors m.state turns
+      (recursion_from_All (IsTurnAmong m.shape.processors) turns obey.among) in
+      let each = sum_le m.shape.processors (λ c. faults_among (deeds c)) (λ c. sum (length turns) (has_at plan.items c)) (λ c less.
+      (let some = faults_planned plan limits c nothing_done (deeds c) (stand_of (after m.shape m.code m.state turns) c) (obey.obeys c less) in
+      let more = sum_most (length (deeds c)) (length turns) (has_at plan.items c) (deeds_few m.shape m.code c m.state turns) in
+      let same : sum (0 + length (deeds c)) (has_at plan.items c) ≡ sum (length (deeds c)) (has_at plan.items c) =
+      ap (λ (k : ℕ). sum k (has_at plan.items c)) (none_plus (length (deeds c))) in
+      omega (arith, some, more, same))) in
+      let count = planned_count plan.items m.shape.processors (length turns) in
+      omega (arith, some, each, count)
 
 pub strikes_are_planned : StrikesArePlanned
 strikes_are_planned plan limits m turns obey =
-    let few = strikes_within m.shape m.code m.shape.processors m.state turns
-    (recursion_from_All (IsTurnAmong m.shape.processors) turns obey.among) in
-    let each = sum_le m.shape.processors (λ c. faults_among (deeds c)) (λ c. sum (length turns) (has_at plan.items c)) (λ c less.
-    (let some = faults_planned plan limits c nothing_done (deeds c) (stand_of (after m.shape m.code m.state turns) c) (obey.obeys c less) in
-    let more = sum_most (length (deeds c)) (length turns) (has_at plan.items c) (deeds_few m.shape m.code c m.state turns) in
-    let same : sum (0 + length (deeds c)) (has_at plan.items c) ≡ sum (length (deeds c)) (has_at plan.items c) =
-    ap (λ (k : ℕ). sum k (has_at plan.items c)) (none_plus (length (deeds c))) in
-    omega (arith, some, more, same))) in
-    let count = planned_count plan.items m.shape.processors (length turns) in
-    omega (arith, few, each, count)
-  where
-    deeds : ℕ → List Deed
-    deeds c = deeds_of m.shape m.code c m.state turns
+    told_planned plan limits m turns obey strikes_of (λ state turn. strike_faults turn.act (stand_of state turn.processor) turn.processor)
 
-    none_plus : (n : ℕ) → 0 + n ≡ n
-    none_plus n = omega arith
+pub undone_are_planned : UndoneArePlanned
+undone_are_planned plan limits m turns obey =
+    told_planned plan limits m turns obey (undone_of m.shape) (λ state turn.
+    undone_faults m.shape.takeover turn.act (stand_of state turn.processor)
+    (restart_of (read m.shape state.words (RestartWord turn.processor))) turn.processor)

@@ -2,7 +2,6 @@
 use Rattle.std.specs.Prelude.{◌≡◌, ◌≤◌, ℕ, ◌+◌, ◌*◌, List}
 use Rattle.ppm_strands.specs.Run.{End as CapsuleEnd}
 use Rattle.ppm_ports.specs.Outside.{ToldLists}
-use Rattle.ppm_cells.specs.declared.shape.Takeover.TheVariants.{ByPlaces}
 use Rattle.ppm_code.specs.Strands.{Result}
 use Rattle.ppm_depth.specs.Run.{ComesTo, pool_words}
 use Rattle.ppm_tree.specs.Tree.{ProgramTree}
@@ -34,10 +33,10 @@ IsEnd (answers.Ended arrays) = Unit {0}
 IsEnd (answers.Trapped trap line) = Unit {0}
 IsEnd answer = ⊥
 
--- with takeover by places, options in their ranges, and a plan that is accepted: where turns and room are enough for a text's program and the
--- faults of the plan, each answer of the text is that its run ended
+-- with options in their ranges, and a plan that is accepted: where turns and room are enough for a text's program and the faults of the plan,
+-- each answer of the text is that its run ended
 abbrev pub RunsComplete : Type 0
-RunsComplete = (options : RunOptions) → AreRun options → options.takeover ≡ ByPlaces
+RunsComplete = (options : RunOptions) → AreRun options
     → (plan : List ℕ) (items : List PlanItem) → IsAccepted plan_form plan options.processors items
     → (text : List ℕ) (t : ProgramTree) → HasProgram text t → IsEnough t (fault_count items) options.turns options.room
     → (watching : ℕ) (before now : ToldLists) (answer : Answer)

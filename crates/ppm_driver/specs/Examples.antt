@@ -1,5 +1,5 @@
 -- What `self` answers: the answer of a run of its own example, with sums in place of arrays.
-use Rattle.std.specs.Prelude.{◌≡◌, ℕ, ◌-◌, ◌^◌, ℤ, List, [], ◌∷◌, length, slice_get, unwrap_or}
+use Rattle.std.specs.Prelude.{◌≡◌, ℕ, ◌-◌, ◌^◌, ℤ, pos, List, [], ◌∷◌, length, slice_get, unwrap_or, ⊤}
 use Rattle.ppm_words.specs.Limits.{turn_limit}
 use Rattle.ppm_words.specs.TwosComplement.{value_of}
 use Rattle.ppm_words.specs.declared.idle.Idle.TheVariants.{Leave}
@@ -8,7 +8,7 @@ use Rattle.ppm_cells.specs.declared.shape.Takeover.TheVariants.{ByPlaces}
 use Rattle.ppm_ports.specs.Outside.{ToldLists}
 use Rattle.ppm_plan.specs.Draws.{items_drawn, seeded}
 use Rattle.ppm_plan.specs.Schedules.{Planned}
-use Rattle.ppm_plan.specs.Sources.{source_of}
+use Rattle.ppm_plan.specs.Sources.{source_of, value_at as value_drawn}
 use Rattle.ppm_plan.specs.declared.plan_item.PlanItem.{PlanItem}
 use Rattle.ppm_tree.specs.Tree.{ProgramTree}
 use Rattle.ppm_tree.specs.Program.{initial_arrays}
@@ -20,6 +20,8 @@ use Rattle.ppm_answers.specs.declared.answer.Answer.TheVariants as answers
 use Rattle.ppm_answers.specs.declared.sums.Sums.{Sums}
 use Rattle.ppm_cli.specs.declared.example.SelfOptions.{SelfOptions}
 use Rattle.ppm_cli.specs.declared.run.RunOptions.{RunOptions}
+use Rattle.ppm_cli.specs.Words.{AreSelf}
+use Rattle.ppm_example.specs.Example.{sum_drawn}
 use Rattle.ppm_loading.specs.Programs.{ProgramMay, TextHas}
 use Rattle.ppm_driver.specs.Runs.{ProgramHas}
 
@@ -47,6 +49,15 @@ items_of o = items_drawn o.processors o.count (seeded o.seed)
 -- the plan is that of the example
 abbrev pub IsPlanOf : SelfOptions → Planned → Type 0
 IsPlanOf o plan = (plan.processors ≡ o.processors) × (plan.items ≡ items_of o)
+
+-- what is told of the example: how many values it has, one fork less, the sum of the values drawn, and the last of them
+abbrev pub sums_drawn : SelfOptions → Sums
+sums_drawn o = record {
+  size = o.size;
+  forks = o.size - 1;
+  sum = pos (sum_drawn o.seed 0 o.size);
+  last = pos (value_drawn o.seed (o.size - 1));
+}
 
 -- the value of this number, and 0 where there is none
 abbrev pub value_at : List ℤ → ℕ → ℤ
@@ -94,3 +105,14 @@ module _ (o : SelfOptions) (before now : ToldLists) where
   -- that, or want of memory
   abbrev pub ExampleMay : Answer → Type 0
   ExampleMay answer = ProgramMay ExampleHas answer
+
+-- an answer of the example: what is told of it, or want of memory
+abbrev pub IsExampleEnd : SelfOptions → Answer → Type 0
+IsExampleEnd o (answers.Summed sums) = sums ≡ sums_drawn o
+IsExampleEnd o answers.NoMemory = ⊤
+IsExampleEnd o answer = ⊥
+
+-- with options in their ranges no other answer comes
+abbrev pub ExamplesSumUp : Type 0
+ExamplesSumUp = (options : SelfOptions) → AreSelf options → (before now : ToldLists) (answer : Answer)
+    → ExampleMay options before now answer → IsExampleEnd options answer

@@ -1,5 +1,6 @@
 pub mod Watchers
 pub mod RunOf
+pub mod Probes
 pub mod Meant
 pub mod Runs
 pub mod Strikes

@@ -7,7 +7,6 @@ use Rattle.ppm_words.specs.declared.outcome.Outcome.TheVariants as outcome
 use Rattle.ppm_words.specs.declared.trap.Trap.{Trap}
 use Rattle.ppm_cells.specs.Finish.{finish_of}
 use Rattle.ppm_cells.specs.declared.finish.Finish.TheVariants as finishes
-use Rattle.ppm_cells.specs.declared.shape.Takeover.TheVariants.{ByPlaces}
 use Rattle.ppm_code.specs.Strands.{Result}
 use Rattle.ppm_depth.specs.Run.{ComesTo}
 use Rattle.ppm_tree.specs.Tree.{ProgramTree}
@@ -20,6 +19,7 @@ use Rattle.ppm_step.specs.Among.{IsTurnAmong}
 use Rattle.ppm_step.specs.State.{along, work_of}
 use Rattle.ppm_step.specs.declared.turn.Turn.{Turn}
 use Rattle.ppm_paces.specs.Paces.{strikes_of}
+use Rattle.ppm_driver.specs.Probes.{undone_of}
 use Rattle.ppm_tickets.specs.Along.{forked, taken}
 use Rattle.ppm_tickets.specs.Words.{has}
 use Rattle.ppm_runs.specs.Moments.{AreOnce}
@@ -64,6 +64,14 @@ module _ (m : Situation) (turns : List Turn) where
   abbrev pub struck_in : ℕ
   struck_in = length (along m.shape m.code strikes_of m.state turns)
 
+  -- how many of them undo work: those that strike a row of work, and with takeover by entries hard ones too that close a place behind its push
+  abbrev pub undone_in : ℕ
+  undone_in = length (along m.shape m.code (undone_of m.shape) m.state turns)
+
+  -- how many of these turns are work
+  abbrev pub worked_in : ℕ
+  worked_in = length (along m.shape m.code work_of m.state turns)
+
   -- a run of these turns ends as the program does: with its serial outcome, and with each branch that was forked taken once; there are as many
   -- as forks that the code of the program, run depth first, makes
   pub record EndsAsProgram (t : ProgramTree) (o : Outcome) : Type 0 where
@@ -72,7 +80,8 @@ module _ (m : Situation) (turns : List Turn) where
     pub forks : (e : CapsuleEnd Result) → ComesTo (code_of t) (initial_arrays t) e → length forked_in ≡ e.counts.forks
 
   -- What holds behind these turns. No branch is taken twice. Where the finish word says an outcome the run ends as the program does, with the
-  -- arrays of the words then, or this trap; where it says that a pool is full, the program takes more words.
+  -- arrays of the words then, or this trap; where it says that a pool is full, the program takes more words. That words are broken it says only
+  -- behind more than 2^34 work turns. All work turns are fewer than 256 for each capsule of the program's code and each fault that undoes work.
   pub record IsAsProgram (t : ProgramTree) : Type 0 where
     pub once : NoneIsTakenTwice
     pub ended : finish_of (finish_behind m turns) ≡ Some finishes.Ended
@@ -80,18 +89,13 @@ module _ (m : Situation) (turns : List Turn) where
     pub trapped : (trap : Trap) (line : ℕ) → finish_of (finish_behind m turns) ≡ Some (finishes.Trapped trap line)
         → EndsAsProgram t (outcome.Trapped trap line)
     pub full : (place : ℕ) → finish_of (finish_behind m turns) ≡ Some (finishes.OutOfRoom place) → NeedsMoreRoom t m.shape.room
-
-  -- How much work a run takes. That words are broken the finish word says only behind more than 2^34 work turns. All work turns are
-  -- fewer than 256 for each capsule of the program's code and each fault that strikes a row of work.
-  pub record IsWithinProgram (t : ProgramTree) : Type 0 where
-    pub unbroken : (place : ℕ) → finish_of (finish_behind m turns) ≡ Some (finishes.Broken place)
-        → 2 ^ 34 < length (along m.shape m.code work_of m.state turns)
-    pub work : NeedsMoreTurns t struck_in (length (along m.shape m.code work_of m.state turns))
+    pub unbroken : (place : ℕ) → finish_of (finish_behind m turns) ≡ Some (finishes.Broken place) → 2 ^ 34 < worked_in
+    pub work : NeedsMoreTurns t undone_in worked_in
 
 -- From the machine with which a run of a text's program begins, whatever the turns are that its processors make, and in whatever order, faults
--- and quits among them; with takeover by places its work is bounded.
+-- and quits among them
 abbrev pub RunsAreAsPrograms : Type 0
 RunsAreAsPrograms = (text : List ℕ) (t : ProgramTree) → HasProgram text t → (sizes : Sizes)
     → (keeper : ℕ) (m : Situation) → Opens sizes (code_of t) (initial_arrays t) keeper m
     → (turns : List Turn) → AllByRecursion (IsTurnAmong m.shape.processors) turns
-    → IsAsProgram m turns t × (sizes.takeover ≡ ByPlaces → IsWithinProgram m turns t)
+    → IsAsProgram m turns t

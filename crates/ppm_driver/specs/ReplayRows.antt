@@ -3,7 +3,6 @@ use Rattle.std.specs.Prelude.{◌≡◌, ℕ, ◌<◌, List, ◌++◌, length}
 use Rattle.ppm_words.specs.declared.named_array.NamedArray.{NamedArray}
 use Rattle.ppm_words.specs.declared.outcome.Outcome.TheVariants as outcome
 use Rattle.ppm_words.specs.declared.trap.Trap.{Trap}
-use Rattle.ppm_cells.specs.declared.shape.Takeover.TheVariants.{ByPlaces, ByEntries}
 use Rattle.ppm_ports.specs.Ports.{Gets}
 use Rattle.ppm_ports.specs.Outside.{Ports}
 use Rattle.ppm_text.specs.Limits.{text_limit}
@@ -95,12 +94,7 @@ module _ (options : ReplayOptions) (schedule : List ℕ) (o : Ports) where
     pub once : IsOnce read.2.has.2.start read.2.items
     pub gets : Gets o.err (room_text place)
 
-  -- the words are broken at a place, and err got exactly the line that says so: with takeover by places this never comes
-  pub record WritesBroken : Type 0 where
-    pub broken : machine.WritesBroken schedule_form schedule options.processors (TextHas options) o
-    pub by : options.takeover ≡ ByEntries
-
-  -- what each status says
+  -- what each status says; the others never come, broken words among them
   abbrev pub ReplaySays : Status → Type 0
   ReplaySays statuses.Ended = WritesArrays
   ReplaySays statuses.Trapped = WritesTrap
@@ -108,7 +102,6 @@ module _ (options : ReplayOptions) (schedule : List ℕ) (o : Ports) where
   ReplaySays statuses.WordsRefused = machine.RefusesPlan schedule_form schedule options.processors o × IsUnread o.source
   ReplaySays statuses.OutOfTurns = WritesUnfinished
   ReplaySays statuses.OutOfRoom = WritesOutOfRoom
-  ReplaySays statuses.Broken = WritesBroken
   ReplaySays status = PortsSay o status
 
   -- each replay that an answer is of is as its program, at each status: also where the answer's text failed

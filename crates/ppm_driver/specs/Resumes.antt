@@ -44,7 +44,7 @@ use Rattle.ppm_answers.specs.Reading.{JudgingMay, FrontsDecide, TellsOfRun}
 use Rattle.ppm_cli.specs.declared.resume.ResumeOptions.{ResumeOptions}
 use Rattle.ppm_cli.specs.declared.stop.StopOptions.{StopOptions}
 use Rattle.ppm_cli.specs.Words.{AreStopped}
-use Rattle.ppm_stop.specs.Stops.{ProgramHas as StoppedHas}
+use Rattle.ppm_stop.specs.Stops.{names_of, ProgramHas as StoppedHas}
 use Rattle.ppm_loading.specs.Loading.{Opens}
 use Rattle.ppm_loading.specs.Planned.{IsRefusedBy}
 use Rattle.ppm_loading.specs.declared.loading.Sizes.{Sizes}
@@ -102,10 +102,6 @@ pub record GoesOnFrom (z : SavedState) (start : Situation) : Type 0 where
 -- arrays by their names alone
 abbrev pub named : List NamedLength → List NamedArray
 named arrays = map (λ a. record { name = a.name; values = [] }) arrays
-
--- of arrays their names and how many values they have
-abbrev pub names_of : List NamedArray → List NamedLength
-names_of arrays = map (λ a. record { name = a.name; len = length a.values }) arrays
 
 -- the limits, as the options say them; who finds nothing to do leaves
 abbrev pub limits_of : ResumeOptions → Limits

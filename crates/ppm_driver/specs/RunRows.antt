@@ -3,7 +3,6 @@ use Rattle.std.specs.Prelude.{◌≡◌, ℕ, ◌<◌, ◌≤◌, List, [], ◌�
 use Rattle.ppm_words.specs.declared.named_array.NamedArray.{NamedArray}
 use Rattle.ppm_words.specs.declared.outcome.Outcome.TheVariants as outcome
 use Rattle.ppm_words.specs.declared.trap.Trap.{Trap}
-use Rattle.ppm_cells.specs.declared.shape.Takeover.TheVariants.{ByPlaces, ByEntries}
 use Rattle.ppm_ports.specs.Ports.{Gets}
 use Rattle.ppm_ports.specs.Outside.{Outside, ports_of}
 use Rattle.ppm_text.specs.Limits.{text_limit}
@@ -25,7 +24,7 @@ use Rattle.ppm_loading.specs.MachineRows as machine
 use Rattle.ppm_choice.specs.Deeds.{work_made}
 use Rattle.ppm_core.specs.Situation.{Situation}
 use Rattle.ppm_step.specs.declared.turn.Turn.{Turn}
-use Rattle.ppm_driver.specs.Meant.{NeedsMoreTurns, NeedsMoreRoom, struck_in, NoneIsTakenTwice, EndsAsProgram, IsAsProgram}
+use Rattle.ppm_driver.specs.Meant.{NeedsMoreTurns, NeedsMoreRoom, undone_in, NoneIsTakenTwice, EndsAsProgram, IsAsProgram}
 use Rattle.ppm_loading.specs.Planned.{IsRefusedBy, HasByItems}
 use Rattle.ppm_driver.specs.Runs.{ProgramHas, RunHas, TextHas}
 use Rattle.ppm_driver.specs.Strikes.{fault_count}
@@ -75,20 +74,19 @@ module _ (options : RunOptions) (watching : ℕ) (plan : List ℕ) (o : Outside)
       (processor < options.processors)
       × (work_made p.start.shape p.start.code processor p.start.state p.run.turns ≡ options.turns)
 
-  -- with takeover by places they are too few
+  -- they are too few
   abbrev pub AreTooFew : (processor : ℕ) → HasRead (answers.OutOfTurns processor) → Type 0
   AreTooFew processor read =
-      let p = read.2.has in options.takeover ≡ ByPlaces → NeedsMoreTurns p.0 (struck_in p.2.start p.2.run.turns) options.turns
+      let p = read.2.has in NeedsMoreTurns p.0 (undone_in p.2.start p.2.run.turns) options.turns
 
-  -- So it is, and err got exactly the line that says so. With takeover by places so many turns are fewer than 256 for each capsule that the
-  -- program's code runs depth first and each fault that struck a row of work, or that run has no end; and no more faults struck one than the
-  -- plan has.
+  -- So it is, and err got exactly the line that says so. So many turns are fewer than 256 for each capsule that the program's code runs depth
+  -- first and each fault that undid work, or that run has no end; and no more faults undid some than the plan has.
   pub record WritesOutOfTurns : Type 0 where
     pub processor : ℕ
     pub read : HasRead (answers.OutOfTurns processor)
     pub spent : IsSpent processor read
     pub needs : AreTooFew processor read
-    pub struck : let p = read.2.has.2 in struck_in p.start p.run.turns ≤ fault_count read.2.items
+    pub undone : let p = read.2.has.2 in undone_in p.start p.run.turns ≤ fault_count read.2.items
     pub once : let p = read.2.has.2 in IsOnce p.start p.run.turns
     pub gets : Gets o.err (turns_text processor)
 
@@ -108,12 +106,7 @@ module _ (options : RunOptions) (watching : ℕ) (plan : List ℕ) (o : Outside)
     pub once : let p = read.2.has.2 in IsOnce p.start p.run.turns
     pub gets : Gets o.err (room_text place)
 
-  -- the words are broken at a place, and err got exactly the line that says so: with takeover by places this never comes
-  pub record WritesBroken : Type 0 where
-    pub broken : machine.WritesBroken plan_form plan options.processors Has (ports_of o)
-    pub by : options.takeover ≡ ByEntries
-
-  -- what each status says
+  -- what each status says; the others never come, broken words among them
   abbrev pub RunSays : Status → Type 0
   RunSays statuses.Ended = WritesArrays
   RunSays statuses.Trapped = WritesTrap
@@ -121,7 +114,6 @@ module _ (options : RunOptions) (watching : ℕ) (plan : List ℕ) (o : Outside)
   RunSays statuses.WordsRefused = machine.RefusesPlan plan_form plan options.processors (ports_of o) × IsUnread o.source
   RunSays statuses.OutOfTurns = WritesOutOfTurns
   RunSays statuses.OutOfRoom = WritesOutOfRoom
-  RunSays statuses.Broken = WritesBroken
   RunSays status = PortsSay (ports_of o) status
 
   -- each run that an answer is of is as its program, at each status: also where the answer's text failed
@@ -129,10 +121,10 @@ module _ (options : RunOptions) (watching : ℕ) (plan : List ℕ) (o : Outside)
   AreAsPrograms = (items : List PlanItem) (text : List ℕ) (t : ProgramTree) → HasProgram text t → (answer : Answer)
       (h : ProgramHas options watching o.told_before o.told_now items t answer) → IsAsProgram h.start h.run.turns t
 
-  -- completeness: with takeover by places, a plan that is accepted, and turns and room enough for its faults and for the program of the
-  -- source's bytes, which are known, the run ends with arrays or in a trap, where the ports hold and memory is there
+  -- completeness: with a plan that is accepted, and turns and room enough for its faults and for the program of the source's bytes, which are
+  -- known, the run ends with arrays or in a trap, where the ports hold and memory is there
   abbrev pub Completes : Status → Type 0
-  Completes status = options.takeover ≡ ByPlaces → (items : List PlanItem) → IsAccepted plan_form plan options.processors items
+  Completes status = (items : List PlanItem) → IsAccepted plan_form plan options.processors items
       → (all : List ℕ) → o.source.before ≡ Some all → (t : ProgramTree) → HasProgram all t
       → IsEnough t (fault_count items) options.turns options.room → GoesWell (ports_of o) status
       → IsOneOf status (statuses.Ended ∷ statuses.Trapped ∷ [])

@@ -1,6 +1,6 @@
 //! That runs with turns and room enough end, shown by a call that does nothing.
 ghost use Rattle.ppm_driver.specs.Completeness.{RunsComplete};
-ghost use Rattle.ppm_driver.specs.Strikes.{StrikesArePlanned};
+ghost use Rattle.ppm_driver.specs.Strikes.{StrikesArePlanned, UndoneArePlanned};
 
 use crate::meant::runs_are_as_programs;
 use ppm_cut_correct::{end_as_meant, start_with_input};
@@ -8,12 +8,13 @@ use ppm_plan::have_one_answer as plans_have_one_answer;
 use ppm_program::have_one_answer as texts_have_one_program;
 use ppm_rows::trees_are_within;
 
-/// Where each processor obeys a plan, no more faults strike a row of work than the plan has. So with
-/// takeover by places, and options in their ranges: where the turns of a processor are at least 256
-/// for each capsule that the code of a text's program runs depth first and each fault of the plan,
-/// and a pool has as many words as that run takes, each answer of the text is that its run ended.
+/// Where each processor obeys a plan, no more faults strike a row of work, or undo work, than the plan
+/// has. So with options in their ranges: where the turns of a processor are at least 256 for each
+/// capsule that the code of a text's program runs depth first and each fault of the plan, and a pool
+/// has as many words as that run takes, each answer of the text is that its run ended.
 pub fn runs_complete()
     ensures strikes { StrikesArePlanned }
+    ensures undone { UndoneArePlanned }
     ensures law { RunsComplete }
 {
     // The law rests on these; the calls do nothing.

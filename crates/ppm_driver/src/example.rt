@@ -16,6 +16,7 @@ ghost use Rattle.ppm_driver.specs.Runs.{ProgramHas, RunTells};
 ghost use Rattle.ppm_driver.specs.Watchers.{OthersKeep, watcher_count};
 
 use crate::meant::runs_are_as_programs;
+use crate::sums::examples_sum_up;
 use crate::run::ran;
 use ppm_answers::{Answer, Status, Sums, deliver};
 use ppm_cells::Takeover;
@@ -50,7 +51,7 @@ const MOST_CAPSULES: u64 = 1 << 40;
 
 /// Makes a source that sums an array by halves and a plan of drawn faults, both by the seed, runs it
 /// as `run` would, and writes on `out` how many values and forks there were, the sum and the last
-/// value, or on `err` why there are none. It reads nothing, and may never return. There is a watcher
+/// value, or on `err` that memory was wanting. It reads nothing, and may never return. There is a watcher
 /// for each of 64 processors; those of the run's processors are told every turn. Where one refuses,
 /// the answer is out of memory.
 pub fn self_command<R: Threads + Wait + Sync, K: Sink, E: Sink, W: Watch>(
@@ -78,8 +79,9 @@ pub fn self_command<R: Threads + Wait + Sync, K: Sink, E: Sink, W: Watch>(
 
     ensures watchers { length watch.new.items ≡ watcher_count }
 {
-    // The rows rest on this law; the call does nothing.
+    // The rows rest on these laws; the calls do nothing.
     runs_are_as_programs();
+    examples_sum_up();
     let answer = example_answer(rt, alloc, options, watch);
     deliver(alloc, &answer, out, err)
 }

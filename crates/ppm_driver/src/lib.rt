@@ -21,10 +21,12 @@ mod meant;
 mod names;
 mod one_replay;
 mod one_run;
+mod probes;
 mod replay;
 mod resuming;
 mod run;
 mod saying;
+mod sums;
 
 pub use complete::runs_complete;
 pub use complete_resume::resumes_complete;
@@ -39,3 +41,4 @@ pub use one_run::answers_are_one;
 pub use replay::replay_command;
 pub use resuming::resume_command;
 pub use run::{WATCHERS, run_command};
+pub use sums::examples_sum_up;

@@ -56,7 +56,10 @@ fn meaning_of(status: Status) -> &'static str {
             "of `run` and `resume` `out of turns: processor C`, which spent --turns; of `replay`\n       \
              `unfinished after N turns`"
         }
-        Status::OutOfRoom => "out of room: the run needed more than --room at that place",
+        Status::OutOfRoom => {
+            "out of room: the run needed more words than the pool of that place has, which are\n       \
+             --room, of `resume` as many as the saved text says"
+        }
         Status::ReadFault => "read fault: standard input failed",
         Status::WriteFault => "write fault: standard output or standard error failed",
         Status::NoMemory => "out of memory",
@@ -67,7 +70,9 @@ fn meaning_of(status: Status) -> &'static str {
         Status::SavedRefused => {
             "saved text refused by `resume`: the fault and its line (docs/SAVED.md)"
         }
-        Status::Broken =>
-            "saved words broken: of `resume`, where no run left the saved text; no other is known",
+        Status::Broken => {
+            "saved words broken: a processor can't go on with those it met at that place; with\n       \
+             `--takeover place` of `resume` alone"
+        }
     }
 }

@@ -31,6 +31,7 @@ use Rattle.ppm_plan.specs.Forms.{Form, plan_form, schedule_form}
 use Rattle.ppm_loading.specs.Planned.{PlannedMay}
 use Rattle.ppm_loading.specs.MachineRows.{RefusesPlan}
 use Rattle.ppm_driver.specs.Completeness.{RunsComplete}
+use Rattle.ppm_driver.specs.Examples.{ExamplesSumUp}
 use Rattle.ppm_driver.specs.Legs.{RunsInLegsAreAsPrograms}
 use Rattle.ppm_driver.specs.Meant.{RunsAreAsPrograms}
 use Rattle.ppm_driver.specs.Replays.{TextHas as ReplayTextHas, HaveOneAnswer as ReplaysHaveOneAnswer}
@@ -217,6 +218,7 @@ pub record Laws : Type 0 where
   pub fronts : FrontsDecideAnswers
   pub meant : RunsAreAsPrograms
   pub complete : RunsComplete
+  pub sums : ExamplesSumUp
   pub legs : RunsInLegsAreAsPrograms
   pub comes : LeftWordsComeBack
   pub resumes : ResumesComplete
@@ -257,7 +259,7 @@ program_rows laws words o status a = record {
       let x = by_example options e in (
         range,
         x.cause.0,
-        of_example.example_says laws.meant options range o status
+        of_example.example_says laws.meant laws.sums options range o status
             (record { answer = x.answer; cause = x.cause.1; delivered = x.delivered; told = x.told }),
       );
   words_refused = refuses_words laws.meant laws.legs laws.comes words o status a;

@@ -14,9 +14,10 @@ use ppm_commands::{
     listings_have_one_answer, outcomes_have_one_answer, serial_command,
 };
 use ppm_driver::{
-    answers_are_one as runs_have_one_answer, have_one_answer as replays_have_one_answer,
-    left_words_come_back, replay_command, resume_command, resumes_complete, run_command,
-    runs_are_as_programs, runs_complete, runs_in_legs_are_as_programs, self_command,
+    answers_are_one as runs_have_one_answer, examples_sum_up,
+    have_one_answer as replays_have_one_answer, left_words_come_back, replay_command,
+    resume_command, resumes_complete, run_command, runs_are_as_programs, runs_complete,
+    runs_in_legs_are_as_programs, self_command,
 };
 use ppm_plan::have_one_answer as plans_have_one_answer;
 use ppm_ports::{Sink, Source, Watch};
@@ -57,6 +58,7 @@ pub fn ppm<R: Threads + Wait + Sync, S: Source, K: Sink, E: Sink, W: Watch>(
     runs_have_one_answer();
     runs_are_as_programs();
     runs_complete();
+    examples_sum_up();
     runs_in_legs_are_as_programs();
     left_words_come_back();
     resumes_complete();

@@ -8,6 +8,7 @@ returns-clause-rows g c = program_rows (record {
   fronts = c.answers_are_one.ensures.front;
   meant = c.runs_are_as_programs.ensures.law;
   complete = c.runs_complete.ensures.law;
+  sums = c.examples_sum_up.ensures.law;
   legs = c.runs_in_legs_are_as_programs.ensures.law;
   comes = c.left_words_come_back.ensures.law;
   resumes = c.resumes_complete.ensures.law;
