@@ -9,8 +9,8 @@ use ppm_opening::images_begin_the_depth_first_run;
 use ppm_resumed::renewed_words_come_back;
 use ppm_rows::trees_are_within;
 use ppm_runs::{
-    legs_come_to, nothing_breaks, nothing_breaks_over_legs, room_is_spent, room_over_legs, runs_end_so,
-    tags_stay_low, work_is_bounded, work_over_legs,
+    legs_come_to, nothing_breaks, nothing_breaks_over_legs, room_is_spent, room_over_legs,
+    runs_end_so, tags_stay_low, work_is_bounded, work_over_legs,
 };
 
 /// With takeover by places, from the machine with which a run of a text's program begins, whatever
