@@ -37,7 +37,7 @@ pub record Laws : Type 0 where
   pub texts : TextsHaveOneProgram
 
 -- enough turns are not too few, also where fewer faults strike
-not_few : (t : ProgramTree) (faults struck turns room : ℕ) → struck ≤ faults → IsEnough t faults turns room → NeedsMoreTurns t struck turns → ⊥
+pub not_few : (t : ProgramTree) (faults struck turns room : ℕ) → struck ≤ faults → IsEnough t faults turns room → NeedsMoreTurns t struck turns → ⊥
 not_few t faults struck turns room less enough needs =
     let few = needs enough.end enough.comes in let some = enough.for_turns in omega (arith, few, some, less)
 

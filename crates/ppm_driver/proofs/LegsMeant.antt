@@ -1,7 +1,8 @@
 -- With takeover by places runs in legs end as their programs do: as of a run without legs, an outcome is the depth-first run's, and that is the
 -- program's.
-use Rattle.std.proofs.Common.{◌≡◌, ℕ, ◌≤◌, List, [], ◌∷◌, length, map, Some, refl, sym, ap, ◌∙◌, subst, arith}
+use Rattle.std.proofs.Common.{◌≡◌, ◌≢◌, ℕ, ◌≤◌, ◌<◌, ◌^◌, List, [], ◌∷◌, length, map, Some, None, inl, inr, refl, sym, ap, ◌∙◌, subst, arith}
 use Rattle.std.specs.List.{AllByRecursion, sum}
+use Rattle.std.proofs.lemmas.Bool.{cases_lt}
 use Rattle.ppm_words.specs.declared.named_array.NamedArray.{NamedArray}
 use Rattle.ppm_words.specs.declared.outcome.Outcome.{Outcome}
 use Rattle.ppm_words.specs.declared.outcome.Outcome.TheVariants as outcome
@@ -29,12 +30,16 @@ use Rattle.ppm_frames.specs.Views.{view}
 use Rattle.ppm_runs.specs.Legs.{Leg, words_then, state_then, AreLegs, last_state, all_forked, all_taken, all_work, OnceOverLegs, LegsComeTo, RoomOverLegs, WorkOverLegsIsWithin256}
 use Rattle.ppm_runs.specs.Moments.{AreOnce}
 use Rattle.ppm_runs.specs.Outcomes.{EndsWell}
+use Rattle.ppm_runs.specs.Tags.{TagsStayLow}
+use Rattle.ppm_runs.specs.UnbrokenLegs.{NothingBreaksOverLegs, FinishStandsOverLegs}
+use Rattle.ppm_runs.proofs.LegSound.{few_risen}
+use Rattle.ppm_resumed.specs.Resumed.{TagsMayRise}
 use Rattle.ppm_core.specs.Situation.{Situation, loaded}
 use Rattle.ppm_loading.specs.declared.loading.Sizes.{Sizes}
 use Rattle.ppm_loading.specs.Loading.{Opens}
 use Rattle.ppm_loading.specs.Says.{arrays_from}
 use Rattle.ppm_loading.proofs.ArrayLemmas.{same_arrays}
-use Rattle.ppm_driver.specs.Legs.{struck_in_all, EachIsTakenOnceInAll, EndsAsProgramInAll, IsAsProgramInAll, RunsInLegsAreAsPrograms}
+use Rattle.ppm_driver.specs.Legs.{words_at_last, struck_in_all, EachIsTakenOnceInAll, EndsAsProgramInAll, IsAsProgramInAll, RunsInLegsAreAsPrograms, TagsMayRiseInLegs}
 use Rattle.ppm_driver.specs.Meant.{HasOutcome, NeedsMoreRoom, NeedsMoreTurns}
 use Rattle.ppm_driver.proofs.EndLemmas.{words_opened}
 use Rattle.ppm_driver.proofs.MeantLemmas as meant
@@ -48,6 +53,9 @@ pub record Laws : Type 0 where
   pub once : OnceOverLegs
   pub room : RoomOverLegs
   pub work : WorkOverLegsIsWithin256
+  pub whole : NothingBreaksOverLegs
+  pub stands : FinishStandsOverLegs
+  pub tags : TagsStayLow
 
 module _ (laws : Laws) (text : List ℕ) (t : ProgramTree) (has : HasProgram text t) where
   abbrev code : CodeParts
@@ -131,8 +139,31 @@ module _ (laws : Laws) (text : List ℕ) (t : ProgramTree) (has : HasProgram tex
           laws.work code input s keeper b.image (b.sized.takeover ∙ places) (meant.fair laws.base text t has) (meant.opened laws.base text t has sizes keeper m b) (meant.calm laws.base text t has sizes keeper m b) legs are turns among e
           (ends_as (sym (meant.shown laws.base text t has sizes keeper m b).strands) (sym (meant.shown laws.base text t has sizes keeper m b).root) (sym (meant.shown laws.base text t has sizes keeper m b).arrays) e comes)
 
+      -- the finish word stands for a finish, and for broken words behind much work alone
+      stands : finish_of (read s last.words FinishWord) ≢ None
+      stands none =
+          let k = laws.stands code input s keeper b.image (meant.fair laws.base text t has) (meant.opened laws.base text t has sizes keeper m b) legs are turns among in
+          let no : Some k.0 ≡ None = sym k.1 ∙ none in
+          cc
+
+      breaks : length legs ≤ 2 ^ 50 → (place : ℕ) → Says (finishes.Broken place) → 2 ^ 34 < all_work s code words legs turns
+      breaks low place says = elim (cases_lt (2 ^ 34) (all_work s code words legs turns)) [
+        | inl much ↦ much
+        | inr few ↦ absurd ((laws.whole code input s keeper b.image (b.sized.takeover ∙ places) (meant.fair laws.base text t has) (meant.opened laws.base text t has sizes keeper m b)
+            (meant.calm laws.base text t has sizes keeper m b) legs are turns among low few).finish (finishes.Broken place) says)
+      ]
+
+      -- no tag is the last
+      may_rise : length legs < 2 ^ 50 → TagsMayRise s last.words
+      may_rise few place there =
+          let k = laws.tags code input s keeper b.image (b.sized.takeover ∙ places) (meant.fair laws.base text t has) (meant.opened laws.base text t has sizes keeper m b) (meant.calm laws.base text t has sizes keeper m b) legs are turns among place there in
+          let most = s.within.processors_most in
+          let risen = few_risen s.processors (length legs) most (omega (arith, few)) in
+          let tag = k.2 in
+          (k.0, k.1, omega (arith, tag, most, risen))
+
       as_program : IsAsProgramInAll start legs turns t
-      as_program = record { once = none_twice; ended = when_ended; trapped = when_trapped; work = works; full = needs_more }
+      as_program = record { once = none_twice; ended = when_ended; trapped = when_trapped; work = works; full = needs_more; stands = stands; unbroken = breaks }
         where
           when_ended : Says finishes.Ended → EndsAsProgramInAll start legs turns t (outcome.Ended (arrays_from s b.image.lengths last.words 0 input))
           when_ended says =
@@ -160,6 +191,15 @@ module _ (laws : Laws) (text : List ℕ) (t : ProgramTree) (has : HasProgram tex
         subst (λ (x : Situation). AreLegs x.shape x.code x.state.words legs → AllByRecursion (IsTurnAmong x.shape.processors) turns → IsAsProgramInAll x legs turns t) (sym b.loads)
         (λ are among. as_program legs are turns among) are among
 
+    pub tags_rise : (legs : List Leg) → AreLegs m.shape m.code m.state.words legs
+        → (turns : List Turn) → AllByRecursion (IsTurnAmong m.shape.processors) turns → length legs < 2 ^ 50 → TagsMayRise m.shape (words_at_last m legs turns)
+    tags_rise legs are turns among few =
+        subst (λ (x : Situation). AreLegs x.shape x.code x.state.words legs → AllByRecursion (IsTurnAmong x.shape.processors) turns → TagsMayRise x.shape (words_at_last x legs turns)) (sym b.loads)
+        (λ are among. may_rise legs are turns among few) are among
+
 -- so it is with each text's program
 pub runs_in_legs_are_as_programs : Laws → RunsInLegsAreAsPrograms
 runs_in_legs_are_as_programs laws text t has sizes places keeper m b legs are turns among = as_programs laws text t has sizes keeper m b places legs are turns among
+
+pub tags_may_rise : Laws → TagsMayRiseInLegs
+tags_may_rise laws text t has sizes places keeper m b legs are turns among few = tags_rise laws text t has sizes keeper m b places legs are turns among few

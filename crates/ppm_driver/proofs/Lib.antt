@@ -6,7 +6,7 @@
 -- answer that no run gives is left out of the kinds of answers, and all rows above close by their
 -- last case.
 -- That a run in legs is as its program does (`LegsMeant`) is shown as of a run without legs (`MeantLemmas`). A resumed run is the latest leg of each
--- run that left its state (`OfResume`).
+-- run that left its state (`OfResume`), whose words come back (`LeftLemmas`); so it is complete as a run is (`ResumeComplete`).
 
 pub mod EndLemmas
 pub mod AllLemmas
@@ -28,5 +28,6 @@ pub mod OfRun
 pub mod ResumeLemmas
 pub mod OfResume
 pub mod LeftLemmas
+pub mod ResumeComplete
 pub mod ExampleLemmas
 pub mod OfExample

@@ -81,7 +81,7 @@ module _ (s : Shape) (lengths words : List ℕ) (input : List NamedArray) where
   full_run finishes.Stopped place h = absurd h
   full_run finishes.Unset place h = absurd h
 
-  broken_run : (finish : Finish) (place : ℕ) → OfRun finish (answers.Broken place) → finish ≡ finishes.Broken place
+  pub broken_run : (finish : Finish) (place : ℕ) → OfRun finish (answers.Broken place) → finish ≡ finishes.Broken place
   broken_run finishes.Ended place h = cc
   broken_run (finishes.Trapped trap line) place h = cc
   broken_run (finishes.OutOfRoom other) place h = cc

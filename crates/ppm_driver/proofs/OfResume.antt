@@ -1,6 +1,6 @@
 -- What rows say of `resume`: each status says its sentence; and of each program that left the state the whole run, with the legs before, is as
 -- the program.
-use Rattle.std.proofs.Common.{◌≡◌, ◌≤◌, ◌+◌, ℕ, List, [], ◌∷◌, length, map, Some, refl, sym, ap, ◌∙◌, subst, arith}
+use Rattle.std.proofs.Common.{◌≡◌, ◌≢◌, ◌≤◌, ◌<◌, ◌+◌, ◌^◌, ℕ, List, [], ◌∷◌, length, map, Some, None, inl, inr, refl, sym, ap, ◌∙◌, subst, arith}
 use Rattle.std.specs.List.{AllByRecursion}
 use Rattle.std.proofs.lemmas.List.Elements.{recursion_from_All}
 use Rattle.ppm_words.specs.TwosComplement.{value_of}
@@ -24,7 +24,6 @@ use Rattle.ppm_choice.specs.Deeds.{work_made}
 use Rattle.ppm_runs.specs.Legs.{Leg, GoOn}
 use Rattle.ppm_saved.specs.Names.{lengths_of}
 use Rattle.ppm_saved_reader.specs.Rules.{text_limit}
-use Rattle.ppm_resumed.specs.Resumed.{RenewedWordsComeBack}
 use Rattle.ppm_answers.specs.declared.answer.Answer.{Answer}
 use Rattle.ppm_answers.specs.declared.answer.Answer.TheVariants as answers
 use Rattle.ppm_answers.specs.declared.status.Status.{Status}
@@ -32,6 +31,7 @@ use Rattle.ppm_answers.specs.declared.status.Status.TheVariants as statuses
 use Rattle.ppm_answers.specs.Statuses.{status_of}
 use Rattle.ppm_answers.specs.Delivery.{IsWritten}
 use Rattle.ppm_answers.specs.Reading.{ReadHas, DeliversAnswer}
+use Rattle.ppm_answers.specs.Rows.{IsOneOf, TextRows}
 use Rattle.ppm_answers.proofs.RowsLemmas.{SaysOfPorts}
 use Rattle.ppm_answers.proofs.Judged.{text_rows}
 use Rattle.ppm_cli.specs.declared.resume.ResumeOptions.{ResumeOptions}
@@ -41,9 +41,11 @@ use Rattle.ppm_loading.proofs.SayLemmas.{said_of_word}
 use Rattle.ppm_driver.specs.Legs.{words_at_last, finish_at_last, worked_in_all, struck_in_all, NoneIsTakenTwiceInAll, EndsAsProgramInAll, IsAsProgramInAll, RunsInLegsAreAsPrograms}
 use Rattle.ppm_driver.specs.Meant.{NeedsMoreRoom, NeedsMoreTurns}
 use Rattle.ppm_driver.specs.RunOf.{words_behind, finish_behind}
-use Rattle.ppm_driver.specs.Resumes.{SavedState, GoesOnFrom, named, names_of, limits_of, plan_of, ResumedHas, ResumeMay, IsLeftBy, legs_with}
-use Rattle.ppm_driver.specs.ResumeRows.{Has, RefusesPlan, ResumeSays, ResumeRows}
-use Rattle.ppm_driver.proofs.MeantRows.{ended_run, trapped_run, full_run}
+use Rattle.ppm_driver.specs.Resumes.{SavedState, GoesOnFrom, named, names_of, limits_of, plan_of, saved_finish, ResumedHas, ItemsHave, ResumeMay, IsLeftBy, LeftWordsComeBack, ResumesLeaveStates, legs_with}
+use Rattle.ppm_driver.specs.Completeness.{IsEnd}
+use Rattle.ppm_driver.specs.ResumeCompleteness.{ResumesComplete}
+use Rattle.ppm_driver.specs.ResumeRows.{Has, RefusesPlan, ResumeSays, ComesLate, Completes, ResumeRows}
+use Rattle.ppm_driver.proofs.MeantRows.{ended_run, trapped_run, full_run, broken_run}
 use Rattle.ppm_driver.proofs.ResumeLemmas.{spent_has, filled_has, has_kind, fronts_decide, saved_or_none}
 use Rattle.ppm_driver.proofs.StrikeLemmas.{strikes_are_planned}
 use Rattle.ppm_driver.proofs.WorkLemmas.{of_all}
@@ -61,7 +63,7 @@ lengths_alike [] = refl
 lengths_alike (a ∷ arrays) = ap (λ (l : List ℕ). length a.values ∷ l) (lengths_alike arrays)
 
 -- a run from a state that was left
-module _ (law : RunsInLegsAreAsPrograms) (comes : RenewedWordsComeBack) (source : List ℕ) (z : SavedState) (left : IsLeftBy source z)
+module _ (law : RunsInLegsAreAsPrograms) (comes : LeftWordsComeBack) (source : List ℕ) (z : SavedState) (left : IsLeftBy source z)
     (start : Situation) (on : GoesOnFrom z start) (turns : List Turn) (all : AllByRecursion (IsTurnAmong start.shape.processors) turns) where
   abbrev m : Situation
   m = left.start
@@ -72,16 +74,16 @@ module _ (law : RunsInLegsAreAsPrograms) (comes : RenewedWordsComeBack) (source 
   abbrev legs : List Leg
   legs = legs_with left back
 
-  shape_is : start.shape ≡ m.shape
+  pub shape_is : start.shape ≡ m.shape
   shape_is = ap (λ (x : Situation). x.shape) on.loads ∙ left.shape_is
 
-  code_is : start.code ≡ m.code
+  pub code_is : start.code ≡ m.code
   code_is = ap (λ (x : Situation). x.code) on.loads ∙ left.code_is
 
   back_is : back ≡ on.words
   back_is = ap (λ (x : Situation). x.state.words) on.loads
 
-  state_is : start.state ≡ opening back start.shape.processors
+  pub state_is : start.state ≡ opening back start.shape.processors
   state_is = subst (λ (x : Situation). x.state ≡ opening x.state.words x.shape.processors) (sym on.loads) refl
 
   goes_on : GoOn m.shape (words_at_last m left.legs left.turns) back
@@ -89,10 +91,10 @@ module _ (law : RunsInLegsAreAsPrograms) (comes : RenewedWordsComeBack) (source 
       subst (λ (s : Shape). GoOn s (words_at_last m left.legs left.turns) back) left.shape_is
       (subst (λ (w : List ℕ). GoOn z.shape w back) left.words_are
       (subst (λ (w : List ℕ). GoOn z.shape z.words w) (sym back_is)
-      (record { renewal = comes z.shape z.words on.words left.tags on.renewed; finish = saved_or_none z on.words on.renewed })))
+      (record { renewal = comes source z left on.words on.renewed; finish = saved_or_none z on.words on.renewed })))
 
   -- over all of it
-  is_program : IsAsProgramInAll m legs turns left.tree
+  pub is_program : IsAsProgramInAll m legs turns left.tree
   is_program =
       law source left.tree left.has left.sizes left.places left.keeper m left.opens legs (left.are, left.among, goes_on) turns
       (subst (λ (s : Shape). AllByRecursion (IsTurnAmong s.processors) turns) shape_is all)
@@ -125,11 +127,35 @@ module _ (law : RunsInLegsAreAsPrograms) (comes : RenewedWordsComeBack) (source 
       ∙ (λ i. length (along (shape_is i) (code_is i) work_of (opening back (shape_is i).processors) turns)) in
       omega (arith, same)
 
-module _ (law : RunsInLegsAreAsPrograms) (comes : RenewedWordsComeBack) (options : ResumeOptions) (before now : ToldLists) (items : List PlanItem) (z : SavedState) where
+  -- the state behind them is left too
+  left_again : length left.legs + 1 < 2 ^ 50 → IsLeftBy source (record { shape = z.shape; arrays = z.arrays; code = z.code; words = words_behind start turns })
+  left_again few = record {
+    tree = left.tree;
+    has = left.has;
+    sizes = left.sizes;
+    places = left.places;
+    keeper = left.keeper;
+    start = m;
+    opens = left.opens;
+    legs = legs;
+    are = (left.are, left.among, goes_on);
+    turns = turns;
+    among = subst (λ (s : Shape). AllByRecursion (IsTurnAmong s.processors) turns) shape_is all;
+    shape_is = left.shape_is;
+    code_is = left.code_is;
+    arrays_are = left.arrays_are;
+    words_are = words_are;
+    few = omega (arith, few);
+  }
+
+pub resumes_leave_states : RunsInLegsAreAsPrograms → LeftWordsComeBack → ResumesLeaveStates
+resumes_leave_states law comes source z left few start on turns all = left_again law comes source z left start on turns all few
+
+module _ (law : RunsInLegsAreAsPrograms) (comes : LeftWordsComeBack) (options : ResumeOptions) (before now : ToldLists) (items : List PlanItem) (z : SavedState) where
   abbrev Resumed : Answer → Type 0
   Resumed a = ResumedHas options before now items z a
 
-  abbrev among : (a : Answer) (h : Resumed a) → AllByRecursion (IsTurnAmong h.start.shape.processors) h.run.turns
+  abbrev pub among : (a : Answer) (h : Resumed a) → AllByRecursion (IsTurnAmong h.start.shape.processors) h.run.turns
   among a h = recursion_from_All (IsTurnAmong h.start.shape.processors) h.run.turns h.run.obey.among
 
   -- the finish that is said
@@ -178,17 +204,40 @@ module _ (law : RunsInLegsAreAsPrograms) (comes : RenewedWordsComeBack) (options
       let mine = of_all h.start.shape h.start.code c h.start.state h.run.turns in
       omega (arith, within, part, mine, made)
 
+  -- broken words are met late
+  pub resumed_breaks : (place : ℕ) (h : Resumed (answers.Broken place)) (source : List ℕ) (left : IsLeftBy source z)
+      → 2 ^ 34 < worked_in_all left.start (legs_with left h.start.state.words) h.run.turns
+  resumed_breaks place h source left =
+      let k = said (answers.Broken place) h in
+      let e = broken_run h.start.shape h.start.array_lengths (words_behind h.start h.run.turns) (named z.arrays) k.0 place k.2 in
+      let all = among (answers.Broken place) h in
+      let few = left.few in
+      (is_program law comes source z left h.start h.goes_on h.run.turns all).unbroken (omega (arith, few)) place
+      (ap finish_of (sym (finish_is law comes source z left h.start h.goes_on h.run.turns all)) ∙ k.1 ∙ ap (λ (f : Finish). Some f) e)
+
+  -- a finish word that was left stands for something
+  pub left_stands : (source : List ℕ) (left : IsLeftBy source z) → finish_of (saved_finish z) ≢ None
+  left_stands source left none =
+      let before = law source left.tree left.has left.sizes left.places left.keeper left.start left.opens left.legs left.are left.turns left.among in
+      let same : saved_finish z ≡ finish_at_last left.start left.legs left.turns = ap (λ (s : Shape). read s z.words FinishWord) left.shape_is ∙ ap (λ (w : List ℕ). read left.start.shape w FinishWord) left.words_are in
+      before.stands (ap finish_of (sym same) ∙ none)
+
   pub resumed_once : (a : Answer) (h : Resumed a) (source : List ℕ) (left : IsLeftBy source z)
       → NoneIsTakenTwiceInAll left.start (legs_with left h.start.state.words) h.run.turns
   resumed_once a h source left = (is_program law comes source z left h.start h.goes_on h.run.turns (among a h)).once
 
-module _ (law : RunsInLegsAreAsPrograms) (comes : RenewedWordsComeBack) (options : ResumeOptions) (plan : List ℕ) (o : Outside) where
+module _ (law : RunsInLegsAreAsPrograms) (comes : LeftWordsComeBack) (options : ResumeOptions) (plan : List ℕ) (o : Outside) where
   abbrev Reads : Answer → Type 0
   Reads answer = ReadHas text_limit (Has options plan o) o.source answer
 
   -- what is said of faults and of want of memory
   of_ports : SaysOfPorts (ports_of o) (ResumeSays options plan o)
   of_ports = record { read_fault = λ f. f; write_fault = λ f. f; memory = tt }
+
+  -- that words are broken comes late
+  late : (items : List PlanItem) (z : SavedState) (place : ℕ) → ItemsHave options o.told_before o.told_now items z (answers.Broken place) → ComesLate options plan o items z place
+  late items z place (inl k) source left = absurd (left_stands law comes options o.told_before o.told_now items z source left k.0.none)
+  late items z place (inr run) source left = (run, resumed_breaks law comes options o.told_before o.told_now items z place run source left)
 
   -- an answer that is written says the sentence of its status
   by : (answer : Answer) → Reads answer → IsWritten o.out o.err answer (status_of answer) → ResumeSays options plan o (status_of answer)
@@ -226,18 +275,37 @@ module _ (law : RunsInLegsAreAsPrograms) (comes : RenewedWordsComeBack) (options
     once = resumed_once law comes options o.told_before o.told_now h.2.has.items h.2.state (answers.OutOfRoom place) h.2.has.has;
     gets = w.err_takes.0;
   }
-  by (answers.Broken place) h w = (place, h, w.err_takes.0)
+  by (answers.Broken place) h w = record { place = place; read = h; late = late h.2.has.items h.2.state place h.2.has.has; gets = w.err_takes.0 }
   by answer h w = absurd (has_kind options o.told_before o.told_now h.2.has.items h.2.state answer h.2.has.has)
 
-  pub resume_rows : (status : Status) → DeliversAnswer (ResumeMay options plan o.told_before o.told_now o.source) (ports_of o) status → ResumeRows options plan o status
-  resume_rows status d = record {
-    rows =
-        text_rows text_limit (Has options plan o) (fronts_decide options plan o.told_before o.told_now) (ResumeSays options plan o) (ports_of o) status d of_ports by;
-    meant = λ items z answer h source left.
-        is_program law comes source z left h.start h.goes_on h.run.turns (among law comes options o.told_before o.told_now items z answer h);
-  }
+  module _ (status : Status) (d : DeliversAnswer (ResumeMay options plan o.told_before o.told_now o.source) (ports_of o) status) where
+    abbrev Rows : Type 0
+    Rows = TextRows text_limit (Has options plan o) (ResumeSays options plan o) (ports_of o) status
+
+    rows_of : Rows
+    rows_of =
+        text_rows text_limit (Has options plan o) (fronts_decide options plan o.told_before o.told_now) (ResumeSays options plan o) (ports_of o) status d of_ports by
+
+    -- what is known to end is written with the status of an end
+    ended : (answer : Answer) → IsEnd answer → status ≡ status_of answer → IsOneOf status (statuses.Ended ∷ statuses.Trapped ∷ [])
+    ended (answers.Ended arrays) is own = inl own
+    ended (answers.Trapped trap line) is own = inr (inl own)
+    ended _ is own = absurd is
+
+    completes : ResumesComplete → Completes options plan o status
+    completes complete are all e z is items accepted source left enough well =
+        let k = rows_of.known all e well in
+        ended k.0 (complete options are all z is plan items accepted source left enough o.told_before o.told_now k.0 k.1) k.2.own
+
+    pub resume_rows : ResumesComplete → ResumeRows options plan o status
+    resume_rows complete = record {
+      rows = rows_of;
+      meant = λ items z answer h source left.
+          is_program law comes source z left h.start h.goes_on h.run.turns (among law comes options o.told_before o.told_now items z answer h);
+      completes = completes complete;
+    }
 
   -- 3 comes of a plan alone
   pub plan_refused : (status : Status) → DeliversAnswer (ResumeMay options plan o.told_before o.told_now o.source) (ports_of o) status
       → status ≡ statuses.WordsRefused → RefusesPlan options plan o
-  plan_refused status d e = subst (ResumeSays options plan o) e (resume_rows status d).rows.says
+  plan_refused status d e = subst (ResumeSays options plan o) e (rows_of status d).says

@@ -1,6 +1,6 @@
 -- What runs in legs of a program's machine come to, in the words of the program's serial meaning: turns, the words behind them that came back,
 -- turns of fresh processors, and so on.
-use Rattle.std.specs.Prelude.{◌≡◌, ℕ, ◌+◌, ◌*◌, List, Some, length}
+use Rattle.std.specs.Prelude.{◌≡◌, ◌≢◌, ◌≤◌, ◌<◌, ℕ, ◌+◌, ◌*◌, ◌^◌, List, Some, None, length}
 use Rattle.std.specs.List.{AllByRecursion}
 use Rattle.ppm_words.specs.declared.outcome.Outcome.{Outcome}
 use Rattle.ppm_words.specs.declared.outcome.Outcome.TheVariants as outcome
@@ -19,6 +19,7 @@ use Rattle.ppm_step.specs.declared.turn.Turn.{Turn}
 use Rattle.ppm_tickets.specs.Words.{has}
 use Rattle.ppm_runs.specs.Legs.{Leg, AreLegs, last_state, all_forked, all_taken, all_work, all_strikes}
 use Rattle.ppm_runs.specs.Moments.{AreOnce}
+use Rattle.ppm_resumed.specs.Resumed.{TagsMayRise}
 use Rattle.ppm_core.specs.Situation.{Situation}
 use Rattle.ppm_loading.specs.Loading.{Opens}
 use Rattle.ppm_loading.specs.Says.{arrays_from}
@@ -65,7 +66,8 @@ module _ (m : Situation) (legs : List Leg) (turns : List Turn) where
 
   -- What holds behind them. No branch is taken twice. Where the finish word says an outcome the run ends as the program does, with the arrays
   -- of the words then, or this trap; where it says that a pool is full, the program takes more words. All work turns are fewer than 256 for
-  -- each capsule of the program's code, each fault that strikes a row of work, and each fresh processor.
+  -- each capsule of the program's code, each fault that strikes a row of work, and each fresh processor. The finish word stands for a finish;
+  -- that words are broken it says only behind more than 2^34 work turns, where words came back at most 2^50 times.
   pub record IsAsProgramInAll (t : ProgramTree) : Type 0 where
     pub once : NoneIsTakenTwiceInAll
     pub ended : finish_of finish_at_last ≡ Some finishes.Ended
@@ -74,6 +76,8 @@ module _ (m : Situation) (legs : List Leg) (turns : List Turn) where
         → EndsAsProgramInAll t (outcome.Trapped trap line)
     pub work : NeedsMoreTurns t struck_in_all worked_in_all
     pub full : (place : ℕ) → finish_of finish_at_last ≡ Some (finishes.OutOfRoom place) → NeedsMoreRoom t m.shape.room
+    pub stands : finish_of finish_at_last ≢ None
+    pub unbroken : length legs ≤ 2 ^ 50 → (place : ℕ) → finish_of finish_at_last ≡ Some (finishes.Broken place) → 2 ^ 34 < worked_in_all
 
 -- With takeover by places, from the machine with which a run of a text's program begins, however often its words came back, and whatever the
 -- turns are, in whatever order, faults and quits among them. A run in which no words came back has no legs.
@@ -82,3 +86,11 @@ RunsInLegsAreAsPrograms = (text : List ℕ) (t : ProgramTree) → HasProgram tex
     → (keeper : ℕ) (m : Situation) → Opens sizes (code_of t) (initial_arrays t) keeper m
     → (legs : List Leg) → AreLegs m.shape m.code m.state.words legs
     → (turns : List Turn) → AllByRecursion (IsTurnAmong m.shape.processors) turns → IsAsProgramInAll m legs turns t
+
+-- and then no place's holder has the last tag, where words came back fewer than 2^50 times
+abbrev pub TagsMayRiseInLegs : Type 0
+TagsMayRiseInLegs = (text : List ℕ) (t : ProgramTree) → HasProgram text t → (sizes : Sizes) → sizes.takeover ≡ ByPlaces
+    → (keeper : ℕ) (m : Situation) → Opens sizes (code_of t) (initial_arrays t) keeper m
+    → (legs : List Leg) → AreLegs m.shape m.code m.state.words legs
+    → (turns : List Turn) → AllByRecursion (IsTurnAmong m.shape.processors) turns
+    → length legs < 2 ^ 50 → TagsMayRise m.shape (words_at_last m legs turns)

@@ -9,6 +9,7 @@ pub mod Replays
 pub mod ReplayRows
 pub mod Legs
 pub mod Resumes
+pub mod ResumeCompleteness
 pub mod ResumeRows
 pub mod Examples
 pub mod ExampleRows

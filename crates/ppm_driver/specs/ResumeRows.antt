@@ -1,6 +1,6 @@
 -- What follows from each status of `resume`. What is said of programs is said of each source whose program left the state: a run of it came to
 -- the saved words, whatever was stopped and resumed how often before.
-use Rattle.std.specs.Prelude.{◌≡◌, ◌⊎◌, ℕ, ◌<◌, ◌≤◌, List, Some}
+use Rattle.std.specs.Prelude.{◌≡◌, ◌⊎◌, ℕ, ◌<◌, ◌≤◌, ◌^◌, List, [], ◌∷◌, Some}
 use Rattle.ppm_words.specs.declared.named_array.NamedArray.{NamedArray}
 use Rattle.ppm_words.specs.declared.outcome.Outcome.TheVariants as outcome
 use Rattle.ppm_words.specs.declared.trap.Trap.{Trap}
@@ -15,15 +15,20 @@ use Rattle.ppm_answers.specs.declared.status.Status.{Status}
 use Rattle.ppm_answers.specs.declared.status.Status.TheVariants as statuses
 use Rattle.ppm_answers.specs.Texts.{arrays_text, trap_text, turns_text, room_text, broken_text, plan_text, saved_line}
 use Rattle.ppm_answers.specs.Reading.{ReadHas}
-use Rattle.ppm_answers.specs.Rows.{PortsSay, TextRows}
+use Rattle.ppm_answers.specs.Rows.{PortsSay, TextRows, IsOneOf, GoesWell}
 use Rattle.ppm_choice.specs.Deeds.{work_made}
 use Rattle.ppm_cli.specs.declared.resume.ResumeOptions.{ResumeOptions}
+use Rattle.ppm_cli.specs.Words.{AreResumed}
+use Rattle.ppm_plan.specs.Forms.{plan_form}
+use Rattle.ppm_plan.specs.Refusals.{IsAccepted}
 use Rattle.ppm_saved_reader.specs.Rules.{text_limit}
 use Rattle.ppm_step.specs.Laws.{IsFilledBehind}
 use Rattle.ppm_driver.specs.Meant.{NeedsMoreRoom, NeedsMoreTurns, struck_in}
 use Rattle.ppm_driver.specs.Strikes.{fault_count}
-use Rattle.ppm_driver.specs.Legs.{struck_in_all, NoneIsTakenTwiceInAll, EndsAsProgramInAll, IsAsProgramInAll}
-use Rattle.ppm_driver.specs.Resumes.{SavedState, saved_finish, ResumedHas, TextHas, IsLeftBy, legs_with}
+use Rattle.ppm_driver.specs.Completeness.{IsEnough}
+use Rattle.ppm_driver.specs.Legs.{worked_in_all, struck_in_all, NoneIsTakenTwiceInAll, EndsAsProgramInAll, IsAsProgramInAll}
+use Rattle.ppm_driver.specs.ResumeCompleteness.{faults_with}
+use Rattle.ppm_driver.specs.Resumes.{SavedState, saved_finish, IsTextOf, ResumedHas, TextHas, IsLeftBy, legs_with}
 use Rattle.ppm_plan.specs.declared.plan_item.PlanItem.{PlanItem}
 
 module _ (options : ResumeOptions) (plan : List ℕ) (o : Outside) where
@@ -106,9 +111,18 @@ module _ (options : ResumeOptions) (plan : List ℕ) (o : Outside) where
     pub once : IsOnce read.2.has.has
     pub gets : Gets o.err (room_text place)
 
-  -- the words are broken, and err got exactly the line that says so
-  abbrev pub WritesBroken : Type 0
-  WritesBroken = (place : ℕ) × HasRead (answers.Broken place) × Gets o.err (broken_text place)
+  -- that words are broken is said of a state that a program left only behind a run from it, and so late: that program has made more than 2^34
+  -- work turns then, in all its legs and this run
+  abbrev pub ComesLate : List PlanItem → SavedState → (place : ℕ) → Type 0
+  ComesLate items z place = (source : List ℕ) (left : IsLeftBy source z)
+      → (run : Resumed items z (answers.Broken place)) × (2 ^ 34 < worked_in_all left.start (legs_with left run.start.state.words) run.run.turns)
+
+  -- the words are broken, so late, and err got exactly the line that says so
+  pub record WritesBroken : Type 0 where
+    pub place : ℕ
+    pub read : HasRead (answers.Broken place)
+    pub late : ComesLate read.2.has.items read.2.state place
+    pub gets : Gets o.err (broken_text place)
 
   -- what each status says
   abbrev pub ResumeSays : Status → Type 0
@@ -127,8 +141,18 @@ module _ (options : ResumeOptions) (plan : List ℕ) (o : Outside) where
   AreAsPrograms = (items : List PlanItem) (z : SavedState) (answer : Answer) (h : Resumed items z answer) (source : List ℕ) (left : IsLeftBy source z)
       → IsAsProgramInAll left.start (legs_with left h.start.state.words) h.run.turns left.tree
 
+  -- completeness: with options in their ranges, a source's bytes that are known and are the text of a state that a program left, a plan that is
+  -- accepted for its processors, and turns and room enough for that program, the run ends with arrays or in a trap, where the ports hold and
+  -- memory is there
+  abbrev pub Completes : Status → Type 0
+  Completes status = AreResumed options → (all : List ℕ) → o.source.before ≡ Some all → (z : SavedState) → IsTextOf all z
+      → (items : List PlanItem) → IsAccepted plan_form plan z.shape.processors items → (source : List ℕ) (left : IsLeftBy source z)
+      → IsEnough left.tree (faults_with left items) options.turns z.shape.room → GoesWell (ports_of o) status
+      → IsOneOf status (statuses.Ended ∷ statuses.Trapped ∷ [])
+
   -- The rows of `resume` with such options and such a plan: what each status says; and where all goes well, something is judged, and the
   -- answer that the text has is written.
   pub record ResumeRows (status : Status) : Type 0 where
     pub rows : TextRows text_limit Has ResumeSays (ports_of o) status
     pub meant : AreAsPrograms
+    pub completes : Completes status

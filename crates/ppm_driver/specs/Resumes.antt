@@ -1,5 +1,5 @@
 -- What `resume` answers, and when it may.
-use Rattle.std.specs.Prelude.{◌≡◌, ◌≢◌, ◌⊎◌, ◌≤◌, ℕ, ◌^◌, List, [], ◌∷◌, None, length, map, ⊤}
+use Rattle.std.specs.Prelude.{◌≡◌, ◌≢◌, ◌⊎◌, ◌≤◌, ◌<◌, ℕ, ◌+◌, ◌^◌, List, [], ◌∷◌, None, length, map, ⊤}
 use Rattle.std.specs.List.{AllByRecursion}
 use Rattle.ppm_words.specs.declared.idle.Idle.TheVariants.{Leave}
 use Rattle.ppm_words.specs.declared.named_array.NamedArray.{NamedArray}
@@ -20,12 +20,12 @@ use Rattle.ppm_plan.specs.Refusals.{IsAccepted}
 use Rattle.ppm_plan.specs.Schedules.{Planned}
 use Rattle.ppm_step.specs.Among.{IsTurnAmong}
 use Rattle.ppm_step.specs.Standings.{unknown_place}
-use Rattle.ppm_step.specs.State.{along, work_of}
 use Rattle.ppm_step.specs.declared.turn.Turn.{Turn}
 use Rattle.ppm_tree.specs.Tree.{ProgramTree}
 use Rattle.ppm_tree.specs.Program.{initial_arrays}
 use Rattle.ppm_program.specs.Programs.{HasProgram}
 use Rattle.ppm_cut_code.specs.Routines.{code_of}
+use Rattle.ppm_tickets.specs.Renewal.{IsRenewal}
 use Rattle.ppm_runs.specs.Legs.{Leg, AreLegs}
 use Rattle.ppm_saved.specs.Names.{lengths_of}
 use Rattle.ppm_saved.specs.Text.{saved_text}
@@ -37,7 +37,6 @@ use Rattle.ppm_saved_reader.specs.ErrorNumbers.{line_of, number_of}
 use Rattle.ppm_saved_reader.specs.Rules.{text_limit}
 use Rattle.ppm_saved_reader.specs.declared.saved_error.SavedError.{SavedError}
 use Rattle.ppm_saved_reader.specs.declared.saved_error.SavedError.TheVariants as errors
-use Rattle.ppm_resumed.specs.Resumed.{TagsMayRise}
 use Rattle.ppm_answers.specs.declared.answer.Answer.{Answer}
 use Rattle.ppm_answers.specs.declared.answer.Answer.TheVariants as answers
 use Rattle.ppm_answers.specs.declared.saved.SavedRefusal.{SavedRefusal}
@@ -174,7 +173,7 @@ FrontsDecideResumed = (options : ResumeOptions) (plan : List ℕ) (before now : 
     → FrontsDecide text_limit (TextHas options plan before now)
 
 -- A state is that of a run of a source's program, with takeover by places, from its opening words, whatever turns its processors made, and
--- however often its words came back. No place's holder has the last tag.
+-- however often its words came back, but fewer than 2^50 times: a tag of a holder rises with each.
 pub record IsLeftBy (source : List ℕ) (z : SavedState) : Type 0 where
   pub tree : ProgramTree
   pub has : HasProgram source tree
@@ -191,7 +190,11 @@ pub record IsLeftBy (source : List ℕ) (z : SavedState) : Type 0 where
   pub code_is : z.code ≡ start.code
   pub arrays_are : z.arrays ≡ names_of (initial_arrays tree)
   pub words_are : z.words ≡ words_at_last start legs turns
-  pub tags : TagsMayRise z.shape z.words
+  pub few : length legs < 2 ^ 50
+
+-- what fresh processors find of such a state are words that come back
+abbrev pub LeftWordsComeBack : Type 0
+LeftWordsComeBack = (source : List ℕ) (z : SavedState) → IsLeftBy source z → (words : List ℕ) → AreRenewed z.shape z.words words → IsRenewal z.shape z.words words
 
 -- the legs of such a run with the one behind which these words come back
 abbrev pub legs_with : {source : List ℕ} {z : SavedState} → IsLeftBy source z → (back : List ℕ) → List Leg
@@ -201,13 +204,19 @@ legs_with left back = record { turns = left.turns; back = back } ∷ left.legs
 abbrev pub state_behind : Situation → List NamedArray → List Turn → SavedState
 state_behind m arrays turns = record { shape = m.shape; arrays = names_of arrays; code = m.code; words = words_behind m turns }
 
--- With takeover by places, whatever turns are made from the machine with which a run of a text's program begins, as long as at most 2^34 of them
--- are work: the state behind them is left by that text.
+-- With takeover by places, whatever turns are made from the machine with which a run of a text's program begins: the state behind them is left by
+-- that text.
 abbrev pub RunsLeaveStates : Type 0
 RunsLeaveStates = (text : List ℕ) (t : ProgramTree) → HasProgram text t → (sizes : Sizes) → sizes.takeover ≡ ByPlaces
     → (keeper : ℕ) (m : Situation) → Opens sizes (code_of t) (initial_arrays t) keeper m
-    → (turns : List Turn) → AllByRecursion (IsTurnAmong m.shape.processors) turns
-    → length (along m.shape m.code work_of m.state turns) ≤ 2 ^ 34 → IsLeftBy text (state_behind m (initial_arrays t) turns)
+    → (turns : List Turn) → AllByRecursion (IsTurnAmong m.shape.processors) turns → IsLeftBy text (state_behind m (initial_arrays t) turns)
+
+-- The state behind turns of fresh processors that went on from one that a program left is left by that program too, unless words came back so
+-- often.
+abbrev pub ResumesLeaveStates : Type 0
+ResumesLeaveStates = (source : List ℕ) (z : SavedState) (left : IsLeftBy source z) → length left.legs + 1 < 2 ^ 50
+    → (start : Situation) → GoesOnFrom z start → (turns : List Turn) → AllByRecursion (IsTurnAmong start.shape.processors) turns
+    → IsLeftBy source (record { shape = z.shape; arrays = z.arrays; code = z.code; words = words_behind start turns })
 
 -- What `stop` writes of a text's program, by the items of a schedule that is accepted, with options in their ranges: the saved text of a state
 -- that is left by that text.

@@ -1,15 +1,16 @@
 //! That runs in legs end as their programs do, shown by a call that does nothing.
-ghost use Rattle.ppm_driver.specs.Legs.{RunsInLegsAreAsPrograms};
-ghost use Rattle.ppm_driver.specs.Resumes.{RunsLeaveStates, StopsLeaveStates};
+ghost use Rattle.ppm_driver.specs.Legs.{RunsInLegsAreAsPrograms, TagsMayRiseInLegs};
+ghost use Rattle.ppm_driver.specs.Resumes.{LeftWordsComeBack, ResumesLeaveStates, RunsLeaveStates, StopsLeaveStates};
 
 use ppm_cut_code::keeps_the_rules;
 use ppm_cut_correct::{end_as_meant, ends_serially, name_arrays, start_with_input};
 use ppm_cut_sound::code_is_sound;
 use ppm_opening::images_begin_the_depth_first_run;
+use ppm_resumed::renewed_words_come_back;
 use ppm_rows::trees_are_within;
 use ppm_runs::{
-    legs_come_to, nothing_breaks, room_is_spent, room_over_legs, runs_end_so, tags_stay_low,
-    work_is_bounded, work_over_legs,
+    legs_come_to, nothing_breaks, nothing_breaks_over_legs, room_is_spent, room_over_legs, runs_end_so,
+    tags_stay_low, work_is_bounded, work_over_legs,
 };
 
 /// With takeover by places, from the machine with which a run of a text's program begins, whatever
@@ -18,9 +19,12 @@ use ppm_runs::{
 /// the program's serial outcome, with the arrays of the words then, or its trap; and each right branch
 /// that was forked was taken. Where it says that a pool is full, the program, run whole, takes more
 /// words than a pool has, or has no end. All work turns are fewer than 256 for each capsule that its
-/// code runs depth first, each fault that strikes a row of work, and each fresh processor.
+/// code runs depth first, each fault that strikes a row of work, and each fresh processor. That words
+/// are broken it says only behind more than 2^34 work turns, if words came back at most 2^50 times.
+/// And no place's holder has the last tag then.
 pub fn runs_in_legs_are_as_programs()
     ensures law { RunsInLegsAreAsPrograms }
+    ensures tags { TagsMayRiseInLegs }
 {
     // The law rests on these; the calls do nothing.
     trees_are_within();
@@ -38,47 +42,38 @@ pub fn runs_in_legs_are_as_programs()
     legs_come_to();
     room_over_legs();
     work_over_legs();
+    nothing_breaks_over_legs();
+    tags_stay_low();
 }
 
 /// With takeover by places, whatever turns are made from the machine with which a run of a text's
-/// program begins, as long as at most 2^34 of them are work: the state behind them is left by
-/// that text, so what the rows of `resume` say of it holds of the program.
+/// program begins: the state behind them is left by that text, so what the rows of `resume` say of it
+/// holds of the program.
 pub fn runs_leave_states()
     ensures law { RunsLeaveStates }
-{
-    // The law rests on these; the calls do nothing.
-    trees_are_within();
-    keeps_the_rules();
-    code_is_sound();
-    start_with_input();
-    name_arrays();
-    ends_serially();
-    end_as_meant();
-    images_begin_the_depth_first_run();
-    runs_end_so();
-    room_is_spent();
-    work_is_bounded();
-    nothing_breaks();
-    tags_stay_low();
-}
+{}
 
-/// What `stop` writes is the saved text of a state that is left by the text that it read: behind at
-/// most 268,435,456 acts.
+/// What `stop` writes is the saved text of a state that is left by the text that it read.
 pub fn stops_leave_states()
     ensures law { StopsLeaveStates }
+{}
+
+/// The words that fresh processors find, where a program's run left a state, are words that come back:
+/// no holder has the last tag, as words came back fewer than 2^50 times.
+pub fn left_words_come_back()
+    ensures law { LeftWordsComeBack }
 {
     // The law rests on these; the calls do nothing.
-    trees_are_within();
-    keeps_the_rules();
-    code_is_sound();
-    start_with_input();
-    name_arrays();
-    ends_serially();
-    end_as_meant();
-    images_begin_the_depth_first_run();
-    runs_end_so();
-    room_is_spent();
-    work_is_bounded();
-    nothing_breaks();
-    tags_stay_low();
+    runs_in_legs_are_as_programs();
+    renewed_words_come_back();
+}
+
+/// The state behind turns of fresh processors that went on from one that a program left is left by that
+/// program too, whatever the turns are, unless words came back 2^50 times.
+pub fn resumes_leave_states()
+    ensures law { ResumesLeaveStates }
+{
+    // The law rests on these; the calls do nothing.
+    runs_in_legs_are_as_programs();
+    left_words_come_back();
 }

@@ -8,12 +8,13 @@
 //! which its watcher was told (`specs/RunOf`, `specs/Runs`, `specs/Resumes`); `self_command` tells
 //! sums of such an answer (`specs/Examples`). What follows from each status: `specs/RunRows`,
 //! `specs/ReplayRows`, `specs/ResumeRows`, `specs/ExampleRows`; where turns and room are enough, a
-//! run ends (`specs/Completeness`).
+//! run ends (`specs/Completeness`, `specs/ResumeCompleteness`).
 //! Stands on `ppm_threads`, `ppm_following`, `ppm_loading`, `ppm_saved_reader` and `ppm_answers`;
 //! `ppm_top` calls it. The schedules and limits and their rules are this project's.
 #![tactic(auto)]
 
 mod complete;
+mod complete_resume;
 mod example;
 mod legs;
 mod meant;
@@ -26,8 +27,12 @@ mod run;
 mod saying;
 
 pub use complete::runs_complete;
+pub use complete_resume::resumes_complete;
 pub use example::self_command;
-pub use legs::{runs_in_legs_are_as_programs, runs_leave_states, stops_leave_states};
+pub use legs::{
+    left_words_come_back, resumes_leave_states, runs_in_legs_are_as_programs, runs_leave_states,
+    stops_leave_states,
+};
 pub use meant::runs_are_as_programs;
 pub use one_replay::have_one_answer;
 pub use one_run::answers_are_one;

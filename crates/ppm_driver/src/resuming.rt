@@ -13,7 +13,8 @@ ghost use Rattle.ppm_driver.specs.ResumeRows.{ResumeRows};
 ghost use Rattle.ppm_driver.specs.Runs.{IsSaid};
 ghost use Rattle.ppm_driver.specs.Watchers.{watcher_count};
 
-use crate::legs::runs_in_legs_are_as_programs;
+use crate::complete_resume::resumes_complete;
+use crate::legs::{left_words_come_back, runs_in_legs_are_as_programs};
 use crate::names::arrays_of_names;
 use ppm_answers::{Answer, SavedRefusal, Status, answer_of_read, deliver};
 use ppm_cells::{Ending, Finish, UNKNOWN_PLACE};
@@ -22,7 +23,6 @@ use ppm_cli::ResumeOptions;
 use ppm_loading::refusal_answer;
 use ppm_plan::{Plan, read_plan};
 use ppm_ports::{Sink, Source, Watch, read_whole};
-use ppm_resumed::renewed_words_come_back;
 use ppm_saved::{Names, Renewed, Saved, renew};
 use ppm_saved_reader::{SavedError, TEXT_LIMIT, read_saved};
 use ppm_table::{Closed, Shared};
@@ -66,7 +66,8 @@ pub fn resume_command<R: Threads + Wait + Sync, S: Source, K: Sink, E: Sink, W: 
 {
     // The rows rest on these laws; the calls do nothing.
     runs_in_legs_are_as_programs();
-    renewed_words_come_back();
+    left_words_come_back();
+    resumes_complete();
     let answer = read_answer(rt, alloc, options, faults, source, watch);
     deliver(alloc, &answer, out, err)
 }

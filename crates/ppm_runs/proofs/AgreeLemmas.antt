@@ -105,21 +105,21 @@ use Rattle.ppm_runs.proofs.CameLemmas.{came_from}
 
 -- no fork, no begin and no job
 abbrev calm : May
-calm = record { forks = λ r. ⊥; begins = λ r. ⊥; stores = λ a. Unit {0}; trades = λ a. Unit {0}; jobs = λ r. ⊥; fills = Unit {0} }
+calm = record { forks = λ r. ⊥; begins = λ r. ⊥; stores = λ a. Unit {0}; trades = λ a. Unit {0}; jobs = λ r. ⊥; fills = Unit {0}; bids = Unit {0} }
 
 -- and of those, begins alone, or one fork, or one job
 abbrev calm_begins : May
-calm_begins = record { forks = λ r. ⊥; begins = λ r. Unit {0}; stores = λ a. Unit {0}; trades = λ a. Unit {0}; jobs = λ r. ⊥; fills = Unit {0} }
+calm_begins = record { forks = λ r. ⊥; begins = λ r. Unit {0}; stores = λ a. Unit {0}; trades = λ a. Unit {0}; jobs = λ r. ⊥; fills = Unit {0}; bids = Unit {0} }
 
 abbrev calm_forks : ℕ → May
-calm_forks b = record { forks = λ r. r ≡ b; begins = λ r. ⊥; stores = λ a. Unit {0}; trades = λ a. Unit {0}; jobs = λ r. ⊥; fills = Unit {0} }
+calm_forks b = record { forks = λ r. r ≡ b; begins = λ r. ⊥; stores = λ a. Unit {0}; trades = λ a. Unit {0}; jobs = λ r. ⊥; fills = Unit {0}; bids = Unit {0} }
 
 abbrev calm_jobs : ℕ → May
-calm_jobs b = record { forks = λ r. ⊥; begins = λ r. ⊥; stores = λ a. Unit {0}; trades = λ a. Unit {0}; jobs = λ r. r ≡ b; fills = Unit {0} }
+calm_jobs b = record { forks = λ r. ⊥; begins = λ r. ⊥; stores = λ a. Unit {0}; trades = λ a. Unit {0}; jobs = λ r. r ≡ b; fills = Unit {0}; bids = Unit {0} }
 
 -- a Check may fork and begin
 abbrev calm_checks : May
-calm_checks = record { forks = λ r. Unit {0}; begins = λ r. Unit {0}; stores = λ a. Unit {0}; trades = λ a. Unit {0}; jobs = λ r. ⊥; fills = Unit {0} }
+calm_checks = record { forks = λ r. Unit {0}; begins = λ r. Unit {0}; stores = λ a. Unit {0}; trades = λ a. Unit {0}; jobs = λ r. ⊥; fills = Unit {0}; bids = Unit {0} }
 
 -- spots that are no entries leave all homes
 abbrev IsNoSlot : Spot → Type 0

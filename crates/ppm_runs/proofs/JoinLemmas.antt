@@ -283,7 +283,7 @@ GoesFirst row = Unit {0}
 
 -- Push1 alone fills an empty entry
 abbrev no_fills : May
-no_fills = record { forks = λ r. Unit {0}; begins = λ r. Unit {0}; stores = λ a. Unit {0}; trades = λ a. Unit {0}; jobs = λ r. Unit {0}; fills = ⊥ }
+no_fills = record { forks = λ r. Unit {0}; begins = λ r. Unit {0}; stores = λ a. Unit {0}; trades = λ a. Unit {0}; jobs = λ r. Unit {0}; fills = ⊥; bids = Unit {0} }
 
 fills_begun : (s : Shape) (seat : Seat) (k : RestartKind) → ((r : ℕ) × (k ≡ Push1 r)) ⊎ TameRow s.takeover no_fills (row_of s seat k)
 fills_begun s seat (Push1 r) = inl (r, refl)

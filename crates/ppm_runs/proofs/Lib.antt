@@ -11,7 +11,8 @@
 -- numbers of capsules and what is over has an outcome (`WellWords`), so rows and capsules of strands
 -- meet no broken words (`WellRows`, `ArrayLemmas`, `WellRuns`, `WellStands`), and that stays
 -- (`WellCapsules`, `WellTurns`). Half of the work turns at most raise a tag (`RaisedLemmas`), and
--- `UnbrokenLemmas` has all of it in whole runs.
+-- `UnbrokenLemmas` has all of it in whole runs. Who holds a place changes by bids alone (`BidLemmas`), so tags
+-- of holders stay low over legs (`TagLemmas`), and what is sound is so again behind each (`LegSound`).
 
 pub mod TameLemmas
 pub mod StandLemmas
@@ -33,6 +34,8 @@ pub mod SpentLemmas
 pub mod BackLemmas
 pub mod LegLemmas
 pub mod SoundRows
+pub mod BidLemmas
+pub mod HolderLemmas
 pub mod SoundLemmas
 pub mod SoundTurns
 pub mod SoundJoin
@@ -55,3 +58,4 @@ pub mod HalvesLemmas
 pub mod HeirJoinLemmas
 pub mod HeiredLemmas
 pub mod LegWork
+pub mod LegSound

@@ -90,23 +90,23 @@ IsLooking _ = ⊥
 
 -- all is allowed but forks
 abbrev no_forks : May
-no_forks = record { forks = λ r. ⊥; begins = λ r. Unit {0}; stores = λ a. Unit {0}; trades = λ a. Unit {0}; jobs = λ r. Unit {0}; fills = Unit {0} }
+no_forks = record { forks = λ r. ⊥; begins = λ r. Unit {0}; stores = λ a. Unit {0}; trades = λ a. Unit {0}; jobs = λ r. Unit {0}; fills = Unit {0}; bids = Unit {0} }
 
 -- no block word is changed but this one
 abbrev one_word : ℕ → May
-one_word w = record { forks = λ r. Unit {0}; begins = λ r. Unit {0}; stores = λ a. a ≡ w; trades = λ a. a ≡ w; jobs = λ r. Unit {0}; fills = Unit {0} }
+one_word w = record { forks = λ r. Unit {0}; begins = λ r. Unit {0}; stores = λ a. a ≡ w; trades = λ a. a ≡ w; jobs = λ r. Unit {0}; fills = Unit {0}; bids = Unit {0} }
 
 -- none is exchanged
 abbrev no_trades : May
-no_trades = record { forks = λ r. Unit {0}; begins = λ r. Unit {0}; stores = λ a. Unit {0}; trades = λ a. ⊥; jobs = λ r. Unit {0}; fills = Unit {0} }
+no_trades = record { forks = λ r. Unit {0}; begins = λ r. Unit {0}; stores = λ a. Unit {0}; trades = λ a. ⊥; jobs = λ r. Unit {0}; fills = Unit {0}; bids = Unit {0} }
 
 -- no block word is changed
 abbrev no_words : May
-no_words = record { forks = λ r. Unit {0}; begins = λ r. Unit {0}; stores = λ a. ⊥; trades = λ a. ⊥; jobs = λ r. Unit {0}; fills = Unit {0} }
+no_words = record { forks = λ r. Unit {0}; begins = λ r. Unit {0}; stores = λ a. ⊥; trades = λ a. ⊥; jobs = λ r. Unit {0}; fills = Unit {0}; bids = Unit {0} }
 
 -- one block alone is forked
 abbrev one_fork : ℕ → May
-one_fork b = record { forks = λ r. r ≡ b; begins = λ r. Unit {0}; stores = λ a. Unit {0}; trades = λ a. Unit {0}; jobs = λ r. Unit {0}; fills = Unit {0} }
+one_fork b = record { forks = λ r. r ≡ b; begins = λ r. Unit {0}; stores = λ a. Unit {0}; trades = λ a. Unit {0}; jobs = λ r. Unit {0}; fills = Unit {0}; bids = Unit {0} }
 
 -- by how the takeover is
 pub places_row : (t how : Takeover) (may : May) (row : Row) → TameRow t may row → TameRow t may (by_places how row)

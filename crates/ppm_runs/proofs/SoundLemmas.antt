@@ -1,6 +1,6 @@
 -- What is sound of the words, after a word that one processor writes; and of where it then stands.
 use Rattle.std.proofs.Common.{◌≡◌, ◌≢◌, ◌≤◌, ◌<◌, ℕ, zero, suc, ◌+◌, Bool, true, false, List, Some, None, inl, inr, refl, sym, ap, ◌∙◌, subst, arith, slice_set}
-use Rattle.std.specs.Prelude.{slice_get}
+use Rattle.std.specs.Prelude.{slice_get, ◌^◌}
 use Rattle.std.proofs.lemmas.Bool.{cases_eq}
 use Rattle.ppm_cells.specs.Cells.{IsCell}
 use Rattle.ppm_cells.specs.Memory.{read, write as store, AreWordsOf}
@@ -32,7 +32,8 @@ use Rattle.ppm_tickets.specs.Words.{Word, Empty, Local, Job, Taken, Held, Number
 use Rattle.ppm_tickets.proofs.StepLemmas.{stand_own, stand_other}
 use Rattle.ppm_tickets.proofs.ViewLemmas.{view_else, restarts_kept, kinds_put}
 use Rattle.ppm_tickets.proofs.WriteLemmas.{put_here, put_else}
-use Rattle.ppm_runs.specs.Sound.{IsHeld, IsRising, Noted, IsNoted, IsNotedAt, RaisesHolder, TriesSo, IsSoundRow, IsSoundAt, IsRestartThere, IsHolderSound, IsTagLow, SaysNoBreak, one_dead, deads, IsSound}
+use Rattle.ppm_runs.proofs.HolderLemmas.{holder_same, holder_dies}
+use Rattle.ppm_runs.specs.Sound.{IsHeld, IsRising, Noted, IsNoted, IsNotedAt, RaisesHolder, TriesSo, IsSoundRow, IsSoundAt, IsRestartThere, IsHolderSound, IsTagLow, SaysNoBreak, one_dead, IsSound}
 
 -- what cells name
 abbrev slot_place : Cell → ℕ
@@ -71,57 +72,8 @@ tag_more n n' le (Linked x) a = omega (arith, le, a)
 tag_more n n' le (Restarts x y) a = omega (arith, le, a)
 tag_more n n' le Unread a = omega (arith, le, a)
 
--- as many are dead
-deads_same : (m n : Spot → Word) → ((q : ℕ) → n (Dead q) ≡ m (Dead q)) → (c : ℕ) → deads n c ≡ deads m c
-deads_same m n same zero = refl
-deads_same m n same (suc c) = let one = ap one_dead (same c) in let rest = deads_same m n same c in omega (arith, one, rest)
-
-holder_same : (s : Shape) (m n : Spot → Word) → ((q : ℕ) → n (Dead q) ≡ m (Dead q)) → (w : Word) → IsHolderSound s m w → IsHolderSound s n w
-holder_same s m n same (Held t c) a = (a.0, let one = ap one_dead (same c) in let all = deads_same m n same s.processors in let low = a.1 in omega (arith, one, all, low))
-holder_same s m n same (Empty t) a = absurd a
-holder_same s m n same (Local t x) a = absurd a
-holder_same s m n same (Job t x) a = absurd a
-holder_same s m n same (Taken t x) a = absurd a
-holder_same s m n same (Number x) a = absurd a
-holder_same s m n same (Linked x) a = absurd a
-holder_same s m n same (Restarts x y) a = absurd a
-holder_same s m n same Unread a = absurd a
-
--- where one more processor dies
-module _ (m n : Spot → Word) (c : ℕ) (here : one_dead (n (Dead c)) ≡ 1) (was : one_dead (m (Dead c)) ≡ 0) (there : (q : ℕ) → q ≢ c → n (Dead q) ≡ m (Dead q)) where
-  deads_below : (k : ℕ) → k ≤ c → deads n k ≡ deads m k
-  deads_below zero le = refl
-  deads_below (suc k) le = let one = ap one_dead (there k (λ e. omega (arith, le, e))) in let rest = deads_below k (omega (arith, le)) in omega (arith, one, rest)
-
-  deads_above : (k : ℕ) → c < k → deads n k ≡ deads m k + 1
-  deads_above zero lt = absurd (omega (arith, lt))
-  deads_above (suc k) lt = elim (cases_eq k c) [
-    | inl e ↦
-        let now : one_dead (n (Dead k)) ≡ 1 = ap (λ (x : ℕ). one_dead (n (Dead x))) e ∙ here in
-        let old : one_dead (m (Dead k)) ≡ 0 = ap (λ (x : ℕ). one_dead (m (Dead x))) e ∙ was in
-        let rest = deads_below k (omega (arith, e)) in omega (arith, now, old, rest)
-    | inr ne ↦ let one = ap one_dead (there k ne) in let rest = deads_above k (omega (arith, lt, ne)) in omega (arith, one, rest)
-  ]
-
-  holder_dies : (s : Shape) → c < s.processors → (w : Word) → IsHolderSound s m w → IsHolderSound s n w
-  holder_dies s lt (Held t q) a = (
-    a.0,
-    let all = deads_above s.processors lt in let low = a.1 in elim (cases_eq q c) [
-      | inl e ↦ let now : one_dead (n (Dead q)) ≡ 1 = ap (λ (x : ℕ). one_dead (n (Dead x))) e ∙ here in let old : one_dead (m (Dead q)) ≡ 0 = ap (λ (x : ℕ). one_dead (m (Dead x))) e ∙ was in omega (arith, all, low, now, old)
-      | inr ne ↦ let one = ap one_dead (there q ne) in omega (arith, all, low, one)
-    ],
-  )
-  holder_dies s lt (Empty t) a = absurd a
-  holder_dies s lt (Local t x) a = absurd a
-  holder_dies s lt (Job t x) a = absurd a
-  holder_dies s lt (Taken t x) a = absurd a
-  holder_dies s lt (Number x) a = absurd a
-  holder_dies s lt (Linked x) a = absurd a
-  holder_dies s lt (Restarts x y) a = absurd a
-  holder_dies s lt Unread a = absurd a
-
 -- what was noted, where the message is the same
-noted_same : (s : Shape) (m n : Spot → Word) (p : ℕ) → n (Message p) ≡ m (Message p) → n (Bid p) ≡ m (Bid p) → (k : RestartKind) → Noted s m p k → Noted s n p k
+pub noted_same : (s : Shape) (m n : Spot → Word) (p : ℕ) → n (Message p) ≡ m (Message p) → n (Bid p) ≡ m (Bid p) → (k : RestartKind) → Noted s m p k → Noted s n p k
 noted_same s m n p message bid (Steal v i) a = subst (IsRising s) (sym message) a
 noted_same s m n p message bid (Check v i) a = subst (IsRising s) (sym message) a
 noted_same s m n p message bid (Take2 v) a = subst IsHeld (sym bid) a
@@ -263,7 +215,7 @@ module _ (s : Shape) (code : CodeParts) (made : ℕ) (state : RunState) (sound :
       tags_same ne v i = subst (IsTagLow more) (sym (same (Slot v i) (ne v i))) (tag_more made more le (m (Slot v i)) (sound.tags v i))
 
       holders_same : ((v : ℕ) → cells.HolderWord v ≢ at) → ((q : ℕ) → cells.DeadWord q ≢ at) → (v : ℕ) → v < s.processors → IsHolderSound s n (n (Holder v))
-      holders_same ne alive v lt = subst (IsHolderSound s n) (sym (same (Holder v) (ne v))) (holder_same s m n (λ q. same (Dead q) (alive q)) (m (Holder v)) (sound.holders v lt))
+      holders_same ne alive v lt = subst (IsHolderSound s n) (sym (same (Holder v) (ne v))) (holder_same s (2 ^ 57) m n (λ q. same (Dead q) (alive q)) (m (Holder v)) (sound.holders v lt))
 
       -- of which nothing is said
       pub quiet_write : tells at ≡ false → (y : Standing) → IsSoundAt s code m y → IsSound s code more (record { words = after; stand = slice_set state.stand c y })
@@ -347,8 +299,8 @@ module _ (s : Shape) (code : CodeParts) (made : ℕ) (state : RunState) (sound :
           restarts = restarts_same at w there (λ q e. cc);
           noted = noted_all at w there (λ q e. cc) messages bids;
           holders = λ q lt. elim (cases_eq q v) [
-            | inl e ↦ subst (λ (x : ℕ). IsHolderSound s (view s (store s ws at w)) (view s (store s ws at w) (Holder x))) (sym e) (holder_same s m (view s (store s ws at w)) dead (view s (store s ws at w) (Holder v)) new)
-            | inr ne ↦ subst (IsHolderSound s (view s (store s ws at w))) (sym (same at w there (Holder q) (λ e. ne (ap holder_place e)))) (holder_same s m (view s (store s ws at w)) dead (m (Holder q)) (sound.holders q lt))
+            | inl e ↦ subst (λ (x : ℕ). IsHolderSound s (view s (store s ws at w)) (view s (store s ws at w) (Holder x))) (sym e) (holder_same s (2 ^ 57) m (view s (store s ws at w)) dead (view s (store s ws at w) (Holder v)) new)
+            | inr ne ↦ subst (IsHolderSound s (view s (store s ws at w))) (sym (same at w there (Holder q) (λ e. ne (ap holder_place e)))) (holder_same s (2 ^ 57) m (view s (store s ws at w)) dead (m (Holder q)) (sound.holders q lt))
           ];
           finish = finish_same at w there (λ e. cc);
           tags = tags_same at w there (λ x i e. cc);
@@ -365,7 +317,7 @@ module _ (s : Shape) (code : CodeParts) (made : ℕ) (state : RunState) (sound :
           restarts = restarts_same at w there (λ q e. cc);
           noted = noted_all at w there (λ q e. cc) messages bids;
           holders = λ q lq. subst (IsHolderSound s (view s (store s ws at w))) (sym (same at w there (Holder q) (λ e. cc)))
-              (holder_dies m (view s (store s ws at w)) c now was (λ x ne. same at w there (Dead x) (λ e. ne (ap dead_one e))) s lt (m (Holder q)) (sound.holders q lq));
+              (holder_dies m (view s (store s ws at w)) c now was (λ x ne. same at w there (Dead x) (λ e. ne (ap dead_one e))) s (2 ^ 57) lt (m (Holder q)) (sound.holders q lq));
           finish = finish_same at w there (λ e. cc);
           tags = tags_same at w there (λ x i e. cc);
         }

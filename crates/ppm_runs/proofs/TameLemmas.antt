@@ -4,7 +4,7 @@ use Rattle.std.proofs.Common.{◌≡◌, ◌⊎◌, ◌+◌, ◌-◌, ◌==◌, 
 use Rattle.std.specs.Prelude.{nat_lt, ◌^◌, ◌&&◌}
 use Rattle.ppm_cells.specs.Cells.{word_count}
 use Rattle.ppm_cells.specs.declared.cell.Cell.{Cell}
-use Rattle.ppm_cells.specs.declared.cell.Cell.TheVariants.{BlockWord, EntryWord}
+use Rattle.ppm_cells.specs.declared.cell.Cell.TheVariants.{DeadWord, HolderWord, BlockWord, EntryWord}
 use Rattle.ppm_cells.specs.declared.entry.Entry.{Entry}
 use Rattle.ppm_cells.specs.declared.entry.Entry.TheVariants.{Empty, Local, Job, Taken}
 use Rattle.ppm_cells.specs.declared.finish.Finish.{Finish}
@@ -51,7 +51,7 @@ IsJobEntry (Job tag block) = Unit {0}
 IsJobEntry _ = ⊥
 
 -- what a row may fork, begin, store and exchange of blocks, of which it may make a job, and whether it may
--- fill an empty entry
+-- fill an empty entry, and bid for a place; no row writes a dead word
 pub record May : Type 1 where
   pub forks : ℕ → Type 0
   pub begins : ℕ → Type 0
@@ -59,15 +59,20 @@ pub record May : Type 1 where
   pub trades : ℕ → Type 0
   pub jobs : ℕ → Type 0
   pub fills : Type 0
+  pub bids : Type 0
 
 module _ (how : Takeover) (may : May) where
   abbrev pub TameStore : Cell → Type 0
   TameStore (BlockWord at) = may.stores at
+  TameStore (HolderWord place) = ⊥
+  TameStore (DeadWord processor) = ⊥
   TameStore _ = Unit {0}
 
   abbrev pub TameTrade : Cell → (new : Content) → Type 0
   TameTrade (BlockWord at) x = may.trades at
   TameTrade (EntryWord v i) (AnEntry (Job tag block)) = may.jobs block
+  TameTrade (HolderWord place) x = may.bids
+  TameTrade (DeadWord processor) x = ⊥
   TameTrade _ x = Unit {0}
 
   abbrev pub TameOld : (old : Content) → Type 0
@@ -96,6 +101,7 @@ module _ (how : Takeover) (may : May) where
   TamePoint (TakenEntry by v slot message) = ((block : ℕ) → may.begins block) × (IsJobEntry message ⊎ ((block : ℕ) → may.forks block))
   TamePoint (ClosedRestart v slot block) = ((block : ℕ) → may.begins block) × ((block : ℕ) → may.forks block)
   TamePoint (ClosedLink block) = may.forks block
+  TamePoint (BidMessage v dead) = may.bids
   TamePoint _ = Unit {0}
 
   abbrev pub TameThen : Then → Type 0
@@ -379,9 +385,9 @@ module _ (s : Shape) (seat : Seat) (may : May) where
   closed_bottom_tame block (Local t x) = tt
   closed_bottom_tame block (Job t x) = tt
 
-  lowered_tame : (tag : ℕ) (v d : ℕ) (message : Holder) → T (lowered tag seat v d message)
-  lowered_tame zero v d message = tt
-  lowered_tame (suc tag) v d message = (tt, tt, tt)
+  lowered_tame : may.bids → (tag : ℕ) (v d : ℕ) (message : Holder) → T (lowered tag seat v d message)
+  lowered_tame q zero v d message = tt
+  lowered_tame q (suc tag) v d message = (q, tt, tt)
 
   pub found_tame : (u : ℕ) (point : Point) (w : Content) → TamePoint s.takeover may point → T (found_at s seat u point w)
   found_tame u (Header frame copy) w q = on_numbers w _ (λ n. tt)
@@ -413,7 +419,7 @@ module _ (s : Shape) (seat : Seat) (may : May) where
   found_tame u (ClosedRestart v i block) w q = on_restarts w _ (λ r. follows_tame v i block r q.0 q.1)
   found_tame u (ClosedLink block) w q = on_links w _ (λ l. closed_link_tame block l.kind q)
   found_tame u (ClosedBottom v i block) w q = on_entries w _ (λ e. closed_bottom_tame block e)
-  found_tame u (BidMessage v d) w q = on_holders w _ (λ o. if_tame (o.processor == seat.own) _ _ (lowered_tame o.tag v d o) tt)
+  found_tame u (BidMessage v d) w q = on_holders w _ (λ o. if_tame (o.processor == seat.own) _ _ (lowered_tame q o.tag v d o) tt)
   found_tame u (BidAgain v) w q = on_holders w _ (λ o. if_tame (o.processor == seat.own) _ _ tt tt)
   found_tame u (BidHolder v message) w q = on_holders w _ (λ o. if_tame ((message.tag == o.tag) && (message.processor == o.processor)) _ _ tt tt)
 

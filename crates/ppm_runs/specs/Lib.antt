@@ -12,6 +12,7 @@ pub mod Deques
 pub mod Well
 pub mod Unbroken
 pub mod Tags
+pub mod UnbrokenLegs
 pub mod Work
 pub mod Follow
 pub mod Joint

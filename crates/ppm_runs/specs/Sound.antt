@@ -227,11 +227,15 @@ abbrev pub deads : (Spot → Word) → ℕ → ℕ
 deads m zero = 0
 deads m (suc n) = one_dead (m (Dead n)) + deads m n
 
--- a holder word names a processor, and its tag is at most the number of those that are dead, or less
--- where the one that it names is
+-- a holder word names a processor, and its tag is at most so much and the number of those that are
+-- dead, or less where the one that it names is
+abbrev pub IsHolderWithin : Shape → (raised : ℕ) → (Spot → Word) → Word → Type 0
+IsHolderWithin s raised m (Held t c) = (c < s.processors) × (t + one_dead (m (Dead c)) ≤ raised + deads m s.processors)
+IsHolderWithin s raised m _ = ⊥
+
+-- so its tag can rise
 abbrev pub IsHolderSound : Shape → (Spot → Word) → Word → Type 0
-IsHolderSound s m (Held t c) = (c < s.processors) × (t + one_dead (m (Dead c)) ≤ deads m s.processors)
-IsHolderSound s m _ = ⊥
+IsHolderSound s m word = IsHolderWithin s (2 ^ 57) m word
 
 -- an entry that is taken has a tag of at most one more than this, and others at most this
 abbrev pub IsTagLow : (made : ℕ) → Word → Type 0

@@ -1,5 +1,5 @@
--- With takeover by places tags of holders stay low: each bid is for the place of a processor that is dead.
-use Rattle.std.specs.Prelude.{◌≡◌, ◌≤◌, ◌<◌, ℕ, ◌^◌, List, Some}
+-- With takeover by places tags of holders stay low: each bid is for the place of a processor that is dead, and each renewal raises a tag by one.
+use Rattle.std.specs.Prelude.{◌≡◌, ◌≤◌, ◌<◌, ℕ, ◌+◌, ◌*◌, List, Some, length}
 use Rattle.std.specs.List.{AllByRecursion}
 use Rattle.ppm_strands.specs.Calm.{Calm}
 use Rattle.ppm_words.specs.declared.named_array.NamedArray.{NamedArray}
@@ -14,21 +14,19 @@ use Rattle.ppm_layout.specs.Correct.{Opens}
 use Rattle.ppm_layout.specs.Root.{root_strand}
 use Rattle.ppm_layout.specs.declared.images.Image.{Image as RealImage}
 use Rattle.ppm_step.specs.Among.{IsTurnAmong}
-use Rattle.ppm_step.specs.State.{after, opening}
 use Rattle.ppm_step.specs.declared.turn.Turn.{Turn}
 use Rattle.ppm_frames.specs.Views.{view}
 use Rattle.ppm_frames.specs.Seen.{arrays_at}
 use Rattle.ppm_kept.specs.Running.{IsFair, strands}
-use Rattle.ppm_runs.specs.Unbroken.{works}
+use Rattle.ppm_runs.specs.Legs.{Leg, AreLegs, last_state}
 
--- From an image of a sound code, whatever the turns, as long as at most 2^34 of them are work: each place has a holder, with a tag of at
--- most the number of processors.
+-- From an image of a sound code, whatever the legs and the turns behind them: each place has a holder. Its tag is at most the number of
+-- processors, and one more than that whenever words came back.
 abbrev pub TagsStayLow : Type 0
 TagsStayLow = (code : CodeParts) (input : List NamedArray) (s : Shape) (keeper : ℕ) (image : RealImage)
     → s.takeover ≡ ByPlaces → IsFair code → Opens code input s keeper image
     → Calm (strands s code) (root_strand code input) (arrays_at (view s image.words))
-    → (turns : List Turn) → AllByRecursion (IsTurnAmong s.processors) turns
-    → works s code (opening image.words s.processors) turns ≤ 2 ^ 34
+    → (legs : List Leg) → AreLegs s code image.words legs → (turns : List Turn) → AllByRecursion (IsTurnAmong s.processors) turns
     → (place : ℕ) → place < s.processors
-    → (holder : Holder) × (holder_of (read s (after s code (opening image.words s.processors) turns).words (HolderWord place)) ≡ Some holder)
-    × (holder.tag ≤ s.processors)
+    → (holder : Holder) × (holder_of (read s (last_state s code image.words legs turns).words (HolderWord place)) ≡ Some holder)
+    × (holder.tag ≤ s.processors + (s.processors + 1) * length legs)

@@ -2,6 +2,7 @@
 ghost use Rattle.ppm_runs.specs.Legs.{LegsComeTo, LegsStay, OnceOverLegs, RoomOverLegs};
 ghost use Rattle.ppm_runs.specs.Legs.{WorkOverLegs, WorkOverLegsIsWithin256};
 ghost use Rattle.ppm_runs.specs.Tags.{TagsStayLow};
+ghost use Rattle.ppm_runs.specs.UnbrokenLegs.{FinishStandsOverLegs, NothingBreaksOverLegs};
 
 /// With takeover by places, from an image of a sound code, whatever the legs, which are turns and
 /// the words that then came back, and whatever the turns behind them: a run's state is come to. No
@@ -26,9 +27,17 @@ pub fn work_over_legs()
     ensures within { WorkOverLegsIsWithin256 }
 {}
 
-/// With takeover by places, from an image of a sound code, whatever the turns, as long as at most
-/// 2^34 of them are work: the tag of each place's holder is at most the number of processors. So
-/// words that are saved then may come back.
+/// With takeover by places, from an image of a sound code, whatever the legs and the turns behind them:
+/// the tag of each place's holder is at most the number of processors, and one more than that whenever
+/// words came back. So words that are saved then may come back, unless they did so 2^51 times.
 pub fn tags_stay_low()
     ensures law { TagsStayLow }
+{}
+
+/// With takeover by places, from an image of a sound code, whatever the legs, at most 2^50, and whatever
+/// the turns behind them, as long as at most 2^34 turns of them all are work: no processor meets broken
+/// words, and the finish word says of none that one has. Whatever they are, it stands for a finish.
+pub fn nothing_breaks_over_legs()
+    ensures law { NothingBreaksOverLegs }
+    ensures stands { FinishStandsOverLegs }
 {}

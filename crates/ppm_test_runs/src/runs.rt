@@ -3,8 +3,9 @@ use ppm_answers::Status;
 use ppm_cells::{Takeover, pools_fit};
 use ppm_cli::RunOptions;
 use ppm_driver::{
-    WATCHERS, answers_are_one, run_command, runs_are_as_programs, runs_in_legs_are_as_programs,
-    runs_leave_states, stops_leave_states,
+    WATCHERS, answers_are_one, left_words_come_back, resumes_complete, resumes_leave_states,
+    run_command, runs_are_as_programs, runs_in_legs_are_as_programs, runs_leave_states,
+    stops_leave_states,
 };
 use ppm_ports::{MemorySink, MemorySource, Silent};
 use ppm_words::Idle;
@@ -330,6 +331,9 @@ fn sources_are_run(rt: HostRuntime) -> Result<(), Fail> {
     runs_in_legs_are_as_programs();
     runs_leave_states();
     stops_leave_states();
+    left_words_come_back();
+    resumes_leave_states();
+    resumes_complete();
     Ok(())
 }
 

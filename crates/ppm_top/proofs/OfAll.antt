@@ -34,7 +34,8 @@ use Rattle.ppm_driver.specs.Completeness.{RunsComplete}
 use Rattle.ppm_driver.specs.Legs.{RunsInLegsAreAsPrograms}
 use Rattle.ppm_driver.specs.Meant.{RunsAreAsPrograms}
 use Rattle.ppm_driver.specs.Replays.{TextHas as ReplayTextHas, HaveOneAnswer as ReplaysHaveOneAnswer}
-use Rattle.ppm_driver.specs.Resumes.{TextHas as ResumeTextHas}
+use Rattle.ppm_driver.specs.Resumes.{TextHas as ResumeTextHas, LeftWordsComeBack}
+use Rattle.ppm_driver.specs.ResumeCompleteness.{ResumesComplete}
 use Rattle.ppm_driver.specs.ResumeRows.{RefusesPlan as RefusesResumed}
 use Rattle.ppm_driver.specs.Runs.{TextHas as RunTextHas, AnswersAreOne, FrontsDecideAnswers}
 use Rattle.ppm_stop.specs.Stops.{TextReads as StopTextReads, HaveOneAnswer as StopsHaveOneAnswer}
@@ -43,7 +44,6 @@ use Rattle.ppm_driver.proofs.OfExample as of_example
 use Rattle.ppm_driver.proofs.OfReplay as of_replay
 use Rattle.ppm_driver.proofs.OfResume as of_resume
 use Rattle.ppm_driver.proofs.OfRun as of_run
-use Rattle.ppm_resumed.specs.Resumed.{RenewedWordsComeBack}
 use Rattle.ppm_saved_reader.specs.Rules.{text_limit as saved_limit}
 use Rattle.ppm_loading.proofs.PlannedLemmas as planned
 use Rattle.ppm_answers.specs.Reading.{IsUnread, JudgingMay, DeliversAnswer, Answers}
@@ -162,7 +162,7 @@ refusal o answers.WordsRefused h = (h, inl refl)
 refusal o answers.NoMemory h = (h, inr refl)
 refusal o answer h = absurd h
 
-refuses_words : RunsAreAsPrograms → RunsInLegsAreAsPrograms → RenewedWordsComeBack → (words : List (List ℕ)) (o : Outside) (status : Status) → IsAnswered words o status → RefusesWords words o status
+refuses_words : RunsAreAsPrograms → RunsInLegsAreAsPrograms → LeftWordsComeBack → (words : List (List ℕ)) (o : Outside) (status : Status) → IsAnswered words o status → RefusesWords words o status
 refuses_words meant legs comes words o status a = record {
   only = only;
   unread = λ e. (refusal o a.answer (cause e)).0;
@@ -218,7 +218,8 @@ pub record Laws : Type 0 where
   pub meant : RunsAreAsPrograms
   pub complete : RunsComplete
   pub legs : RunsInLegsAreAsPrograms
-  pub comes : RenewedWordsComeBack
+  pub comes : LeftWordsComeBack
+  pub resumes : ResumesComplete
   pub outcomes : OutcomesHaveOneAnswer
   pub codes : CodesHaveOneAnswer
   pub faithful : CodesAreFaithful
@@ -245,7 +246,7 @@ program_rows laws words o status a = record {
   );
   resume = λ options plan e. (
     is_in_range words (commands.Resume options plan) e,
-    of_resume.resume_rows laws.legs laws.comes options plan o status (by_words (Some (commands.Resume options plan)) e),
+    of_resume.resume_rows laws.legs laws.comes options plan o status (by_words (Some (commands.Resume options plan)) e) laws.resumes,
   );
   stop = λ options schedule e. (
     is_in_range words (commands.Stop options schedule) e,

@@ -15,12 +15,11 @@ use ppm_commands::{
 };
 use ppm_driver::{
     answers_are_one as runs_have_one_answer, have_one_answer as replays_have_one_answer,
-    replay_command, resume_command, run_command, runs_are_as_programs, runs_complete,
-    runs_in_legs_are_as_programs, self_command,
+    left_words_come_back, replay_command, resume_command, resumes_complete, run_command,
+    runs_are_as_programs, runs_complete, runs_in_legs_are_as_programs, self_command,
 };
 use ppm_plan::have_one_answer as plans_have_one_answer;
 use ppm_ports::{Sink, Source, Watch};
-use ppm_resumed::renewed_words_come_back;
 use ppm_stop::{have_one_answer as stops_have_one_answer, stop_command};
 use ppm_words::NoMemory;
 use std::alloc::Global;
@@ -59,7 +58,8 @@ pub fn ppm<R: Threads + Wait + Sync, S: Source, K: Sink, E: Sink, W: Watch>(
     runs_are_as_programs();
     runs_complete();
     runs_in_legs_are_as_programs();
-    renewed_words_come_back();
+    left_words_come_back();
+    resumes_complete();
     outcomes_have_one_answer();
     codes_have_one_answer();
     codes_are_faithful();

@@ -1,10 +1,10 @@
-use Rattle.ppm_driver.proofs.LegsMeant.{runs_in_legs_are_as_programs}
+use Rattle.ppm_driver.proofs.LegsMeant.{Laws, runs_in_legs_are_as_programs, tags_may_rise}
 use Rattle.ppm_driver.proofs.legs.runs_in_legs_are_as_programs.Goals as goal
 
 -- from the laws of texts, of codes, of images, of runs and of runs in legs
 pub returns : goal.returns
-returns c = record {
-  law = runs_in_legs_are_as_programs (record {
+returns c =
+    let laws : Laws = record {
     base = record {
       within = c.trees_are_within.ensures.law;
       rules = c.keeps_the_rules.ensures.law;
@@ -24,5 +24,8 @@ returns c = record {
     once = c.legs_come_to.ensures.once;
     room = c.room_over_legs.ensures.law;
     work = c.work_over_legs.ensures.within;
-  });
-}
+    whole = c.nothing_breaks_over_legs.ensures.law;
+    stands = c.nothing_breaks_over_legs.ensures.stands;
+    tags = c.tags_stay_low.ensures.law;
+  } in
+    record { law = runs_in_legs_are_as_programs laws; tags = tags_may_rise laws }

@@ -1,22 +1,6 @@
 use Rattle.ppm_driver.proofs.LeftLemmas.{runs_leave_states}
 use Rattle.ppm_driver.proofs.legs.runs_leave_states.Goals as goal
 
--- from the laws of texts, of codes, of images and of runs, and that tags stay low
+-- by what it is to be left
 pub returns : goal.returns
-returns c = record {
-  law = runs_leave_states (record {
-    within = c.trees_are_within.ensures.law;
-    rules = c.keeps_the_rules.ensures.law;
-    sound = c.code_is_sound.ensures.law;
-    starts = c.start_with_input.ensures.law;
-    names = c.name_arrays.ensures.law;
-    serially = c.ends_serially.ensures.law;
-    meant = c.end_as_meant.ensures.law;
-    shown = c.images_begin_the_depth_first_run.ensures.shown;
-    runs = c.runs_end_so.ensures.ends;
-    once = c.runs_end_so.ensures.once;
-    room = c.room_is_spent.ensures.so;
-    work = c.work_is_bounded.ensures.within;
-    whole = c.nothing_breaks.ensures.law;
-  }) c.tags_stay_low.ensures.law;
-}
+returns c = record { law = runs_leave_states }

@@ -1,0 +1,171 @@
+-- Where turns and room are enough for a program that left a state, no other answer of its text is left but that the resumed run ended.
+use Rattle.std.proofs.Common.{◌≡◌, ◌≤◌, ◌<◌, ℕ, suc, ◌+◌, ◌*◌, ◌^◌, List, [], ◌∷◌, length, inl, inr, refl, sym, ap, ◌∙◌, subst, arith}
+use Rattle.std.specs.Prelude.{nat_le}
+use mathlib.Core.HLevel.{is_prop→PathP}
+use Rattle.std.specs.Coded.{le_prop}
+use Rattle.std.specs.List.{AllByRecursion, sum}
+use Rattle.ppm_ports.specs.Outside.{ToldLists}
+use Rattle.ppm_cells.specs.Limits.{most_pool_words}
+use Rattle.ppm_words.specs.Limits.{word_limit}
+use Rattle.ppm_cells.specs.declared.shape.Shape.{Shape}
+use Rattle.ppm_tree.specs.Tree.{ProgramTree}
+use Rattle.ppm_tree.specs.Program.{initial_arrays}
+use Rattle.ppm_rows.specs.Correct.{TreesAreWithin}
+use Rattle.ppm_program.specs.Programs.{HasProgram}
+use Rattle.ppm_program.proofs.WithinLemmas.{tree_within}
+use Rattle.ppm_cut_correct.specs.Beginning.{StartWithInput}
+use Rattle.ppm_cut_correct.specs.Correct.{EndAsMeant}
+use Rattle.ppm_step.specs.State.{State, along, opening}
+use Rattle.ppm_paces.specs.Paces.{strikes_of}
+use Rattle.ppm_core.specs.Situation.{Situation}
+use Rattle.ppm_plan.specs.declared.plan_item.PlanItem.{PlanItem}
+use Rattle.ppm_plan.specs.Correct.{HaveOneAnswer as PlansHaveOneAnswer}
+use Rattle.ppm_plan.specs.Forms.{plan_form}
+use Rattle.ppm_plan.specs.Refusals.{IsAccepted}
+use Rattle.ppm_saved.specs.Correct.{SavedTextsTellStates}
+use Rattle.ppm_saved.specs.Names.{lengths_of}
+use Rattle.ppm_saved.specs.declared.names.NamedLength.{NamedLength}
+use Rattle.ppm_saved_reader.specs.Correct.{IsRefusal, IsWrongAt, IsSavedText, FaultsTellSavedTexts}
+use Rattle.ppm_saved_reader.specs.declared.saved_error.Fault.{Fault}
+use Rattle.ppm_saved_reader.specs.declared.saved_error.Fault.TheVariants as fault
+use Rattle.ppm_saved_reader.specs.declared.saved_error.SavedError.{SavedError}
+use Rattle.ppm_saved_reader.specs.declared.saved_error.SavedError.TheVariants as errors
+use Rattle.ppm_answers.specs.declared.answer.Answer.{Answer}
+use Rattle.ppm_answers.specs.declared.answer.Answer.TheVariants as answers
+use Rattle.ppm_cli.specs.declared.resume.ResumeOptions.{ResumeOptions}
+use Rattle.ppm_cli.specs.Words.{AreResumed}
+use Rattle.ppm_driver.specs.Completeness.{IsEnough, IsEnd}
+use Rattle.ppm_driver.specs.Legs.{struck_in_all, worked_in_all, RunsInLegsAreAsPrograms}
+use Rattle.ppm_driver.specs.Meant.{NeedsMoreRoom, NeedsMoreTurns, struck_in}
+use Rattle.ppm_driver.specs.ResumeCompleteness.{faults_with, ResumesComplete}
+use Rattle.ppm_driver.specs.Resumes.{SavedState, saved_finish, IsTextOf, GoesOnFrom, limits_of, plan_of, ResumedHas, ItemsHave, StateHas, TextHas, IsLeftBy, LeftWordsComeBack, legs_with}
+use Rattle.ppm_driver.specs.Strikes.{fault_count}
+use Rattle.ppm_driver.proofs.CompleteLemmas.{not_few}
+use Rattle.ppm_driver.proofs.OfResume.{shape_is, code_is, state_is, is_program, among, resumed_needs, resumed_needs_turns, resumed_breaks, left_stands}
+use Rattle.ppm_driver.proofs.ResumeLemmas.{spent_has, has_kind}
+use Rattle.ppm_driver.proofs.StrikeLemmas.{strikes_are_planned}
+
+-- what the crates below show of every text, every plan and every run in legs
+pub record Laws : Type 0 where
+  pub runs : RunsInLegsAreAsPrograms
+  pub comes : LeftWordsComeBack
+  pub within : TreesAreWithin
+  pub starts : StartWithInput
+  pub meant : EndAsMeant
+  pub plans : PlansHaveOneAnswer
+  pub states : SavedTextsTellStates
+  pub faults : FaultsTellSavedTexts
+
+-- shapes with the same sizes and the same takeover are one
+one_shape : (s u : Shape) → s.processors ≡ u.processors → s.room ≡ u.room → s.slots ≡ u.slots → s.arrays ≡ u.arrays → s.takeover ≡ u.takeover → s ≡ u
+one_shape s u p r l a t = λ i. record {
+  processors = p i;
+  room = r i;
+  slots = l i;
+  arrays = a i;
+  takeover = t i;
+  within = record {
+    processors_least = is_prop→PathP (λ j. 1 ≤ p j) (λ j. le_prop) s.within.processors_least u.within.processors_least i;
+    processors_most = is_prop→PathP (λ j. p j ≤ 64) (λ j. le_prop) s.within.processors_most u.within.processors_most i;
+    room_least = is_prop→PathP (λ j. 64 ≤ r j) (λ j. le_prop) s.within.room_least u.within.room_least i;
+    pools_most = is_prop→PathP (λ j. p j * r j ≤ most_pool_words) (λ j. le_prop) s.within.pools_most u.within.pools_most i;
+    slots_least = is_prop→PathP (λ j. 2 ≤ l j) (λ j. le_prop) s.within.slots_least u.within.slots_least i;
+    slots_most = is_prop→PathP (λ j. l j ≤ 65536) (λ j. le_prop) s.within.slots_most u.within.slots_most i;
+    arrays_most = is_prop→PathP (λ j. a j ≤ word_limit) (λ j. le_prop) s.within.arrays_most u.within.arrays_most i;
+  };
+}
+
+module _ (laws : Laws) where
+  -- a text is that of one state
+  one_state : (text : List ℕ) (x y : SavedState) → IsTextOf text x → IsTextOf text y → x ≡ y
+  one_state text x y a b =
+      let k = laws.states x.shape y.shape x.arrays y.arrays x.code y.code x.words y.words a.saved.fits b.saved.fits (sym a.saved.same ∙ b.saved.same) in
+      let lengths = sym a.saved.whole.arrays_are ∙ ap (λ (l : List NamedLength). sum (lengths_of l)) k.arrays ∙ b.saved.whole.arrays_are in
+      let shape = one_shape x.shape y.shape k.processors k.room k.slots lengths (a.saved.by_places ∙ sym b.saved.by_places) in
+      λ i. record { shape = shape i; arrays = k.arrays i; code = k.code i; words = k.words i }
+
+  -- and is not refused
+  refused_none : (text : List ℕ) (z : SavedState) → IsTextOf text z → (error : SavedError) → IsRefusal text error → (error ≡ errors.NoMemory → ⊥) → ⊥
+  refused_none text z is errors.NoMemory h other = other refl
+  refused_none text z is (errors.NoSuchForm line) h other = laws.faults.excludes text z.shape z.arrays z.code z.words fault.NoSuchForm line is.short is.saved h
+  refused_none text z is (errors.OutOfRange line) h other = laws.faults.excludes text z.shape z.arrays z.code z.words fault.OutOfRange line is.short is.saved h
+  refused_none text z is (errors.BadListing line) h other = laws.faults.excludes text z.shape z.arrays z.code z.words fault.BadListing line is.short is.saved h
+  refused_none text z is (errors.BadCode line) h other = laws.faults.excludes text z.shape z.arrays z.code z.words fault.BadCode line is.short is.saved h
+  refused_none text z is (errors.WrongCount line) h other = laws.faults.excludes text z.shape z.arrays z.code z.words fault.WrongCount line is.short is.saved h
+
+  module _ (options : ResumeOptions) (are : AreResumed options) (before now : ToldLists) (items : List PlanItem) (source : List ℕ) (z : SavedState) (left : IsLeftBy source z)
+      (enough : IsEnough left.tree (faults_with left items) options.turns z.shape.room) where
+    abbrev Resumed : Answer → Type 0
+    Resumed a = ResumedHas options before now items z a
+
+    -- the faults of all legs are no more than those that turns are enough for
+    module _ (a : Answer) (h : Resumed a) where
+      struck : struck_in_all left.start (legs_with left h.start.state.words) h.run.turns ≤ faults_with left items
+      struck =
+          let few = strikes_are_planned (plan_of z items) (limits_of options) h.start h.run.turns h.run.obey in
+          let all = among laws.runs laws.comes options before now items z a h in
+          let at = state_is laws.runs laws.comes source z left h.start h.goes_on h.run.turns all in
+          let shape = shape_is laws.runs laws.comes source z left h.start h.goes_on h.run.turns all in
+          let code = code_is laws.runs laws.comes source z left h.start h.goes_on h.run.turns all in
+          let same : struck_in h.start h.run.turns ≡ length (along left.start.shape left.start.code strikes_of (opening h.start.state.words left.start.shape.processors) h.run.turns) =
+          ap (λ (x : State). length (along h.start.shape h.start.code strikes_of x h.run.turns)) at
+          ∙ (λ i. length (along (shape i) (code i) strikes_of (opening h.start.state.words (shape i).processors) h.run.turns)) in
+          let more = times_more left.start.shape.processors (length left.legs) in
+          omega (arith, few, same, more)
+        where
+          times_more : (n k : ℕ) → n * suc k ≡ n * k + n
+          times_more n k = grind arith
+
+      -- all work turns are few
+      few_works : worked_in_all left.start (legs_with left h.start.state.words) h.run.turns ≤ 2 ^ 34
+      few_works =
+          let all = among laws.runs laws.comes options before now items z a h in
+          let less = (is_program laws.runs laws.comes source z left h.start h.goes_on h.run.turns all).work enough.end enough.comes in
+          let some = enough.for_turns in
+          let counted = struck in
+          let most : options.turns ≤ 268435456 = are.0.1 in
+          omega (arith, less, some, counted, most)
+
+    -- enough room is not too little
+    not_little : NeedsMoreRoom left.tree z.shape.room → ⊥
+    not_little needs =
+        let inside = tree_within laws.within source left.tree left.has.admitted.tree in
+        let means = (laws.meant left.tree inside left.has.admitted.admitted left.has.bounded (initial_arrays left.tree) (laws.starts left.tree inside left.has.admitted.admitted)).ends_only
+        enough.end enough.comes in
+        let more = needs means.0 means.1 means.2 in
+        let same = means.3.pool_words in
+        let some = enough.for_room in
+        omega (arith, more, same, some)
+
+    items_end : (a : Answer) → ItemsHave options before now items z a → IsEnd a
+    items_end (answers.Ended arrays) h = tt
+    items_end (answers.Trapped trap line) h = tt
+    items_end (answers.OutOfTurns c) h =
+        let spent = spent_has options before now items z c h in
+        absurd (not_few left.tree (faults_with left items) (struck_in_all left.start (legs_with left h.start.state.words) h.run.turns) options.turns z.shape.room (struck (answers.OutOfTurns c) h) enough
+        (resumed_needs_turns laws.runs laws.comes options before now items z c h spent.1 source left))
+    items_end (answers.OutOfRoom place) h = absurd (not_little (resumed_needs laws.runs laws.comes options before now items z place h source left))
+    items_end (answers.Broken place) (inl k) = absurd (left_stands laws.runs laws.comes options before now items z source left k.0.none)
+    items_end (answers.Broken place) (inr h) =
+        let much = resumed_breaks laws.runs laws.comes options before now items z place h source left in
+        let few = few_works (answers.Broken place) h in
+        absurd (omega (arith, much, few))
+    items_end a h = absurd (has_kind options before now items z a h)
+
+  module _ (options : ResumeOptions) (are : AreResumed options) (text : List ℕ) (z : SavedState) (is : IsTextOf text z) (plan : List ℕ) (items : List PlanItem) (accepted : IsAccepted plan_form plan z.shape.processors items)
+      (source : List ℕ) (left : IsLeftBy source z) (enough : IsEnough left.tree (faults_with left items) options.turns z.shape.room) (before now : ToldLists) where
+    -- the text's state is this one, and the plan's items are these
+    state_ends : (a : Answer) → StateHas options plan before now z a → IsEnd a
+    state_ends (answers.PlanRefused number) h = absurd (laws.plans.plans.apart plan z.shape.processors items h.error h.of_text accepted h.refused)
+    state_ends a h =
+        items_end options are before now items source z left enough a
+        (subst (λ (l : List PlanItem). ItemsHave options before now l z a) (laws.plans.plans.items plan h.items items h.accepted.has accepted.has) h.has)
+
+    text_ends : (a : Answer) → TextHas options plan before now text a → IsEnd a
+    text_ends (answers.SavedRefused r) h = absurd (refused_none text z is h.error h.refused h.of_text)
+    text_ends a h = state_ends a (subst (λ (x : SavedState). StateHas options plan before now x a) (one_state text h.state z h.is is) h.has)
+
+-- so it is with all options and plans
+pub resumes_complete : Laws → ResumesComplete
+resumes_complete laws options are text z is plan items accepted source left enough before now a h =
+    text_ends laws options are text z is plan items accepted source left enough before now a h
