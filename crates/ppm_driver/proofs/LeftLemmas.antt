@@ -23,13 +23,15 @@ use Rattle.ppm_answers.specs.declared.answer.Answer.{Answer}
 use Rattle.ppm_answers.specs.declared.answer.Answer.TheVariants as answers
 use Rattle.ppm_cli.specs.declared.stop.StopOptions.{StopOptions}
 use Rattle.ppm_cli.specs.Words.{AreStopped}
+use Rattle.ppm_following.specs.Followed.{followed}
 use Rattle.ppm_following.proofs.ScheduledLemmas.{scheduled_among}
 use Rattle.ppm_loading.proofs.LoadingLemmas.{opens_processors}
-use Rattle.ppm_saved.specs.Text.{saved_text}
-use Rattle.ppm_stop.specs.Stops.{sizes_of, ProgramHas as StoppedHas}
+use Rattle.ppm_saved_reader.specs.Correct.{FaultsTellSavedTexts}
+use Rattle.ppm_stop.specs.Stops.{sizes_of, text_of, ProgramReads as StoppedReads}
 use Rattle.ppm_driver.specs.Legs.{TagsMayRiseInLegs}
 use Rattle.ppm_driver.specs.RunOf.{words_behind}
-use Rattle.ppm_driver.specs.Resumes.{SavedState, state_behind, IsLeftBy, RunsLeaveStates, StopsLeaveStates, LeftWordsComeBack}
+use Rattle.ppm_driver.specs.Resumes.{state_behind, IsLeftBy, IsTextLeftBy, RunsLeaveStates, StopsLeaveStates, LeftWordsComeBack}
+use Rattle.ppm_driver.proofs.TellLemmas.{text_left}
 
 module _ (text : List ℕ) (t : ProgramTree) (has : HasProgram text t) (sizes : Sizes) (places : sizes.takeover ≡ ByPlaces)
     (keeper : ℕ) (m : Situation) (b : Opens sizes (code_of t) (initial_arrays t) keeper m) where
@@ -58,24 +60,25 @@ pub runs_leave_states : RunsLeaveStates
 runs_leave_states text t has sizes places keeper m b turns among = left text t has sizes places keeper m b turns among
 
 -- and with what `stop` writes
-module _ (options : StopOptions) (are : AreStopped options) (schedule : List ℕ) (items : List ScheduleItem)
+module _ (tell : FaultsTellSavedTexts) (options : StopOptions) (are : AreStopped options) (schedule : List ℕ) (items : List ScheduleItem)
     (accepted : IsAccepted schedule_form schedule options.processors items) (text : List ℕ) (t : ProgramTree) (has : HasProgram text t) where
   abbrev made : Situation → List Turn
   made m = schedule_turns m.shape m.code m.state items options.after
 
-  stop_leaves : (answer : Answer) (h : StoppedHas options items t answer)
-      → (z : SavedState) × (answer ≡ answers.Saved (saved_text z.shape z.arrays z.code z.words)) × IsLeftBy text z
+  stop_leaves : (answer : Answer) → StoppedReads options items t answer → (saved : List ℕ) × (answer ≡ answers.Saved saved) × IsTextLeftBy text saved
   stop_leaves answer h =
-      let least = h.start.shape.within.processors_least in
-      let count = opens_processors (sizes_of options) (code_of t) (initial_arrays t) h.keeper h.start h.opens in
-      let among = scheduled_among h.start.shape h.start.code (omega (arith, least)) schedule options.processors items count accepted h.start.state options.after in (
-        state_behind h.start (initial_arrays t) (made h.start),
-        h.saves,
-        left text t has (sizes_of options) refl h.keeper h.start h.opens (made h.start) among,
-      )
+      let m = h.has.start in
+      let z = state_behind m (initial_arrays t) (made m) in
+      let saved = text_of (followed m items options.after) (initial_arrays t) in
+      let least = m.shape.within.processors_least in
+      let count = opens_processors (sizes_of options) (code_of t) (initial_arrays t) h.has.keeper m h.has.opens in
+      let among = scheduled_among m.shape m.code (omega (arith, least)) schedule options.processors items count accepted m.state options.after in
+      let from_it = left text t has (sizes_of options) refl h.has.keeper m h.has.opens (made m) among in
+      (saved, h.has.saves, text_left tell saved z h.read_back text from_it)
 
-pub stops_leave_states : StopsLeaveStates
-stops_leave_states options are schedule items accepted text t has answer h = stop_leaves options are schedule items accepted text t has answer h
+pub stops_leave_states : FaultsTellSavedTexts → StopsLeaveStates
+stops_leave_states tell options are schedule items accepted text t has answer h =
+    stop_leaves tell options are schedule items accepted text t has answer h
 
 -- the words of a state that was left come back
 pub left_words_come_back : TagsMayRiseInLegs → RenewedWordsComeBack → LeftWordsComeBack

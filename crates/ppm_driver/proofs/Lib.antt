@@ -27,7 +27,9 @@ pub mod CompleteLemmas
 pub mod OfRun
 pub mod ResumeLemmas
 pub mod OfResume
+pub mod TellLemmas
 pub mod LeftLemmas
+pub mod StoppedLemmas
 pub mod ResumeComplete
 pub mod ExampleLemmas
 pub mod ExampleSums

@@ -12,5 +12,6 @@ pub mod Legs
 pub mod Resumes
 pub mod ResumeCompleteness
 pub mod ResumeRows
+pub mod Stopped
 pub mod Examples
 pub mod ExampleRows

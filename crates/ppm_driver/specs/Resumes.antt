@@ -1,5 +1,5 @@
 -- What `resume` answers, and when it may.
-use Rattle.std.specs.Prelude.{◌≡◌, ◌≢◌, ◌⊎◌, ◌≤◌, ◌<◌, ℕ, ◌+◌, ◌^◌, List, [], ◌∷◌, None, length, map, ⊤}
+use Rattle.std.specs.Prelude.{◌≡◌, ◌≢◌, ¬◌, ◌⊎◌, ◌≤◌, ◌<◌, ℕ, ◌+◌, ◌^◌, List, [], ◌∷◌, None, length, map, ⊤}
 use Rattle.std.specs.List.{AllByRecursion}
 use Rattle.ppm_words.specs.declared.idle.Idle.TheVariants.{Leave}
 use Rattle.ppm_words.specs.declared.named_array.NamedArray.{NamedArray}
@@ -28,7 +28,6 @@ use Rattle.ppm_cut_code.specs.Routines.{code_of}
 use Rattle.ppm_tickets.specs.Renewal.{IsRenewal}
 use Rattle.ppm_runs.specs.Legs.{Leg, AreLegs}
 use Rattle.ppm_saved.specs.Names.{lengths_of}
-use Rattle.ppm_saved.specs.Text.{saved_text}
 use Rattle.ppm_saved.specs.Renewal.{AreRenewed}
 use Rattle.ppm_saved.specs.declared.names.NamedLength.{NamedLength}
 use Rattle.ppm_saved.specs.declared.saved.Saved.{Saved}
@@ -44,7 +43,7 @@ use Rattle.ppm_answers.specs.Reading.{JudgingMay, FrontsDecide, TellsOfRun}
 use Rattle.ppm_cli.specs.declared.resume.ResumeOptions.{ResumeOptions}
 use Rattle.ppm_cli.specs.declared.stop.StopOptions.{StopOptions}
 use Rattle.ppm_cli.specs.Words.{AreStopped}
-use Rattle.ppm_stop.specs.Stops.{names_of, ProgramHas as StoppedHas}
+use Rattle.ppm_stop.specs.Stops.{names_of, ProgramReads as StoppedReads}
 use Rattle.ppm_loading.specs.Loading.{Opens}
 use Rattle.ppm_loading.specs.Planned.{IsRefusedBy}
 use Rattle.ppm_loading.specs.declared.loading.Sizes.{Sizes}
@@ -214,10 +213,18 @@ ResumesLeaveStates = (source : List ℕ) (z : SavedState) (left : IsLeftBy sourc
     → (start : Situation) → GoesOnFrom z start → (turns : List Turn) → AllByRecursion (IsTurnAmong start.shape.processors) turns
     → IsLeftBy source (record { shape = z.shape; arrays = z.arrays; code = z.code; words = words_behind start turns })
 
--- What `stop` writes of a text's program, by the items of a schedule that is accepted, with options in their ranges: the saved text of a state
--- that is left by that text.
+-- a text is that of a state which a source left: it is refused for nothing, one state is read from it, and that one is left by the source
+pub record IsTextLeftBy (source text : List ℕ) : Type 0 where
+  pub state : SavedState
+  pub is : IsTextOf text state
+  pub taken : (r : SavedRefusal) → ¬ IsNoText text r
+  pub one : (z : SavedState) → IsTextOf text z → z ≡ state
+  pub left : (z : SavedState) → IsTextOf text z → IsLeftBy source z
+
+-- What `stop` writes of a text's program, by the items of a schedule that is accepted, with options in their ranges: the text of a state which that
+-- text left.
 abbrev pub StopsLeaveStates : Type 0
 StopsLeaveStates = (options : StopOptions) → AreStopped options
     → (schedule : List ℕ) (items : List ScheduleItem) → IsAccepted schedule_form schedule options.processors items
-    → (text : List ℕ) (t : ProgramTree) → HasProgram text t → (answer : Answer) (h : StoppedHas options items t answer)
-    → (z : SavedState) × (answer ≡ answers.Saved (saved_text z.shape z.arrays z.code z.words)) × IsLeftBy text z
+    → (text : List ℕ) (t : ProgramTree) → HasProgram text t → (answer : Answer) → StoppedReads options items t answer
+    → (saved : List ℕ) × (answer ≡ answers.Saved saved) × IsTextLeftBy text saved

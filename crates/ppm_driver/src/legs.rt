@@ -12,6 +12,7 @@ use ppm_runs::{
     legs_come_to, nothing_breaks, nothing_breaks_over_legs, room_is_spent, room_over_legs,
     runs_end_so, tags_stay_low, work_is_bounded, work_over_legs,
 };
+use ppm_saved_reader::faults_tell_saved_texts;
 
 /// With takeover by places, from the machine with which a run of a text's program begins, whatever
 /// the turns are that its processors make, and however often the words come back behind them: over
@@ -53,10 +54,14 @@ pub fn runs_leave_states()
     ensures law { RunsLeaveStates }
 {}
 
-/// What `stop` writes is the saved text of a state that is left by the text that it read.
+/// What `stop` writes is the saved text of a state that is left by the text that it read. `resume`
+/// never refuses it, and reads that state from it, and no other.
 pub fn stops_leave_states()
     ensures law { StopsLeaveStates }
-{}
+{
+    // The law rests on this one; the call does nothing.
+    faults_tell_saved_texts();
+}
 
 /// The words that fresh processors find, where a program's run left a state, are words that come back:
 /// no holder has the last tag, as words came back fewer than 2^50 times.

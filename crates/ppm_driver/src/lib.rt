@@ -8,7 +8,8 @@
 //! which its watcher was told (`specs/RunOf`, `specs/Runs`, `specs/Resumes`); `self_command` tells
 //! sums of such an answer (`specs/Examples`). What follows from each status: `specs/RunRows`,
 //! `specs/ReplayRows`, `specs/ResumeRows`, `specs/ExampleRows`; where turns and room are enough, a
-//! run ends (`specs/Completeness`, `specs/ResumeCompleteness`).
+//! run ends (`specs/Completeness`, `specs/ResumeCompleteness`). What is stopped and resumed ends as
+//! its program does (`specs/Stopped`).
 //! Stands on `ppm_threads`, `ppm_following`, `ppm_loading`, `ppm_saved_reader` and `ppm_answers`;
 //! `ppm_top` calls it. The schedules and limits and their rules are this project's.
 #![tactic(auto)]
@@ -26,6 +27,7 @@ mod replay;
 mod resuming;
 mod run;
 mod saying;
+mod stopped;
 mod sums;
 
 pub use complete::runs_complete;
@@ -41,4 +43,5 @@ pub use one_run::answers_are_one;
 pub use replay::replay_command;
 pub use resuming::resume_command;
 pub use run::{WATCHERS, run_command};
+pub use stopped::stopped_runs_go_on;
 pub use sums::examples_sum_up;

@@ -119,11 +119,11 @@ module _ (t : ProgramTree) where
         (faultless_left t (array_sites ++ procedure_sites ++ input_sites ++ inside) (sites_at [] outside) admitted.faultless)))
 
 -- arrays have as many words as values
-lengths_are : (arrays : List NamedArray) → lengths_of (names_of arrays) ≡ map (λ (a : NamedArray). length a.values) arrays
+pub lengths_are : (arrays : List NamedArray) → lengths_of (names_of arrays) ≡ map (λ (a : NamedArray). length a.values) arrays
 lengths_are [] = refl
 lengths_are (a ∷ arrays) = ap (λ ls. length a.values ∷ ls) (lengths_are arrays)
 
-as_many : (arrays : List NamedArray) → length (names_of arrays) ≡ length arrays
+pub as_many : (arrays : List NamedArray) → length (names_of arrays) ≡ length arrays
 as_many [] = refl
 as_many (a ∷ arrays) = ap suc (as_many arrays)
 

@@ -28,8 +28,8 @@ use Rattle.ppm_loading.specs.Loading.{Opens}
 use Rattle.ppm_loading.proofs.LoadingLemmas.{one_opening, some_opening}
 use Rattle.ppm_loading.proofs.PlannedLemmas.{IsSteady, planned_one, planned_front, some_answer}
 use Rattle.ppm_loading.proofs.ProgramLemmas.{text_one, text_front, of_text, plain}
-use Rattle.ppm_stop.specs.Stops.{sizes_of, text_of, ProgramHas, TextHas, HaveOneAnswer}
-use Rattle.ppm_stop.proofs.StopLemmas.{stopped_sizes, kinds, of_program, some_has}
+use Rattle.ppm_stop.specs.Stops.{sizes_of, text_of, ProgramHas, ProgramReads, TextHas, TextReads, HaveOneAnswer}
+use Rattle.ppm_stop.proofs.StopLemmas.{stopped_sizes, kinds, of_program, of_reading, some_has}
 
 -- what the crates below show of every text, every image and every schedule
 pub record Laws : Type 0 where
@@ -41,6 +41,9 @@ pub record Laws : Type 0 where
 -- no answer by items is that a schedule is refused
 pub steady : (options : StopOptions) → IsSteady schedule_form [] options.processors (TextHas options) text_limit
 steady options items text number = plain (ProgramHas options items) kinds (of_program options items) text number
+
+pub steady_read : (options : StopOptions) → IsSteady schedule_form [] options.processors (TextReads options) text_limit
+steady_read options items text number = plain (ProgramReads options items) kinds (of_reading options items) text number
 
 module _ (laws : Laws) (options : StopOptions) where
   -- a program has one answer by items
@@ -75,6 +78,9 @@ have_one_answer laws = record {
   front = λ options schedule.
       planned_front schedule_form schedule options.processors (TextHas options) text_limit (steady options)
       (λ items. text_front (ProgramHas options items) laws.texts);
+  front_read = λ options schedule.
+      planned_front schedule_form schedule options.processors (TextReads options) text_limit (steady_read options)
+      (λ items. text_front (ProgramReads options items) laws.texts);
   some = λ options schedule are.
       some_answer schedule_form schedule options.processors (TextHas options) text_limit laws.plans.schedules (steady options)
       (some laws options are schedule);

@@ -19,9 +19,10 @@ use Rattle.ppm_following.specs.Followed.{followed}
 use Rattle.ppm_loading.specs.declared.loading.Sizes.{Sizes}
 use Rattle.ppm_loading.specs.Loading.{AreSizes, Opens}
 use Rattle.ppm_loading.proofs.ProgramLemmas.{AreKinds}
+use Rattle.ppm_saved.specs.Correct.{StateFits}
 use Rattle.ppm_saved.specs.Text.{saved_text}
 use Rattle.ppm_saved.specs.declared.names.NamedLength.{NamedLength}
-use Rattle.ppm_stop.specs.Stops.{sizes_of, names_of, text_of, ProgramHas}
+use Rattle.ppm_stop.specs.Stops.{sizes_of, names_of, text_of, IsReadBack, ProgramHas, ProgramReads}
 
 -- options in their ranges say sizes that a machine may have
 pub stopped_sizes : (options : StopOptions) → AreStopped options → AreSizes (sizes_of options)
@@ -57,21 +58,42 @@ module _ (options : StopOptions) (items : List ScheduleItem) where
   pub of_program : (t : ProgramTree) (a : Answer) → ProgramHas options items t a → IsOfProgram a
   of_program t a h = subst IsOfProgram (sym h.saves) tt
 
-  -- the text of the machine behind the run of the schedule is the program's answer
-  pub program_has : (t : ProgramTree) (sizes : Sizes) (keeper : ℕ) (start end : Situation) (arrays : List NamedArray) (names : List NamedLength)
-      (s : Shape) (code : CodeParts) (words text : List ℕ) → sizes ≡ sizes_of options → IsKeeper schedule_form items keeper
-      → Opens sizes (code_of t) (initial_arrays t) keeper start → end ≡ followed start items options.after → arrays ≡ initial_arrays t
-      → names ≡ names_of arrays → s ≡ end.shape → code ≡ end.code → words ≡ end.state.words → text ≡ saved_text s names code words
-      → ProgramHas options items t (answers.Saved text)
-  program_has t sizes keeper start end arrays names s code words text is_sizes spared opens ends is_arrays is_names is_shape is_code is_words is = record {
-    keeper = keeper;
-    spared = spared;
-    start = start;
-    opens = subst (λ (z : Sizes). Opens z (code_of t) (initial_arrays t) keeper start) is_sizes opens;
-    saves = ap (λ x. answers.Saved x)
-        (is ∙ same_saved s end.shape names (names_of (initial_arrays t)) code end.code words end.state.words is_shape (is_names ∙ ap names_of is_arrays)
-        is_code is_words ∙ ap (λ (m : Situation). text_of m (initial_arrays t)) ends);
-  }
+  pub of_reading : (t : ProgramTree) (a : Answer) → ProgramReads options items t a → IsOfProgram a
+  of_reading t a h = of_program t a h.has
+
+  -- the text of the machine behind the run of the schedule is the program's answer, and is read back, since all its numbers fit
+  module _ (t : ProgramTree) (keeper : ℕ) (start : Situation) where
+    abbrev end : Situation
+    end = followed start items options.after
+
+    abbrev input : List NamedArray
+    input = initial_arrays t
+
+    pub program_reads : (sizes : Sizes) (m : Situation) (arrays : List NamedArray) (names : List NamedLength) (s : Shape) (code : CodeParts)
+        (words text : List ℕ) → sizes ≡ sizes_of options → IsKeeper schedule_form items keeper → Opens sizes (code_of t) input keeper start → m ≡ end
+        → arrays ≡ input → names ≡ names_of arrays → s ≡ m.shape → code ≡ m.code → words ≡ m.state.words → text ≡ saved_text s names code words
+        → StateFits names code words
+        → (Opens (sizes_of options) (code_of t) input keeper start → StateFits (names_of input) end.code end.state.words → IsReadBack end input)
+        → ProgramReads options items t (answers.Saved text)
+    program_reads sizes m arrays names s code words text is_sizes spared opens ends is_arrays is_names is_shape is_code is_words is fits reads =
+        let opened = subst (λ (z : Sizes). Opens z (code_of t) input keeper start) is_sizes opens in
+        let shape : s ≡ end.shape = is_shape ∙ ap (λ (x : Situation). x.shape) ends in
+        let named : names ≡ names_of input = is_names ∙ ap names_of is_arrays in
+        let coded : code ≡ end.code = is_code ∙ ap (λ (x : Situation). x.code) ends in
+        let worded : words ≡ end.state.words = is_words ∙ ap (λ (x : Situation). x.state.words) ends in
+        record {
+          has = record {
+            keeper = keeper;
+            spared = spared;
+            start = start;
+            opens = opened;
+            saves = ap (λ x. answers.Saved x)
+                (is ∙ same_saved s end.shape names (names_of input) code end.code words end.state.words shape named coded worded);
+          };
+          read_back = reads opened
+              (subst (λ (ws : List ℕ). StateFits (names_of input) end.code ws) worded
+              (subst (λ (c : CodeParts). StateFits (names_of input) c words) coded (subst (λ (ns : List NamedLength). StateFits ns code words) named fits)));
+        }
 
   -- there is one, where a machine opens
   pub some_has : (t : ProgramTree) (keeper : ℕ) (start : Situation) → IsKeeper schedule_form items keeper

@@ -23,6 +23,7 @@ use Rattle.ppm_loading.specs.Planned.{PlannedHas, PlannedMay, HasSomeAnswer}
 use Rattle.ppm_loading.specs.Programs as programs
 use Rattle.ppm_saved.specs.Text.{saved_text}
 use Rattle.ppm_saved.specs.declared.names.NamedLength.{NamedLength}
+use Rattle.ppm_saved_reader.specs.Correct.{IsSavedText}
 
 -- the machine's sizes, as the options say them; a place is taken over as a whole
 abbrev pub sizes_of : StopOptions → Sizes
@@ -36,6 +37,10 @@ names_of arrays = map (λ a. record { name = a.name; len = length a.values }) ar
 abbrev pub text_of : Situation → List NamedArray → List ℕ
 text_of m arrays = saved_text m.shape (names_of arrays) m.code m.state.words
 
+-- it is one from which exactly this machine's sizes, arrays, code and words are read, whether it is resumed or not
+abbrev pub IsReadBack : Situation → List NamedArray → Type 0
+IsReadBack m arrays = IsSavedText (text_of m arrays) m.shape (names_of arrays) m.code m.state.words
+
 -- The answer of a program by the items of a schedule: the saved text of the machine behind the run that these say, of at most so many acts,
 -- whatever its finish word is. The run is from the machine with which a run of the program begins, with the schedule's keeper.
 pub record ProgramHas (options : StopOptions) (items : List ScheduleItem) (t : ProgramTree) (answer : Answer) : Type 0 where
@@ -45,23 +50,37 @@ pub record ProgramHas (options : StopOptions) (items : List ScheduleItem) (t : P
   pub opens : Opens (sizes_of options) (code_of t) (initial_arrays t) keeper start
   pub saves : answer ≡ answers.Saved (text_of (followed start items options.after) (initial_arrays t))
 
+-- it is so, and the text is read back: of a machine in memory it is known that its numbers fit 64 bits
+pub record ProgramReads (options : StopOptions) (items : List ScheduleItem) (t : ProgramTree) (answer : Answer) : Type 0 where
+  pub has : ProgramHas options items t answer
+  pub read_back : IsReadBack (followed has.start items options.after) (initial_arrays t)
+
 -- that of a text: its program's, or its refusal
 abbrev pub TextHas : StopOptions → List ScheduleItem → List ℕ → Answer → Type 0
 TextHas options items text answer = programs.TextHas (ProgramHas options items) text answer
+
+-- that of the text that was read
+abbrev pub TextReads : StopOptions → List ScheduleItem → List ℕ → Answer → Type 0
+TextReads options items text answer = programs.TextHas (ProgramReads options items) text answer
 
 -- the answer of a text with such options and such a schedule: that the schedule is refused, or that by its items
 abbrev pub StopHas : StopOptions → (schedule : List ℕ) → List ℕ → Answer → Type 0
 StopHas options schedule text answer = PlannedHas schedule_form schedule options.processors (TextHas options) text answer
 
+-- so it is with that of the text that was read
+abbrev pub StopReads : StopOptions → (schedule : List ℕ) → List ℕ → Answer → Type 0
+StopReads options schedule text answer = PlannedHas schedule_form schedule options.processors (TextReads options) text answer
+
 -- the answers of `stop` with such options and such a schedule
 abbrev pub StopMay : StopOptions → (schedule : List ℕ) → Port → Answer → Type 0
 StopMay options schedule source answer =
-    PlannedMay schedule_form schedule options.processors (TextHas options) text_limit source answer
+    PlannedMay schedule_form schedule options.processors (TextReads options) text_limit source answer
 
 -- With all options and all schedules two answers of a text are one, and what stands behind more bytes than a text may have changes none;
 -- with options in their ranges a text that is not refused has one.
 pub record HaveOneAnswer : Type 0 where
   pub one : (options : StopOptions) (schedule : List ℕ) → AreOne (StopHas options schedule)
   pub front : (options : StopOptions) (schedule : List ℕ) → FrontsDecide text_limit (StopHas options schedule)
+  pub front_read : (options : StopOptions) (schedule : List ℕ) → FrontsDecide text_limit (StopReads options schedule)
   pub some : (options : StopOptions) (schedule : List ℕ) → AreStopped options
       → HasSomeAnswer schedule_form schedule options.processors (TextHas options)

@@ -9,7 +9,7 @@ ghost use Rattle.ppm_text.specs.Limits.{text_limit};
 ghost use Rattle.ppm_tree.specs.Tree.{tree_of};
 ghost use Rattle.ppm_cut_bounds.specs.Bounds.{IsWithinBounds};
 ghost use Rattle.ppm_loading.specs.Programs.{ProgramMay};
-ghost use Rattle.ppm_stop.specs.Stops.{ProgramHas, StopMay, TextHas, sizes_of as sizes_in};
+ghost use Rattle.ppm_stop.specs.Stops.{ProgramReads, StopMay, TextReads, sizes_of as sizes_in};
 ghost use Rattle.ppm_stop.specs.StopRows.{IsStopped};
 
 use crate::laws::have_one_answer;
@@ -17,6 +17,9 @@ use crate::names::names_of;
 use ppm_answers::{Answer, Status, deliver};
 use ppm_cells::Takeover;
 use ppm_cli::StopOptions;
+use ppm_cut_code::keeps_the_rules;
+use ppm_cut_correct::{name_arrays, start_with_input};
+use ppm_cut_sound::{may_be_stopped, store_tidily};
 use ppm_following::follow;
 use ppm_loading::{Sizes, load, read_program, refusal_answer};
 use ppm_plan::{Schedule, have_one_answer as schedules_have_one_answer, read_schedule};
@@ -28,7 +31,7 @@ use std::alloc::Global;
 
 /// Runs the text that is read, on a machine whose processors act as the schedule says, for so many
 /// acts, those of the schedule among them, and writes the saved text of the machine then on `out`,
-/// whatever its finish word is; why there is none on `err`. Where the schedule is refused, the
+/// whatever its finish word is; why there is none on `err`. That state is read back from the text. Where the schedule is refused, the
 /// source is left unread.
 pub fn stop_command<S: Source, K: Sink, E: Sink>(
     alloc: Global,
@@ -78,7 +81,7 @@ fn planned_answer<S: Source>(
 ) -> Answer
     requires options { AreStopped options }
     requires processors { schedule.now.processors ≡ options.processors }
-    ensures { JudgingMay text_limit (TextHas options schedule.now.items) (port S.left S.fault_count source.old source.new) result }
+    ensures { JudgingMay text_limit (TextReads options schedule.now.items) (port S.left S.fault_count source.old source.new) result }
 {
     match read_program(alloc, source) {
         Ok(program) => program_answer(alloc, options, schedule, &program),
@@ -96,7 +99,7 @@ fn program_answer(
     requires options { AreStopped options }
     requires processors { schedule.now.processors ≡ options.processors }
     requires bounded { IsWithinBounds (tree_of program.now) }
-    ensures { ProgramMay (ProgramHas options schedule.now.items (tree_of program.now)) result }
+    ensures { ProgramMay (ProgramReads options schedule.now.items (tree_of program.now)) result }
 {
     match stopped(alloc, options, schedule, program) {
         Ok(text) => Answer::Saved(Items::from_vec(text)),
@@ -114,10 +117,16 @@ fn stopped(
     requires options { AreStopped options }
     requires processors { schedule.now.processors ≡ options.processors }
     requires bounded { IsWithinBounds (tree_of program.now) }
-    ensures { IfOk result (λ text. ProgramHas options schedule.now.items (tree_of program.now) (answers.Saved text.items)) }
+    ensures { IfOk result (λ text. ProgramReads options schedule.now.items (tree_of program.now) (answers.Saved text.items)) }
 {
     // What the type of its tree keeps is known once its tree was seen.
     let _ = program.program().tree();
+    // The text is read back by these laws; the calls do nothing.
+    keeps_the_rules();
+    may_be_stopped();
+    store_tidily();
+    start_with_input();
+    name_arrays();
     let names = names_of(alloc, program.input().arrays())?;
     let mut machine = load(alloc, sizes_of(options), program, schedule.keeper())?;
     follow(&mut machine, schedule, options.after);

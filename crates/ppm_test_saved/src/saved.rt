@@ -155,3 +155,76 @@ fn texts_that_are_cut_short_have_theirs(rt: HostRuntime) -> Result<(), Fail> {
     assert_eq!(rt; last, (5, 14));
     Ok(())
 }
+
+/// Bytes that a change puts into a text.
+const BYTES: [u8; 16] = *b"0123456789 *\nasx";
+
+/// The next of a row of numbers that look random: Marsaglia's shifts.
+fn next(seed: u64) -> u64 {
+    let left = seed ^ (seed << 13);
+    let right = left ^ (left >> 7);
+    right ^ (right << 17)
+}
+
+/// The text with one change at a place, by a number: another byte there, one more, one less, or its
+/// end.
+fn struck(alloc: Global, text: &[u8], place: usize, seed: u64) -> Result<Vec<u8>, Fail> {
+    let kind = seed % 4;
+    let byte = BYTES[(seed / 4 % 16) as usize];
+    let mut other = Vec::new(alloc);
+    let mut at: usize = 0;
+    for it in text {
+        if at == place && kind == 3 {
+            return Ok(other);
+        }
+        if at == place && kind < 2 {
+            other.push(byte)?;
+        }
+        if at != place || kind == 1 {
+            other.push(*it)?;
+        }
+        at = at.wrapping_add(1);
+    }
+    Ok(other)
+}
+
+/// The line in which a place of a text lies.
+fn line_at(text: &[u8], place: usize) -> u32 {
+    let mut line: u32 = 1;
+    let mut at: usize = 0;
+    for byte in text {
+        if at < place && *byte == b'\n' {
+            line = line.wrapping_add(1);
+        }
+        at = at.wrapping_add(1);
+    }
+    line
+}
+
+/// Whether a fault may be that of a change in a line: it has a number, and stands in that line, in
+/// the next one, or at the line of the code or of the count.
+fn may_be(number: u32, line: u32, changed: u32) -> bool {
+    let near = line == changed || line == changed.wrapping_add(1) || line == 5 || line == 14;
+    1 <= number && number <= 5 && near
+}
+
+#[test]
+fn texts_that_are_struck_are_refused_or_read(rt: HostRuntime) -> Result<(), Fail> {
+    let alloc = rt.alloc();
+    let whole = changed(alloc, 0, "")?;
+    let mut seed: u64 = 88172645463325252;
+    let mut refused: u32 = 0;
+    for change in 0..200 {
+        seed = next(seed);
+        let place = (seed / 64 % 400) as usize;
+        let text = struck(alloc, &whole, place, seed)?;
+        let (number, line) = fault(alloc, &text)?;
+        if number > 0 {
+            refused = refused.wrapping_add(1);
+            let near = may_be(number, line, line_at(&whole, place));
+            assert!(rt; near, "change {change} at {place}: {number} at {line}");
+        }
+    }
+    assert!(rt; 100 < refused && refused < 200, "{refused} are refused");
+    Ok(())
+}

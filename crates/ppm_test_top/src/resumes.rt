@@ -160,3 +160,47 @@ fn what_is_no_state_is_refused(rt: HostRuntime) -> Result<(), Fail> {
         Status::Broken,
     )
 }
+
+/// A text with 7 in place of the byte that stands so far from its end.
+fn struck(alloc: Global, text: &[u8], from_end: usize) -> Result<Vec<u8>, Fail> {
+    let mut other = Vec::new(alloc);
+    let mut left = text.len();
+    for byte in text {
+        let byte = if left == from_end { b'7' } else { *byte };
+        other.push(byte)?;
+        left = left.wrapping_sub(1);
+    }
+    Ok(other)
+}
+
+/// Whether a text that was struck may be answered so.
+fn may_be(status: Status) -> bool {
+    match status {
+        Status::Ended
+        | Status::Trapped
+        | Status::OutOfTurns
+        | Status::OutOfRoom
+        | Status::SavedRefused
+        | Status::Broken => true,
+        Status::SourceRefused
+        | Status::WordsRefused
+        | Status::ReadFault
+        | Status::WriteFault
+        | Status::NoMemory
+        | Status::CodeRefused
+        | Status::NotWithin => false,
+    }
+}
+
+#[test]
+fn texts_that_are_struck_are_refused_or_end(rt: HostRuntime) -> Result<(), Fail> {
+    let alloc = rt.alloc();
+    let text = saved_text(&rt, alloc, "133")?;
+    let words = ["ppm", "resume", "--turns", "2000", "--looks", "20"];
+    for from_end in [2, 9, 30, 55, 90, 140, 200, 260, 330, 400, 480, 560] {
+        let other = struck(alloc, &text, from_end)?;
+        let got = ppm_over_memory(&rt, alloc, &other, &words, 4096, NONE)?;
+        assert!(rt; may_be(got.status), "{from_end}: {:?}", got.status);
+    }
+    Ok(())
+}

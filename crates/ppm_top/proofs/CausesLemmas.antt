@@ -21,7 +21,7 @@ use Rattle.ppm_cli.specs.declared.example.SelfOptions.{SelfOptions}
 use Rattle.ppm_driver.specs.Examples.{ExampleMay}
 use Rattle.ppm_driver.specs.Replays.{TextHas as ReplayTextHas}
 use Rattle.ppm_driver.specs.Resumes.{TextHas as ResumeTextHas}
-use Rattle.ppm_stop.specs.Stops.{TextHas as StopTextHas}
+use Rattle.ppm_stop.specs.Stops.{TextReads as StopTextReads}
 use Rattle.ppm_driver.specs.Runs.{RunTells, TextHas as RunTextHas}
 use Rattle.ppm_loading.proofs.PlannedLemmas as planned
 use Rattle.ppm_driver.proofs.ResumeLemmas.{still_told}
@@ -41,7 +41,7 @@ memory_before (Some (commands.Replay options schedule)) o h =
 memory_before (Some (commands.Resume options plan)) o h =
     judged.memory_before saved_limit (ResumeTextHas options plan o.told_before o.told_now) o.source h
 memory_before (Some (commands.Stop options schedule)) o h =
-    planned.memory_before schedule_form schedule options.processors (StopTextHas options) text_limit o.source h
+    planned.memory_before schedule_form schedule options.processors (StopTextReads options) text_limit o.source h
 memory_before (Some (commands.Example options)) o h = (h, tt)
 
 -- an answer of the command that the words give answers the words

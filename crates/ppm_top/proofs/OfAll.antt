@@ -39,7 +39,7 @@ use Rattle.ppm_driver.specs.Resumes.{TextHas as ResumeTextHas, LeftWordsComeBack
 use Rattle.ppm_driver.specs.ResumeCompleteness.{ResumesComplete}
 use Rattle.ppm_driver.specs.ResumeRows.{RefusesPlan as RefusesResumed}
 use Rattle.ppm_driver.specs.Runs.{TextHas as RunTextHas, AnswersAreOne, FrontsDecideAnswers}
-use Rattle.ppm_stop.specs.Stops.{TextHas as StopTextHas, HaveOneAnswer as StopsHaveOneAnswer}
+use Rattle.ppm_stop.specs.Stops.{TextReads as StopTextReads, HaveOneAnswer as StopsHaveOneAnswer}
 use Rattle.ppm_stop.proofs.OfStop as of_stop
 use Rattle.ppm_driver.proofs.OfExample as of_example
 use Rattle.ppm_driver.proofs.OfReplay as of_replay
@@ -93,7 +93,7 @@ command_reports o (Some (commands.Replay options schedule)) =
     planned_reports schedule_form schedule options.processors (ReplayTextHas options) o
 command_reports o (Some (commands.Resume options plan)) = judging_reports saved_limit (ResumeTextHas options plan o.told_before o.told_now) o
 command_reports o (Some (commands.Stop options schedule)) =
-    planned_reports schedule_form schedule options.processors (StopTextHas options) o
+    planned_reports schedule_form schedule options.processors (StopTextReads options) o
 command_reports o (Some (commands.Example options)) = example_reports options o
 
 -- an answer of status 7 is a read fault

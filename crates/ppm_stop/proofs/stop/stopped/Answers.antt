@@ -5,7 +5,8 @@ use Rattle.ppm_saved.specs.Names.{AreNames}
 use Rattle.ppm_loading.specs.Loading.{AreSizes}
 use Rattle.ppm_stop.specs.Stops.{names_of}
 use Rattle.ppm_stop.proofs.NamesLemmas.{names_are}
-use Rattle.ppm_stop.proofs.StopLemmas.{program_has, stopped_sizes}
+use Rattle.ppm_stop.proofs.ReadBackLemmas.{CodeLaws, read_back}
+use Rattle.ppm_stop.proofs.StopLemmas.{program_reads, stopped_sizes}
 use Rattle.ppm_stop.proofs.stop.stopped.Goals as goal
 
 -- an admitted program within the limits names its arrays so
@@ -18,9 +19,20 @@ names_of-requires-clause-names c =
 pub load-requires-clause-sizes : goal.load-requires-clause-sizes
 load-requires-clause-sizes c = subst AreSizes (sym c.sizes_of.ensures) (stopped_sizes c.args.options c.requires.options)
 
--- the text is that of the machine behind the run
+-- the text is that of the machine behind the run, and is read back
 pub returns : goal.returns
 returns c =
-    program_has c.args.options c.args.schedule.now.items (tree_of c.args.program.now) _ _ _ _ _ _ _ _ _ _ c.sizes_of.ensures
-    c.keeper.ensures.keeper c.in_ok-machine.ensures c.follow.ensures (c.arrays.ensures.value ∙ c.input.ensures.value) c.in_ok-names.ensures
-    c.shape.ensures c.code.ensures c.words.ensures c.in_ok-text.ensures.text
+    let t = tree_of c.args.program.now in
+    let within = subst (λ p. IsWithin (tree_of p)) c.program.ensures.value c.tree.ensures.limits in
+    let laws : CodeLaws = record {
+      rules = c.keeps_the_rules.ensures.law;
+      stops = c.may_be_stopped.ensures.law;
+      tidy = c.store_tidily.ensures.law;
+      starts = c.start_with_input.ensures.law;
+      names = c.name_arrays.ensures.law;
+    } in
+    program_reads c.args.options c.args.schedule.now.items t _ _ _ _ _ _ _ _ _ _ c.sizes_of.ensures c.keeper.ensures.keeper c.in_ok-machine.ensures
+    c.follow.ensures (c.arrays.ensures.value ∙ c.input.ensures.value) c.in_ok-names.ensures c.shape.ensures c.code.ensures c.words.ensures
+    c.in_ok-text.ensures.text c.in_ok-text.ensures.fits
+    (λ opens fits. read_back laws t within c.program.ensures.admitted c.requires.bounded c.args.options c.requires.options _ _ opens
+    c.args.schedule.now.items fits)

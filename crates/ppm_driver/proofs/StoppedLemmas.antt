@@ -1,0 +1,48 @@
+-- What was written by `stop` is the text of a state that its source left; so what `resume` says of such a state holds of that source.
+use Rattle.std.proofs.Common.{◌≡◌, ℕ, List, sym, subst}
+use Rattle.ppm_words.specs.declared.outcome.Outcome.TheVariants as outcome
+use Rattle.ppm_ports.specs.Outside.{Outside, Ports}
+use Rattle.ppm_answers.specs.declared.answer.Answer.TheVariants as answers
+use Rattle.ppm_cli.specs.declared.resume.ResumeOptions.{ResumeOptions}
+use Rattle.ppm_cli.specs.declared.stop.StopOptions.{StopOptions}
+use Rattle.ppm_cli.specs.Words.{AreStopped}
+use Rattle.ppm_stop.specs.StopRows.{WritesSaved}
+use Rattle.ppm_stop.proofs.StopLemmas.{same_text}
+use Rattle.ppm_driver.specs.ResumeRows.{WritesArrays, WritesTrap}
+use Rattle.ppm_driver.specs.Resumes.{SavedState, IsTextOf, IsNoText, IsLeftBy, IsTextLeftBy, StopsLeaveStates}
+use Rattle.ppm_driver.specs.Stopped.{IsOutcomeOf, GoesOn, StoppedRunsGoOn}
+
+module _ (law : StopsLeaveStates) (stop : StopOptions) (are : AreStopped stop) (schedule : List ℕ) (p : Ports) (w : WritesSaved stop schedule p) where
+  abbrev source : List ℕ
+  source = w.read.0
+
+  text_left : IsTextLeftBy source w.text
+  text_left =
+      let h = w.read.2 in
+      let k = law stop are schedule h.items h.accepted source h.has.0 h.has.1 (answers.Saved w.text) h.has.2 in
+      subst (IsTextLeftBy source) (sym (same_text w.text k.0 k.1)) k.2
+
+  module _ (options : ResumeOptions) (plan : List ℕ) (o : Outside) where
+    -- the state that was read is left by the source
+    left : (text : List ℕ) (z : SavedState) → IsTextOf text z → text ≡ w.text → IsLeftBy source z
+    left text z is same = text_left.left z (subst (λ (l : List ℕ). IsTextOf l z) same is)
+
+    ended : (a : WritesArrays options plan o) → a.read.0 ≡ w.text → IsOutcomeOf source (outcome.Ended a.arrays)
+    ended a same =
+        let l = left a.read.0 a.read.2.state a.read.2.is same in
+        record { tree = l.tree; has = l.has; serially = (a.meant source l).serially }
+
+    trapped : (k : WritesTrap options plan o) → k.read.0 ≡ w.text → IsOutcomeOf source (outcome.Trapped k.trap k.line)
+    trapped k same =
+        let l = left k.read.0 k.read.2.state k.read.2.is same in
+        record { tree = l.tree; has = l.has; serially = (k.meant source l).serially }
+
+    pub goes_on : GoesOn w options plan o
+    goes_on = record {
+      taken = λ fault same. text_left.taken fault.0 (subst (λ (l : List ℕ). IsNoText l fault.0) same fault.1.2);
+      ended = ended;
+      trapped = trapped;
+    }
+
+pub stopped_runs_go_on : StopsLeaveStates → StoppedRunsGoOn
+stopped_runs_go_on law stop are schedule p w options plan o = goes_on law stop are schedule p w options plan o

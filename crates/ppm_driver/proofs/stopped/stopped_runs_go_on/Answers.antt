@@ -1,0 +1,6 @@
+use Rattle.ppm_driver.proofs.StoppedLemmas.{stopped_runs_go_on}
+use Rattle.ppm_driver.proofs.stopped.stopped_runs_go_on.Goals as goal
+
+-- by what a stop leaves
+pub returns : goal.returns
+returns c = record { law = stopped_runs_go_on c.stops_leave_states.ensures.law }

@@ -1,0 +1,32 @@
+-- What is stopped and resumed ends as its program does: `resume` reads what `stop` wrote.
+use Rattle.std.specs.Prelude.{◌≡◌, ℕ, List}
+use Rattle.ppm_words.specs.declared.outcome.Outcome.{Outcome}
+use Rattle.ppm_words.specs.declared.outcome.Outcome.TheVariants as outcome
+use Rattle.ppm_ports.specs.Outside.{Outside, Ports}
+use Rattle.ppm_cli.specs.declared.resume.ResumeOptions.{ResumeOptions}
+use Rattle.ppm_cli.specs.declared.stop.StopOptions.{StopOptions}
+use Rattle.ppm_cli.specs.Words.{AreStopped}
+use Rattle.ppm_tree.specs.Tree.{ProgramTree}
+use Rattle.ppm_program.specs.Programs.{HasProgram}
+use Rattle.ppm_stop.specs.StopRows.{WritesSaved}
+use Rattle.ppm_driver.specs.Meant.{HasOutcome}
+use Rattle.ppm_driver.specs.ResumeRows.{WritesArrays, WritesTrap, WritesFault}
+
+-- the program of a source has this serial outcome
+pub record IsOutcomeOf (source : List ℕ) (o : Outcome) : Type 0 where
+  pub tree : ProgramTree
+  pub has : HasProgram source tree
+  pub serially : HasOutcome tree o
+
+-- Where the text that `resume` read is the one that `stop` wrote: it is refused for nothing; and the arrays that are written, or the trap, are the
+-- serial outcome of the source that `stop` read.
+pub record GoesOn {stop : StopOptions} {schedule : List ℕ} {p : Ports} (w : WritesSaved stop schedule p) (options : ResumeOptions) (plan : List ℕ)
+    (o : Outside) : Type 0 where
+  pub taken : (fault : WritesFault options plan o) → fault.1.0 ≡ w.text → ⊥
+  pub ended : (a : WritesArrays options plan o) → a.read.0 ≡ w.text → IsOutcomeOf w.read.0 (outcome.Ended a.arrays)
+  pub trapped : (k : WritesTrap options plan o) → k.read.0 ≡ w.text → IsOutcomeOf w.read.0 (outcome.Trapped k.trap k.line)
+
+-- so it is whatever was stopped, with options in their ranges, and however it is resumed
+abbrev pub StoppedRunsGoOn : Type 0
+StoppedRunsGoOn = (stop : StopOptions) → AreStopped stop → (schedule : List ℕ) (p : Ports) (w : WritesSaved stop schedule p)
+    → (options : ResumeOptions) (plan : List ℕ) (o : Outside) → GoesOn w options plan o
