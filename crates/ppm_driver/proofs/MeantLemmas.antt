@@ -56,7 +56,8 @@ use Rattle.ppm_runs.specs.Entries.{EndsAsRun, OnceInEachRun, RunsEndSo, RunsFork
 use Rattle.ppm_runs.specs.Moments.{AreOnce}
 use Rattle.ppm_runs.specs.Run.{image}
 use Rattle.ppm_runs.specs.Spent.{RoomIsSpentSo}
-use Rattle.ppm_driver.specs.Probes.{WorkIsWithin256ByEither, NothingBreaksByEither}
+use Rattle.ppm_runs.specs.Unbroken.{NothingBreaks}
+use Rattle.ppm_runs.specs.Work.{WorkIsWithin256So}
 use Rattle.ppm_core.specs.Situation.{Situation, loaded}
 use Rattle.ppm_loading.specs.declared.loading.Sizes.{Sizes}
 use Rattle.ppm_loading.specs.Loading.{Opens}
@@ -81,8 +82,8 @@ pub record Laws : Type 0 where
   pub forks : RunsForkSo
   pub once : OnceInEachRun
   pub room : RoomIsSpentSo
-  pub work : WorkIsWithin256ByEither
-  pub whole : NothingBreaksByEither
+  pub work : WorkIsWithin256So
+  pub whole : NothingBreaks
 
 -- a machine has as many words after turns as before them
 module _ (s : Shape) (code : CodeParts) where

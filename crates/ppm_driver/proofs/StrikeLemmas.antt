@@ -33,7 +33,7 @@ use Rattle.ppm_choice.specs.declared.limits.Limits.{Limits}
 use Rattle.ppm_choice.proofs.ParkLemmas.{awake_acts}
 use Rattle.ppm_runs.specs.Deques.{one_if}
 use Rattle.ppm_runs.proofs.SumLemmas.{sum, sum_le, sum_plus, sum_same, sum_zero}
-use Rattle.ppm_driver.specs.Probes.{undoes, undone_of}
+use Rattle.ppm_runs.specs.Work.{undoes, undone_of}
 use Rattle.ppm_driver.specs.Strikes.{fault_count, StrikesArePlanned, UndoneArePlanned}
 
 abbrev is_fault : Act → Bool

@@ -1,6 +1,5 @@
 pub mod Watchers
 pub mod RunOf
-pub mod Probes
 pub mod Meant
 pub mod Runs
 pub mod Strikes

@@ -22,7 +22,6 @@ mod meant;
 mod names;
 mod one_replay;
 mod one_run;
-mod probes;
 mod replay;
 mod resuming;
 mod run;

@@ -6,8 +6,7 @@ use ppm_cut_correct::{end_as_meant, ends_serially, name_arrays, start_with_input
 use ppm_cut_sound::code_is_sound;
 use ppm_opening::images_begin_the_depth_first_run;
 use ppm_rows::trees_are_within;
-use crate::probes::{nothing_breaks_by_either, work_is_bounded_by_either};
-use ppm_runs::{room_is_spent, runs_end_so};
+use ppm_runs::{nothing_breaks, room_is_spent, runs_end_so, work_is_bounded};
 
 /// From the machine with which a run of a text's program begins, whatever the turns are that its
 /// processors make: no right branch is forked or taken twice. Where the finish word says an
@@ -30,6 +29,6 @@ pub fn runs_are_as_programs()
     images_begin_the_depth_first_run();
     runs_end_so();
     room_is_spent();
-    work_is_bounded_by_either();
-    nothing_breaks_by_either();
+    work_is_bounded();
+    nothing_breaks();
 }

@@ -18,7 +18,7 @@ returns c =
         once = c.runs_end_so.ensures.once;
         forks = c.runs_end_so.ensures.forks;
         room = c.room_is_spent.ensures.so;
-        work = c.work_is_bounded.ensures.within;
+        work = c.work_is_bounded.ensures.within_so;
         whole = c.nothing_breaks.ensures.law;
       };
       legs = c.legs_come_to.ensures.law;

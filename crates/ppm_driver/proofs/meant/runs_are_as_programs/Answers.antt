@@ -17,7 +17,7 @@ returns c = record {
     forks = c.runs_end_so.ensures.forks;
     once = c.runs_end_so.ensures.once;
     room = c.room_is_spent.ensures.so;
-    work = c.work_is_bounded_by_either.ensures.within;
-    whole = c.nothing_breaks_by_either.ensures.law;
+    work = c.work_is_bounded.ensures.within_so;
+    whole = c.nothing_breaks.ensures.law;
   });
 }
