@@ -16,8 +16,8 @@ ghost use Rattle.ppm_driver.specs.Runs.{ProgramHas, RunTells};
 ghost use Rattle.ppm_driver.specs.Watchers.{OthersKeep, watcher_count};
 
 use crate::meant::runs_are_as_programs;
-use crate::sums::examples_sum_up;
 use crate::run::ran;
+use crate::sums::examples_sum_up;
 use ppm_answers::{Answer, Status, Sums, deliver};
 use ppm_cells::Takeover;
 use ppm_cli::{RunOptions, SelfOptions};
