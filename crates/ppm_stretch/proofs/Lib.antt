@@ -11,5 +11,5 @@ mod RoundLemmas
 mod RowLemmas
 mod EndingLemmas
 mod AskingLemmas
-mod PassingLemmas
+mod ChoreLemmas
 mod WaitingLemmas

@@ -3,4 +3,4 @@ pub mod Entering
 pub mod Rows
 pub mod Ending
 pub mod Asking
-pub mod Passing
+pub mod Chores

@@ -15,8 +15,8 @@ ghost use Rattle.ppm_stretch.specs.Steady.{Moves, Refuses, is_exchange, looks_be
 
 use crate::asking::fills;
 use crate::frames::{ends, rounds};
-use crate::passing::{is_passing, passes};
 use crate::refusing::give_way;
+use crate::scheduler::{chores, is_chore};
 use crate::way::{NONE, OneStep, REFUSED, Steps, row};
 use atomic_table::Seat;
 use ppm_cells::{RestartKind, Shape};
@@ -126,8 +126,8 @@ fn frame_steps<W: Watch>(
             if is_of_frame(restart.kind) && most >= 2 {
                 return rounds(local, words, mine, watch, shape, code, place, restart, most);
             }
-            if is_passing(restart.kind) {
-                return passes(local, words, mine, watch, shape, code, place, restart, most);
+            if is_chore(restart.kind) {
+                return chores(local, words, mine, watch, shape, code, place, restart, most);
             }
         }
     }

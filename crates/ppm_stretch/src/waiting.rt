@@ -11,7 +11,7 @@ ghost use Rattle.ppm_step.specs.Stages.{IsStage, rest_at};
 ghost use Rattle.std.specs.Prelude.{length};
 ghost use Rattle.ppm_step.specs.Standings.{IsBroken, Standing};
 ghost use Rattle.ppm_stretch.specs.Entering.{HaltsAt};
-ghost use Rattle.ppm_stretch.specs.Passing.{PausesAt};
+ghost use Rattle.ppm_stretch.specs.Chores.{PausesAt};
 ghost use Rattle.ppm_stretch.specs.Rows.{stage_of};
 ghost use Rattle.ppm_stretch.specs.Steady.{HasReached};
 

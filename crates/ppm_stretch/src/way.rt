@@ -147,7 +147,7 @@ pub struct RowStep {
 
 /// What came of the beginning of a capsule of the scheduler.
 #[derive(Clone, Copy, Debug, PartialEq, Eq)]
-pub enum Opened {
+pub enum RowBegun {
     /// The finish word was set: the processor is done.
     Over,
     /// Its restart word names what isn't there.
@@ -173,7 +173,7 @@ pub enum Pause {
 
 /// How a capsule of the scheduler ended.
 #[derive(Clone, Copy, Debug, PartialEq, Eq)]
-pub enum PassEnd {
+pub enum ChoreEnd {
     /// The place goes on with this.
     Installed(Restart),
     /// The processor stands there.
@@ -185,12 +185,12 @@ pub enum PassEnd {
 /// A capsule of the scheduler: so many steps, of which so many were work, the looks since the last
 /// of these, whether one was a compare-and-modify, and how it ended.
 #[derive(Clone, Copy, Debug, PartialEq, Eq)]
-pub struct Pass {
+pub struct Chore {
     pub made: u64,
     pub work: u64,
     pub looks: u64,
     pub exchanged: bool,
-    pub end: PassEnd,
+    pub end: ChoreEnd,
 }
 
 /// What came of one step.

@@ -10,11 +10,11 @@ ghost use Rattle.ppm_step.specs.State.{is_work, seeks_holder};
 ghost use Rattle.ppm_step.specs.There.{restart_is_there};
 ghost use Rattle.ppm_table.specs.Run.{stands_by, deeds_in, IsAtCode, IsSeat};
 ghost use Rattle.ppm_stretch.specs.declared.way.Behind.TheVariants.{Installed};
-ghost use Rattle.ppm_stretch.specs.Passing.{FitsBehind, HasPassed, stands_behind};
+ghost use Rattle.ppm_stretch.specs.Chores.{FitsBehind, HasDoneChore, stands_behind};
 ghost use Rattle.ppm_stretch.specs.Steady.{Moves, Refuses};
 
 use crate::rows::{is_exchange, one_of};
-use crate::way::{Behind, Pass, PassEnd, Pause, RowStep};
+use crate::way::{Behind, Chore, ChoreEnd, Pause, RowStep};
 use atomic_table::Seat;
 use ppm_cells::{Restart, Shape};
 use ppm_code::Code;
@@ -152,10 +152,10 @@ fn step_in<W: Watch>(
 
 /// So many steps within a capsule, all of them work, and how it ended.
 #[inline(always)]
-fn passed(made: u64, exchanged: bool, end: PassEnd) -> Pass
+fn chore_with(made: u64, exchanged: bool, end: ChoreEnd) -> Chore
     ensures { result ≡ record { made = made; work = made; looks = 0; exchanged = exchanged; end = end } }
 {
-    Pass {
+    Chore {
         made,
         work: made,
         looks: 0,
@@ -175,7 +175,7 @@ pub(crate) fn along<W: Watch>(
     seat: &Place,
     row: Row,
     most: u64,
-) -> Pass
+) -> Chore
     requires table { IsAtCode mine.old.table_id words.now.shared.table_id words.now.shared.key shape.now code.now }
     requires seat { IsPlace shape.now seat.now }
     requires row { IsRow row }
@@ -184,30 +184,30 @@ pub(crate) fn along<W: Watch>(
     requires works { is_work seat.now.restart.kind ≡ true }
     ensures table { mine.new.table_id ≡ mine.old.table_id }
     ensures few { (result.made ≤ most) × (result.work ≡ result.made) × (result.looks ≡ 0) }
-    ensures passed { HasPassed W.told words.now.shared.key shape.now code.now seat.now mine.old.me mine.new.me watch.old watch.new most result }
+    ensures led { HasDoneChore W.told words.now.shared.key shape.now code.now seat.now mine.old.me mine.new.me watch.old watch.new most result }
 {
     let mut left = row;
     let mut made = 0;
     let mut exchanged = false;
     while made < most {
         if !is_free(shape, seat, &left) {
-            return passed(made, exchanged, PassEnd::Pauses(Pause::Left(left)));
+            return chore_with(made, exchanged, ChoreEnd::Pauses(Pause::Left(left)));
         }
         let step = step_in(words, shape, code, mine, watch, seat, &left);
         if !step.fine {
-            return passed(made, exchanged, PassEnd::Refused(true));
+            return chore_with(made, exchanged, ChoreEnd::Refused(true));
         }
         made += 1;
         exchanged = one_of(exchanged, step.exchanged);
         match step.behind {
             Behind::Left(next) => left = next,
             Behind::Installed(restart) => {
-                return passed(made, exchanged, PassEnd::Installed(restart));
+                return chore_with(made, exchanged, ChoreEnd::Installed(restart));
             }
             Behind::Moved(place) => {
-                return passed(made, exchanged, PassEnd::Pauses(Pause::Moved(place)));
+                return chore_with(made, exchanged, ChoreEnd::Pauses(Pause::Moved(place)));
             }
         }
     }
-    passed(made, exchanged, PassEnd::Pauses(Pause::Left(left)))
+    chore_with(made, exchanged, ChoreEnd::Pauses(Pause::Left(left)))
 }

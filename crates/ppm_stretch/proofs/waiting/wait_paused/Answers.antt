@@ -1,6 +1,6 @@
 use Rattle.std.proofs.Common.{◌∙◌, sym, subst}
 use Rattle.ppm_stretch.specs.declared.way.Pause.{Pause}
-use Rattle.ppm_stretch.specs.Passing.{PausesAt}
+use Rattle.ppm_stretch.specs.Chores.{PausesAt}
 use Rattle.ppm_stretch.proofs.waiting.wait_paused.Goals as goal
 
 pub stand_with-requires-clause-seat : goal.stand_with-requires-clause-seat

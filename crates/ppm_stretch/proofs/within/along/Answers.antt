@@ -1,10 +1,10 @@
 use Rattle.std.proofs.Common.{◌≡◌, ◌∙◌, ◌+◌, Bool, not, true, false, sym, refl, ap, subst, arith}
 use Rattle.ppm_step.specs.declared.row.Row.{Row}
 use Rattle.ppm_stretch.specs.declared.way.Behind.{Behind}
-use Rattle.ppm_stretch.specs.declared.way.PassEnd.TheVariants.{Installed, Pauses, Refused}
+use Rattle.ppm_stretch.specs.declared.way.ChoreEnd.TheVariants.{Installed, Pauses, Refused}
 use Rattle.ppm_stretch.specs.declared.way.Pause.TheVariants.{Left, Moved}
-use Rattle.ppm_stretch.specs.Passing.{FitsBehind, stands_behind}
-use Rattle.ppm_stretch.proofs.PassingLemmas.{moves_on, pass_few, passes_to, within_there}
+use Rattle.ppm_stretch.specs.Chores.{FitsBehind, stands_behind}
+use Rattle.ppm_stretch.proofs.ChoreLemmas.{moves_on, chore_few, chore_led_to, within_there}
 use Rattle.ppm_stretch.proofs.SteadyLemmas.{fine_is, fine_not, moves_none, refuses_both}
 use Rattle.ppm_stretch.proofs.within.along.Goals as goal
 
@@ -43,39 +43,39 @@ loop-made-preserved g c =
 
 pub returns-then-not-is_free-clause-few : goal.returns-then-not-is_free-clause-few
 returns-then-not-is_free-clause-few g c =
-    pass_few g.W.Watch.told c.loop-made.made c.loop-made.exchanged (Pauses (Left c.loop-made.left)) c.args.most c.passed.result c.passed.ensures c.loop-made.invariant.0
+    chore_few g.W.Watch.told c.loop-made.made c.loop-made.exchanged (Pauses (Left c.loop-made.left)) c.args.most c.chore_with.result c.chore_with.ensures c.loop-made.invariant.0
 
-pub returns-then-not-is_free-clause-passed : goal.returns-then-not-is_free-clause-passed
-returns-then-not-is_free-clause-passed g c =
+pub returns-then-not-is_free-clause-led : goal.returns-then-not-is_free-clause-led
+returns-then-not-is_free-clause-led g c =
     let i = c.loop-made.invariant in
-    passes_to g.W.Watch.told c.args.words.now.shared.key c.args.shape.now c.args.code.now c.args.seat.now c.args.mine.now.me c.loop-made.mine.me c.args.watch.now c.loop-made.watch
-    c.args.most c.loop-made.made c.loop-made.exchanged (Pauses (Left c.loop-made.left)) c.passed.result c.passed.ensures (i.3, (c.requires.seat, i.2, i.4))
+    chore_led_to g.W.Watch.told c.args.words.now.shared.key c.args.shape.now c.args.code.now c.args.seat.now c.args.mine.now.me c.loop-made.mine.me c.args.watch.now c.loop-made.watch
+    c.args.most c.loop-made.made c.loop-made.exchanged (Pauses (Left c.loop-made.left)) c.chore_with.result c.chore_with.ensures (i.3, (c.requires.seat, i.2, i.4))
 
 pub returns-then-not-step-clause-few : goal.returns-then-not-step-clause-few
 returns-then-not-step-clause-few g c =
-    pass_few g.W.Watch.told c.loop-made.made c.loop-made.exchanged (Refused true) c.args.most c.passed-then-not-step.result c.passed-then-not-step.ensures c.loop-made.invariant.0
+    chore_few g.W.Watch.told c.loop-made.made c.loop-made.exchanged (Refused true) c.args.most c.chore_with-then-not-step.result c.chore_with-then-not-step.ensures c.loop-made.invariant.0
 
-pub returns-then-not-step-clause-passed : goal.returns-then-not-step-clause-passed
-returns-then-not-step-clause-passed g c =
+pub returns-then-not-step-clause-led : goal.returns-then-not-step-clause-led
+returns-then-not-step-clause-led g c =
     let i = c.loop-made.invariant in
     let step = c.step_in-step in
-    passes_to g.W.Watch.told c.args.words.now.shared.key c.args.shape.now c.args.code.now c.args.seat.now c.args.mine.now.me step.new.mine.me c.args.watch.now step.new.watch
-    c.args.most c.loop-made.made c.loop-made.exchanged (Refused true) c.passed-then-not-step.result c.passed-then-not-step.ensures
+    chore_led_to g.W.Watch.told c.args.words.now.shared.key c.args.shape.now c.args.code.now c.args.seat.now c.args.mine.now.me step.new.mine.me c.args.watch.now step.new.watch
+    c.args.most c.loop-made.made c.loop-made.exchanged (Refused true) c.chore_with-then-not-step.result c.chore_with-then-not-step.ensures
     (refuses_both g.W.Watch.told c.args.words.now.shared.key c.args.seat.now.own c.args.mine.now.me c.loop-made.mine.me step.new.mine.me c.args.watch.now c.loop-made.watch step.new.watch
     c.loop-made.made c.loop-made.made 0 c.loop-made.exchanged true 1 c.args.most (omega (arith, c.loop-made-test.true)) i.3 (step.ensures.refuses (fine_not _ c.if-not-step.true)))
 
 pub returns-in-Installed-clause-few : goal.returns-in-Installed-clause-few
 returns-in-Installed-clause-few g c =
-    pass_few g.W.Watch.told (c.loop-made.made + 1) c.one_of-exchanged.result (Installed c.in-Installed.restart) c.args.most c.passed-in-Installed.result c.passed-in-Installed.ensures
+    chore_few g.W.Watch.told (c.loop-made.made + 1) c.one_of-exchanged.result (Installed c.in-Installed.restart) c.args.most c.chore_with-in-Installed.result c.chore_with-in-Installed.ensures
     (omega (arith, c.loop-made-test.true))
 
-pub returns-in-Installed-clause-passed : goal.returns-in-Installed-clause-passed
-returns-in-Installed-clause-passed g c =
+pub returns-in-Installed-clause-led : goal.returns-in-Installed-clause-led
+returns-in-Installed-clause-led g c =
     let k = c.args.words.now.shared.key in
     let i = c.loop-made.invariant in
     let step = c.step_in-step in
-    passes_to g.W.Watch.told k c.args.shape.now c.args.code.now c.args.seat.now c.args.mine.now.me step.new.mine.me c.args.watch.now step.new.watch
-    c.args.most (c.loop-made.made + 1) c.one_of-exchanged.result (Installed c.in-Installed.restart) c.passed-in-Installed.result c.passed-in-Installed.ensures (
+    chore_led_to g.W.Watch.told k c.args.shape.now c.args.code.now c.args.seat.now c.args.mine.now.me step.new.mine.me c.args.watch.now step.new.watch
+    c.args.most (c.loop-made.made + 1) c.one_of-exchanged.result (Installed c.in-Installed.restart) c.chore_with-in-Installed.result c.chore_with-in-Installed.ensures (
       omega arith,
       moves_on g.W.Watch.told k c.args.seat.now.own c.args.mine.now.me c.loop-made.mine.me step.new.mine.me c.args.watch.now c.loop-made.watch step.new.watch
           c.loop-made.made c.loop-made.exchanged step.result.exchanged c.one_of-exchanged.result c.one_of-exchanged.ensures i.3 (step.ensures.moves (fine_is _ c.if-not-step.false)),
@@ -88,16 +88,16 @@ returns-in-Installed-clause-passed g c =
 
 pub returns-in-Moved-clause-few : goal.returns-in-Moved-clause-few
 returns-in-Moved-clause-few g c =
-    pass_few g.W.Watch.told (c.loop-made.made + 1) c.one_of-exchanged.result (Pauses (Moved c.in-Moved.place)) c.args.most c.passed-in-Moved.result c.passed-in-Moved.ensures
+    chore_few g.W.Watch.told (c.loop-made.made + 1) c.one_of-exchanged.result (Pauses (Moved c.in-Moved.place)) c.args.most c.chore_with-in-Moved.result c.chore_with-in-Moved.ensures
     (omega (arith, c.loop-made-test.true))
 
-pub returns-in-Moved-clause-passed : goal.returns-in-Moved-clause-passed
-returns-in-Moved-clause-passed g c =
+pub returns-in-Moved-clause-led : goal.returns-in-Moved-clause-led
+returns-in-Moved-clause-led g c =
     let k = c.args.words.now.shared.key in
     let i = c.loop-made.invariant in
     let step = c.step_in-step in
-    passes_to g.W.Watch.told k c.args.shape.now c.args.code.now c.args.seat.now c.args.mine.now.me step.new.mine.me c.args.watch.now step.new.watch
-    c.args.most (c.loop-made.made + 1) c.one_of-exchanged.result (Pauses (Moved c.in-Moved.place)) c.passed-in-Moved.result c.passed-in-Moved.ensures (
+    chore_led_to g.W.Watch.told k c.args.shape.now c.args.code.now c.args.seat.now c.args.mine.now.me step.new.mine.me c.args.watch.now step.new.watch
+    c.args.most (c.loop-made.made + 1) c.one_of-exchanged.result (Pauses (Moved c.in-Moved.place)) c.chore_with-in-Moved.result c.chore_with-in-Moved.ensures (
       moves_on g.W.Watch.told k c.args.seat.now.own c.args.mine.now.me c.loop-made.mine.me step.new.mine.me c.args.watch.now c.loop-made.watch step.new.watch
           c.loop-made.made c.loop-made.exchanged step.result.exchanged c.one_of-exchanged.result c.one_of-exchanged.ensures i.3 (step.ensures.moves (fine_is _ c.if-not-step.false)),
       (
@@ -108,10 +108,10 @@ returns-in-Moved-clause-passed g c =
 
 pub returns-clause-few : goal.returns-clause-few
 returns-clause-few g c =
-    pass_few g.W.Watch.told c.loop-made.made c.loop-made.exchanged (Pauses (Left c.loop-made.left)) c.args.most c.passed-2.result c.passed-2.ensures c.loop-made.invariant.0
+    chore_few g.W.Watch.told c.loop-made.made c.loop-made.exchanged (Pauses (Left c.loop-made.left)) c.args.most c.chore_with-2.result c.chore_with-2.ensures c.loop-made.invariant.0
 
-pub returns-clause-passed : goal.returns-clause-passed
-returns-clause-passed g c =
+pub returns-clause-led : goal.returns-clause-led
+returns-clause-led g c =
     let i = c.loop-made.invariant in
-    passes_to g.W.Watch.told c.args.words.now.shared.key c.args.shape.now c.args.code.now c.args.seat.now c.args.mine.now.me c.loop-made.mine.me c.args.watch.now c.loop-made.watch
-    c.args.most c.loop-made.made c.loop-made.exchanged (Pauses (Left c.loop-made.left)) c.passed-2.result c.passed-2.ensures (i.3, (c.requires.seat, i.2, i.4))
+    chore_led_to g.W.Watch.told c.args.words.now.shared.key c.args.shape.now c.args.code.now c.args.seat.now c.args.mine.now.me c.loop-made.mine.me c.args.watch.now c.loop-made.watch
+    c.args.most c.loop-made.made c.loop-made.exchanged (Pauses (Left c.loop-made.left)) c.chore_with-2.result c.chore_with-2.ensures (i.3, (c.requires.seat, i.2, i.4))

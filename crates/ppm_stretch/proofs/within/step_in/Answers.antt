@@ -5,7 +5,7 @@ use Rattle.ppm_step.specs.Told.{place_of}
 use Rattle.ppm_table.specs.Run.{IsAsked, stands_by, deeds_in}
 use Rattle.ppm_table.proofs.StandLemmas.{stands_on}
 use Rattle.ppm_stretch.specs.Steady.{Goes}
-use Rattle.ppm_stretch.proofs.PassingLemmas.{asked_row, behind_lives, seeks_not, works_on}
+use Rattle.ppm_stretch.proofs.ChoreLemmas.{asked_row, behind_lives, seeks_not, works_on}
 use Rattle.ppm_stretch.proofs.SteadyLemmas.{goes_one, refuses_one}
 use Rattle.ppm_stretch.proofs.within.step_in.Goals as goal
 

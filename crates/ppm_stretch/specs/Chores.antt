@@ -11,11 +11,11 @@ use Rattle.ppm_table.specs.declared.view.Opening.{Opening}
 use Rattle.ppm_table.specs.Run.{stands_by, deeds_in, Mine}
 use Rattle.ppm_stretch.specs.declared.way.Behind.{Behind}
 use Rattle.ppm_stretch.specs.declared.way.Behind.TheVariants.{Left, Installed, Moved}
-use Rattle.ppm_stretch.specs.declared.way.Opened.{Opened}
-use Rattle.ppm_stretch.specs.declared.way.Opened.TheVariants as opened
-use Rattle.ppm_stretch.specs.declared.way.Pass.{Pass}
-use Rattle.ppm_stretch.specs.declared.way.PassEnd.{PassEnd}
-use Rattle.ppm_stretch.specs.declared.way.PassEnd.TheVariants as ends
+use Rattle.ppm_stretch.specs.declared.way.RowBegun.{RowBegun}
+use Rattle.ppm_stretch.specs.declared.way.RowBegun.TheVariants as rows
+use Rattle.ppm_stretch.specs.declared.way.Chore.{Chore}
+use Rattle.ppm_stretch.specs.declared.way.ChoreEnd.{ChoreEnd}
+use Rattle.ppm_stretch.specs.declared.way.ChoreEnd.TheVariants as ends
 use Rattle.ppm_stretch.specs.declared.way.Pause.{Pause}
 use Rattle.ppm_stretch.specs.declared.way.Pause.TheVariants as pauses
 use Rattle.ppm_stretch.specs.Steady.{Moves, Refuses}
@@ -41,22 +41,22 @@ PausesAt s code seat (pauses.Moved place) standing = (place < s.processors) × (
 
 module _ {W : Type 0} (told : W → Option (List Event)) where
   -- what came of the load of the finish word before a capsule of the scheduler
-  abbrev pub HasOpened : Opening → Shape → CodeParts → Seat → Mine → Mine → W → W → Opened → Type 0
-  HasOpened k s code seat me me' w w' opened.Over = Moves told k seat.own me me' w w' 1 0 1 false × (stands_by k seat.own (deeds_in me'.0) ≡ IsDone)
-  HasOpened k s code seat me me' w w' opened.Broken = Moves told k seat.own me me' w w' 1 0 1 false × (stands_by k seat.own (deeds_in me'.0) ≡ IsBroken seat.place)
-  HasOpened k s code seat me me' w w' (opened.Begun row) =
+  abbrev pub HasBegunRow : Opening → Shape → CodeParts → Seat → Mine → Mine → W → W → RowBegun → Type 0
+  HasBegunRow k s code seat me me' w w' rows.Over = Moves told k seat.own me me' w w' 1 0 1 false × (stands_by k seat.own (deeds_in me'.0) ≡ IsDone)
+  HasBegunRow k s code seat me me' w w' rows.Broken = Moves told k seat.own me me' w w' 1 0 1 false × (stands_by k seat.own (deeds_in me'.0) ≡ IsBroken seat.place)
+  HasBegunRow k s code seat me me' w w' (rows.Begun row) =
       Moves told k seat.own me me' w w' 1 0 1 false
       × (IsPlace s seat × IsRow row × (stands_by k seat.own (deeds_in me'.0) ≡ stands s code seat row))
-  HasOpened k s code seat me me' w w' (opened.Refused lives) = Refuses told k seat.own me me' w w' lives 1
+  HasBegunRow k s code seat me me' w w' (rows.Refused lives) = Refuses told k seat.own me me' w w' lives 1
 
   -- what came of its steps, at most so many: it has come to its end, by work, or stands there
-  abbrev pub PassesTo : Opening → Shape → CodeParts → Seat → Mine → Mine → W → W → (most made work looks : ℕ) → (exchanged : Bool) → PassEnd → Type 0
-  PassesTo k s code seat me me' w w' most made work looks exchanged (ends.Installed restart) =
+  abbrev pub ChoreLedTo : Opening → Shape → CodeParts → Seat → Mine → Mine → W → W → (most made work looks : ℕ) → (exchanged : Bool) → ChoreEnd → Type 0
+  ChoreLedTo k s code seat me me' w w' most made work looks exchanged (ends.Installed restart) =
       (0 < work) × Moves told k seat.own me me' w w' made work looks exchanged
       × ((looks ≡ 0) × IsRestart restart × (stands_by k seat.own (deeds_in me'.0) ≡ IsAt seat.place (Some restart)))
-  PassesTo k s code seat me me' w w' most made work looks exchanged (ends.Pauses pause) =
+  ChoreLedTo k s code seat me me' w w' most made work looks exchanged (ends.Pauses pause) =
       Moves told k seat.own me me' w w' made work looks exchanged × PausesAt s code seat pause (stands_by k seat.own (deeds_in me'.0))
-  PassesTo k s code seat me me' w w' most made work looks exchanged (ends.Refused lives) = Refuses told k seat.own me me' w w' lives most
+  ChoreLedTo k s code seat me me' w w' most made work looks exchanged (ends.Refused lives) = Refuses told k seat.own me me' w w' lives most
 
-  abbrev pub HasPassed : Opening → Shape → CodeParts → Seat → Mine → Mine → W → W → (most : ℕ) → Pass → Type 0
-  HasPassed k s code seat me me' w w' most pass = PassesTo k s code seat me me' w w' most pass.made pass.work pass.looks pass.exchanged pass.end
+  abbrev pub HasDoneChore : Opening → Shape → CodeParts → Seat → Mine → Mine → W → W → (most : ℕ) → Chore → Type 0
+  HasDoneChore k s code seat me me' w w' most chore = ChoreLedTo k s code seat me me' w w' most chore.made chore.work chore.looks chore.exchanged chore.end

@@ -22,10 +22,10 @@ use Rattle.ppm_table.specs.declared.view.Opening.{Opening}
 use Rattle.ppm_table.specs.Run.{IsAsked, Mine}
 use Rattle.ppm_stretch.specs.declared.way.Behind.{Behind}
 use Rattle.ppm_stretch.specs.declared.way.Behind.TheVariants.{Left, Installed, Moved}
-use Rattle.ppm_stretch.specs.declared.way.Pass.{Pass}
-use Rattle.ppm_stretch.specs.declared.way.PassEnd.{PassEnd}
-use Rattle.ppm_stretch.specs.Passing.{HasPassed, PassesTo, stands_behind}
-use Rattle.ppm_stretch.specs.declared.way.PassEnd.TheVariants.{Installed as Installs, Pauses, Refused}
+use Rattle.ppm_stretch.specs.declared.way.Chore.{Chore}
+use Rattle.ppm_stretch.specs.declared.way.ChoreEnd.{ChoreEnd}
+use Rattle.ppm_stretch.specs.Chores.{HasDoneChore, ChoreLedTo, stands_behind}
+use Rattle.ppm_stretch.specs.declared.way.ChoreEnd.TheVariants.{Installed as Installs, Pauses, Refused}
 use Rattle.ppm_stretch.specs.Steady.{Moves, looks_behind}
 use Rattle.ppm_words.specs.declared.event.Event.{Event}
 use Rattle.ppm_stretch.proofs.SteadyLemmas.{moves_both, refuses_both, running_lives}
@@ -166,19 +166,19 @@ module _ {W : Type 0} (told : W → Option (List Event)) where
       (moves_both told k own a b c w0 w1 w2 m 1 m 1 0 0 (m + 1) (m + 1) 0 p q refl refl refl f g)
 
   -- so many steps within a capsule, by their numbers
-  pub pass_few : (m : ℕ) (p : Bool) (end : PassEnd) (most : ℕ) (pass : Pass) → pass ≡ record { made = m; work = m; looks = 0; exchanged = p; end = end } → m ≤ most
-      → (pass.made ≤ most) × (pass.work ≡ pass.made) × (pass.looks ≡ 0)
-  pass_few m p end most pass is few = subst (λ (x : Pass). (x.made ≤ most) × (x.work ≡ x.made) × (x.looks ≡ 0)) (sym is) (few, refl, refl)
+  pub chore_few : (m : ℕ) (p : Bool) (end : ChoreEnd) (most : ℕ) (chore : Chore) → chore ≡ record { made = m; work = m; looks = 0; exchanged = p; end = end } → m ≤ most
+      → (chore.made ≤ most) × (chore.work ≡ chore.made) × (chore.looks ≡ 0)
+  chore_few m p end most chore is few = subst (λ (x : Chore). (x.made ≤ most) × (x.work ≡ x.made) × (x.looks ≡ 0)) (sym is) (few, refl, refl)
 
-  pub passes_to : (k : Opening) (s : Shape) (code : CodeParts) (seat : Seat) (a b : Mine) (w0 w1 : W) (most m : ℕ) (p : Bool) (end : PassEnd) (pass : Pass)
-      → pass ≡ record { made = m; work = m; looks = 0; exchanged = p; end = end } → PassesTo told k s code seat a b w0 w1 most m m 0 p end → HasPassed told k s code seat a b w0 w1 most pass
-  passes_to k s code seat a b w0 w1 most m p end pass is f = subst (λ (x : Pass). HasPassed told k s code seat a b w0 w1 most x) (sym is) f
+  pub chore_led_to : (k : Opening) (s : Shape) (code : CodeParts) (seat : Seat) (a b : Mine) (w0 w1 : W) (most m : ℕ) (p : Bool) (end : ChoreEnd) (chore : Chore)
+      → chore ≡ record { made = m; work = m; looks = 0; exchanged = p; end = end } → ChoreLedTo told k s code seat a b w0 w1 most m m 0 p end → HasDoneChore told k s code seat a b w0 w1 most chore
+  chore_led_to k s code seat a b w0 w1 most m p end chore is f = subst (λ (x : Chore). HasDoneChore told k s code seat a b w0 w1 most x) (sym is) f
 
   -- a capsule behind the load of the finish word
-  pub passes_behind : (k : Opening) (s : Shape) (code : CodeParts) (seat : Seat) (a b c : Mine) (w0 w1 w2 : W) (n most : ℕ) (on : Pass) → 1 + n ≤ most
-      → Moves told k seat.own a b w0 w1 1 0 1 false → HasPassed told k s code seat b c w1 w2 n on
-      → PassesTo told k s code seat a c w0 w2 most (on.made + 1) on.work (looks_behind 1 on.work on.looks) on.exchanged on.end
-  passes_behind k s code seat a b c w0 w1 w2 n most on within first then_on = by on.end then_on
+  pub chore_behind : (k : Opening) (s : Shape) (code : CodeParts) (seat : Seat) (a b c : Mine) (w0 w1 w2 : W) (n most : ℕ) (on : Chore) → 1 + n ≤ most
+      → Moves told k seat.own a b w0 w1 1 0 1 false → HasDoneChore told k s code seat b c w1 w2 n on
+      → ChoreLedTo told k s code seat a c w0 w2 most (on.made + 1) on.work (looks_behind 1 on.work on.looks) on.exchanged on.end
+  chore_behind k s code seat a b c w0 w1 w2 n most on within first then_on = by on.end then_on
     where
       more : Moves told k seat.own b c w1 w2 on.made on.work on.looks on.exchanged
           → Moves told k seat.own a c w0 w2 (on.made + 1) on.work (looks_behind 1 on.work on.looks) on.exchanged
@@ -186,8 +186,8 @@ module _ {W : Type 0} (told : W → Option (List Event)) where
           moves_both told k seat.own a b c w0 w1 w2 1 on.made 0 on.work 1 on.looks (on.made + 1) on.work (looks_behind 1 on.work on.looks) false on.exchanged
           (omega arith) (omega arith) refl first f
 
-      by : (end : PassEnd) → PassesTo told k s code seat b c w1 w2 n on.made on.work on.looks on.exchanged end
-          → PassesTo told k s code seat a c w0 w2 most (on.made + 1) on.work (looks_behind 1 on.work on.looks) on.exchanged end
+      by : (end : ChoreEnd) → ChoreLedTo told k s code seat b c w1 w2 n on.made on.work on.looks on.exchanged end
+          → ChoreLedTo told k s code seat a c w0 w2 most (on.made + 1) on.work (looks_behind 1 on.work on.looks) on.exchanged end
       by (Installs restart) h = (h.0, more h.1, (gone_looks on.work on.looks h.0 h.2.0, h.2.1, h.2.2))
       by (Pauses pause) h = (more h.0, h.1)
       by (Refused lives) h = refuses_both told k seat.own a b c w0 w1 w2 1 0 1 false lives n most within first h

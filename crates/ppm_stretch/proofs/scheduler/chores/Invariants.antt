@@ -3,7 +3,7 @@ use Rattle.ppm_cells.specs.Restart.{IsRestart}
 use Rattle.ppm_step.specs.Standings.{IsAt}
 use Rattle.ppm_table.specs.Run.{stands_by, deeds_in}
 use Rattle.ppm_stretch.specs.Steady.{Moves}
-use Rattle.ppm_stretch.proofs.passing.passes.Given as goal
+use Rattle.ppm_stretch.proofs.scheduler.chores.Given as goal
 
 abbrev pub invariant-loop-made : goal.invariant-loop-made
 invariant-loop-made g l = (l.made ≤ l.fn.most) × (l.work ≤ l.made) × (l.mine.table_id ≡ l.fn.mine.table_id)

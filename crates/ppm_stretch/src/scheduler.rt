@@ -6,14 +6,14 @@ ghost use Rattle.ppm_step.specs.Standings.{IsAt};
 ghost use Rattle.ppm_step.specs.State.{is_work};
 ghost use Rattle.ppm_table.specs.Run.{stands_by, deeds_in, IsAtCode, IsSeat};
 ghost use Rattle.ppm_stretch.specs.Entering.{StandsBefore};
-ghost use Rattle.ppm_stretch.specs.Passing.{HasOpened, HasPassed};
+ghost use Rattle.ppm_stretch.specs.Chores.{HasBegunRow, HasDoneChore};
 ghost use Rattle.ppm_stretch.specs.Rows.{Makes, Stops};
 
 use crate::entering::load_finish;
 use crate::refusing::withdraw;
 use crate::rows::{looks_behind, one_of};
 use crate::waiting::{wait_at, wait_paused};
-use crate::way::{Opened, Pass, PassEnd, Pause, REFUSED, Steps, row};
+use crate::way::{Chore, ChoreEnd, Pause, REFUSED, RowBegun, Steps, row};
 use crate::within::along;
 use atomic_table::Seat;
 use ppm_cells::{Restart, RestartKind, Shape};
@@ -24,7 +24,7 @@ use ppm_table::{View, Words};
 
 /// Whether a capsule is one of the scheduler, and its steps are work.
 #[inline(always)]
-pub(crate) fn is_passing(kind: RestartKind) -> bool
+pub(crate) fn is_chore(kind: RestartKind) -> bool
     ensures { result ≡ true → is_work kind ≡ true }
 {
     match kind {
@@ -47,14 +47,14 @@ pub(crate) fn is_passing(kind: RestartKind) -> bool
 
 /// Loads the finish word before a capsule of the scheduler, whose row begins where that is 0.
 #[inline(always)]
-fn open<W: Watch>(
+fn begin_row<W: Watch>(
     words: &Words,
     shape: &Shape,
     code: &Code,
     mine: &mut Seat<(), View>,
     watch: &mut W,
     seat: &Place,
-) -> Opened
+) -> RowBegun
     requires table { IsAtCode mine.old.table_id words.now.shared.table_id words.now.shared.key shape.now code.now }
     requires sits { IsSeat seat.now.own mine.old.me }
     requires own { seat.now.own < shape.now.processors }
@@ -63,28 +63,28 @@ fn open<W: Watch>(
     requires works { is_work seat.now.restart.kind ≡ true }
     requires stands { StandsBefore words.now.shared.key seat.now mine.old.me }
     ensures table { mine.new.table_id ≡ mine.old.table_id }
-    ensures opened { HasOpened W.told words.now.shared.key shape.now code.now seat.now mine.old.me mine.new.me watch.old watch.new result }
+    ensures begun { HasBegunRow W.told words.now.shared.key shape.now code.now seat.now mine.old.me mine.new.me watch.old watch.new result }
 {
     let finish = load_finish(words, shape, code, mine, watch, seat);
     if finish.word != 0 {
         return if finish.fine {
-            Opened::Over
+            RowBegun::Over
         } else {
-            Opened::Refused(false)
+            RowBegun::Refused(false)
         };
     }
     if !finish.fine {
-        return Opened::Refused(true);
+        return RowBegun::Refused(true);
     }
     if !restart_there(shape, seat.restart) {
-        return Opened::Broken;
+        return RowBegun::Broken;
     }
-    Opened::Begun(row_of(shape, seat))
+    RowBegun::Begun(row_of(shape, seat))
 }
 
 /// Goes through a capsule of the scheduler from its beginning, at most so many steps.
 #[inline(always)]
-fn pass<W: Watch>(
+fn chore<W: Watch>(
     words: &Words,
     shape: &Shape,
     code: &Code,
@@ -92,7 +92,7 @@ fn pass<W: Watch>(
     watch: &mut W,
     seat: &Place,
     most: u64,
-) -> Pass
+) -> Chore
     requires table { IsAtCode mine.old.table_id words.now.shared.table_id words.now.shared.key shape.now code.now }
     requires most { 1 ≤ most }
     requires sits { IsSeat seat.now.own mine.old.me }
@@ -103,12 +103,12 @@ fn pass<W: Watch>(
     requires stands { StandsBefore words.now.shared.key seat.now mine.old.me }
     ensures table { mine.new.table_id ≡ mine.old.table_id }
     ensures few { (result.made ≤ most) × (result.work ≤ result.made) × (result.looks ≤ result.made) }
-    ensures passed { HasPassed W.told words.now.shared.key shape.now code.now seat.now mine.old.me mine.new.me watch.old watch.new most result }
+    ensures led { HasDoneChore W.told words.now.shared.key shape.now code.now seat.now mine.old.me mine.new.me watch.old watch.new most result }
 {
-    match open(words, shape, code, mine, watch, seat) {
-        Opened::Begun(row) => {
+    match begin_row(words, shape, code, mine, watch, seat) {
+        RowBegun::Begun(row) => {
             let on = along(words, shape, code, mine, watch, seat, row, most - 1);
-            Pass {
+            Chore {
                 made: on.made + 1,
                 work: on.work,
                 looks: looks_behind(1, on.work, on.looks),
@@ -116,18 +116,18 @@ fn pass<W: Watch>(
                 end: on.end,
             }
         }
-        Opened::Over => looked(PassEnd::Pauses(Pause::Done)),
-        Opened::Broken => looked(PassEnd::Pauses(Pause::Broken)),
-        Opened::Refused(lives) => looked(PassEnd::Refused(lives)),
+        RowBegun::Over => looked(ChoreEnd::Pauses(Pause::Done)),
+        RowBegun::Broken => looked(ChoreEnd::Pauses(Pause::Broken)),
+        RowBegun::Refused(lives) => looked(ChoreEnd::Refused(lives)),
     }
 }
 
 /// One look, and what came of it.
 #[inline(always)]
-fn looked(end: PassEnd) -> Pass
+fn looked(end: ChoreEnd) -> Chore
     ensures { result ≡ record { made = 1; work = 0; looks = 1; exchanged = false; end = end } }
 {
-    Pass {
+    Chore {
         made: 1,
         work: 0,
         looks: 1,
@@ -139,7 +139,7 @@ fn looked(end: PassEnd) -> Pass
 /// Goes through capsules of the scheduler with which the place goes on, each from its beginning, at
 /// most so many steps.
 #[inline(never)]
-pub(crate) fn passes<W: Watch>(
+pub(crate) fn chores<W: Watch>(
     local: &mut Local,
     words: &Words,
     mine: &mut Seat<(), View>,
@@ -171,7 +171,7 @@ pub(crate) fn passes<W: Watch>(
     let mut work = 0;
     let mut exchanged = false;
     while made < most {
-        if !is_passing(at.kind) {
+        if !is_chore(at.kind) {
             wait_at(local, shape, code, place, at);
             return row(made, work, 0, exchanged);
         }
@@ -180,24 +180,24 @@ pub(crate) fn passes<W: Watch>(
             place,
             restart: at,
         };
-        let passage = pass(words, shape, code, mine, watch, &seat, most - made);
-        match passage.end {
-            PassEnd::Installed(next) => {
+        let gone = chore(words, shape, code, mine, watch, &seat, most - made);
+        match gone.end {
+            ChoreEnd::Installed(next) => {
                 at = next;
-                made += passage.made;
-                work += passage.work;
-                exchanged = one_of(exchanged, passage.exchanged);
+                made += gone.made;
+                work += gone.work;
+                exchanged = one_of(exchanged, gone.exchanged);
             }
-            PassEnd::Pauses(pause) => {
+            ChoreEnd::Pauses(pause) => {
                 wait_paused(local, shape, code, seat, pause);
                 return row(
-                    made + passage.made,
-                    work + passage.work,
-                    passage.looks,
-                    one_of(exchanged, passage.exchanged),
+                    made + gone.made,
+                    work + gone.work,
+                    gone.looks,
+                    one_of(exchanged, gone.exchanged),
                 );
             }
-            PassEnd::Refused(lives) => {
+            ChoreEnd::Refused(lives) => {
                 withdraw(local, words, mine, shape, code, lives);
                 return REFUSED;
             }
