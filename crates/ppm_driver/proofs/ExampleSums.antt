@@ -1,14 +1,13 @@
 -- What `self` answers: its program is that of the example, which ends in one way, with room and turns enough.
-use Rattle.std.proofs.Common.{◌≡◌, ◌≢◌, ◌≤◌, ◌<◌, ℕ, zero, suc, ◌+◌, ◌*◌, ◌-◌, ◌^◌, ℤ, pos, Bool, true, false, if◌then◌else◌, List, [], ◌∷◌, length, Option, Some, refl, sym, ap, ◌∙◌, subst, arith, codes}
+use Rattle.std.proofs.Common.{◌≡◌, ◌≤◌, ◌<◌, ℕ, zero, suc, ◌+◌, ◌*◌, ◌-◌, ◌^◌, ℤ, pos, Bool, true, false, if◌then◌else◌, List, [], ◌∷◌, length, Option, refl, ap, ◌∙◌, subst, arith}
 use Rattle.std.specs.Prelude.{slice_get, unwrap_or}
 use Rattle.std.specs.List.{list_any}
 use Rattle.ppm_words.specs.TwosComplement.{value_of}
 use Rattle.ppm_words.specs.declared.named_array.NamedArray.{NamedArray}
-use Rattle.ppm_words.specs.declared.outcome.Outcome.{Outcome}
 use Rattle.ppm_words.specs.declared.outcome.Outcome.TheVariants as outcome
 use Rattle.ppm_words.specs.declared.trap.Trap.{Trap}
 use Rattle.ppm_ports.specs.Outside.{ToldLists}
-use Rattle.ppm_plan.specs.Draws.{items_drawn, item_drawn, after_word, word_of, seeded}
+use Rattle.ppm_plan.specs.Draws.{items_drawn, after_word, seeded}
 use Rattle.ppm_plan.specs.Faults.{is_at}
 use Rattle.ppm_plan.specs.Sources.{value_at}
 use Rattle.ppm_plan.specs.declared.plan_item.PlanItem.{PlanItem}
@@ -22,10 +21,10 @@ use Rattle.ppm_answers.specs.declared.sums.Sums.{Sums}
 use Rattle.ppm_cli.specs.declared.example.SelfOptions.{SelfOptions}
 use Rattle.ppm_cli.specs.Words.{AreSelf}
 use Rattle.ppm_example.specs.Example.{example_tree, sum_drawn}
-use Rattle.ppm_example.specs.Correct.{IsSize, IsSummed, ExamplesArePrograms, ExamplesSum}
+use Rattle.ppm_example.specs.Correct.{IsSize, ExamplesArePrograms, ExamplesSum}
 use Rattle.ppm_example.specs.Correct as example
 use Rattle.ppm_driver.specs.Examples.{HasRun, SumsUp, ExampleMay, ExamplesSumUp, IsExampleEnd, AreForks, first_value, last_value, items_of, run_options_of, sums_drawn, text_of}
-use Rattle.ppm_driver.specs.Meant.{EndsAsProgram, HasOutcome, NeedsMoreRoom, NeedsMoreTurns, RunsAreAsPrograms, undone_in}
+use Rattle.ppm_driver.specs.Meant.{HasOutcome, RunsAreAsPrograms, undone_in}
 use Rattle.ppm_driver.specs.Runs.{plan_of, limits_of}
 use Rattle.ppm_driver.specs.Strikes.{fault_count}
 use Rattle.ppm_driver.proofs.ExampleLemmas.{example_are_run, kind}

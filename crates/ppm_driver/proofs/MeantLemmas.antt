@@ -42,7 +42,7 @@ use Rattle.ppm_cut_correct.specs.Correct.{EndAsMeant, EndsSerially}
 use Rattle.ppm_step.specs.Among.{IsTurnAmong}
 use Rattle.ppm_step.specs.Laws.{reached}
 use Rattle.ppm_step.specs.Standings.{Standing, IsLost, IsPlaced, IsAt, IsWithin as IsInRow, IsRunning, IsBroken, IsDone}
-use Rattle.ppm_step.specs.State.{State, stand_of, want_of, acts, happens, after, along, opening, work_of}
+use Rattle.ppm_step.specs.State.{State, stand_of, want_of, acts, happens, after, opening}
 use Rattle.ppm_step.specs.declared.turn.Act.{Act}
 use Rattle.ppm_step.specs.declared.turn.Turn.{Turn}
 use Rattle.ppm_step.proofs.WordLemmas.{length_stays}

@@ -258,9 +258,12 @@ module _ (law : RunsAreAsPrograms) (text : List ℕ) (t : ProgramTree) (has : Ha
         (λ processor x. ⊥) (λ x. x ≡ answers.Unfinished options.turns) m.shape m.array_lengths m.state.words (initial_arrays t) (finish_in m)
         (answers.EndedWith arrays tally) (no_other options.turns arrays tally) h.says in
         let e = ended_replay m.shape m.array_lengths m.state.words (initial_arrays t) options.turns (tally_of m) k.0 arrays tally k.2 in
-        let ends = (replay_is (answers.EndedWith arrays tally) h).ended (k.1 ∙ ap (λ (f : Finish). Some f) e.0) in (
+        let ends = (replay_is (answers.EndedWith arrays tally) h).ended (k.1 ∙ ap (λ (f : Finish). Some f) e.0) in
+        let counts =
+        tallied h.start (ap (λ (x : Situation). x.forks) h.opens.loads) (ap (λ (x : Situation). x.takes) h.opens.loads) ends.branches tally e.2 in (
           subst (λ (l : List NamedArray). EndsAsProgram h.start (turns_in h.start) t (outcome.Ended l)) (sym e.1) ends,
-          tallied h.start (ap (λ (x : Situation). x.forks) h.opens.loads) (ap (λ (x : Situation). x.takes) h.opens.loads) ends.branches tally e.2,
+          counts.0,
+          counts.1,
         )
 
     pub replay_traps : (trap : Trap) (line : ℕ) (tally : Tally) (h : HasReplay (answers.TrappedWith trap line tally))
@@ -271,10 +274,10 @@ module _ (law : RunsAreAsPrograms) (text : List ℕ) (t : ProgramTree) (has : Ha
         (λ processor x. ⊥) (λ x. x ≡ answers.Unfinished options.turns) m.shape m.array_lengths m.state.words (initial_arrays t) (finish_in m)
         (answers.TrappedWith trap line tally) (no_other_trap options.turns trap line tally) h.says in
         let e = trapped_replay m.shape m.array_lengths m.state.words (initial_arrays t) options.turns (tally_of m) k.0 trap line tally k.2 in
-        let ends = (replay_is (answers.TrappedWith trap line tally) h).trapped trap line (k.1 ∙ ap (λ (f : Finish). Some f) e.0) in (
-          ends,
-          tallied h.start (ap (λ (x : Situation). x.forks) h.opens.loads) (ap (λ (x : Situation). x.takes) h.opens.loads) ends.branches tally e.1,
-        )
+        let ends = (replay_is (answers.TrappedWith trap line tally) h).trapped trap line (k.1 ∙ ap (λ (f : Finish). Some f) e.0) in
+        let counts =
+        tallied h.start (ap (λ (x : Situation). x.forks) h.opens.loads) (ap (λ (x : Situation). x.takes) h.opens.loads) ends.branches tally e.1 in
+        (ends, counts.0, counts.1)
 
     pub replay_needs : (place : ℕ) (h : HasReplay (answers.OutOfRoom place)) → NeedsMoreRoom t options.room
     replay_needs place h =

@@ -81,11 +81,11 @@ module _ (laws : Laws) where
   -- and is not refused
   refused_none : (text : List ℕ) (z : SavedState) → IsTextOf text z → (error : SavedError) → IsRefusal text error → (error ≡ errors.NoMemory → ⊥) → ⊥
   refused_none text z is errors.NoMemory h other = other refl
-  refused_none text z is (errors.NoSuchForm line) h other = laws.faults.excludes text z.shape z.arrays z.code z.words fault.NoSuchForm line is.short is.saved h
-  refused_none text z is (errors.OutOfRange line) h other = laws.faults.excludes text z.shape z.arrays z.code z.words fault.OutOfRange line is.short is.saved h
-  refused_none text z is (errors.BadListing line) h other = laws.faults.excludes text z.shape z.arrays z.code z.words fault.BadListing line is.short is.saved h
-  refused_none text z is (errors.BadCode line) h other = laws.faults.excludes text z.shape z.arrays z.code z.words fault.BadCode line is.short is.saved h
-  refused_none text z is (errors.WrongCount line) h other = laws.faults.excludes text z.shape z.arrays z.code z.words fault.WrongCount line is.short is.saved h
+  refused_none text z is (errors.NoSuchForm line) h other = laws.faults.excludes text z.shape z.arrays z.code z.words fault.NoSuchForm line is.saved h
+  refused_none text z is (errors.OutOfRange line) h other = laws.faults.excludes text z.shape z.arrays z.code z.words fault.OutOfRange line is.saved h
+  refused_none text z is (errors.BadListing line) h other = laws.faults.excludes text z.shape z.arrays z.code z.words fault.BadListing line is.saved h
+  refused_none text z is (errors.BadCode line) h other = laws.faults.excludes text z.shape z.arrays z.code z.words fault.BadCode line is.saved h
+  refused_none text z is (errors.WrongCount line) h other = laws.faults.excludes text z.shape z.arrays z.code z.words fault.WrongCount line is.saved h
 
   module _ (options : ResumeOptions) (are : AreResumed options) (before now : ToldLists) (items : List PlanItem) (source : List ℕ) (z : SavedState) (left : IsLeftBy source z)
       (enough : IsEnough left.tree (faults_with left items) options.turns z.shape.room) where

@@ -1,5 +1,5 @@
 -- A run with turns and room enough ends as its program does.
-use Rattle.std.specs.Prelude.{◌≡◌, ◌≤◌, ℕ, ◌+◌, ◌*◌, List}
+use Rattle.std.specs.Prelude.{◌≤◌, ℕ, ◌+◌, ◌*◌, List}
 use Rattle.ppm_strands.specs.Run.{End as CapsuleEnd}
 use Rattle.ppm_ports.specs.Outside.{ToldLists}
 use Rattle.ppm_code.specs.Strands.{Result}

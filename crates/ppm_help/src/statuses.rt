@@ -71,8 +71,8 @@ fn meaning_of(status: Status) -> &'static str {
             "saved text refused by `resume`: the fault and its line (docs/SAVED.md)"
         }
         Status::Broken => {
-            "saved words broken: a processor can't go on with those it met at that place; with\n       \
-             `--takeover place` of `resume` alone"
+            "saved words broken: of `resume`, where a processor can't go on with those that it met\n       \
+             at that place"
         }
     }
 }

@@ -1,5 +1,5 @@
 -- What statuses say of a command that runs a program on a machine by a plan or a schedule: the sentences that these share.
-use Rattle.std.specs.Prelude.{◌⊎◌, ◌≡◌, ℕ, ◌<◌, List}
+use Rattle.std.specs.Prelude.{ℕ, List}
 use Rattle.ppm_ports.specs.Ports.{Gets}
 use Rattle.ppm_ports.specs.Outside.{Ports}
 use Rattle.ppm_text.specs.Limits.{text_limit}
@@ -7,9 +7,8 @@ use Rattle.ppm_plan.specs.Forms.{Form}
 use Rattle.ppm_answers.specs.declared.refusal.Refusal.{Refusal}
 use Rattle.ppm_answers.specs.declared.answer.Answer.{Answer}
 use Rattle.ppm_answers.specs.declared.answer.Answer.TheVariants as answers
-use Rattle.ppm_answers.specs.Texts.{plan_text, refusal_text, broken_text}
+use Rattle.ppm_answers.specs.Texts.{plan_text, refusal_text}
 use Rattle.ppm_answers.specs.Reading.{ReadHas}
-use Rattle.ppm_step.specs.Standings.{unknown_place}
 use Rattle.ppm_loading.specs.Planned.{IsRefusedBy, HasByItems}
 
 -- the plan is refused by a number, and err got exactly the line with the number
@@ -26,8 +25,3 @@ module _ {A : Type 0} (form : Form A) (plan : List ℕ) (processors : ℕ) (Has 
   -- the text that was read is refused, and err got exactly the refusal's text
   abbrev pub WritesRefusal : Type 0
   WritesRefusal = (r : Refusal) × HasRead (answers.SourceRefused r) × Gets o.err (refusal_text r)
-
-  -- the words are broken at one of the places or at one that isn't known, and err got exactly the line that says so
-  abbrev pub WritesBroken : Type 0
-  WritesBroken = (place : ℕ) × ((place < processors) ⊎ (place ≡ unknown_place)) × HasRead (answers.Broken place)
-      × Gets o.err (broken_text place)

@@ -12,6 +12,7 @@ use ppm_cut_code::{
 };
 use ppm_cut_correct::{end_as_meant, ends_serially, name_arrays, start_with_input};
 use ppm_cut_sound::{code_is_sound, may_be_stopped, store_tidily};
+use ppm_driver::examples_sum_up;
 use ppm_example::{examples_are_programs, examples_sum};
 use ppm_layout::image;
 use ppm_listing_reader::read_listing;
@@ -330,4 +331,5 @@ fn states_laws_of_the_compiler() {
 fn states_laws_of_the_example() {
     examples_are_programs();
     examples_sum();
+    examples_sum_up();
 }
