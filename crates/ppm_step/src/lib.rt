@@ -34,12 +34,10 @@ mod unwind;
 
 pub use ask::Want;
 pub use content::{Content, Reading};
-pub use found::{found_at, row_of};
 pub use frame::{Home, Put};
 pub use going::Going;
 pub use laws::{done_has_cause, finish_stays, records_lead, room_has_cause, turns_have_cause};
 pub use local::{Local, Stand};
-pub use rest::{begun, forked, reading_at, then_there, want_row};
 pub use row::{Point, Row, Seat, Then};
 pub use running::{Running, Stage};
 pub use stages::location_is_there;

@@ -116,7 +116,7 @@ impl Local {
 
     /// Stands with this left of its row.
     #[inline(always)]
-    pub fn stand_with(&mut self, shape: &Shape, code: &Code, seat: Seat, row: &Row)
+    pub(crate) fn stand_with(&mut self, shape: &Shape, code: &Code, seat: Seat, row: &Row)
         requires seat { IsSeat shape.now seat }
         requires own { seat.own ≡ self.old.own }
         requires carrier { self.old.own < shape.now.processors }

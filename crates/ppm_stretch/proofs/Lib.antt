@@ -11,5 +11,4 @@ mod RoundLemmas
 mod RowLemmas
 mod EndingLemmas
 mod AskingLemmas
-mod ChoreLemmas
 mod WaitingLemmas

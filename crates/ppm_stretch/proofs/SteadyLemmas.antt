@@ -1,5 +1,5 @@
 -- Steps in a row.
-use Rattle.std.proofs.Common.{◌≡◌, ◌≢◌, ℕ, zero, suc, ◌+◌, ◌==◌, ◌<◌, ◌≤◌, ◌&&◌, ◌||◌, not, Bool, Option, Some, ne_eqb, true, false, List, [], ◌∷◌, ◌++◌, length, sym, refl, ap, ◌∙◌, subst, arith, append_assoc, append-nil, if◌then◌else◌}
+use Rattle.std.proofs.Common.{◌≡◌, ◌≢◌, ℕ, zero, suc, ◌+◌, ◌==◌, ◌<◌, ◌≤◌, ◌&&◌, ◌||◌, Bool, Option, Some, ne_eqb, true, false, List, [], ◌∷◌, ◌++◌, length, sym, refl, ap, ◌∙◌, subst, arith, append_assoc, append-nil, if◌then◌else◌}
 use Rattle.ppm_cells.specs.declared.shape.Shape.{Shape}
 use Rattle.ppm_code.specs.declared.code.CodeParts.{CodeParts}
 use Rattle.ppm_step.specs.declared.ask.Want.{Want}
@@ -35,15 +35,6 @@ sits_more own me me' deed sits made =
 looked_one : (b : Bool) (before : ℕ) → (if b then 0 else before + 1) ≡ looks_behind before (if b then 1 else 0) (if b then 0 else 1)
 looked_one true before = refl
 looked_one false before = refl
-
--- where a watcher took what it was told, and where it did not
-pub fine_is : (b : Bool) → not b ≡ false → b ≡ true
-fine_is true e = refl
-fine_is false e = cc
-
-pub fine_not : (b : Bool) → not b ≡ true → b ≡ false
-fine_not true e = cc
-fine_not false e = refl
 
 none_more : (b : Bool) → (b || false) ≡ b
 none_more true = refl

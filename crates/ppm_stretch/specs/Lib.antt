@@ -3,4 +3,3 @@ pub mod Entering
 pub mod Rows
 pub mod Ending
 pub mod Asking
-pub mod Chores

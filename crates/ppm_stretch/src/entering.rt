@@ -4,8 +4,6 @@ ghost use Rattle.std.specs.Prelude.{◌≡◌, ◌≤◌, ◌<◌, slice_get, If
 ghost use Rattle.ppm_cells.specs.Cells.{word_count};
 ghost use Rattle.ppm_cells.specs.declared.restart.RestartKind.TheVariants.{Run};
 ghost use Rattle.ppm_step.specs.Locals.{IsHeaderOf};
-ghost use Rattle.ppm_step.specs.State.{before_kind};
-ghost use Rattle.ppm_step.specs.declared.turn.Next.TheVariants.{Look};
 ghost use Rattle.ppm_code.specs.declared.act.End.TheVariants.{Next};
 ghost use Rattle.ppm_step.specs.Facts.{IsHome, IsSeat as IsPlace};
 ghost use Rattle.ppm_step.specs.Frames.{Rest, ending};
@@ -26,7 +24,7 @@ use ppm_ports::Watch;
 use ppm_step::{Home, Running, Seat as Place, Stage, Want};
 use ppm_table::{Found, View, Words, tell};
 
-/// Loads the finish word before a capsule, where that is a look.
+/// Loads the finish word, before a capsule of a frame whose header is at this address.
 #[inline(always)]
 pub(crate) fn load_finish<W: Watch>(
     words: &Words,
@@ -35,11 +33,12 @@ pub(crate) fn load_finish<W: Watch>(
     mine: &mut Seat<(), View>,
     watch: &mut W,
     place: &Place,
+    header: u32,
 ) -> Found
     requires table { IsAtCode mine.old.table_id words.now.shared.table_id words.now.shared.key shape.now code.now }
     requires sits { IsSeat place.now.own mine.old.me }
     requires place { place.now.own < shape.now.processors }
-    requires looks { before_kind place.now.restart.kind ≡ Look }
+    requires header { IsHeaderOf shape.now place.now header }
     requires stands { StandsBefore words.now.shared.key place.now mine.old.me }
     ensures table { mine.new.table_id ≡ mine.old.table_id }
     ensures refused { result.fine ≡ false → KeepsList (W.told watch.old) (W.told watch.new) }
@@ -49,7 +48,7 @@ pub(crate) fn load_finish<W: Watch>(
     ensures stands { stands_by words.now.shared.key place.now.own (deeds_in mine.new.me.0)
         ≡ at_finish shape.now code.now place.now.own place.now.place (Some place.now.restart) result.word }
 {
-    let _ = shape.slots;
+    let _ = (shape.slots, header);
     let _ = code.parts().root;
     tell(words, shape, mine, watch, place.place, Want::Loads(0))
 }
@@ -191,7 +190,7 @@ pub(crate) fn begin<W: Watch>(
     ensures begun { HasBegun W.told words.now.shared.key shape.now code.now place.now frame copy mine.old.me mine.new.me watch.old watch.new result }
 {
     let _ = (frame, copy);
-    let finish = load_finish(words, shape, code, mine, watch, place);
+    let finish = load_finish(words, shape, code, mine, watch, place, header);
     if finish.word != 0 {
         return if finish.fine {
             Begun::Over

@@ -14,10 +14,8 @@ mod entering;
 mod frames;
 mod refusing;
 mod rows;
-mod scheduler;
 mod waiting;
 mod way;
-mod within;
 
 pub use rows::{is_due, steps};
 pub use way::Steps;

@@ -16,7 +16,6 @@ ghost use Rattle.ppm_stretch.specs.Steady.{Moves, Refuses, is_exchange, looks_be
 use crate::asking::fills;
 use crate::frames::{ends, rounds};
 use crate::refusing::give_way;
-use crate::scheduler::{chores, is_chore};
 use crate::way::{NONE, OneStep, REFUSED, Steps, row};
 use atomic_table::Seat;
 use ppm_cells::{RestartKind, Shape};
@@ -47,7 +46,7 @@ pub fn is_due(local: &Local) -> bool
 
 /// Whether a word step is a compare-and-modify.
 #[inline(always)]
-pub(crate) fn is_exchange(want: Want) -> bool
+fn is_exchange(want: Want) -> bool
     ensures { (found : ℕ) → result ≡ is_exchange (deed_by want found) }
 {
     match want {
@@ -125,9 +124,6 @@ fn frame_steps<W: Watch>(
         if let Some(restart) = restart {
             if is_of_frame(restart.kind) && most >= 2 {
                 return rounds(local, words, mine, watch, shape, code, place, restart, most);
-            }
-            if is_chore(restart.kind) {
-                return chores(local, words, mine, watch, shape, code, place, restart, most);
             }
         }
     }
@@ -327,7 +323,7 @@ pub(crate) fn steps_along<W: Watch>(
 
 /// Whether one of them holds.
 #[inline(always)]
-pub(crate) fn one_of(first: bool, second: bool) -> bool
+fn one_of(first: bool, second: bool) -> bool
     ensures { result ≡ (first || second) }
 {
     first || second
@@ -335,7 +331,7 @@ pub(crate) fn one_of(first: bool, second: bool) -> bool
 
 /// So many looks more, or the first since the last work.
 #[inline(always)]
-pub(crate) fn looks_behind(before: u64, work: u64, looks: u64) -> u64
+fn looks_behind(before: u64, work: u64, looks: u64) -> u64
     requires { before + looks < 2 ^ 64 }
     ensures { result ≡ looks_behind before work looks }
 {

@@ -11,11 +11,10 @@ ghost use Rattle.ppm_step.specs.Stages.{IsStage, rest_at};
 ghost use Rattle.std.specs.Prelude.{length};
 ghost use Rattle.ppm_step.specs.Standings.{IsBroken, Standing};
 ghost use Rattle.ppm_stretch.specs.Entering.{HaltsAt};
-ghost use Rattle.ppm_stretch.specs.Chores.{PausesAt};
 ghost use Rattle.ppm_stretch.specs.Rows.{stage_of};
 ghost use Rattle.ppm_stretch.specs.Steady.{HasReached};
 
-use crate::way::{Halt, Pause};
+use crate::way::Halt;
 use ppm_cells::{Restart, Shape};
 use ppm_code::{Code, End, Reached, Step};
 use ppm_step::{Home, Local, Running, Seat as Place, Stage, Stand, location_is_there};
@@ -212,27 +211,6 @@ pub(crate) fn wait_halted(
             wait_stopped(local, shape, code, seat, home, number, next, what);
         }
         Halt::Full(number) => wait_full(local, shape, code, seat, home, number),
-    }
-}
-
-/// Stands where a capsule of the scheduler has paused.
-#[inline(never)]
-pub(crate) fn wait_paused(local: &mut Local, shape: &Shape, code: &Code, seat: Place, pause: Pause)
-    requires own { seat.own ≡ local.old.own }
-    requires carrier { local.old.own < shape.now.processors }
-    requires place { seat.place < shape.now.processors }
-    requires pauses { (standing : Standing) × PausesAt shape.now code.now seat pause standing }
-    ensures stands { (standing : Standing) → PausesAt shape.now code.now seat pause standing
-        → standing_of shape.now code.now local.new ≡ standing }
-    ensures holds { IsLocal shape.now code.now local.new }
-    ensures own_stays { local.new.own ≡ local.old.own }
-{
-    let _ = (shape.slots, code.parts().root);
-    match pause {
-        Pause::Done => local.stand = Stand::Done,
-        Pause::Broken => wait_broken(local, shape, code, seat.place),
-        Pause::Left(row) => local.stand_with(shape, code, seat, &row),
-        Pause::Moved(place) => local.stand = Stand::Placed { place },
     }
 }
 

@@ -3,7 +3,6 @@ ghost use Rattle.std.specs.Prelude.{◌≡◌, false};
 
 use ppm_cells::Restart;
 use ppm_code::Reached;
-use ppm_step::Row;
 
 /// What came of the load of a location: it isn't there, the watcher refused, or the word that was
 /// found.
@@ -121,76 +120,6 @@ pub struct Circuit {
     pub made: u64,
     pub work: u64,
     pub end: RoundEnd,
-}
-
-/// What comes behind a word step of a row.
-#[derive(Clone, Copy, Debug, PartialEq, Eq)]
-pub enum Behind {
-    /// This is left of the row.
-    Left(Row),
-    /// The place goes on with this.
-    Installed(Restart),
-    /// The processor goes on with this place.
-    Moved(u32),
-}
-
-/// A word step of a row.
-#[derive(Clone, Copy, Debug, PartialEq, Eq)]
-pub struct RowStep {
-    /// The watcher took it.
-    pub fine: bool,
-    /// It was a compare-and-modify.
-    pub exchanged: bool,
-    /// What comes behind it.
-    pub behind: Behind,
-}
-
-/// What came of the beginning of a capsule of the scheduler.
-#[derive(Clone, Copy, Debug, PartialEq, Eq)]
-pub enum RowBegun {
-    /// The finish word was set: the processor is done.
-    Over,
-    /// Its restart word names what isn't there.
-    Broken,
-    /// This row begins.
-    Begun(Row),
-    /// The watcher refused; whether the processor is still to take a step.
-    Refused(bool),
-}
-
-/// Where a processor stands that does not go on behind a capsule of the scheduler.
-#[derive(Clone, Copy, Debug, PartialEq, Eq)]
-pub enum Pause {
-    /// It is done.
-    Done,
-    /// It has met broken words.
-    Broken,
-    /// This is left of its row.
-    Left(Row),
-    /// It goes on with this place.
-    Moved(u32),
-}
-
-/// How a capsule of the scheduler ended.
-#[derive(Clone, Copy, Debug, PartialEq, Eq)]
-pub enum ChoreEnd {
-    /// The place goes on with this.
-    Installed(Restart),
-    /// The processor stands there.
-    Pauses(Pause),
-    /// The watcher refused; whether the processor is still to take a step.
-    Refused(bool),
-}
-
-/// A capsule of the scheduler: so many steps, of which so many were work, the looks since the last
-/// of these, whether one was a compare-and-modify, and how it ended.
-#[derive(Clone, Copy, Debug, PartialEq, Eq)]
-pub struct Chore {
-    pub made: u64,
-    pub work: u64,
-    pub looks: u64,
-    pub exchanged: bool,
-    pub end: ChoreEnd,
 }
 
 /// What came of one step.
