@@ -1,23 +1,19 @@
 -- Where turns and room are enough for a program that left a state, no other answer of its text is left but that the resumed run ended.
-use Rattle.std.proofs.Common.{◌≡◌, ◌≤◌, ◌<◌, ℕ, suc, ◌+◌, ◌*◌, ◌^◌, List, [], ◌∷◌, length, inl, inr, refl, sym, ap, ◌∙◌, subst, arith}
-use Rattle.std.specs.Prelude.{nat_le}
+use Rattle.std.proofs.Common.{◌≡◌, ◌≤◌, ℕ, suc, ◌+◌, ◌*◌, ◌^◌, List, length, inl, inr, refl, sym, ap, ◌∙◌, subst, arith}
 use mathlib.Core.HLevel.{is_prop→PathP}
 use Rattle.std.specs.Coded.{le_prop}
-use Rattle.std.specs.List.{AllByRecursion, sum}
+use Rattle.std.specs.List.{sum}
 use Rattle.ppm_ports.specs.Outside.{ToldLists}
 use Rattle.ppm_cells.specs.Limits.{most_pool_words}
 use Rattle.ppm_words.specs.Limits.{word_limit}
 use Rattle.ppm_cells.specs.declared.shape.Shape.{Shape}
-use Rattle.ppm_tree.specs.Tree.{ProgramTree}
 use Rattle.ppm_tree.specs.Program.{initial_arrays}
 use Rattle.ppm_rows.specs.Correct.{TreesAreWithin}
-use Rattle.ppm_program.specs.Programs.{HasProgram}
 use Rattle.ppm_program.proofs.WithinLemmas.{tree_within}
 use Rattle.ppm_cut_correct.specs.Beginning.{StartWithInput}
 use Rattle.ppm_cut_correct.specs.Correct.{EndAsMeant}
 use Rattle.ppm_step.specs.State.{State, along, opening}
 use Rattle.ppm_paces.specs.Paces.{strikes_of}
-use Rattle.ppm_core.specs.Situation.{Situation}
 use Rattle.ppm_plan.specs.declared.plan_item.PlanItem.{PlanItem}
 use Rattle.ppm_plan.specs.Correct.{HaveOneAnswer as PlansHaveOneAnswer}
 use Rattle.ppm_plan.specs.Forms.{plan_form}
@@ -25,8 +21,7 @@ use Rattle.ppm_plan.specs.Refusals.{IsAccepted}
 use Rattle.ppm_saved.specs.Correct.{SavedTextsTellStates}
 use Rattle.ppm_saved.specs.Names.{lengths_of}
 use Rattle.ppm_saved.specs.declared.names.NamedLength.{NamedLength}
-use Rattle.ppm_saved_reader.specs.Correct.{IsRefusal, IsWrongAt, IsSavedText, FaultsTellSavedTexts}
-use Rattle.ppm_saved_reader.specs.declared.saved_error.Fault.{Fault}
+use Rattle.ppm_saved_reader.specs.Correct.{IsRefusal, FaultsTellSavedTexts}
 use Rattle.ppm_saved_reader.specs.declared.saved_error.Fault.TheVariants as fault
 use Rattle.ppm_saved_reader.specs.declared.saved_error.SavedError.{SavedError}
 use Rattle.ppm_saved_reader.specs.declared.saved_error.SavedError.TheVariants as errors
@@ -36,10 +31,9 @@ use Rattle.ppm_cli.specs.declared.resume.ResumeOptions.{ResumeOptions}
 use Rattle.ppm_cli.specs.Words.{AreResumed}
 use Rattle.ppm_driver.specs.Completeness.{IsEnough, IsEnd}
 use Rattle.ppm_driver.specs.Legs.{struck_in_all, worked_in_all, RunsInLegsAreAsPrograms}
-use Rattle.ppm_driver.specs.Meant.{NeedsMoreRoom, NeedsMoreTurns, struck_in}
+use Rattle.ppm_driver.specs.Meant.{NeedsMoreRoom, struck_in}
 use Rattle.ppm_driver.specs.ResumeCompleteness.{faults_with, ResumesComplete}
-use Rattle.ppm_driver.specs.Resumes.{SavedState, saved_finish, IsTextOf, GoesOnFrom, limits_of, plan_of, ResumedHas, ItemsHave, StateHas, TextHas, IsLeftBy, LeftWordsComeBack, legs_with}
-use Rattle.ppm_driver.specs.Strikes.{fault_count}
+use Rattle.ppm_driver.specs.Resumes.{SavedState, IsTextOf, limits_of, plan_of, ResumedHas, ItemsHave, StateHas, TextHas, IsLeftBy, LeftWordsComeBack, legs_with}
 use Rattle.ppm_driver.proofs.CompleteLemmas.{not_few}
 use Rattle.ppm_driver.proofs.OfResume.{shape_is, code_is, state_is, is_program, among, resumed_needs, resumed_needs_turns, resumed_breaks, left_stands}
 use Rattle.ppm_driver.proofs.ResumeLemmas.{spent_has, has_kind}

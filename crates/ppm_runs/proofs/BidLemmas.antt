@@ -1,6 +1,6 @@
 -- What rows do to the words that say who holds a place and who is dead: a bid of Take changes a holder word, and no row does anything else.
-use Rattle.std.proofs.Common.{◌≡◌, ◌≢◌, ◌<◌, ◌+◌, ℕ, zero, suc, ◌==◌, Bool, true, false, if◌then◌else◌, List, [], ◌∷◌, ◌⊎◌, inl, inr, refl, sym, ap, ◌∙◌, subst, arith}
-use Rattle.std.specs.Prelude.{nat_lt, ◌^◌}
+use Rattle.std.proofs.Common.{◌≡◌, ◌<◌, ◌+◌, ℕ, zero, suc, ◌==◌, Bool, true, false, if◌then◌else◌, List, [], ◌∷◌, ◌⊎◌, inl, inr, refl, sym, ap, subst, arith}
+use Rattle.std.specs.Prelude.{nat_lt}
 use Rattle.std.proofs.lemmas.Bool.{eqb-true, ltb-true}
 use Rattle.ppm_cells.specs.Holder.{IsHolder}
 use Rattle.ppm_cells.specs.declared.cell.Cell.{Cell}
@@ -12,20 +12,19 @@ use Rattle.ppm_cells.specs.declared.shape.Shape.{Shape}
 use Rattle.ppm_cells.specs.declared.shape.Takeover.{Takeover}
 use Rattle.ppm_cells.specs.declared.shape.Takeover.TheVariants.{ByPlaces, ByEntries}
 use Rattle.ppm_code.specs.declared.code.CodeParts.{CodeParts}
-use Rattle.ppm_step.specs.Rows.{push_at, by_places, row_of, with_kind, lowered, makes_bid}
+use Rattle.ppm_step.specs.Rows.{push_at, by_places, row_of, with_kind, lowered}
 use Rattle.ppm_step.specs.There.{bottom_is_there, kind_is_there, restart_is_there}
 use Rattle.ppm_step.specs.declared.content.Content.{Content}
-use Rattle.ppm_step.specs.declared.content.Content.TheVariants.{AHolder}
 use Rattle.ppm_step.specs.declared.row.Point.TheVariants.{BidMessage, BidAgain}
 use Rattle.ppm_step.specs.declared.row.Row.{Row}
 use Rattle.ppm_step.specs.declared.row.Row.TheVariants.{Now, Store, Exchange}
 use Rattle.ppm_step.specs.declared.row.Seat.{Seat}
 use Rattle.ppm_step.specs.declared.row.Then.TheVariants.{Load, Install, Broken}
-use Rattle.ppm_tickets.specs.Saw.{rest_of, Saw, AreFit, HasSeen, Strand, Looks, IsStrand, IsQuiet, IsQuietCell, Sits}
-use Rattle.ppm_tickets.specs.View.{content_by, with_restarts}
+use Rattle.ppm_tickets.specs.Saw.{rest_of, Saw, AreFit, HasSeen, Strand, Looks, IsQuiet, IsQuietCell}
+use Rattle.ppm_tickets.specs.View.{with_restarts}
 use Rattle.ppm_tickets.specs.Words.{Word, Empty, Local, Job, Taken, Held, Number, Linked, Restarts, Unread, Spot, Bid}
 use Rattle.ppm_runs.specs.Sound.{RaisesHolder}
-use Rattle.ppm_runs.proofs.SoundRows.{and_left, and_right}
+use Rattle.ppm_runs.proofs.SoundRows.{and_right}
 use Rattle.ppm_runs.proofs.TameLemmas.{May, TameRow, rest_tame}
 
 -- all is allowed but bids

@@ -54,7 +54,6 @@ module _ (m n : Spot → Word) (c : ℕ) (here : one_dead (n (Dead c)) ≡ 1) (w
   holder_dies s raised lt (Restarts x y) a = absurd a
   holder_dies s raised lt Unread a = absurd a
 
-
 -- no more are dead than there are
 one_at_most : (w : Word) → one_dead w ≤ 1
 one_at_most (Number zero) = omega arith

@@ -1,8 +1,6 @@
 -- What is sound is so again where words come back; so nothing breaks over legs, while their work turns are few.
-use Rattle.std.proofs.Common.{◌≡◌, ◌≢◌, ◌⊎◌, ◌≤◌, ◌<◌, ℕ, zero, suc, ◌+◌, ◌*◌, ◌^◌, Bool, true, false, if◌then◌else◌, List, [], ◌∷◌, ◌++◌, length, Some, inl, inr, refl, sym, ap, ◌∙◌, subst, arith}
+use Rattle.std.proofs.Common.{◌≡◌, ◌≤◌, ◌<◌, ℕ, ◌+◌, ◌*◌, ◌^◌, Bool, true, false, if◌then◌else◌, List, [], ◌∷◌, ◌++◌, length, Some, inl, inr, refl, sym, ap, ◌∙◌, subst, arith}
 use Rattle.std.specs.List.{AllByRecursion}
-use Rattle.std.specs.Prelude.{nat_lt}
-use Rattle.std.proofs.Math.Path.{fun_ext}
 use Rattle.std.proofs.lemmas.List.{length-append}
 use Rattle.std.proofs.lemmas.Nat.{mul-le}
 use Rattle.ppm_strands.specs.Tree.{Words, Tree}
@@ -39,7 +37,7 @@ use Rattle.ppm_step.specs.declared.turn.Why.{Why}
 use Rattle.ppm_step.specs.declared.turn.Why.TheVariants.{Turns, Watch}
 use Rattle.ppm_step.proofs.QuitLemmas.{finish_has_cause}
 use Rattle.ppm_tickets.specs.Along.{homes, forked as forked_in, taken as taken_in, by_act}
-use Rattle.ppm_tickets.specs.Homes.{Home, Unborn}
+use Rattle.ppm_tickets.specs.Homes.{Home}
 use Rattle.ppm_tickets.specs.Renewal.{IsRenewal}
 use Rattle.ppm_tickets.specs.View.{word_as, cell_of, reading_of, is_shown, absent, view, kinds}
 use Rattle.ppm_tickets.specs.Words.{Word, Empty, Local, Job, Taken, Held, Number, Linked, Restarts, Unread, Spot, Message, Bid, Slot, Holder}
@@ -54,7 +52,7 @@ use Rattle.ppm_kept.proofs.BlockLemmas.{finish_back}
 use Rattle.ppm_runs.specs.Deques.{one_if, raised_by}
 use Rattle.ppm_runs.specs.Legs.{Leg, GoOn, words_then, state_then, AreLegs, homes_then, forked_then, taken_then, work_then, last_state, all_homes, all_forked, all_taken, all_work}
 use Rattle.ppm_runs.specs.Run.{image, IsRun}
-use Rattle.ppm_runs.specs.Sound.{Noted, IsSoundAt, IsRestartThere, IsHolderWithin, IsHolderSound, IsTagLow, IsNoBreak, SaysNoBreak, IsSound}
+use Rattle.ppm_runs.specs.Sound.{Noted, IsSoundAt, IsRestartThere, IsHolderWithin, IsTagLow, IsNoBreak, SaysNoBreak, IsSound}
 use Rattle.ppm_runs.specs.Unbroken.{IsWhole}
 use Rattle.ppm_runs.specs.UnbrokenLegs.{NothingBreaksOverLegs, FinishStandsOverLegs}
 use Rattle.ppm_runs.specs.Well.{IsWell}

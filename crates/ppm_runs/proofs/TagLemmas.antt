@@ -1,20 +1,17 @@
 -- Tags of holders stay low, in each state of a run: a bid is for the place of a processor that is dead, so a tag is at most the number of the
 -- dead, and what it was when fresh processors came. This rests on no bound of the work.
-use Rattle.std.proofs.Common.{◌≡◌, ◌≢◌, ◌⊎◌, ◌≤◌, ◌<◌, ℕ, zero, suc, ◌+◌, ◌*◌, ◌==◌, Bool, true, false, if◌then◌else◌, List, [], ◌∷◌, ◌++◌, length, Option, Some, None, inl, inr, refl, sym, ap, ◌∙◌, subst, arith, slice_set}
+use Rattle.std.proofs.Common.{◌≡◌, ◌≢◌, ◌≤◌, ◌<◌, ℕ, zero, suc, ◌+◌, ◌*◌, ◌==◌, Bool, true, false, if◌then◌else◌, List, [], ◌∷◌, ◌++◌, length, Option, Some, None, inl, inr, refl, sym, ap, ◌∙◌, subst, arith}
 use Rattle.std.specs.List.{AllByRecursion}
-use Rattle.std.specs.Prelude.{nat_lt, slice_index, ◌^◌}
-use Rattle.std.proofs.lemmas.Bool.{cases_eq, lt-ltb, ltb-true, eqb-true}
+use Rattle.std.proofs.lemmas.Bool.{cases_eq, lt-ltb, eqb-true}
 use Rattle.ppm_strands.specs.Tree.{Words, Tree}
 use Rattle.ppm_strands.specs.Calm.{Calm}
 use Rattle.ppm_words.specs.declared.named_array.NamedArray.{NamedArray}
 use Rattle.ppm_cells.specs.Cells.{IsCell, address}
-use Rattle.ppm_cells.specs.Finish.{finish_word}
 use Rattle.ppm_cells.specs.Holder.{holder_of}
 use Rattle.ppm_cells.specs.Memory.{read, write as store}
 use Rattle.ppm_cells.specs.Restart.{restart_word}
 use Rattle.ppm_cells.specs.declared.cell.Cell.{Cell}
 use Rattle.ppm_cells.specs.declared.cell.Cell.TheVariants as cells
-use Rattle.ppm_cells.specs.declared.finish.Finish.{Finish}
 use Rattle.ppm_cells.specs.declared.holder.Holder.{Holder as AHold}
 use Rattle.ppm_cells.specs.declared.restart.Restart.{Restart}
 use Rattle.ppm_cells.specs.declared.restart.RestartKind.TheVariants.{Take}
@@ -32,8 +29,7 @@ use Rattle.ppm_step.specs.Among.{IsTurnAmong}
 use Rattle.ppm_step.specs.Contents.{content_of, word_of, read_so}
 use Rattle.ppm_step.specs.Frames.{Rest, Loads, Stores, Full, Installs, Breaks}
 use Rattle.ppm_step.specs.Standings.{Standing, IsLost, IsPlaced, IsAt, IsWithin, IsRunning, IsBroken, IsDone, forked as forked_by, begun, wanted_row, wanted_rest}
-use Rattle.ppm_step.specs.State.{State as RunState, stand_of, words_after, want_of, happens, acts, after, opening, quit_with, forks_of, takes_of}
-use Rattle.ppm_step.specs.There.{is_there}
+use Rattle.ppm_step.specs.State.{State as RunState, stand_of, words_after, happens, acts, after, forks_of, takes_of}
 use Rattle.ppm_step.specs.declared.ask.Want.TheVariants.{Exchanges}
 use Rattle.ppm_step.specs.declared.content.Content.{Content}
 use Rattle.ppm_step.specs.declared.content.Content.TheVariants.{AHolder}
@@ -41,22 +37,21 @@ use Rattle.ppm_step.specs.declared.content.Reading.TheVariants.{AsHolder}
 use Rattle.ppm_step.specs.declared.row.Row.{Row}
 use Rattle.ppm_step.specs.declared.row.Row.TheVariants.{Now, Store, Exchange}
 use Rattle.ppm_step.specs.declared.row.Seat.{Seat}
-use Rattle.ppm_step.specs.declared.row.Then.{Then}
 use Rattle.ppm_step.specs.declared.row.Then.TheVariants.{Load, Install, Fork, Begin, Move, Enter, Again, Broken}
 use Rattle.ppm_step.specs.declared.turn.Act.{Act}
 use Rattle.ppm_step.specs.declared.turn.Act.TheVariants.{Step, Soft, Hard, Quit}
 use Rattle.ppm_step.specs.declared.turn.Turn.{Turn}
-use Rattle.ppm_tickets.specs.Along.{IsPooled, by_act}
+use Rattle.ppm_tickets.specs.Along.{by_act}
 use Rattle.ppm_tickets.specs.Entries.{IsPooledAt}
 use Rattle.ppm_tickets.specs.Homes.{Home}
 use Rattle.ppm_tickets.specs.Lawful.{IsDead, Dooms, tag}
 use Rattle.ppm_tickets.specs.Renewal.{IsLawful, IsRenewal}
-use Rattle.ppm_tickets.specs.Saw.{IsQuietCell, IsModest, Sees, Sits}
-use Rattle.ppm_tickets.specs.View.{word_as, cell_of, view, kinds, bottoms, absent}
+use Rattle.ppm_tickets.specs.Saw.{IsQuietCell, Sees, Sits}
+use Rattle.ppm_tickets.specs.View.{word_as, cell_of, view, kinds, bottoms}
 use Rattle.ppm_tickets.specs.Words as words
 use Rattle.ppm_tickets.specs.Words.{Word, Held, Number, Spot, Holder, Dead}
 use Rattle.ppm_tickets.proofs.EntryLemmas.{cell_there}
-use Rattle.ppm_tickets.proofs.ViewLemmas.{shows, view_here, view_else, again, if_true}
+use Rattle.ppm_tickets.proofs.ViewLemmas.{shows, view_here, view_else, again}
 use Rattle.ppm_frames.specs.Seen.{arrays_at}
 use Rattle.ppm_frames.specs.Skeletons.{Skeleton}
 use Rattle.ppm_frames.specs.Views as frames
@@ -64,7 +59,7 @@ use Rattle.ppm_kept.specs.Running.{IsFair, strands}
 use Rattle.ppm_kept.specs.Steps.{tree_after}
 use Rattle.ppm_runs.specs.Legs.{Leg, words_then, state_then, AreLegs, homes_then, forked_then, taken_then, last_state}
 use Rattle.ppm_runs.specs.Run.{image, IsRun}
-use Rattle.ppm_runs.specs.Sound.{RaisesHolder, one_dead, deads, IsHolderWithin}
+use Rattle.ppm_runs.specs.Sound.{RaisesHolder, one_dead, IsHolderWithin}
 use Rattle.ppm_runs.specs.Tags.{TagsStayLow}
 use Rattle.ppm_runs.proofs.BidLemmas.{Bids, Leaves, row_bids}
 use Rattle.ppm_runs.proofs.HolderLemmas.{holder_same, holder_dies, deads_most}

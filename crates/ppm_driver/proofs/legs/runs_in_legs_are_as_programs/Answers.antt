@@ -5,27 +5,27 @@ use Rattle.ppm_driver.proofs.legs.runs_in_legs_are_as_programs.Goals as goal
 pub returns : goal.returns
 returns c =
     let laws : Laws = record {
-    base = record {
-      within = c.trees_are_within.ensures.law;
-      rules = c.keeps_the_rules.ensures.law;
-      sound = c.code_is_sound.ensures.law;
-      starts = c.start_with_input.ensures.law;
-      names = c.name_arrays.ensures.law;
-      serially = c.ends_serially.ensures.law;
-      meant = c.end_as_meant.ensures.law;
-      shown = c.images_begin_the_depth_first_run.ensures.shown;
-      runs = c.runs_end_so.ensures.ends;
-      once = c.runs_end_so.ensures.once;
-      room = c.room_is_spent.ensures.so;
-      work = c.work_is_bounded.ensures.within;
-      whole = c.nothing_breaks.ensures.law;
-    };
-    legs = c.legs_come_to.ensures.law;
-    once = c.legs_come_to.ensures.once;
-    room = c.room_over_legs.ensures.law;
-    work = c.work_over_legs.ensures.within;
-    whole = c.nothing_breaks_over_legs.ensures.law;
-    stands = c.nothing_breaks_over_legs.ensures.stands;
-    tags = c.tags_stay_low.ensures.law;
-  } in
+      base = record {
+        within = c.trees_are_within.ensures.law;
+        rules = c.keeps_the_rules.ensures.law;
+        sound = c.code_is_sound.ensures.law;
+        starts = c.start_with_input.ensures.law;
+        names = c.name_arrays.ensures.law;
+        serially = c.ends_serially.ensures.law;
+        meant = c.end_as_meant.ensures.law;
+        shown = c.images_begin_the_depth_first_run.ensures.shown;
+        runs = c.runs_end_so.ensures.ends;
+        once = c.runs_end_so.ensures.once;
+        room = c.room_is_spent.ensures.so;
+        work = c.work_is_bounded.ensures.within;
+        whole = c.nothing_breaks.ensures.law;
+      };
+      legs = c.legs_come_to.ensures.law;
+      once = c.legs_come_to.ensures.once;
+      room = c.room_over_legs.ensures.law;
+      work = c.work_over_legs.ensures.within;
+      whole = c.nothing_breaks_over_legs.ensures.law;
+      stands = c.nothing_breaks_over_legs.ensures.stands;
+      tags = c.tags_stay_low.ensures.law;
+    } in
     record { law = runs_in_legs_are_as_programs laws; tags = tags_may_rise laws }
