@@ -42,7 +42,7 @@ use Rattle.ppm_loading.specs.Loading.{Opens}
 use Rattle.ppm_loading.specs.Says.{arrays_from}
 use Rattle.ppm_loading.proofs.ArrayLemmas.{same_arrays}
 use Rattle.ppm_driver.specs.Legs.{words_at_last, struck_in_all, EachIsTakenOnceInAll, EndsAsProgramInAll, IsAsProgramInAll, RunsInLegsAreAsPrograms, TagsMayRiseInLegs}
-use Rattle.ppm_driver.specs.Meant.{HasOutcome, NeedsMoreRoom, NeedsMoreTurns}
+use Rattle.ppm_driver.specs.Meant.{HasOutcome, EndsDepthFirst, NeedsMoreRoom, NeedsMoreTurns}
 use Rattle.ppm_driver.proofs.EndLemmas.{words_opened}
 use Rattle.ppm_driver.proofs.MeantLemmas as meant
 use Rattle.ppm_driver.proofs.MeantLemmas.{run_length, ends_as, ended_said, trapped_said}
@@ -117,6 +117,15 @@ module _ (laws : Laws) (text : List ℕ) (t : ProgramTree) (has : HasProgram tex
           (laws.base.serially t (meant.inside laws.base text t has) has.admitted.admitted has.bounded).serially h.answer.end
           (ends_as (meant.shown laws.base text t has sizes keeper m b).strands (meant.shown laws.base text t has sizes keeper m b).root (meant.shown laws.base text t has sizes keeper m b).arrays h.answer.end h.answer.ends)
 
+      depth_first_then : (tree : Skeleton) (v : Finish) (h : Well tree v) (o : Outcome) → said_of input h.answer.end.words h.answer.end.outcome ≡ o
+          → EndsDepthFirst t o
+      depth_first_then tree v h o said =
+          let shown = meant.shown laws.base text t has sizes keeper m b in (
+            h.answer.end,
+            ends_as shown.strands shown.root shown.arrays h.answer.end h.answer.ends,
+            said,
+          )
+
       none_twice : AreOnce forks takes
       none_twice = laws.once code input s keeper b.image (b.sized.takeover ∙ places) (meant.fair laws.base text t has) (meant.opened laws.base text t has sizes keeper m b) (meant.calm laws.base text t has sizes keeper m b) legs are turns among
 
@@ -181,6 +190,7 @@ module _ (laws : Laws) (text : List ℕ) (t : ProgramTree) (has : HasProgram tex
               ∙ ap (λ (l : List NamedArray). outcome.Ended l) (sym (arrays_then r.0 finishes.Ended r.1)) in
               record {
                 serially = subst (λ (o : Outcome). HasOutcome t o) said (outcome_then r.0 finishes.Ended r.1);
+                depth_first = depth_first_then r.0 finishes.Ended r.1 _ said;
                 branches = each r.0 finishes.Ended r.1;
                 forks = as_many finishes.Ended says tt;
               }
@@ -188,10 +198,10 @@ module _ (laws : Laws) (text : List ℕ) (t : ProgramTree) (has : HasProgram tex
           when_trapped : (trap : Trap) (line : ℕ) → Says (finishes.Trapped trap line) → EndsAsProgramInAll start legs turns t (outcome.Trapped trap line)
           when_trapped trap line says =
               let r = ends (finishes.Trapped trap line) says tt in
+              let said = trapped_said input r.1.answer.end.words trap line r.1.answer.end.outcome r.1.answer.outcome in
               record {
-                serially = subst (λ (o : Outcome). HasOutcome t o)
-                    (trapped_said input r.1.answer.end.words trap line r.1.answer.end.outcome r.1.answer.outcome)
-                    (outcome_then r.0 (finishes.Trapped trap line) r.1);
+                serially = subst (λ (o : Outcome). HasOutcome t o) said (outcome_then r.0 (finishes.Trapped trap line) r.1);
+                depth_first = depth_first_then r.0 (finishes.Trapped trap line) r.1 _ said;
                 branches = each r.0 (finishes.Trapped trap line) r.1;
                 forks = as_many (finishes.Trapped trap line) says tt;
               }

@@ -61,11 +61,12 @@ use Rattle.ppm_runs.specs.Work.{WorkIsWithin256So}
 use Rattle.ppm_core.specs.Situation.{Situation, loaded}
 use Rattle.ppm_loading.specs.declared.loading.Sizes.{Sizes}
 use Rattle.ppm_loading.specs.Loading.{Opens}
-use Rattle.ppm_driver.specs.Meant.{HasOutcome, NeedsMoreRoom, NeedsMoreTurns, undone_in, EachIsTakenOnce, EndsAsProgram, worked_in, IsAsProgram, RunsAreAsPrograms}
+use Rattle.ppm_driver.specs.Meant.{HasOutcome, EndsDepthFirst, NeedsMoreRoom, NeedsMoreTurns, undone_in, EachIsTakenOnce, EndsAsProgram, worked_in, IsAsProgram, RunsAreAsPrograms}
 use Rattle.ppm_loading.specs.Says.{arrays_from}
 use Rattle.ppm_loading.proofs.ArrayLemmas.{same_arrays}
 use Rattle.ppm_driver.proofs.EndLemmas.{keeper_opened, words_opened}
 use Rattle.ppm_runs.proofs.LongLemmas.{as_long}
+use Rattle.ppm_driver.proofs.StrikeLemmas.{undone_few}
 use Rattle.ppm_driver.proofs.WorkLemmas.{works_are}
 
 -- what the crates below show of every text, every code, every image and every run
@@ -220,6 +221,11 @@ module _ (laws : Laws) (text : List ℕ) (t : ProgramTree) (has : HasProgram tex
       none_twice : AreOnce forks takes
       none_twice = laws.once code input s keeper b.image fair opened calm turns among
 
+      -- and it is that of the code, run depth first
+      depth_first_then : (tree : Skeleton) (v : Finish) (h : Well tree v) (o : Outcome) → said_of input h.answer.end.words h.answer.end.outcome ≡ o
+          → EndsDepthFirst t o
+      depth_first_then tree v h o said = (h.answer.end, ends_as shown.strands shown.root shown.arrays h.answer.end h.answer.ends, said)
+
       each : (tree : Skeleton) (v : Finish) → Well tree v → EachIsTakenOnce start turns
       each tree v h = record {
         once = none_twice;
@@ -259,7 +265,7 @@ module _ (laws : Laws) (text : List ℕ) (t : ProgramTree) (has : HasProgram tex
           (ends_as (sym shown.strands) (sym shown.root) (sym shown.arrays) e comes)
 
       as_program : IsAsProgram start turns t
-      as_program = record { once = none_twice; ended = when_ended; trapped = when_trapped; full = needs_more; unbroken = breaks; work = works }
+      as_program = record { once = none_twice; ended = when_ended; trapped = when_trapped; full = needs_more; unbroken = breaks; work = works; few = undone_few s code turns (opening words s.processors) }
         where
           when_ended : Says finishes.Ended → EndsAsProgram start turns t (outcome.Ended (arrays_from s b.image.lengths last.words 0 input))
           when_ended says =
@@ -268,6 +274,7 @@ module _ (laws : Laws) (text : List ℕ) (t : ProgramTree) (has : HasProgram tex
               ∙ ap (λ (l : List NamedArray). outcome.Ended l) (sym (arrays_then r.0 finishes.Ended r.1)) in
               record {
                 serially = subst (λ (o : Outcome). HasOutcome t o) said (outcome_then r.0 finishes.Ended r.1);
+                depth_first = depth_first_then r.0 finishes.Ended r.1 _ said;
                 branches = each r.0 finishes.Ended r.1;
                 forks = as_many finishes.Ended says tt;
               }
@@ -275,10 +282,10 @@ module _ (laws : Laws) (text : List ℕ) (t : ProgramTree) (has : HasProgram tex
           when_trapped : (trap : Trap) (line : ℕ) → Says (finishes.Trapped trap line) → EndsAsProgram start turns t (outcome.Trapped trap line)
           when_trapped trap line says =
               let r = ends (finishes.Trapped trap line) says tt in
+              let said = trapped_said input r.1.answer.end.words trap line r.1.answer.end.outcome r.1.answer.outcome in
               record {
-                serially = subst (λ (o : Outcome). HasOutcome t o)
-                    (trapped_said input r.1.answer.end.words trap line r.1.answer.end.outcome r.1.answer.outcome)
-                    (outcome_then r.0 (finishes.Trapped trap line) r.1);
+                serially = subst (λ (o : Outcome). HasOutcome t o) said (outcome_then r.0 (finishes.Trapped trap line) r.1);
+                depth_first = depth_first_then r.0 (finishes.Trapped trap line) r.1 _ said;
                 branches = each r.0 (finishes.Trapped trap line) r.1;
                 forks = as_many (finishes.Trapped trap line) says tt;
               }

@@ -34,13 +34,8 @@ use Rattle.ppm_choice.proofs.ParkLemmas.{awake_acts}
 use Rattle.ppm_runs.specs.Deques.{one_if}
 use Rattle.ppm_runs.proofs.SumLemmas.{sum, sum_le, sum_plus, sum_same, sum_zero}
 use Rattle.ppm_runs.specs.Work.{undoes, undone_of}
+use Rattle.ppm_driver.specs.Meant.{is_fault, faults_in}
 use Rattle.ppm_driver.specs.Strikes.{fault_count, StrikesArePlanned, UndoneArePlanned}
-
-abbrev is_fault : Act → Bool
-is_fault Soft = true
-is_fault Hard = true
-is_fault (Step victim) = false
-is_fault (Quit why) = false
 
 one_or_none : (b : Bool) (c : ℕ) → length (if b then c ∷ [] else []) ≤ 1
 one_or_none true c = omega arith
@@ -61,6 +56,16 @@ undone_faults ByEntries (Step v) x r c = strike_faults (Step v) x c
 undone_faults ByEntries (Quit why) x r c = strike_faults (Quit why) x c
 undone_faults ByEntries Soft x r c = strike_faults Soft x c
 undone_faults ByEntries Hard x r c = one_or_none (undoes ByEntries Hard x r) c
+
+-- no more of them undo work than there are
+module _ (s : Shape) (code : CodeParts) where
+  pub undone_few : (turns : List Turn) (state : State) → length (along s code (undone_of s) state turns) ≤ faults_in turns
+  undone_few [] state = omega arith
+  undone_few (turn ∷ turns) state =
+      let both = length-append (undone_of s state turn) (along s code (undone_of s) (happens s code state turn) turns) in
+      let one = undone_faults s.takeover turn.act (stand_of state turn.processor) (restart_of (read s state.words (RestartWord turn.processor))) turn.processor in
+      let rest = undone_few turns (happens s code state turn) in
+      omega (arith, both, one, rest)
 
 -- how many there are among acts
 abbrev faults_among : List Deed → ℕ

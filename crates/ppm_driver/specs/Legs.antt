@@ -27,7 +27,7 @@ use Rattle.ppm_core.specs.Situation.{Situation}
 use Rattle.ppm_loading.specs.Loading.{Opens}
 use Rattle.ppm_loading.specs.Says.{arrays_from}
 use Rattle.ppm_loading.specs.declared.loading.Sizes.{Sizes}
-use Rattle.ppm_driver.specs.Meant.{HasOutcome, NeedsMoreRoom, NeedsMoreTurns}
+use Rattle.ppm_driver.specs.Meant.{HasOutcome, EndsDepthFirst, NeedsMoreRoom, NeedsMoreTurns}
 
 -- the legs of a run from a machine, the latest first, and the turns behind them
 module _ (m : Situation) (legs : List Leg) (turns : List Turn) where
@@ -62,10 +62,11 @@ module _ (m : Situation) (legs : List Leg) (turns : List Turn) where
     pub all : (block : ℕ) → has forked_in_all block ≡ has taken_in_all block
     pub alike : length forked_in_all ≡ length taken_in_all
 
-  -- such a run ends as the program does: with its serial outcome, and with each branch that was forked taken once; there are as many as forks
-  -- that the code of the program, run depth first, makes
+  -- such a run ends as the program does: with its serial outcome, and that of its code, run depth first; with each branch that was forked taken
+  -- once, and as many of them as forks that this code makes
   pub record EndsAsProgramInAll (t : ProgramTree) (o : Outcome) : Type 0 where
     pub serially : HasOutcome t o
+    pub depth_first : EndsDepthFirst t o
     pub branches : EachIsTakenOnceInAll
     pub forks : (e : CapsuleEnd Result) → ComesTo (code_of t) (initial_arrays t) e → length forked_in_all ≡ e.counts.forks
 

@@ -1,5 +1,5 @@
 -- What runs of a program's machine come to, in the words of the program's serial meaning.
-use Rattle.std.specs.Prelude.{◌≡◌, ◌<◌, ℕ, ◌+◌, ◌*◌, ◌^◌, ℤ, List, [], Some, length}
+use Rattle.std.specs.Prelude.{◌≡◌, ◌<◌, ◌≤◌, ℕ, ◌+◌, ◌*◌, ◌^◌, ℤ, if◌then◌else◌, Bool, true, false, List, [], ◌∷◌, Some, length}
 use Rattle.std.specs.List.{AllByRecursion}
 use Rattle.ppm_strands.specs.Run.{End as CapsuleEnd}
 use Rattle.ppm_words.specs.declared.outcome.Outcome.{Outcome}
@@ -8,7 +8,7 @@ use Rattle.ppm_words.specs.declared.trap.Trap.{Trap}
 use Rattle.ppm_cells.specs.Finish.{finish_of}
 use Rattle.ppm_cells.specs.declared.finish.Finish.TheVariants as finishes
 use Rattle.ppm_code.specs.Strands.{Result}
-use Rattle.ppm_depth.specs.Run.{ComesTo}
+use Rattle.ppm_depth.specs.Run.{ComesTo, said_of}
 use Rattle.ppm_tree.specs.Tree.{ProgramTree}
 use Rattle.ppm_tree.specs.Meaning.{Whole, Counts, End}
 use Rattle.ppm_tree.specs.Program.{initial_arrays, values_of, Means, Serial}
@@ -17,6 +17,8 @@ use Rattle.ppm_cut_code.specs.Routines.{code_of}
 use Rattle.ppm_cut_correct.specs.Correct.{words_taken}
 use Rattle.ppm_step.specs.Among.{IsTurnAmong}
 use Rattle.ppm_step.specs.State.{along, work_of}
+use Rattle.ppm_step.specs.declared.turn.Act.{Act}
+use Rattle.ppm_step.specs.declared.turn.Act.TheVariants.{Soft, Hard}
 use Rattle.ppm_step.specs.declared.turn.Turn.{Turn}
 use Rattle.ppm_paces.specs.Paces.{strikes_of}
 use Rattle.ppm_runs.specs.Work.{undone_of}
@@ -33,6 +35,10 @@ use Rattle.ppm_loading.specs.Says.{arrays_from}
 abbrev pub HasOutcome : ProgramTree → Outcome → Type 0
 HasOutcome t o = (within : ℕ) × Serial t within o
 
+-- the code of the program, run depth first, comes to an end, and that is this outcome
+abbrev pub EndsDepthFirst : ProgramTree → Outcome → Type 0
+EndsDepthFirst t o = (e : CapsuleEnd Result) × ComesTo (code_of t) (initial_arrays t) e × (said_of (initial_arrays t) e.words e.outcome ≡ o)
+
 -- The program, both branches of each fork run whole, has no end, or it takes more words than so many: the frame of `main`, and those that its
 -- calls, its forks and each `each` ask for. Each pool of a machine has as many words as its room.
 abbrev pub NeedsMoreRoom : ProgramTree → (room : ℕ) → Type 0
@@ -41,6 +47,16 @@ NeedsMoreRoom t room = (k : Counts) (z : End ℤ) → Means Whole t (values_of (
 -- The code of the program, run depth first, has no end, or so many turns are fewer than 256 for each of its capsules and each of so many faults.
 abbrev pub NeedsMoreTurns : ProgramTree → (faults limit : ℕ) → Type 0
 NeedsMoreTurns t faults limit = (e : CapsuleEnd Result) → ComesTo (code_of t) (initial_arrays t) e → limit < 256 * (e.counts.capsules + faults)
+
+-- how many turns are faults, soft and hard ones
+abbrev pub is_fault : Act → Bool
+is_fault Soft = true
+is_fault Hard = true
+is_fault act = false
+
+abbrev pub faults_in : List Turn → ℕ
+faults_in [] = 0
+faults_in (turn ∷ turns) = (if is_fault turn.act then 1 else 0) + faults_in turns
 
 module _ (m : Situation) (turns : List Turn) where
   -- the blocks whose right branches are forked in these turns of a machine, and those whose right branches are taken, newest first
@@ -72,16 +88,18 @@ module _ (m : Situation) (turns : List Turn) where
   abbrev pub worked_in : ℕ
   worked_in = length (along m.shape m.code work_of m.state turns)
 
-  -- a run of these turns ends as the program does: with its serial outcome, and with each branch that was forked taken once; there are as many
-  -- as forks that the code of the program, run depth first, makes
+  -- a run of these turns ends as the program does: with its serial outcome, and that of its code, run depth first; with each branch that was
+  -- forked taken once, and as many of them as forks that this code makes
   pub record EndsAsProgram (t : ProgramTree) (o : Outcome) : Type 0 where
     pub serially : HasOutcome t o
+    pub depth_first : EndsDepthFirst t o
     pub branches : EachIsTakenOnce
     pub forks : (e : CapsuleEnd Result) → ComesTo (code_of t) (initial_arrays t) e → length forked_in ≡ e.counts.forks
 
   -- What holds behind these turns. No branch is taken twice. Where the finish word says an outcome the run ends as the program does, with the
   -- arrays of the words then, or this trap; where it says that a pool is full, the program takes more words. That words are broken it says only
-  -- behind more than 2^34 work turns. All work turns are fewer than 256 for each capsule of the program's code and each fault that undoes work.
+  -- behind more than 2^34 work turns. All work turns are fewer than 256 for each capsule of the program's code and each fault that undoes work; no more do
+  -- so than turns are faults.
   pub record IsAsProgram (t : ProgramTree) : Type 0 where
     pub once : NoneIsTakenTwice
     pub ended : finish_of (finish_behind m turns) ≡ Some finishes.Ended
@@ -91,6 +109,7 @@ module _ (m : Situation) (turns : List Turn) where
     pub full : (place : ℕ) → finish_of (finish_behind m turns) ≡ Some (finishes.OutOfRoom place) → NeedsMoreRoom t m.shape.room
     pub unbroken : (place : ℕ) → finish_of (finish_behind m turns) ≡ Some (finishes.Broken place) → 2 ^ 34 < worked_in
     pub work : NeedsMoreTurns t undone_in worked_in
+    pub few : undone_in ≤ faults_in turns
 
 -- From the machine with which a run of a text's program begins, whatever the turns are that its processors make, and in whatever order, faults
 -- and quits among them
