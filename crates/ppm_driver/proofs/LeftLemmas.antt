@@ -1,6 +1,6 @@
 -- What a run of a program leaves: its state, whatever the turns are, is one that the program's source left; and what fresh processors find of such a
 -- state are words that come back.
-use Rattle.std.proofs.Common.{◌≡◌, ℕ, List, [], refl, sym, subst, arith}
+use Rattle.std.proofs.Common.{◌≡◌, ◌≤◌, ℕ, List, [], length, refl, sym, subst, arith}
 use Rattle.std.specs.List.{AllByRecursion}
 use Rattle.ppm_cells.specs.declared.shape.Shape.{Shape}
 use Rattle.ppm_cells.specs.declared.shape.Takeover.TheVariants.{ByPlaces}
@@ -9,7 +9,7 @@ use Rattle.ppm_tree.specs.Program.{initial_arrays}
 use Rattle.ppm_program.specs.Programs.{HasProgram}
 use Rattle.ppm_cut_code.specs.Routines.{code_of}
 use Rattle.ppm_step.specs.Among.{IsTurnAmong}
-use Rattle.ppm_step.specs.State.{after, opening}
+use Rattle.ppm_step.specs.State.{after, along, opening, work_of}
 use Rattle.ppm_step.specs.declared.turn.Turn.{Turn}
 use Rattle.ppm_resumed.specs.Resumed.{TagsMayRise, RenewedWordsComeBack}
 use Rattle.ppm_core.specs.Situation.{Situation}
@@ -28,10 +28,11 @@ use Rattle.ppm_following.proofs.ScheduledLemmas.{scheduled_among}
 use Rattle.ppm_loading.proofs.LoadingLemmas.{opens_processors}
 use Rattle.ppm_saved_reader.specs.Correct.{FaultsTellSavedTexts}
 use Rattle.ppm_stop.specs.Stops.{sizes_of, text_of, ProgramReads as StoppedReads}
-use Rattle.ppm_driver.specs.Legs.{TagsMayRiseInLegs}
+use Rattle.ppm_driver.specs.Legs.{worked_in_all, TagsMayRiseInLegs}
 use Rattle.ppm_driver.specs.RunOf.{words_behind}
 use Rattle.ppm_driver.specs.Resumes.{state_behind, IsLeftBy, IsTextLeftBy, RunsLeaveStates, StopsLeaveStates, LeftWordsComeBack}
 use Rattle.ppm_driver.proofs.TellLemmas.{text_left}
+use Rattle.ppm_driver.proofs.WorkLemmas.{scheduled_work}
 
 module _ (text : List ℕ) (t : ProgramTree) (has : HasProgram text t) (sizes : Sizes) (places : sizes.takeover ≡ ByPlaces)
     (keeper : ℕ) (m : Situation) (b : Opens sizes (code_of t) (initial_arrays t) keeper m) where
@@ -65,7 +66,16 @@ module _ (tell : FaultsTellSavedTexts) (options : StopOptions) (are : AreStopped
   abbrev made : Situation → List Turn
   made m = schedule_turns m.shape m.code m.state items options.after
 
+  -- they make no more work than acts
+  worked : (keeper : ℕ) (m : Situation) → Opens (sizes_of options) (code_of t) (initial_arrays t) keeper m → worked_in_all m [] (made m) ≤ options.after
+  worked keeper m b =
+      let some : length (along m.shape m.code work_of (opening m.state.words m.shape.processors) (made m)) ≤ options.after =
+      subst (λ (x : Situation). length (along x.shape x.code work_of (opening x.state.words x.shape.processors) (schedule_turns x.shape x.code x.state items options.after)) ≤ options.after)
+      (sym b.loads) (scheduled_work b.shape (code_of t) (opening b.image.words b.shape.processors) items options.after) in
+      omega (arith, some)
+
   stop_leaves : (answer : Answer) → StoppedReads options items t answer → (saved : List ℕ) × (answer ≡ answers.Saved saved) × IsTextLeftBy text saved
+  unfolding left
   stop_leaves answer h =
       let m = h.has.start in
       let z = state_behind m (initial_arrays t) (made m) in
@@ -74,7 +84,10 @@ module _ (tell : FaultsTellSavedTexts) (options : StopOptions) (are : AreStopped
       let count = opens_processors (sizes_of options) (code_of t) (initial_arrays t) h.has.keeper m h.has.opens in
       let among = scheduled_among m.shape m.code (omega (arith, least)) schedule options.processors items count accepted m.state options.after in
       let from_it = left text t has (sizes_of options) refl h.has.keeper m h.has.opens (made m) among in
-      (saved, h.has.saves, text_left tell saved z h.read_back text from_it)
+      let most = worked h.has.keeper m h.has.opens in
+      let after_most = are.1.1 in
+      let few_most = are.0.1 in
+      (saved, h.has.saves, text_left tell saved z h.read_back text from_it refl (omega (arith, most, after_most)) (omega (arith, few_most, count)))
 
 pub stops_leave_states : FaultsTellSavedTexts → StopsLeaveStates
 stops_leave_states tell options are schedule items accepted text t has answer h =

@@ -1,5 +1,5 @@
 -- What runs of a program's machine come to, in the words of the program's serial meaning.
-use Rattle.std.specs.Prelude.{◌≡◌, ◌<◌, ◌≤◌, ℕ, ◌+◌, ◌*◌, ◌^◌, ℤ, if◌then◌else◌, Bool, true, false, List, [], ◌∷◌, Some, length}
+use Rattle.std.specs.Prelude.{◌≡◌, ◌<◌, ◌≤◌, ℕ, ◌+◌, ◌*◌, ◌^◌, ℤ, Bool, true, false, List, [], ◌∷◌, Some, length}
 use Rattle.std.specs.List.{AllByRecursion}
 use Rattle.ppm_strands.specs.Run.{End as CapsuleEnd}
 use Rattle.ppm_words.specs.declared.outcome.Outcome.{Outcome}
@@ -21,6 +21,7 @@ use Rattle.ppm_step.specs.declared.turn.Act.{Act}
 use Rattle.ppm_step.specs.declared.turn.Act.TheVariants.{Soft, Hard}
 use Rattle.ppm_step.specs.declared.turn.Turn.{Turn}
 use Rattle.ppm_paces.specs.Paces.{strikes_of}
+use Rattle.ppm_runs.specs.Deques.{one_if}
 use Rattle.ppm_runs.specs.Work.{undone_of}
 use Rattle.ppm_tickets.specs.Along.{forked, taken}
 use Rattle.ppm_tickets.specs.Words.{has}
@@ -56,7 +57,7 @@ is_fault act = false
 
 abbrev pub faults_in : List Turn → ℕ
 faults_in [] = 0
-faults_in (turn ∷ turns) = (if is_fault turn.act then 1 else 0) + faults_in turns
+faults_in (turn ∷ turns) = one_if (is_fault turn.act) + faults_in turns
 
 module _ (m : Situation) (turns : List Turn) where
   -- the blocks whose right branches are forked in these turns of a machine, and those whose right branches are taken, newest first

@@ -1,6 +1,7 @@
 -- What `resume` answers, and when it may.
 use Rattle.std.specs.Prelude.{◌≡◌, ◌≢◌, ◌⊎◌, ◌≤◌, ◌<◌, ℕ, ◌+◌, ◌^◌, List, [], ◌∷◌, None, length, map, ⊤}
 use Rattle.std.specs.List.{AllByRecursion}
+use Rattle.ppm_words.specs.Limits.{turn_limit}
 use Rattle.ppm_words.specs.declared.idle.Idle.TheVariants.{Leave}
 use Rattle.ppm_words.specs.declared.named_array.NamedArray.{NamedArray}
 use Rattle.ppm_ports.specs.Ports.{Port}
@@ -47,7 +48,7 @@ use Rattle.ppm_stop.specs.Stops.{names_of, ProgramReads as StoppedReads}
 use Rattle.ppm_loading.specs.Loading.{Opens}
 use Rattle.ppm_loading.specs.Planned.{IsRefusedBy}
 use Rattle.ppm_loading.specs.declared.loading.Sizes.{Sizes}
-use Rattle.ppm_driver.specs.Legs.{words_at_last}
+use Rattle.ppm_driver.specs.Legs.{words_at_last, worked_in_all}
 use Rattle.ppm_driver.specs.RunOf.{RunOf, words_behind}
 use Rattle.ppm_driver.specs.Runs.{IsSaid}
 use Rattle.ppm_driver.specs.Watchers.{AreTold}
@@ -213,13 +214,18 @@ ResumesLeaveStates = (source : List ℕ) (z : SavedState) (left : IsLeftBy sourc
     → (start : Situation) → GoesOnFrom z start → (turns : List Turn) → AllByRecursion (IsTurnAmong start.shape.processors) turns
     → IsLeftBy source (record { shape = z.shape; arrays = z.arrays; code = z.code; words = words_behind start turns })
 
--- a text is that of a state which a source left: it is refused for nothing, one state is read from it, and that one is left by the source
+-- A text is that of a state which a source left: it is never refused, one state is read from it, and that one is left by the source, by turns of
+-- one machine alone: at most 16 processors made no more work turns than one may be told to make.
 pub record IsTextLeftBy (source text : List ℕ) : Type 0 where
   pub state : SavedState
   pub is : IsTextOf text state
   pub taken : (r : SavedRefusal) → ¬ IsNoText text r
   pub one : (z : SavedState) → IsTextOf text z → z ≡ state
   pub left : (z : SavedState) → IsTextOf text z → IsLeftBy source z
+  pub by : IsLeftBy source state
+  pub alone : by.legs ≡ []
+  pub work : worked_in_all by.start by.legs by.turns ≤ turn_limit
+  pub few : state.shape.processors ≤ 16
 
 -- What `stop` writes of a text's program, by the items of a schedule that is accepted, with options in their ranges: the text of a state which that
 -- text left.
