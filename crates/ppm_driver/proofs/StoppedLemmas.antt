@@ -44,6 +44,7 @@ module _ (law : StopsLeaveStates) (stop : StopOptions) (are : AreStopped stop) (
 
     pub goes_on : GoesOn w options plan o
     goes_on = record {
+      left = λ text same. subst (IsTextLeftBy source) (sym same) text_left;
       taken = λ fault same. text_left.taken fault.0 (subst (λ (l : List ℕ). IsNoText l fault.0) same fault.1.2);
       ended = ended;
       trapped = trapped;
