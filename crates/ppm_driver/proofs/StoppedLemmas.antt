@@ -6,21 +6,26 @@ use Rattle.ppm_answers.specs.declared.answer.Answer.TheVariants as answers
 use Rattle.ppm_cli.specs.declared.resume.ResumeOptions.{ResumeOptions}
 use Rattle.ppm_cli.specs.declared.stop.StopOptions.{StopOptions}
 use Rattle.ppm_cli.specs.Words.{AreStopped}
-use Rattle.ppm_stop.specs.StopRows.{WritesSaved}
+use Rattle.ppm_stop.specs.StopRows.{HasRead, WritesSaved}
 use Rattle.ppm_stop.proofs.StopLemmas.{same_text}
 use Rattle.ppm_driver.specs.ResumeRows.{WritesArrays, WritesTrap}
 use Rattle.ppm_driver.specs.Resumes.{SavedState, IsTextOf, IsNoText, IsLeftBy, IsTextLeftBy, StopsLeaveStates}
 use Rattle.ppm_driver.specs.Stopped.{IsOutcomeOf, GoesOn, StoppedRunsGoOn}
+
+-- what is saved of the text that was read is left by it
+pub saved_left : StopsLeaveStates → (stop : StopOptions) → AreStopped stop → (schedule : List ℕ) (p : Ports) (text : List ℕ)
+    (read : HasRead stop schedule p (answers.Saved text)) → IsTextLeftBy read.0 text
+saved_left law stop are schedule p text read =
+    let h = read.2 in
+    let k = law stop are schedule h.items h.accepted read.0 h.has.0 h.has.1 (answers.Saved text) h.has.2 in
+    subst (IsTextLeftBy read.0) (sym (same_text text k.0 k.1)) k.2
 
 module _ (law : StopsLeaveStates) (stop : StopOptions) (are : AreStopped stop) (schedule : List ℕ) (p : Ports) (w : WritesSaved stop schedule p) where
   abbrev source : List ℕ
   source = w.read.0
 
   text_left : IsTextLeftBy source w.text
-  text_left =
-      let h = w.read.2 in
-      let k = law stop are schedule h.items h.accepted source h.has.0 h.has.1 (answers.Saved w.text) h.has.2 in
-      subst (IsTextLeftBy source) (sym (same_text w.text k.0 k.1)) k.2
+  text_left = saved_left law stop are schedule p w.text w.read
 
   module _ (options : ResumeOptions) (plan : List ℕ) (o : Outside) where
     -- the state that was read is left by the source
@@ -39,6 +44,7 @@ module _ (law : StopsLeaveStates) (stop : StopOptions) (are : AreStopped stop) (
 
     pub goes_on : GoesOn w options plan o
     goes_on = record {
+      left = λ text same. subst (IsTextLeftBy source) (sym same) text_left;
       taken = λ fault same. text_left.taken fault.0 (subst (λ (l : List ℕ). IsNoText l fault.0) same fault.1.2);
       ended = ended;
       trapped = trapped;

@@ -35,7 +35,7 @@ use Rattle.ppm_driver.specs.Examples.{ExamplesSumUp}
 use Rattle.ppm_driver.specs.Legs.{RunsInLegsAreAsPrograms}
 use Rattle.ppm_driver.specs.Meant.{RunsAreAsPrograms}
 use Rattle.ppm_driver.specs.Replays.{TextHas as ReplayTextHas, HaveOneAnswer as ReplaysHaveOneAnswer}
-use Rattle.ppm_driver.specs.Resumes.{TextHas as ResumeTextHas, LeftWordsComeBack}
+use Rattle.ppm_driver.specs.Resumes.{TextHas as ResumeTextHas, LeftWordsComeBack, StopsLeaveStates}
 use Rattle.ppm_driver.specs.ResumeCompleteness.{ResumesComplete}
 use Rattle.ppm_driver.specs.ResumeRows.{RefusesPlan as RefusesResumed}
 use Rattle.ppm_driver.specs.Runs.{TextHas as RunTextHas, AnswersAreOne, FrontsDecideAnswers}
@@ -45,6 +45,7 @@ use Rattle.ppm_driver.proofs.OfExample as of_example
 use Rattle.ppm_driver.proofs.OfReplay as of_replay
 use Rattle.ppm_driver.proofs.OfResume as of_resume
 use Rattle.ppm_driver.proofs.OfRun as of_run
+use Rattle.ppm_driver.proofs.StoppedLemmas.{saved_left}
 use Rattle.ppm_saved_reader.specs.Rules.{text_limit as saved_limit}
 use Rattle.ppm_loading.proofs.PlannedLemmas as planned
 use Rattle.ppm_answers.specs.Reading.{IsUnread, JudgingMay, DeliversAnswer, Answers}
@@ -222,6 +223,7 @@ pub record Laws : Type 0 where
   pub legs : RunsInLegsAreAsPrograms
   pub comes : LeftWordsComeBack
   pub resumes : ResumesComplete
+  pub leave : StopsLeaveStates
   pub outcomes : OutcomesHaveOneAnswer
   pub codes : CodesHaveOneAnswer
   pub faithful : CodesAreFaithful
@@ -250,10 +252,14 @@ program_rows laws words o status a = record {
     is_in_range words (commands.Resume options plan) e,
     of_resume.resume_rows laws.legs laws.comes options plan o status (by_words (Some (commands.Resume options plan)) e) laws.resumes,
   );
-  stop = λ options schedule e. (
-    is_in_range words (commands.Stop options schedule) e,
-    of_stop.stop_rows options schedule (ports_of o) status (by_words (Some (commands.Stop options schedule)) e) laws.plans laws.stops,
-  );
+  stop = λ options schedule e.
+      let range = is_in_range words (commands.Stop options schedule) e in (
+        range,
+        record {
+          says = of_stop.stop_rows options schedule (ports_of o) status (by_words (Some (commands.Stop options schedule)) e) laws.plans laws.stops;
+          left = saved_left laws.leave options range schedule (ports_of o);
+        },
+      );
   example = λ options e.
       let range = is_in_range words (commands.Example options) e in
       let x = by_example options e in (

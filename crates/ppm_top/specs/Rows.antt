@@ -2,7 +2,8 @@
 use Rattle.std.specs.Prelude.{◌≡◌, ◌≢◌, ◌⊎◌, ℕ, List, [], ◌∷◌, Some, None}
 use Rattle.std.specs.Io.KnownBytes.{Keeps}
 use Rattle.ppm_ports.specs.Ports.{Fails, Holds}
-use Rattle.ppm_ports.specs.Outside.{Outside, ports_of}
+use Rattle.ppm_ports.specs.Outside.{Outside, Ports, ports_of}
+use Rattle.ppm_answers.specs.declared.answer.Answer.TheVariants as answers
 use Rattle.ppm_answers.specs.declared.status.Status.{Status}
 use Rattle.ppm_answers.specs.declared.status.Status.TheVariants as statuses
 use Rattle.ppm_answers.specs.Reading.{IsUnread}
@@ -22,8 +23,9 @@ use Rattle.ppm_loading.specs.MachineRows.{RefusesPlan}
 use Rattle.ppm_driver.specs.ExampleRows.{ExampleSays}
 use Rattle.ppm_driver.specs.ReplayRows.{ReplayRows}
 use Rattle.ppm_driver.specs.ResumeRows.{ResumeRows, RefusesPlan as RefusesResumed}
+use Rattle.ppm_driver.specs.Resumes.{IsTextLeftBy}
 use Rattle.ppm_driver.specs.RunRows.{RunRows}
-use Rattle.ppm_stop.specs.StopRows.{StopRows}
+use Rattle.ppm_stop.specs.StopRows.{HasRead, StopRows}
 use Rattle.ppm_plan.specs.Forms.{plan_form, schedule_form}
 
 -- the rows of `run` hold where the words ask for a run, with these options, which are in their ranges, and this plan
@@ -54,10 +56,19 @@ abbrev pub ResumesByWords : List (List ℕ) → Outside → Status → Type 0
 ResumesByWords words o status = (options : ResumeOptions) (plan : List ℕ) → command_of words ≡ Some (commands.Resume options plan)
     → AreResumed options × ResumeRows options plan o status
 
--- those of `stop` where they ask for that, with these options, which are in their ranges, and this schedule
+-- what `stop` saves of the text that was read is the text of a state which that text left; at each status: also where the saved text failed
+abbrev pub LeavesStates : StopOptions → (schedule : List ℕ) → Ports → Type 0
+LeavesStates options schedule p = (text : List ℕ) (read : HasRead options schedule p (answers.Saved text)) → IsTextLeftBy read.0 text
+
+-- the rows of `stop` with such options and such a schedule, and what its texts are
+pub record StopsLeaving (options : StopOptions) (schedule : List ℕ) (p : Ports) (status : Status) : Type 0 where
+  pub says : StopRows options schedule p status
+  pub left : LeavesStates options schedule p
+
+-- they hold where the words ask for that, with these options, which are in their ranges, and this schedule
 abbrev pub StopsByWords : List (List ℕ) → Outside → Status → Type 0
 StopsByWords words o status = (options : StopOptions) (schedule : List ℕ) → command_of words ≡ Some (commands.Stop options schedule) →
-    AreStopped options × StopRows options schedule (ports_of o) status
+    AreStopped options × StopsLeaving options schedule (ports_of o) status
 
 -- where they ask for the program's own example, nothing is read, and each status says what comes of it
 abbrev pub SumsByWords : List (List ℕ) → Outside → Status → Type 0

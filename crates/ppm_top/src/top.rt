@@ -17,7 +17,7 @@ use ppm_driver::{
     answers_are_one as runs_have_one_answer, examples_sum_up,
     have_one_answer as replays_have_one_answer, left_words_come_back, replay_command,
     resume_command, resumes_complete, run_command, runs_are_as_programs, runs_complete,
-    runs_in_legs_are_as_programs, self_command,
+    runs_in_legs_are_as_programs, self_command, stops_leave_states,
 };
 use ppm_plan::have_one_answer as plans_have_one_answer;
 use ppm_ports::{Sink, Source, Watch};
@@ -62,6 +62,7 @@ pub fn ppm<R: Threads + Wait + Sync, S: Source, K: Sink, E: Sink, W: Watch>(
     runs_in_legs_are_as_programs();
     left_words_come_back();
     resumes_complete();
+    stops_leave_states();
     outcomes_have_one_answer();
     codes_have_one_answer();
     codes_are_faithful();

@@ -12,6 +12,7 @@ returns-clause-rows g c = program_rows (record {
   legs = c.runs_in_legs_are_as_programs.ensures.law;
   comes = c.left_words_come_back.ensures.law;
   resumes = c.resumes_complete.ensures.law;
+  leave = c.stops_leave_states.ensures.law;
   outcomes = c.outcomes_have_one_answer.ensures.law;
   codes = c.codes_have_one_answer.ensures.law;
   faithful = c.codes_are_faithful.ensures.law;
