@@ -1,14 +1,15 @@
 -- What was written by `stop` is the text of a state that its source left; so what `resume` says of such a state holds of that source.
-use Rattle.std.proofs.Common.{◌≡◌, ℕ, List, sym, subst}
+use Rattle.std.proofs.Common.{◌≡◌, ◌≤◌, ◌<◌, ◌+◌, ◌*◌, ◌^◌, ℕ, List, sym, subst, arith}
+use Rattle.std.proofs.lemmas.Nat.{mul-le}
 use Rattle.ppm_words.specs.declared.outcome.Outcome.TheVariants as outcome
 use Rattle.ppm_ports.specs.Outside.{Outside, Ports}
 use Rattle.ppm_answers.specs.declared.answer.Answer.TheVariants as answers
 use Rattle.ppm_cli.specs.declared.resume.ResumeOptions.{ResumeOptions}
 use Rattle.ppm_cli.specs.declared.stop.StopOptions.{StopOptions}
-use Rattle.ppm_cli.specs.Words.{AreStopped}
+use Rattle.ppm_cli.specs.Words.{AreStopped, AreResumed}
 use Rattle.ppm_stop.specs.StopRows.{HasRead, WritesSaved}
 use Rattle.ppm_stop.proofs.StopLemmas.{same_text}
-use Rattle.ppm_driver.specs.ResumeRows.{WritesArrays, WritesTrap}
+use Rattle.ppm_driver.specs.ResumeRows.{WritesArrays, WritesTrap, WritesBroken, ComesLate}
 use Rattle.ppm_driver.specs.Resumes.{SavedState, IsTextOf, IsNoText, IsLeftBy, IsTextLeftBy, StopsLeaveStates}
 use Rattle.ppm_driver.specs.Stopped.{IsOutcomeOf, GoesOn, StoppedRunsGoOn}
 
@@ -32,6 +33,17 @@ module _ (law : StopsLeaveStates) (stop : StopOptions) (are : AreStopped stop) (
     left : (text : List ℕ) (z : SavedState) → IsTextOf text z → text ≡ w.text → IsLeftBy source z
     left text z is same = text_left.left z (subst (λ (l : List ℕ). IsTextOf l z) same is)
 
+    -- both runs together make no more work than broken words ask for
+    unbroken : AreResumed options → (b : WritesBroken options plan o) → b.read.0 ≡ w.text → ⊥
+    unbroken resumed b same =
+        let l = text_left in
+        let z = b.read.2.state in
+        let is : z ≡ l.state = l.one z (subst (λ (t : List ℕ). IsTextOf t z) same b.read.2.is) in
+        let late = subst (ComesLate options plan o) is b.late source l.by in
+        let work = l.work in
+        let made = mul-le l.state.shape.processors options.turns 16 268435456 l.few resumed.0.1 in
+        omega (arith, late, work, made)
+
     ended : (a : WritesArrays options plan o) → a.read.0 ≡ w.text → IsOutcomeOf source (outcome.Ended a.arrays)
     ended a same =
         let l = left a.read.0 a.read.2.state a.read.2.is same in
@@ -46,6 +58,7 @@ module _ (law : StopsLeaveStates) (stop : StopOptions) (are : AreStopped stop) (
     goes_on = record {
       left = λ text same. subst (IsTextLeftBy source) (sym same) text_left;
       taken = λ fault same. text_left.taken fault.0 (subst (λ (l : List ℕ). IsNoText l fault.0) same fault.1.2);
+      unbroken = unbroken;
       ended = ended;
       trapped = trapped;
     }

@@ -1,4 +1,4 @@
--- The text of a state is refused for nothing, and no other state is read from it.
+-- The text of a state is never refused, and no other state is read from it.
 use Rattle.std.proofs.Common.{◌≡◌, ◌≢◌, ◌≤◌, ℕ, List, [], refl, sym, subst}
 use Rattle.ppm_words.specs.Limits.{turn_limit}
 use Rattle.ppm_saved_reader.specs.Correct.{FaultsTellSavedTexts, IsRefusal, IsSavedText}

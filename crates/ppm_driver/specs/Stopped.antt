@@ -5,12 +5,12 @@ use Rattle.ppm_words.specs.declared.outcome.Outcome.TheVariants as outcome
 use Rattle.ppm_ports.specs.Outside.{Outside, Ports}
 use Rattle.ppm_cli.specs.declared.resume.ResumeOptions.{ResumeOptions}
 use Rattle.ppm_cli.specs.declared.stop.StopOptions.{StopOptions}
-use Rattle.ppm_cli.specs.Words.{AreStopped}
+use Rattle.ppm_cli.specs.Words.{AreStopped, AreResumed}
 use Rattle.ppm_tree.specs.Tree.{ProgramTree}
 use Rattle.ppm_program.specs.Programs.{HasProgram}
 use Rattle.ppm_stop.specs.StopRows.{WritesSaved}
 use Rattle.ppm_driver.specs.Meant.{HasOutcome}
-use Rattle.ppm_driver.specs.ResumeRows.{WritesArrays, WritesTrap, WritesFault}
+use Rattle.ppm_driver.specs.ResumeRows.{WritesArrays, WritesTrap, WritesFault, WritesBroken}
 use Rattle.ppm_driver.specs.Resumes.{IsTextLeftBy}
 
 -- the program of a source has this serial outcome
@@ -20,12 +20,13 @@ pub record IsOutcomeOf (source : List ℕ) (o : Outcome) : Type 0 where
   pub serially : HasOutcome tree o
 
 -- Where the text that `resume` read is the one that `stop` wrote: it is that of a state which the source left that `stop` read, so all that the rows
--- of `resume` say of such sources is said of this one; it is refused for nothing; and the arrays that are written, or the trap, are the serial
--- outcome of that source.
+-- of `resume` say of such sources is said of this one. It is never refused, and with options in their ranges broken words are never met. The
+-- arrays that are written, or the trap, are the serial outcome of that source.
 pub record GoesOn {stop : StopOptions} {schedule : List ℕ} {p : Ports} (w : WritesSaved stop schedule p) (options : ResumeOptions) (plan : List ℕ)
     (o : Outside) : Type 0 where
   pub left : (text : List ℕ) → text ≡ w.text → IsTextLeftBy w.read.0 text
   pub taken : (fault : WritesFault options plan o) → fault.1.0 ≡ w.text → ⊥
+  pub unbroken : AreResumed options → (b : WritesBroken options plan o) → b.read.0 ≡ w.text → ⊥
   pub ended : (a : WritesArrays options plan o) → a.read.0 ≡ w.text → IsOutcomeOf w.read.0 (outcome.Ended a.arrays)
   pub trapped : (k : WritesTrap options plan o) → k.read.0 ≡ w.text → IsOutcomeOf w.read.0 (outcome.Trapped k.trap k.line)
 
