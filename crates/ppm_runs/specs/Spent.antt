@@ -1,12 +1,14 @@
--- Where a run was stopped by a full pool, the depth-first run takes more words than a pool has.
-use Rattle.std.specs.Prelude.{◌≡◌, ◌<◌, ℕ, ◌+◌, List, Some}
+-- Where a run was stopped by a full pool, the depth-first run takes more words than a pool has; and no place
+-- gives out more of its pool than that run takes.
+use Rattle.std.specs.Prelude.{◌≡◌, ◌≤◌, ◌<◌, ℕ, ◌+◌, List, Some}
 use Rattle.std.specs.List.{AllByRecursion}
 use Rattle.ppm_strands.specs.Calm.{Calm}
 use Rattle.ppm_strands.specs.Run.{End, Ends}
 use Rattle.ppm_words.specs.declared.named_array.NamedArray.{NamedArray}
+use Rattle.ppm_cells.specs.Cells.{pool_at}
 use Rattle.ppm_cells.specs.Finish.{finish_of}
 use Rattle.ppm_cells.specs.Memory.{read}
-use Rattle.ppm_cells.specs.declared.cell.Cell.TheVariants.{FinishWord}
+use Rattle.ppm_cells.specs.declared.cell.Cell.TheVariants.{FinishWord, RoomCounter}
 use Rattle.ppm_cells.specs.declared.finish.Finish.TheVariants.{OutOfRoom}
 use Rattle.ppm_cells.specs.declared.shape.Shape.{Shape}
 use Rattle.ppm_cells.specs.declared.shape.Takeover.TheVariants.{ByPlaces}
@@ -44,3 +46,14 @@ RoomIsSpentSo = (code : CodeParts) (input : List NamedArray) (s : Shape) (keeper
     → (place : ℕ) → finish_of (read s (reached s code image.words turns).words FinishWord) ≡ Some (OutOfRoom place)
     → (end : End Result) → Ends (strands s code) (root_strand code input) (arrays_at (view s image.words)) end
     → s.room < frame_size code code.root + end.counts.block_words
+
+-- At each moment, also behind a stop, and whatever the takeover: no place has given out more of its pool than
+-- the root's frame and the block words that the depth-first run counts to its end.
+abbrev pub RoomIsWithin : Type 0
+RoomIsWithin = (code : CodeParts) (input : List NamedArray) (s : Shape) (keeper : ℕ) (image : RealImage)
+    → IsFair code → Opens code input s keeper image
+    → Calm (strands s code) (root_strand code input) (arrays_at (view s image.words))
+    → (turns : List Turn) → AllByRecursion (IsTurnAmong s.processors) turns
+    → (end : End Result) → Ends (strands s code) (root_strand code input) (arrays_at (view s image.words)) end
+    → (place : ℕ) → place < s.processors
+    → read s (reached s code image.words turns).words (RoomCounter place) ≤ pool_at s place + (frame_size code code.root + end.counts.block_words)

@@ -1,7 +1,7 @@
 //! What turns owe, shown by calls that do nothing.
 ghost use Rattle.ppm_runs.specs.Deques.{DequesAreSound, DequesStaySound};
-ghost use Rattle.ppm_runs.specs.Entries.{HeirsLeadOn, OnceByEntries, OnceInEachRun, RunsEndByEntries, RunsEndSo};
-ghost use Rattle.ppm_runs.specs.Entries.{RunsForkSo, RunsStayHeired};
+ghost use Rattle.ppm_runs.specs.Entries.{HalvesStay, HeirsLeadOn, OnceByEntries, OnceInEachRun, RunsEndByEntries};
+ghost use Rattle.ppm_runs.specs.Entries.{RunsEndSo, RunsForkSo, RunsStayHeired};
 ghost use Rattle.ppm_runs.specs.Follow.{HalvesGoOn, HalvesOwe, HeirsLead};
 ghost use Rattle.ppm_runs.specs.Joint.{JointsStay};
 ghost use Rattle.ppm_runs.specs.Laws.{BirthsFollow, BrokenFollow, TakersHave, TurnsAreOrderly, TurnsGoOn};
@@ -9,7 +9,7 @@ ghost use Rattle.ppm_runs.specs.Moments.{OnceAtEachMoment, RunsStay, TurnsLeadOn
 ghost use Rattle.ppm_runs.specs.Openings.{RunsOpen};
 ghost use Rattle.ppm_runs.specs.Outcomes.{RunsEnd, StopsStay};
 ghost use Rattle.ppm_runs.specs.Renewals.{PartsComeTo, RunsComeBack};
-ghost use Rattle.ppm_runs.specs.Spent.{RoomIsSpent, RoomIsSpentSo};
+ghost use Rattle.ppm_runs.specs.Spent.{RoomIsSpent, RoomIsSpentSo, RoomIsWithin};
 ghost use Rattle.ppm_runs.specs.Unbroken.{NothingBreaks};
 ghost use Rattle.ppm_runs.specs.Whole.{JoinsStay, RunsComeTo, TurnsLead};
 ghost use Rattle.ppm_runs.specs.Work.{UndoneAreStruck, WorkIsBounded, WorkIsBoundedSo, WorkIsWithin256, WorkIsWithin256So};
@@ -78,10 +78,12 @@ pub fn runs_stay()
 
 /// From an image of a sound code, whatever the takeover, and whatever the turns: where the finish word says
 /// that a pool is full, and the depth-first run of the root comes to an end, that run takes more words
-/// than a pool has.
+/// than a pool has. At each moment, also behind a stop, no place has given out more of its pool than that
+/// run takes of all.
 pub fn room_is_spent()
     ensures law { RoomIsSpent }
     ensures so { RoomIsSpentSo }
+    ensures within { RoomIsWithin }
 {}
 
 /// With takeover by places, saved words of a run's state come back, and that is a run's state again. So
@@ -138,11 +140,12 @@ pub fn runs_stay_heired()
     ensures ends { RunsEndByEntries }
 {}
 
-/// Whatever the takeover, from an image of a sound code, whatever the turns: at each moment no right
-/// branch was forked twice, and none was taken twice; where the finish word says an outcome the
-/// depth-first run of the root ends so, with the words of the arrays as they are, and each branch that
-/// was forked was taken: as many as that run forks.
+/// Whatever the takeover, from an image of a sound code, whatever the turns: at each moment both halves of
+/// a run's state hold, so no right branch was forked twice, and none was taken twice; where the finish word
+/// says an outcome the depth-first run of the root ends so, with the words of the arrays as they are, and
+/// each branch that was forked was taken: as many as that run forks.
 pub fn runs_end_so()
+    ensures halves { HalvesStay }
     ensures once { OnceInEachRun }
     ensures ends { RunsEndSo }
     ensures forks { RunsForkSo }

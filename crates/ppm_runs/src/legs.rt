@@ -31,7 +31,7 @@ pub fn work_over_legs()
 
 /// With takeover by places, from an image of a sound code, whatever the legs and the turns behind them:
 /// the tag of each place's holder is at most the number of processors, and one more than that whenever
-/// words came back. So words that are saved then may come back, unless they did so 2^51 times.
+/// words came back. So words that are saved then may come back, unless they did so 2^50 times.
 pub fn tags_stay_low()
     ensures law { TagsStayLow }
 {}
