@@ -15,11 +15,11 @@ use Rattle.ppm_answers.specs.Statuses.{status_of}
 use Rattle.ppm_answers.specs.Texts.{IsFixed, sums_text}
 use Rattle.ppm_answers.proofs.Delivered.{own_or_fault, write_failed}
 use Rattle.ppm_driver.specs.Examples.{ExampleMay, ExamplesSumUp, SumsUp, items_of, run_options_of, sums_drawn, text_of}
-use Rattle.ppm_driver.specs.ExampleRows.{ExampleSays, WritesSums}
+use Rattle.ppm_driver.specs.ExampleRows.{ExampleSays, ExampleRows, WritesSums}
 use Rattle.ppm_driver.specs.Meant.{RunsAreAsPrograms}
 use Rattle.ppm_driver.specs.Runs.{RunTells}
 use Rattle.ppm_driver.proofs.ExampleLemmas.{kind}
-use Rattle.ppm_driver.proofs.MeantRows.{run_ends}
+use Rattle.ppm_driver.proofs.MeantRows.{run_is, run_ends}
 
 module _ (law : RunsAreAsPrograms) (all : ExamplesSumUp) (options : SelfOptions) (are : AreSelf options) (o : Outside) where
   -- what is told is that of the example
@@ -42,8 +42,8 @@ module _ (law : RunsAreAsPrograms) (all : ExamplesSumUp) (options : SelfOptions)
   by (answers.Summed sums) h w = summed sums (all options are o.told_before o.told_now (answers.Summed sums) h) h w.out_takes.0
   by a h w = absurd (all options are o.told_before o.told_now a h)
 
-  -- all rows
-  pub example_says : (status : Status) → Answers (ExampleMay options o.told_before o.told_now) (RunTells options.processors) o status
+  -- what the status says
+  example_says : (status : Status) → Answers (ExampleMay options o.told_before o.told_now) (RunTells options.processors) o status
       → ExampleSays options o status
   example_says status a = go (own_or_fault o.out o.err a.answer status a.delivered)
     where
@@ -51,6 +51,15 @@ module _ (law : RunsAreAsPrograms) (all : ExamplesSumUp) (options : SelfOptions)
       go (inl e) = subst (ExampleSays options o) (sym e) (write_failed o.out o.err a.answer status a.delivered e)
       go (inr w) =
           subst (ExampleSays options o) (sym w.own) (by a.answer a.cause (subst (IsWritten o.out o.err a.answer) w.own w))
+
+  -- all rows
+  pub example_rows : (status : Status) → Answers (ExampleMay options o.told_before o.told_now) (RunTells options.processors) o status
+      → ExampleRows options o status
+  example_rows status a = record {
+    says = example_says status a;
+    meant = λ t has answer h. run_is law (text_of options) t has (run_options_of options) options.processors o.told_before o.told_now
+        (items_of options) answer h;
+  }
 
 -- what was delivered is the answer, or want of memory in its place
 pub example_delivered : (options : SelfOptions) (o : Outside) (a : Answer) (status : Status) → RunTells options.processors a o.told_before o.told_now

@@ -5,12 +5,13 @@ use Rattle.ppm_ports.specs.Ports.{Fails, Gets}
 use Rattle.ppm_ports.specs.Outside.{Outside}
 use Rattle.ppm_tree.specs.Tree.{ProgramTree}
 use Rattle.ppm_program.specs.Programs.{HasProgram}
+use Rattle.ppm_answers.specs.declared.answer.Answer.{Answer}
 use Rattle.ppm_answers.specs.declared.status.Status.{Status}
 use Rattle.ppm_answers.specs.declared.status.Status.TheVariants as statuses
 use Rattle.ppm_answers.specs.Texts.{sums_text}
 use Rattle.ppm_cli.specs.declared.example.SelfOptions.{SelfOptions}
-use Rattle.ppm_driver.specs.Examples.{SumsUp, sums_drawn, text_of}
-use Rattle.ppm_driver.specs.Meant.{EndsAsProgram}
+use Rattle.ppm_driver.specs.Examples.{HasRun, SumsUp, sums_drawn, text_of}
+use Rattle.ppm_driver.specs.Meant.{EndsAsProgram, IsAsProgram}
 
 module _ (options : SelfOptions) (o : Outside) where
   -- The run of the example's program ends with arrays, those with which the program ends serially: their first value is the sum of the values
@@ -28,3 +29,13 @@ module _ (options : SelfOptions) (o : Outside) where
   ExampleSays statuses.WriteFault = Fails o.out ⊎ Fails o.err
   ExampleSays statuses.NoMemory = ⊤
   ExampleSays status = ⊥
+
+  -- each run that an answer is of is as the example's program, at each status: also where the line of its sums failed
+  abbrev pub AreAsPrograms : Type 0
+  AreAsPrograms = (t : ProgramTree) → HasProgram (text_of options) t → (answer : Answer)
+      (h : HasRun options o.told_before o.told_now t answer) → IsAsProgram h.start h.run.turns t
+
+  -- the rows of `self` with such options, in their ranges
+  pub record ExampleRows (status : Status) : Type 0 where
+    pub says : ExampleSays status
+    pub meant : AreAsPrograms

@@ -11,7 +11,7 @@ ghost use Rattle.ppm_plan.specs.Schedules.{Planned};
 ghost use Rattle.ppm_loading.specs.Programs.{ProgramMay, RefusedHas};
 ghost use Rattle.ppm_driver.specs.Examples.{AreForks, ExampleMay, IsPlanOf, ProgramSums};
 ghost use Rattle.ppm_driver.specs.Examples.{first_value, last_value, run_options_of, text_of};
-ghost use Rattle.ppm_driver.specs.ExampleRows.{ExampleSays};
+ghost use Rattle.ppm_driver.specs.ExampleRows.{ExampleRows};
 ghost use Rattle.ppm_driver.specs.Runs.{ProgramHas, RunTells};
 ghost use Rattle.ppm_driver.specs.Watchers.{OthersKeep, watcher_count};
 
@@ -73,7 +73,7 @@ pub fn self_command<R: Threads + Wait + Sync, K: Sink, E: Sink, W: Watch>(
         in Answers (ExampleMay options o.told_before o.told_now) (RunTells options.processors) o result }
 
     // What follows from each status.
-    ensures rows { (source : Port) → ExampleSays options (outside source
+    ensures rows { (source : Port) → ExampleRows options (outside source
         (port K.written K.fault_count out.old out.new) (port E.written E.fault_count err.old err.new)
         (map W.told watch.old.items) (map W.told watch.new.items)) result }
 

@@ -265,7 +265,7 @@ program_rows laws words o status a = record {
       let x = by_example options e in (
         range,
         x.cause.0,
-        of_example.example_says laws.meant laws.sums options range o status
+        of_example.example_rows laws.meant laws.sums options range o status
             (record { answer = x.answer; cause = x.cause.1; delivered = x.delivered; told = x.told }),
       );
   words_refused = refuses_words laws.meant laws.legs laws.comes words o status a;

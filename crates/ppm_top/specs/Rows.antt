@@ -20,7 +20,7 @@ use Rattle.ppm_commands.specs.Check.{CheckRows}
 use Rattle.ppm_commands.specs.Code.{CodeRows}
 use Rattle.ppm_commands.specs.Serial.{SerialRows}
 use Rattle.ppm_loading.specs.MachineRows.{RefusesPlan}
-use Rattle.ppm_driver.specs.ExampleRows.{ExampleSays}
+use Rattle.ppm_driver.specs.ExampleRows.{ExampleRows}
 use Rattle.ppm_driver.specs.ReplayRows.{ReplayRows}
 use Rattle.ppm_driver.specs.ResumeRows.{ResumeRows, RefusesPlan as RefusesResumed}
 use Rattle.ppm_driver.specs.Resumes.{IsTextLeftBy}
@@ -70,10 +70,10 @@ abbrev pub StopsByWords : List (List ℕ) → Outside → Status → Type 0
 StopsByWords words o status = (options : StopOptions) (schedule : List ℕ) → command_of words ≡ Some (commands.Stop options schedule) →
     AreStopped options × StopsLeaving options schedule (ports_of o) status
 
--- where they ask for the program's own example, nothing is read, and each status says what comes of it
+-- where they ask for the program's own example, with options in their ranges, nothing is read, and its rows hold
 abbrev pub SumsByWords : List (List ℕ) → Outside → Status → Type 0
 SumsByWords words o status = (options : SelfOptions) → command_of words ≡ Some (commands.Example options)
-    → AreSelf options × IsUnread o.source × ExampleSays options o status
+    → AreSelf options × IsUnread o.source × ExampleRows options o status
 
 -- the words ask for a run or to resume by a plan, or for a replay or a stop by a schedule, that is refused
 pub data HasRefusedPlan (words : List (List ℕ)) (o : Outside) : Type 0 where

@@ -1,4 +1,4 @@
-use Rattle.ppm_driver.proofs.OfExample.{example_delivered, example_says}
+use Rattle.ppm_driver.proofs.OfExample.{example_delivered, example_rows}
 use Rattle.ppm_driver.proofs.example.self_command.Goals as goal
 
 -- the answer was delivered, or out of memory in its place
@@ -10,6 +10,6 @@ returns-clause-answers g c = λ source.
 -- and the rows follow from it
 pub returns-clause-rows : goal.returns-clause-rows
 returns-clause-rows g c = λ source.
-    example_says c.runs_are_as_programs.ensures.law c.examples_sum_up.ensures.law c.args.options c.requires.options _ _
+    example_rows c.runs_are_as_programs.ensures.law c.examples_sum_up.ensures.law c.args.options c.requires.options _ _
     (example_delivered c.args.options _ _ _ c.example_answer-answer.ensures.told
     (c.example_answer-answer.ensures.kept, c.example_answer-answer.ensures.told.1) c.example_answer-answer.ensures.may c.deliver.ensures)
