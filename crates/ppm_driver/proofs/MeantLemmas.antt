@@ -11,9 +11,10 @@ use Rattle.ppm_words.specs.declared.named_array.NamedArray.{NamedArray}
 use Rattle.ppm_words.specs.declared.outcome.Outcome.{Outcome}
 use Rattle.ppm_words.specs.declared.outcome.Outcome.TheVariants as outcome
 use Rattle.ppm_words.specs.declared.trap.Trap.{Trap}
+use Rattle.ppm_cells.specs.Cells.{pool_at}
 use Rattle.ppm_cells.specs.Finish.{finish_of, IsOutcome}
 use Rattle.ppm_cells.specs.Memory.{read, AreWordsOf}
-use Rattle.ppm_cells.specs.declared.cell.Cell.TheVariants.{FinishWord}
+use Rattle.ppm_cells.specs.declared.cell.Cell.TheVariants.{FinishWord, RoomCounter}
 use Rattle.ppm_cells.specs.declared.finish.Finish.{Finish}
 use Rattle.ppm_cells.specs.declared.finish.Finish.TheVariants as finishes
 use Rattle.ppm_cells.specs.declared.shape.Shape.{Shape}
@@ -28,7 +29,7 @@ use Rattle.ppm_rows.specs.Correct.{TreesAreWithin}
 use Rattle.ppm_regions.proofs.Inputs.{input_fits}
 use Rattle.ppm_program.specs.Programs.{HasProgram}
 use Rattle.ppm_program.proofs.WithinLemmas.{tree_within}
-use Rattle.ppm_depth.specs.Run.{ComesTo, arrays_at as arrays_by, said_of}
+use Rattle.ppm_depth.specs.Run.{ComesTo, arrays_at as arrays_by, pool_words, said_of}
 use Rattle.ppm_depth.specs.Sound.{IsSound}
 use Rattle.ppm_layout.specs.Correct.{Opens as IsOpened}
 use Rattle.ppm_layout.specs.Root.{root_strand as strand_of_image}
@@ -55,7 +56,7 @@ use Rattle.ppm_kept.specs.Running.{IsFair, strands}
 use Rattle.ppm_runs.specs.Entries.{EndsAsRun, OnceInEachRun, RunsEndSo, RunsForkSo}
 use Rattle.ppm_runs.specs.Moments.{AreOnce}
 use Rattle.ppm_runs.specs.Run.{image}
-use Rattle.ppm_runs.specs.Spent.{RoomIsSpentSo}
+use Rattle.ppm_runs.specs.Spent.{RoomIsSpentSo, RoomIsWithin}
 use Rattle.ppm_runs.specs.Unbroken.{NothingBreaks}
 use Rattle.ppm_runs.specs.Work.{WorkIsWithin256So}
 use Rattle.ppm_core.specs.Situation.{Situation, loaded}
@@ -83,6 +84,7 @@ pub record Laws : Type 0 where
   pub forks : RunsForkSo
   pub once : OnceInEachRun
   pub room : RoomIsSpentSo
+  pub pools : RoomIsWithin
   pub work : WorkIsWithin256So
   pub whole : NothingBreaks
 
@@ -264,8 +266,15 @@ module _ (laws : Laws) (text : List ℕ) (t : ProgramTree) (has : HasProgram tex
           laws.work code input s keeper b.image fair opened calm turns among e
           (ends_as (sym shown.strands) (sym shown.root) (sym shown.arrays) e comes)
 
+      -- no place has given out more than the depth-first run takes
+      pools : (e : End Result) → ComesTo code input e → (place : ℕ) → place < s.processors
+          → read s last.words (RoomCounter place) ≤ pool_at s place + pool_words code e.counts
+      pools e comes =
+          laws.pools code input s keeper b.image fair opened calm turns among e
+          (ends_as (sym shown.strands) (sym shown.root) (sym shown.arrays) e comes)
+
       as_program : IsAsProgram start turns t
-      as_program = record { once = none_twice; ended = when_ended; trapped = when_trapped; full = needs_more; unbroken = breaks; work = works; few = undone_few s code turns (opening words s.processors) }
+      as_program = record { once = none_twice; ended = when_ended; trapped = when_trapped; full = needs_more; unbroken = breaks; work = works; few = undone_few s code turns (opening words s.processors); pools = pools }
         where
           when_ended : Says finishes.Ended → EndsAsProgram start turns t (outcome.Ended (arrays_from s b.image.lengths last.words 0 input))
           when_ended says =

@@ -5,10 +5,13 @@ use Rattle.ppm_strands.specs.Run.{End as CapsuleEnd}
 use Rattle.ppm_words.specs.declared.outcome.Outcome.{Outcome}
 use Rattle.ppm_words.specs.declared.outcome.Outcome.TheVariants as outcome
 use Rattle.ppm_words.specs.declared.trap.Trap.{Trap}
+use Rattle.ppm_cells.specs.Cells.{pool_at}
 use Rattle.ppm_cells.specs.Finish.{finish_of}
+use Rattle.ppm_cells.specs.Memory.{read}
+use Rattle.ppm_cells.specs.declared.cell.Cell.TheVariants.{RoomCounter}
 use Rattle.ppm_cells.specs.declared.finish.Finish.TheVariants as finishes
 use Rattle.ppm_code.specs.Strands.{Result}
-use Rattle.ppm_depth.specs.Run.{ComesTo, said_of}
+use Rattle.ppm_depth.specs.Run.{ComesTo, pool_words, said_of}
 use Rattle.ppm_tree.specs.Tree.{ProgramTree}
 use Rattle.ppm_tree.specs.Meaning.{Whole, Counts, End}
 use Rattle.ppm_tree.specs.Program.{initial_arrays, values_of, Means, Serial}
@@ -100,7 +103,7 @@ module _ (m : Situation) (turns : List Turn) where
   -- What holds behind these turns. No branch is taken twice. Where the finish word says an outcome the run ends as the program does, with the
   -- arrays of the words then, or this trap; where it says that a pool is full, the program takes more words. That words are broken it says only
   -- behind more than 2^34 work turns. All work turns are fewer than 256 for each capsule of the program's code and each fault that undoes work; no more do
-  -- so than turns are faults.
+  -- so than turns are faults. No place has given out more of its pool than that run takes.
   pub record IsAsProgram (t : ProgramTree) : Type 0 where
     pub once : NoneIsTakenTwice
     pub ended : finish_of (finish_behind m turns) ≡ Some finishes.Ended
@@ -111,6 +114,8 @@ module _ (m : Situation) (turns : List Turn) where
     pub unbroken : (place : ℕ) → finish_of (finish_behind m turns) ≡ Some (finishes.Broken place) → 2 ^ 34 < worked_in
     pub work : NeedsMoreTurns t undone_in worked_in
     pub few : undone_in ≤ faults_in turns
+    pub pools : (e : CapsuleEnd Result) → ComesTo (code_of t) (initial_arrays t) e → (place : ℕ) → place < m.shape.processors
+        → read m.shape (words_behind m turns) (RoomCounter place) ≤ pool_at m.shape place + pool_words (code_of t) e.counts
 
 -- From the machine with which a run of a text's program begins, whatever the turns are that its processors make, and in whatever order, faults
 -- and quits among them

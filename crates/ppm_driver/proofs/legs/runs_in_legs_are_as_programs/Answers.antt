@@ -18,6 +18,7 @@ returns c =
         once = c.runs_end_so.ensures.once;
         forks = c.runs_end_so.ensures.forks;
         room = c.room_is_spent.ensures.so;
+        pools = c.room_is_spent.ensures.within;
         work = c.work_is_bounded.ensures.within_so;
         whole = c.nothing_breaks.ensures.law;
       };

@@ -17,6 +17,7 @@ returns c = record {
     forks = c.runs_end_so.ensures.forks;
     once = c.runs_end_so.ensures.once;
     room = c.room_is_spent.ensures.so;
+    pools = c.room_is_spent.ensures.within;
     work = c.work_is_bounded.ensures.within_so;
     whole = c.nothing_breaks.ensures.law;
   });
