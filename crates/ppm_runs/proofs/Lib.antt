@@ -4,8 +4,9 @@
 -- (`TakerLemmas`), so a turn leads on (`GoingLemmas`, `BearingLemmas`, `BrokenLemmas`); a run's
 -- beginning (`OpenLemmas`) and its end (`OutcomeLemmas`). What a row makes of the tree and of homes, kind by
 -- kind, is `AgreeLemmas`; that both halves join again is `JoinLemmas`, and whole runs are `WholeLemmas`; each of their moments is
--- `MomentLemmas`, a pool that was found full `SpentLemmas`, what is given out of pools `PoolLemmas`, and words that come back `BackLemmas`. Runs in legs
--- are `LegLemmas`; their work is `BoundLemmas`, turn by turn, and `LegWork`, leg by leg.
+-- `MomentLemmas`, a pool that was found full `SpentLemmas`, what is given out of pools `PoolLemmas`, and words that
+-- come back `BackLemmas`. Runs in legs are `LegLemmas`; their work is `BoundLemmas`, turn by turn, and `LegWork`, leg
+-- by leg.
 -- That nothing breaks has two halves. Of deques, places and processors: each load of a row
 -- (`SoundRows`, and of an heir `CheckRows`), each write (`SoundLemmas`), each act (`SoundTurns`, `SoundJoin`). Of frames: headers
 -- are numbers of capsules and what is over has an outcome (`WellWords`, with places left out `WellLeft`), so rows and

@@ -5,7 +5,9 @@ use Rattle.std.specs.Prelude.{slice_index}
 use Rattle.std.specs.List.{AllByRecursion}
 use Rattle.std.proofs.lemmas.Bool.{cases_eq, lt-ltb}
 use Rattle.ppm_strands.specs.Tree.{Words, Tree}
+use Rattle.ppm_strands.specs.Calm.{Calm}
 use Rattle.ppm_strands.specs.Run.{End, Ends}
+use Rattle.ppm_words.specs.declared.named_array.NamedArray.{NamedArray}
 use Rattle.ppm_cells.specs.Cells.{IsCell, pool_at}
 use Rattle.ppm_cells.specs.Link.{link_of}
 use Rattle.ppm_cells.specs.Memory.{read, write as store}
@@ -25,7 +27,9 @@ use Rattle.ppm_code.specs.Sizes.{frame_size, slots_of}
 use Rattle.ppm_code.specs.Strands.{Point, Result}
 use Rattle.ppm_code.specs.declared.code.CodeParts.{CodeParts}
 use Rattle.ppm_code.specs.declared.location.FrameWord.{FrameWord}
+use Rattle.ppm_layout.specs.Correct.{Opens}
 use Rattle.ppm_layout.specs.Root.{root_strand}
+use Rattle.ppm_layout.specs.declared.images.Image.{Image as RealImage}
 use Rattle.ppm_step.specs.Among.{IsTurnAmong}
 use Rattle.ppm_step.specs.Contents.{word_of, read_so}
 use Rattle.ppm_step.specs.Frames.{Rest, Loads, Stores, Full, Installs, Breaks}
@@ -71,9 +75,11 @@ use Rattle.ppm_kept.proofs.SteadyLemmas.{rows_are_steady}
 use Rattle.ppm_runs.specs.Run.{image, fate_of, IsRun}
 use Rattle.ppm_runs.specs.Entries.{IsHeired}
 use Rattle.ppm_runs.specs.Follow.{IsHalves}
+use Rattle.ppm_runs.specs.Legs.{Leg, words_then, state_then, AreLegs, last_state, all_homes, all_forked, all_taken, RoomIsWithinOverLegs}
 use Rattle.ppm_runs.specs.Spent.{RoomIsWithin}
 use Rattle.ppm_runs.proofs.CameLemmas.{came_from}
 use Rattle.ppm_runs.proofs.HeiredLemmas.{heirs_lead_on, heired_first}
+use Rattle.ppm_runs.proofs.LegLemmas.{legs_stay}
 use Rattle.ppm_runs.proofs.MomentLemmas.{turns_lead_on}
 use Rattle.ppm_runs.proofs.OpenLemmas.{runs_open}
 use Rattle.ppm_runs.proofs.OrderlyLemmas.{how_or, pooled}
@@ -313,19 +319,55 @@ opening_roof i m keeper f q = elim (cases_eq q keeper) [
   | inr ne ↦ ap (ceiling i m q) (put_else (λ x. Seek) keeper (Run f 0) q ne)
 ]
 
+module _ (code : CodeParts) (input : List NamedArray) (s : Shape) (keeper : ℕ) (im : RealImage) (fair : IsFair code) (opens : Opens code input s keeper im) (calm : Calm (strands s code) (root_strand code input) (arrays_at (view s im.words)))
+    (end : End Result) (ends : Ends (strands s code) (root_strand code input) (arrays_at (view s im.words)) end) where
+  abbrev root : Tree (Frame FrameWord Point) Result
+  root = root_strand code input
+
+  abbrev arrays : Words
+  arrays = arrays_at (view s im.words)
+
+  abbrev first : RunState
+  first = opening im.words s.processors
+
+  abbrev leaf : Skeleton
+  leaf = Leaf (InPlace keeper) (Begins 0) (pool_at s keeper) (slots_of code code.root)
+
+  abbrev Low : List ℕ → Type 0
+  Low words = IsBounded s code fair root arrays end ends words
+
+  run : IsRun s code root arrays first (λ r. Unborn) [] [] leaf
+  run = runs_open code input s keeper im opens calm
+
+  opened : Low im.words
+  opened q there =
+      subst (λ (x : ℕ). x ≤ pool_at s q + (frame_size code code.root + end.counts.block_words))
+      (ap (λ (z : State). ceiling (image s code) z.words q (z.kind q)) (machines_open code input s keeper im opens calm).0 ∙ opening_roof (image s code) (view s im.words) keeper (pool_at s keeper) q ∙ view_is s im.words (RoomCounter q) (lt-ltb q s.processors there))
+      (room_is_bounded (image s code) root arrays (places_of s first) leaf run.kept end ends q)
+
+  stays_low : (turns : List Turn) → AllByRecursion (IsTurnAmong s.processors) turns → Low (reached s code im.words turns).words
+  stays_low turns all = elim (how_or s.takeover) [
+    | inl places ↦ places_bound s code fair root arrays end ends places first (λ r. Unborn) [] [] leaf turns all run opened
+    | inr ih ↦ entries_bound s code fair root arrays end ends ih first (λ r. Unborn) [] [] [] leaf turns all (heired_first code input s keeper im opens calm) opened
+  ]
+
+  -- over legs; words that come back have the counters as they were
+  module _ (places : s.takeover ≡ ByPlaces) where
+    leg_low : (legs : List Leg) → AreLegs s code im.words legs → Low (words_then s code im.words legs) → (turns : List Turn) → AllByRecursion (IsTurnAmong s.processors) turns → Low (last_state s code im.words legs turns).words
+    leg_low legs are low turns all =
+        let there = legs_stay code input s keeper im places fair opens calm legs are [] tt in
+        places_bound s code fair root arrays end ends places (state_then s code im.words legs) (all_homes s code im.words legs []) (all_forked s code im.words legs []) (all_taken s code im.words legs []) there.0 turns all there.1 low
+
+    back_low : (legs : List Leg) → AreLegs s code im.words legs → Low (words_then s code im.words legs)
+    back_low [] are = opened
+    back_low (leg ∷ legs) are = λ q there.
+        subst (λ (x : ℕ). x ≤ pool_at s q + (frame_size code code.root + end.counts.block_words)) (sym (are.2.renewal.renewed (RoomCounter q) there)) (leg_low legs are.0 (back_low legs are.0) leg.turns are.1 q there)
+
+    legs_low : (legs : List Leg) → AreLegs s code im.words legs → (turns : List Turn) → AllByRecursion (IsTurnAmong s.processors) turns → Low (last_state s code im.words legs turns).words
+    legs_low legs are turns all = leg_low legs are (back_low legs are) turns all
+
 pub room_is_within : RoomIsWithin
-room_is_within code input s keeper im fair opens calm turns all end ends =
-    let root = root_strand code input in
-    let words = arrays_at (view s im.words) in
-    let first = opening im.words s.processors in
-    let leaf : Skeleton = Leaf (InPlace keeper) (Begins 0) (pool_at s keeper) (slots_of code code.root) in
-    let run = runs_open code input s keeper im opens calm in
-    let made = machines_open code input s keeper im opens calm in
-    let low : IsBounded s code fair root words end ends im.words = λ q there.
-        subst (λ (x : ℕ). x ≤ pool_at s q + (frame_size code code.root + end.counts.block_words))
-        (ap (λ (z : State). ceiling (image s code) z.words q (z.kind q)) made.0 ∙ opening_roof (image s code) (view s im.words) keeper (pool_at s keeper) q ∙ view_is s im.words (RoomCounter q) (lt-ltb q s.processors there))
-        (room_is_bounded (image s code) root words (places_of s first) leaf run.kept end ends q) in
-    elim (how_or s.takeover) [
-      | inl places ↦ places_bound s code fair root words end ends places first (λ r. Unborn) [] [] leaf turns all run low
-      | inr ih ↦ entries_bound s code fair root words end ends ih first (λ r. Unborn) [] [] [] leaf turns all (heired_first code input s keeper im opens calm) low
-    ]
+room_is_within code input s keeper im fair opens calm turns all end ends place there = stays_low code input s keeper im fair opens calm end ends turns all place there
+
+pub room_is_within_over_legs : RoomIsWithinOverLegs
+room_is_within_over_legs code input s keeper im places fair opens calm legs are turns all end ends place there = legs_low code input s keeper im fair opens calm end ends places legs are turns all place there

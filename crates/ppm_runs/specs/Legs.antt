@@ -4,9 +4,10 @@ use Rattle.std.specs.List.{AllByRecursion}
 use Rattle.ppm_strands.specs.Calm.{Calm}
 use Rattle.ppm_strands.specs.Run.{End, Ends}
 use Rattle.ppm_words.specs.declared.named_array.NamedArray.{NamedArray}
+use Rattle.ppm_cells.specs.Cells.{pool_at}
 use Rattle.ppm_cells.specs.Finish.{finish_of, IsOutcome}
 use Rattle.ppm_cells.specs.Memory.{read}
-use Rattle.ppm_cells.specs.declared.cell.Cell.TheVariants.{FinishWord}
+use Rattle.ppm_cells.specs.declared.cell.Cell.TheVariants.{FinishWord, RoomCounter}
 use Rattle.ppm_cells.specs.declared.finish.Finish.{Finish}
 use Rattle.ppm_cells.specs.declared.finish.Finish.TheVariants.{OutOfRoom}
 use Rattle.ppm_cells.specs.declared.shape.Shape.{Shape}
@@ -148,6 +149,16 @@ RoomOverLegs = (code : CodeParts) (input : List NamedArray) (s : Shape) (keeper 
     → (place : ℕ) → finish_of (read s (last_state s code image.words legs turns).words FinishWord) ≡ Some (OutOfRoom place)
     → (end : End Result) → Ends (strands s code) (root_strand code input) (arrays_at (view s image.words)) end
     → s.room < frame_size code code.root + end.counts.block_words
+
+-- at each moment, where that run comes to an end, no place has given out more of its pool than it takes
+abbrev pub RoomIsWithinOverLegs : Type 0
+RoomIsWithinOverLegs = (code : CodeParts) (input : List NamedArray) (s : Shape) (keeper : ℕ) (image : RealImage)
+    → s.takeover ≡ ByPlaces → IsFair code → Opens code input s keeper image
+    → Calm (strands s code) (root_strand code input) (arrays_at (view s image.words))
+    → (legs : List Leg) → AreLegs s code image.words legs → (turns : List Turn) → AllByRecursion (IsTurnAmong s.processors) turns
+    → (end : End Result) → Ends (strands s code) (root_strand code input) (arrays_at (view s image.words)) end
+    → (place : ℕ) → place < s.processors
+    → read s (last_state s code image.words legs turns).words (RoomCounter place) ≤ pool_at s place + (frame_size code code.root + end.counts.block_words)
 
 -- Where the depth-first run of the root ends, all work turns together are no more than 218 for each of its capsules, 171 for each fault
 -- that strikes a row, 172 for each processor whenever words come back, since a row that was under way is lost, and 6.

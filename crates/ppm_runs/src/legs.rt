@@ -1,6 +1,6 @@
 //! Runs in legs, shown by calls that do nothing.
-ghost use Rattle.ppm_runs.specs.Legs.{ForksOverLegs, LegsComeTo, LegsStay, OnceOverLegs, RoomOverLegs};
-ghost use Rattle.ppm_runs.specs.Legs.{WorkOverLegs, WorkOverLegsIsWithin256};
+ghost use Rattle.ppm_runs.specs.Legs.{ForksOverLegs, LegsComeTo, LegsStay, OnceOverLegs, RoomIsWithinOverLegs};
+ghost use Rattle.ppm_runs.specs.Legs.{RoomOverLegs, WorkOverLegs, WorkOverLegsIsWithin256};
 ghost use Rattle.ppm_runs.specs.Tags.{TagsStayLow};
 ghost use Rattle.ppm_runs.specs.UnbrokenLegs.{FinishStandsOverLegs, NothingBreaksOverLegs};
 
@@ -16,9 +16,11 @@ pub fn legs_come_to()
 {}
 
 /// Where the finish word says that a pool is full, then or when words came back, and the depth-first
-/// run of the root comes to an end, that run takes more words than a pool has.
+/// run of the root comes to an end, that run takes more words than a pool has. At each moment no place
+/// has given out more of its pool than that run takes of all.
 pub fn room_over_legs()
     ensures law { RoomOverLegs }
+    ensures within { RoomIsWithinOverLegs }
 {}
 
 /// Where the depth-first run of the root ends, all work turns of all legs are fewer than 256 for each
