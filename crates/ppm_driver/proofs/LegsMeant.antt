@@ -1,6 +1,6 @@
 -- With takeover by places runs in legs end as their programs do: as of a run without legs, an outcome is the depth-first run's, and that is the
 -- program's.
-use Rattle.std.proofs.Common.{◌≡◌, ◌≢◌, ℕ, ◌≤◌, ◌<◌, ◌^◌, List, [], ◌∷◌, length, map, Some, None, inl, inr, refl, sym, ap, ◌∙◌, subst, arith}
+use Rattle.std.proofs.Common.{◌≡◌, ◌≢◌, ℕ, ◌≤◌, ◌<◌, ◌+◌, ◌^◌, List, [], ◌∷◌, length, map, Some, None, inl, inr, refl, sym, ap, ◌∙◌, subst, arith}
 use Rattle.std.specs.List.{AllByRecursion, sum}
 use Rattle.std.proofs.lemmas.Bool.{cases_lt}
 use Rattle.ppm_strands.specs.Run.{End}
@@ -8,9 +8,10 @@ use Rattle.ppm_words.specs.declared.named_array.NamedArray.{NamedArray}
 use Rattle.ppm_words.specs.declared.outcome.Outcome.{Outcome}
 use Rattle.ppm_words.specs.declared.outcome.Outcome.TheVariants as outcome
 use Rattle.ppm_words.specs.declared.trap.Trap.{Trap}
+use Rattle.ppm_cells.specs.Cells.{pool_at}
 use Rattle.ppm_cells.specs.Finish.{finish_of, IsOutcome}
 use Rattle.ppm_cells.specs.Memory.{read, AreWordsOf}
-use Rattle.ppm_cells.specs.declared.cell.Cell.TheVariants.{FinishWord}
+use Rattle.ppm_cells.specs.declared.cell.Cell.TheVariants.{FinishWord, RoomCounter}
 use Rattle.ppm_cells.specs.declared.finish.Finish.{Finish}
 use Rattle.ppm_cells.specs.declared.finish.Finish.TheVariants as finishes
 use Rattle.ppm_cells.specs.declared.shape.Shape.{Shape}
@@ -20,7 +21,7 @@ use Rattle.ppm_code.specs.declared.code.CodeParts.{CodeParts}
 use Rattle.ppm_tree.specs.Tree.{ProgramTree}
 use Rattle.ppm_tree.specs.Program.{initial_arrays}
 use Rattle.ppm_program.specs.Programs.{HasProgram}
-use Rattle.ppm_depth.specs.Run.{ComesTo, arrays_at as arrays_by, said_of}
+use Rattle.ppm_depth.specs.Run.{ComesTo, arrays_at as arrays_by, pool_words, said_of}
 use Rattle.ppm_layout.specs.Root.{root_strand as strand_of_image}
 use Rattle.ppm_cut_code.specs.Routines.{code_of}
 use Rattle.ppm_step.specs.Among.{IsTurnAmong}
@@ -29,7 +30,7 @@ use Rattle.ppm_step.specs.declared.turn.Turn.{Turn}
 use Rattle.ppm_frames.specs.Seen.{arrays_at}
 use Rattle.ppm_frames.specs.Skeletons.{Skeleton}
 use Rattle.ppm_frames.specs.Views.{view}
-use Rattle.ppm_runs.specs.Legs.{Leg, words_then, state_then, AreLegs, last_state, all_forked, all_taken, all_work, OnceOverLegs, LegsComeTo, ForksOverLegs, RoomOverLegs, WorkOverLegsIsWithin256}
+use Rattle.ppm_runs.specs.Legs.{Leg, words_then, state_then, AreLegs, last_state, all_forked, all_taken, all_work, OnceOverLegs, LegsComeTo, ForksOverLegs, RoomOverLegs, RoomIsWithinOverLegs, WorkOverLegsIsWithin256}
 use Rattle.ppm_runs.specs.Moments.{AreOnce}
 use Rattle.ppm_runs.specs.Outcomes.{EndsWell}
 use Rattle.ppm_runs.specs.Tags.{TagsStayLow}
@@ -55,6 +56,7 @@ pub record Laws : Type 0 where
   pub forks : ForksOverLegs
   pub once : OnceOverLegs
   pub room : RoomOverLegs
+  pub pools : RoomIsWithinOverLegs
   pub work : WorkOverLegsIsWithin256
   pub whole : NothingBreaksOverLegs
   pub stands : FinishStandsOverLegs
@@ -157,6 +159,13 @@ module _ (laws : Laws) (text : List ℕ) (t : ProgramTree) (has : HasProgram tex
           laws.work code input s keeper b.image (b.sized.takeover ∙ places) (meant.fair laws.base text t has) (meant.opened laws.base text t has sizes keeper m b) (meant.calm laws.base text t has sizes keeper m b) legs are turns among e
           (ends_as (sym (meant.shown laws.base text t has sizes keeper m b).strands) (sym (meant.shown laws.base text t has sizes keeper m b).root) (sym (meant.shown laws.base text t has sizes keeper m b).arrays) e comes)
 
+      -- no place has given out more than the depth-first run takes
+      pools : (e : End Result) → ComesTo code input e → (place : ℕ) → place < s.processors
+          → read s last.words (RoomCounter place) ≤ pool_at s place + pool_words code e.counts
+      pools e comes =
+          laws.pools code input s keeper b.image (b.sized.takeover ∙ places) (meant.fair laws.base text t has) (meant.opened laws.base text t has sizes keeper m b) (meant.calm laws.base text t has sizes keeper m b) legs are turns among e
+          (ends_as (sym (meant.shown laws.base text t has sizes keeper m b).strands) (sym (meant.shown laws.base text t has sizes keeper m b).root) (sym (meant.shown laws.base text t has sizes keeper m b).arrays) e comes)
+
       -- the finish word stands for a finish, and for broken words behind much work alone
       stands : finish_of (read s last.words FinishWord) ≢ None
       stands none =
@@ -181,7 +190,7 @@ module _ (laws : Laws) (text : List ℕ) (t : ProgramTree) (has : HasProgram tex
           (k.0, k.1, omega (arith, tag, most, risen))
 
       as_program : IsAsProgramInAll start legs turns t
-      as_program = record { once = none_twice; ended = when_ended; trapped = when_trapped; work = works; full = needs_more; stands = stands; unbroken = breaks }
+      as_program = record { once = none_twice; ended = when_ended; trapped = when_trapped; work = works; full = needs_more; pools = pools; stands = stands; unbroken = breaks }
         where
           when_ended : Says finishes.Ended → EndsAsProgramInAll start legs turns t (outcome.Ended (arrays_from s b.image.lengths last.words 0 input))
           when_ended says =

@@ -6,13 +6,14 @@ use Rattle.ppm_strands.specs.Run.{End as CapsuleEnd}
 use Rattle.ppm_words.specs.declared.outcome.Outcome.{Outcome}
 use Rattle.ppm_words.specs.declared.outcome.Outcome.TheVariants as outcome
 use Rattle.ppm_words.specs.declared.trap.Trap.{Trap}
+use Rattle.ppm_cells.specs.Cells.{pool_at}
 use Rattle.ppm_cells.specs.Finish.{finish_of}
 use Rattle.ppm_cells.specs.Memory.{read}
-use Rattle.ppm_cells.specs.declared.cell.Cell.TheVariants.{FinishWord}
+use Rattle.ppm_cells.specs.declared.cell.Cell.TheVariants.{FinishWord, RoomCounter}
 use Rattle.ppm_cells.specs.declared.finish.Finish.TheVariants as finishes
 use Rattle.ppm_cells.specs.declared.shape.Takeover.TheVariants.{ByPlaces}
 use Rattle.ppm_code.specs.Strands.{Result}
-use Rattle.ppm_depth.specs.Run.{ComesTo}
+use Rattle.ppm_depth.specs.Run.{ComesTo, pool_words}
 use Rattle.ppm_tree.specs.Tree.{ProgramTree}
 use Rattle.ppm_tree.specs.Program.{initial_arrays}
 use Rattle.ppm_program.specs.Programs.{HasProgram}
@@ -72,8 +73,9 @@ module _ (m : Situation) (legs : List Leg) (turns : List Turn) where
 
   -- What holds behind them. No branch is taken twice. Where the finish word says an outcome the run ends as the program does, with the arrays
   -- of the words then, or this trap; where it says that a pool is full, the program takes more words. All work turns are fewer than 256 for
-  -- each capsule of the program's code, each fault that strikes a row of work, and each fresh processor. The finish word stands for a finish;
-  -- that words are broken it says only behind more than 2^34 work turns, where words came back at most 2^50 times.
+  -- each capsule of the program's code, each fault that strikes a row of work, and each fresh processor. No place has given out more of its
+  -- pool than that run takes. The finish word stands for a finish; that words are broken it says only behind more than 2^34 work turns, where
+  -- words came back at most 2^50 times.
   pub record IsAsProgramInAll (t : ProgramTree) : Type 0 where
     pub once : NoneIsTakenTwiceInAll
     pub ended : finish_of finish_at_last ≡ Some finishes.Ended
@@ -82,6 +84,8 @@ module _ (m : Situation) (legs : List Leg) (turns : List Turn) where
         → EndsAsProgramInAll t (outcome.Trapped trap line)
     pub work : NeedsMoreTurns t struck_in_all worked_in_all
     pub full : (place : ℕ) → finish_of finish_at_last ≡ Some (finishes.OutOfRoom place) → NeedsMoreRoom t m.shape.room
+    pub pools : (e : CapsuleEnd Result) → ComesTo (code_of t) (initial_arrays t) e → (place : ℕ) → place < m.shape.processors
+        → read m.shape words_at_last (RoomCounter place) ≤ pool_at m.shape place + pool_words (code_of t) e.counts
     pub stands : finish_of finish_at_last ≢ None
     pub unbroken : length legs ≤ 2 ^ 50 → (place : ℕ) → finish_of finish_at_last ≡ Some (finishes.Broken place) → 2 ^ 34 < worked_in_all
 

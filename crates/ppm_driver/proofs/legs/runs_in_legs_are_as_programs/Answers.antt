@@ -26,6 +26,7 @@ returns c =
       forks = c.legs_come_to.ensures.forks;
       once = c.legs_come_to.ensures.once;
       room = c.room_over_legs.ensures.law;
+      pools = c.room_over_legs.ensures.within;
       work = c.work_over_legs.ensures.within;
       whole = c.nothing_breaks_over_legs.ensures.law;
       stands = c.nothing_breaks_over_legs.ensures.stands;
