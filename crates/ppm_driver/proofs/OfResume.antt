@@ -1,6 +1,6 @@
 -- What rows say of `resume`: each status says its sentence; and of each program that left the state the whole run, with the legs before, is as
 -- the program.
-use Rattle.std.proofs.Common.{◌≡◌, ◌≢◌, ◌≤◌, ◌<◌, ◌+◌, ◌*◌, ◌^◌, ℕ, List, [], ◌∷◌, length, map, Some, None, inl, inr, refl, sym, ap, ◌∙◌, subst, arith}
+use Rattle.std.proofs.Common.{◌≡◌, ◌≢◌, ◌≤◌, ◌<◌, ◌+◌, ◌^◌, ℕ, List, [], ◌∷◌, length, map, Some, None, inl, inr, refl, sym, ap, ◌∙◌, subst, arith}
 use Rattle.std.specs.List.{AllByRecursion}
 use Rattle.std.proofs.lemmas.List.Elements.{recursion_from_All}
 use Rattle.ppm_words.specs.TwosComplement.{value_of}
@@ -49,7 +49,7 @@ use Rattle.ppm_driver.specs.ResumeRows.{Has, RefusesPlan, ResumeSays, ComesLate,
 use Rattle.ppm_driver.proofs.MeantRows.{ended_run, trapped_run, full_run, broken_run}
 use Rattle.ppm_driver.proofs.ResumeLemmas.{spent_has, filled_has, has_kind, fronts_decide, saved_or_none}
 use Rattle.ppm_driver.proofs.StrikeLemmas.{strikes_are_planned}
-use Rattle.ppm_driver.proofs.WorkLemmas.{of_all, obeyed_work}
+use Rattle.ppm_driver.proofs.WorkLemmas.{of_all}
 
 -- arrays are read off by their names
 named_alike : (s : Shape) (lengths words : List ℕ) (number : ℕ) (arrays : List NamedArray)
@@ -121,7 +121,7 @@ module _ (law : RunsInLegsAreAsPrograms) (comes : LeftWordsComeBack) (source : L
       ∙ named_alike m.shape m.array_lengths (words_at_last m legs turns) 0 (initial_arrays left.tree)
 
   -- the work of all is that of the legs before and of these turns
-  work_split : worked_in_all m legs turns ≡ worked_in_all m left.legs left.turns + length (along start.shape start.code work_of start.state turns)
+  pub work_split : worked_in_all m legs turns ≡ worked_in_all m left.legs left.turns + length (along start.shape start.code work_of start.state turns)
   work_split =
       let same : length (along start.shape start.code work_of start.state turns) ≡ length (along m.shape m.code work_of (opening back m.shape.processors) turns) =
       ap (λ (x : State). length (along start.shape start.code work_of x turns)) state_is
@@ -239,16 +239,10 @@ module _ (law : RunsInLegsAreAsPrograms) (comes : LeftWordsComeBack) (options : 
   of_ports = record { read_fault = λ f. f; write_fault = λ f. f; memory = tt }
 
   -- that words are broken comes late
-  late : (items : List PlanItem) (z : SavedState) (place : ℕ) → ItemsHave options o.told_before o.told_now items z (answers.Broken place) → ComesLate options plan o z
-  late items z place (inl k) source left = absurd (left_stands law comes options o.told_before o.told_now items z source left k.0.none)
-  late items z place (inr run) source left =
-      let all = among law comes options o.told_before o.told_now items z (answers.Broken place) run in
-      let many = resumed_breaks law comes options o.told_before o.told_now items z place run source left in
-      let split = work_split law comes source z left run.start run.goes_on run.run.turns all in
-      let most = subst (λ (s : Shape). length (along run.start.shape run.start.code work_of run.start.state run.run.turns) ≤ s.processors * options.turns)
-      (ap (λ (x : Situation). x.shape) run.goes_on.loads)
-      (obeyed_work run.start.shape run.start.code (plan_of z items) (limits_of options) run.start.state run.run.turns run.run.obey all) in
-      omega (arith, many, split, most)
+  late : (items : List PlanItem) (z : SavedState) (place : ℕ) → ItemsHave options o.told_before o.told_now items z (answers.Broken place) → ComesLate options plan o items z place
+  late items z place (inl k) source left =
+      absurd (left_stands law comes options o.told_before o.told_now items z source left k.0.none)
+  late items z place (inr run) source left = (run, resumed_breaks law comes options o.told_before o.told_now items z place run source left)
 
   -- an answer that is written says the sentence of its status
   by : (answer : Answer) → Reads answer → IsWritten o.out o.err answer (status_of answer) → ResumeSays options plan o (status_of answer)
