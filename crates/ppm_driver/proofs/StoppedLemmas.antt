@@ -52,8 +52,8 @@ module _ (law : StopsLeaveStates) (program : RunsInLegsAreAsPrograms) (comes : L
         let all = recursion_from_All (IsTurnAmong run.start.shape.processors) run.run.turns run.run.obey.among in
         let split = work_split program comes source l.state l.by run.start run.goes_on run.run.turns all in
         let own = subst (λ (s : Shape). length (along run.start.shape run.start.code work_of run.start.state run.run.turns) ≤ s.processors * options.turns)
-            (ap (λ (x : Situation). x.shape) run.goes_on.loads)
-            (obeyed_work run.start.shape run.start.code (plan_of l.state b.read.2.has.items) (limits_of options) run.start.state run.run.turns run.run.obey all) in
+        (ap (λ (x : Situation). x.shape) run.goes_on.loads)
+        (obeyed_work run.start.shape run.start.code (plan_of l.state b.read.2.has.items) (limits_of options) run.start.state run.run.turns run.run.obey all) in
         let most = mul-le l.state.shape.processors options.turns 16 268435456 l.few resumed.0.1 in
         let late = made.1 in
         let work = l.work in
