@@ -72,7 +72,7 @@ fn meaning_of(status: Status) -> &'static str {
         }
         Status::Broken => {
             "saved words broken: of `resume`, where a processor can't go on with those that it met\n       \
-             at that place"
+             at that place; 64 where it has none, or where the saved finish word is none"
         }
     }
 }
