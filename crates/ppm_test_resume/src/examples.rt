@@ -31,12 +31,30 @@ const LIMITS: Limits = Limits {
 
 /// Words that ask for the example of four values with seed 7.
 const OF_ONE: &[&str] = &[
-    "ppm", "self", "--processors", "1", "--size", "4", "--seed", "7", "--count", "4096",
+    "ppm",
+    "self",
+    "--processors",
+    "1",
+    "--size",
+    "4",
+    "--seed",
+    "7",
+    "--count",
+    "4096",
 ];
 
 /// The same on three processors.
 const OF_THREE: &[&str] = &[
-    "ppm", "self", "--processors", "3", "--size", "4", "--seed", "7", "--count", "4096",
+    "ppm",
+    "self",
+    "--processors",
+    "3",
+    "--size",
+    "4",
+    "--seed",
+    "7",
+    "--count",
+    "4096",
 ];
 
 /// What both write.
@@ -116,7 +134,15 @@ fn three_are_told_of_what_they_do(rt: HostRuntime) -> Result<(), Fail> {
     let mut own = 0u32;
     for told in &watch {
         if own < 3 {
-            let fine = obeys(&shape, &code, &plan, LIMITS, own, told.events.as_slice(), false);
+            let fine = obeys(
+                &shape,
+                &code,
+                &plan,
+                LIMITS,
+                own,
+                told.events.as_slice(),
+                false,
+            );
             assert!(&rt; fine, "processor {own}");
         }
         own = own.saturating_add(1);
@@ -144,7 +170,9 @@ fn words_that_are_refused_tell_nobody_anything(rt: HostRuntime) -> Result<(), Fa
 #[test]
 fn four_thousand_values_are_summed(rt: HostRuntime) -> Result<(), Fail> {
     let alloc = rt.alloc();
-    let words = ["ppm", "self", "--size", "4096", "--seed", "7", "--count", "50"];
+    let words = [
+        "ppm", "self", "--size", "4096", "--seed", "7", "--count", "50",
+    ];
     for _ in 0..2u32 {
         let got = ppm_over_memory(&rt, alloc, b"", &words, 4096, NONE)?;
         let wanted = "size 4096 forks 4095 sum 2046032 last 952\n";

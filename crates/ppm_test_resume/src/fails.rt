@@ -110,7 +110,15 @@ fn writes_of_what_is_resumed_fail(rt: HostRuntime) -> Result<(), Fail> {
     let cases: [(&[&str], u32, &str, Failing, &str, &str, bool); 13] = [
         (RESUME, 0, "", first_out, "", "write fault\n", true),
         (RESUME, 21, "18", second_out, "a 18", "write fault\n", true),
-        (RESUME, 11, "90\n0*2", second_out, "trap", "write fault\n", true),
+        (
+            RESUME,
+            11,
+            "90\n0*2",
+            second_out,
+            "trap",
+            "write fault\n",
+            true,
+        ),
         (RESUME, 21, "18", out_and_err, "a 18", "writ", true),
         (RESUME, 0, "", second_err, "a 7\n", "", true),
         (ONE_TURN, 0, "", second_err, "", "out ", true),

@@ -26,11 +26,7 @@ const STANDING: [(&str, &str, Status); 12] = [
     // Stopped: the run goes on.
     ("6\n0*2", "a 7\n", Status::Ended),
     // Broken, at places 0, 63 and one that isn't known.
-    (
-        "71\n0*2",
-        "saved words broken: place 0\n",
-        Status::Broken,
-    ),
+    ("71\n0*2", "saved words broken: place 0\n", Status::Broken),
     (
         "4103\n0*2",
         "saved words broken: place 63\n",

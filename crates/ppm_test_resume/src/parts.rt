@@ -43,9 +43,23 @@ fn what_is_stopped_again_is_resumed(rt: HostRuntime) -> Result<(), Fail> {
     let first = stopped(&rt, alloc, SUM, "3", "256", "60")?;
     for acts in [0, 7, 41, 120] {
         let second = stopped_again(alloc, &first, "0!s,1*5,1!h", acts)?;
-        is_run(&rt, alloc, &second, "0@3s,2@4h", "a 10 2 7 4\n", Status::Ended)?;
+        is_run(
+            &rt,
+            alloc,
+            &second,
+            "0@3s,2@4h",
+            "a 10 2 7 4\n",
+            Status::Ended,
+        )?;
         let third = stopped_again(alloc, &second, "2*9,0!h,2>1*30", 50)?;
-        is_run(&rt, alloc, &third, "1@0h,0@20h", "a 10 2 7 4\n", Status::Ended)?;
+        is_run(
+            &rt,
+            alloc,
+            &third,
+            "1@0h,0@20h",
+            "a 10 2 7 4\n",
+            Status::Ended,
+        )?;
     }
     Ok(())
 }

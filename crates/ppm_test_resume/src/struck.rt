@@ -57,7 +57,12 @@ const OTHERS: [(u32, &'static str, &'static str, Status); 10] = [
     (12, "1", "saved words broken: place 0\n", Status::Broken),
     (21, "8", "a 8\n", Status::Ended),
     (21, "18446744073709551615", "a -1\n", Status::Ended),
-    (12, "576460756598390795", "saved words broken: place 0\n", Status::Broken),
+    (
+        12,
+        "576460756598390795",
+        "saved words broken: place 0\n",
+        Status::Broken,
+    ),
     (12, "2882303765812084746", "a 7\n", Status::Ended),
     (14, "5", "saved words broken: place 0\n", Status::Broken),
     (16, "5", "saved words broken: place 0\n", Status::Broken),

@@ -197,11 +197,24 @@ const STOPS: [(&str, &[&str], Status); 5] = [
     (SUM, &["ppm", "stop", "--after", "400"], Status::Ended),
     (
         SUM,
-        &["ppm", "stop", "--processors", "1", "--after", "9", "--schedule", "0!s"],
+        &[
+            "ppm",
+            "stop",
+            "--processors",
+            "1",
+            "--after",
+            "9",
+            "--schedule",
+            "0!s",
+        ],
         Status::Ended,
     ),
     ("proc main(", &["ppm", "stop"], Status::SourceRefused),
-    (SUM, &["ppm", "stop", "--schedule", "4"], Status::WordsRefused),
+    (
+        SUM,
+        &["ppm", "stop", "--schedule", "4"],
+        Status::WordsRefused,
+    ),
     (SUM, &["ppm", "stop", "--after", "x"], Status::WordsRefused),
 ];
 
@@ -261,7 +274,15 @@ fn a_stop_tells_nobody_anything(rt: HostRuntime) -> Result<(), Fail> {
     let alloc = rt.alloc();
     for (text, words, status) in STOPS {
         let mut watch = watchers(alloc, 0)?;
-        let shown = watched_over_memory(&rt, alloc, text.as_bytes(), words, 4096, NONE, &mut watch)?;
+        let shown = watched_over_memory(
+            &rt,
+            alloc,
+            text.as_bytes(),
+            words,
+            4096,
+            NONE,
+            &mut watch,
+        )?;
         assert_eq!(&rt; shown.status, status, "{words:?}");
         are_silent(&rt, &watch, 0)?;
     }
