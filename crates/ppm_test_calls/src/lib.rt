@@ -1,12 +1,13 @@
-//! Calls of the top call over memory, for the trials of its commands.
-//! Model: none; what a call wrote and answered is copied out (`Shown`).
+//! What trials of the top call have in common: the words and the ports in memory of a call, what was
+//! written there, and sources.
+//! Model: none.
 //! Contract: none.
-//! Stands on `ppm_top`; the crates with its tests stand on it, so that they are proved side by side.
+//! Stands on `ppm_ports` and `ppm_answers`; the crates that try the top call stand on it.
 //! After the ports in memory of `ppm_ports`.
 #![tactic(auto)]
 
 mod calls;
 mod sources;
 
-pub use calls::{Failing, NONE, Shown, ppm_over_memory, watched_over_memory};
+pub use calls::{Call, Failing, NONE, Shown};
 pub use sources::{CALLS, FIRST, SUM};

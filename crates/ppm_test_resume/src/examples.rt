@@ -1,4 +1,5 @@
 //! Trials of `self`: its largest example, and what its watchers are told.
+use crate::calls::{unwatched, watched};
 use crate::told::{are_silent, is_shown, watchers};
 use ppm_answers::Status;
 use ppm_cells::{Shape, Takeover};
@@ -9,7 +10,7 @@ use ppm_listing_reader::read_listing;
 use ppm_loading::{Sizes, load, read_program};
 use ppm_plan::{make_source, seeded_plan};
 use ppm_ports::MemorySource;
-use ppm_test_calls::{NONE, ppm_over_memory, watched_over_memory};
+use ppm_test_calls::NONE;
 use ppm_test_threads::{obeys, record};
 use ppm_words::Event;
 use std::alloc::Global;
@@ -89,7 +90,7 @@ fn alone(alloc: Global) -> Result<Vec<Event>, Fail> {
 /// The code of the example.
 fn code<R: Threads + Wait + Sync>(rt: &R, alloc: Global) -> Result<Code, Fail> {
     let text = make_source(alloc, 4, 7).map_err(|_| "memory")?;
-    let got = ppm_over_memory(rt, alloc, &text, &["ppm", "code"], 4096, NONE)?;
+    let got = unwatched(rt, alloc, &text, &["ppm", "code"])?;
     Ok(read_listing(alloc, got.out.as_slice()).map_err(|_| "no listing")?)
 }
 
@@ -99,7 +100,7 @@ fn one_is_told_what_it_does(rt: HostRuntime) -> Result<(), Fail> {
     let want = alone(alloc)?;
     assert!(&rt; want.iter().any(|event| event.step == 4), "no fault");
     let mut watch = watchers(alloc, MANY)?;
-    let shown = watched_over_memory(&rt, alloc, b"", OF_ONE, 4096, NONE, &mut watch)?;
+    let shown = watched(&rt, alloc, b"", OF_ONE, 4096, NONE, &mut watch)?;
     is_shown(&rt, &shown, SUMS, Status::Ended)?;
     let only = watch.first().ok_or("a first")?;
     assert!(&rt; only.events.as_slice() == want.as_slice());
@@ -112,7 +113,7 @@ fn one_that_refuses_ends_the_example(rt: HostRuntime) -> Result<(), Fail> {
     let want = alone(alloc)?;
     for room in [0u32, 1, 7, 30, 200] {
         let mut watch = watchers(alloc, room)?;
-        let shown = watched_over_memory(&rt, alloc, b"", OF_ONE, 4096, NONE, &mut watch)?;
+        let shown = watched(&rt, alloc, b"", OF_ONE, 4096, NONE, &mut watch)?;
         is_shown(&rt, &shown, "out of memory\n", Status::NoMemory)?;
         let only = watch.first().ok_or("a first")?;
         assert_eq!(&rt; only.events.len(), room as usize);
@@ -129,7 +130,7 @@ fn three_are_told_of_what_they_do(rt: HostRuntime) -> Result<(), Fail> {
     let code = code(&rt, alloc)?;
     let plan = seeded_plan(alloc, 7, 3, 4096).map_err(|_| "memory")?;
     let mut watch = watchers(alloc, MANY)?;
-    let shown = watched_over_memory(&rt, alloc, b"", OF_THREE, 4096, NONE, &mut watch)?;
+    let shown = watched(&rt, alloc, b"", OF_THREE, 4096, NONE, &mut watch)?;
     is_shown(&rt, &shown, SUMS, Status::Ended)?;
     let mut own = 0u32;
     for told in &watch {
@@ -160,7 +161,7 @@ fn words_that_are_refused_tell_nobody_anything(rt: HostRuntime) -> Result<(), Fa
     ];
     for words in refused {
         let mut watch = watchers(alloc, MANY)?;
-        let shown = watched_over_memory(&rt, alloc, b"", words, 4096, NONE, &mut watch)?;
+        let shown = watched(&rt, alloc, b"", words, 4096, NONE, &mut watch)?;
         is_shown(&rt, &shown, "words refused\n", Status::WordsRefused)?;
         are_silent(&rt, &watch, 0)?;
     }
@@ -174,7 +175,7 @@ fn four_thousand_values_are_summed(rt: HostRuntime) -> Result<(), Fail> {
         "ppm", "self", "--size", "4096", "--seed", "7", "--count", "50",
     ];
     for _ in 0..2u32 {
-        let got = ppm_over_memory(&rt, alloc, b"", &words, 4096, NONE)?;
+        let got = unwatched(&rt, alloc, b"", &words)?;
         let wanted = "size 4096 forks 4095 sum 2046032 last 952\n";
         is_shown(&rt, &got, wanted, Status::Ended)?;
     }

@@ -1,9 +1,10 @@
 //! Ports that fail in `stop`, `resume` and `self`: the status, what is on out and err, and whether
 //! anybody was told anything.
+use crate::calls::watched;
 use crate::texts::changed;
 use crate::told::{are_silent, watchers};
 use ppm_answers::Status;
-use ppm_test_calls::{Failing, NONE, watched_over_memory};
+use ppm_test_calls::{Failing, NONE};
 use std::alloc::Global;
 use std::process::Abort;
 use std::sync::Wait;
@@ -34,8 +35,17 @@ const REFUSED: &[&str] = &["ppm", "resume", "--faults", "1@0s"];
 /// The same with one turn.
 const ONE_TURN: &[&str] = &["ppm", "resume", "--turns", "1"];
 
-/// Words that ask for the sum of four values.
-const SELF: &[&str] = &["ppm", "self", "--size", "4", "--seed", "7"];
+/// Words that ask one processor for the sum of four values.
+const SELF: &[&str] = &[
+    "ppm",
+    "self",
+    "--processors",
+    "1",
+    "--size",
+    "4",
+    "--seed",
+    "7",
+];
 
 /// Fails unless a call whose ports move four bytes at a time and fail so has this status, and leaves
 /// these texts; and its watchers, of which the first refuses the event behind `room`, are told
@@ -51,7 +61,7 @@ fn fails_so<R: Abort + Threads + Wait + Sync>(
 ) -> Result<(), Fail> {
     let (out, err, status, told) = wanted;
     let mut watch = watchers(alloc, room)?;
-    let got = watched_over_memory(rt, alloc, text, words, 4, failing, &mut watch)?;
+    let got = watched(rt, alloc, text, words, 4, failing, &mut watch)?;
     assert_eq!(rt; got.status, status, "{words:?}");
     assert_eq!(rt; got.out.as_slice(), out.as_bytes(), "{words:?}");
     assert_eq!(rt; got.err.as_slice(), err.as_bytes(), "{words:?}");

@@ -30,7 +30,7 @@ const REFUSED: [(u32, &'static str, &'static str); 38] = [
     (5, "ppm 2", "3 line 4"),
     (6, "root 1", "3 line 4"),
     (6, "root 0\nroot 0", "3 line 4"),
-    (7, "proc 0 slots 26 entry 0", "1 line 10"),
+    (7, "proc 0 slots 26 entry 0", "3 line 4"),
     (8, "capsule 1 proc 0", "3 line 4"),
     (9, "", "3 line 4"),
     (10, "words 74", "5 line 10"),
@@ -52,22 +52,39 @@ const REFUSED: [(u32, &'static str, &'static str); 38] = [
 ];
 
 /// A line, what stands there in its place, and what the run of that state comes to.
-const OTHERS: [(u32, &'static str, &'static str, Status); 10] = [
+const OTHERS: [(u32, &'static str, &'static str, Status); 14] = [
     (3, "array b 1", "b 7\n", Status::Ended),
+    // A restart word that stands for nothing; a frame without a link, and one that isn't there; a frame that is left.
     (12, "1", "saved words broken: place 0\n", Status::Broken),
-    (21, "8", "a 8\n", Status::Ended),
-    (21, "18446744073709551615", "a -1\n", Status::Ended),
     (
         12,
         "576460756598390795",
         "saved words broken: place 0\n",
         Status::Broken,
     ),
+    (
+        12,
+        "576460756598390858",
+        "saved words broken: place 0\n",
+        Status::Broken,
+    ),
     (12, "2882303765812084746", "a 7\n", Status::Ended),
-    (14, "5", "saved words broken: place 0\n", Status::Broken),
-    (16, "5", "saved words broken: place 0\n", Status::Broken),
+    // Words that this run does not read: the top, the room counter, an entry.
+    (14, "5", "a 7\n", Status::Ended),
+    (15, "70", "a 7\n", Status::Ended),
+    (16, "5", "a 7\n", Status::Ended),
+    // The root's link, its outcome, and its capsule.
     (18, "5", "saved words broken: place 0\n", Status::Broken),
     (19, "2", "saved words broken: place 0\n", Status::Broken),
+    (19, "90", "trap index line 1\n", Status::Trapped),
+    (
+        20,
+        "7\n0*61",
+        "saved words broken: place 0\n",
+        Status::Broken,
+    ),
+    (21, "8", "a 8\n", Status::Ended),
+    (21, "18446744073709551615", "a -1\n", Status::Ended),
 ];
 
 #[test]

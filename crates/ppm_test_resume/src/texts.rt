@@ -1,6 +1,6 @@
 //! Saved texts.
+use crate::calls::unwatched;
 use ppm_answers::Status;
-use ppm_test_calls::{NONE, ppm_over_memory};
 use std::alloc::Global;
 use std::process::Abort;
 use std::sync::Wait;
@@ -29,7 +29,7 @@ pub(crate) fn stopped<R: Abort + Threads + Wait + Sync>(
         "--after",
         after,
     ];
-    let got = ppm_over_memory(rt, alloc, source.as_bytes(), &words, 4096, NONE)?;
+    let got = unwatched(rt, alloc, source.as_bytes(), &words)?;
     assert_eq!(rt; got.status, Status::Ended, "{after}");
     Ok(got.out)
 }

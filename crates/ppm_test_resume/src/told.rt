@@ -1,5 +1,6 @@
 //! What watchers are told where words are resumed: exactly what one processor does alone, of several
 //! what they are told that obey; and how one that refuses ends the run.
+use crate::calls::watched;
 use crate::texts::stopped;
 use ppm_answers::Status;
 use ppm_choice::{Idle, Limits};
@@ -7,7 +8,7 @@ use ppm_core::Machine;
 use ppm_plan::read_plan;
 use ppm_saved::{Renewed, renew};
 use ppm_saved_reader::read_saved;
-use ppm_test_calls::{FIRST, NONE, SUM, Shown, watched_over_memory};
+use ppm_test_calls::{FIRST, NONE, SUM, Shown};
 use ppm_test_threads::{Bounded, obeys, record};
 use ppm_top::WATCHERS;
 use ppm_words::Event;
@@ -63,7 +64,7 @@ fn resumed<R: Threads + Wait + Sync>(
     let words = [
         "ppm", "resume", "--turns", &turns, "--looks", "2", "--seed", "7", "--faults", way.faults,
     ];
-    watched_over_memory(rt, alloc, text, &words, 4096, NONE, watch)
+    watched(rt, alloc, text, &words, 4096, NONE, watch)
 }
 
 /// What the only processor of a text's state does alone where it goes on so.
@@ -274,15 +275,7 @@ fn a_stop_tells_nobody_anything(rt: HostRuntime) -> Result<(), Fail> {
     let alloc = rt.alloc();
     for (text, words, status) in STOPS {
         let mut watch = watchers(alloc, 0)?;
-        let shown = watched_over_memory(
-            &rt,
-            alloc,
-            text.as_bytes(),
-            words,
-            4096,
-            NONE,
-            &mut watch,
-        )?;
+        let shown = watched(&rt, alloc, text.as_bytes(), words, 4096, NONE, &mut watch)?;
         assert_eq!(&rt; shown.status, status, "{words:?}");
         are_silent(&rt, &watch, 0)?;
     }

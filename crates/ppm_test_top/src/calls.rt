@@ -2,11 +2,9 @@
 ghost use Rattle.std.specs.Prelude.{◌<◌};
 
 use ppm_answers::Status;
-use ppm_ports::{Recorder, Watch};
-use ppm_test_calls::{
-    CALLS, FIRST, Failing, NONE, SUM, Shown, ppm_over_memory, watched_over_memory,
-};
-use ppm_top::WATCHERS;
+use ppm_ports::{Recorder, Silent, Watch};
+use ppm_test_calls::{CALLS, Call, FIRST, Failing, NONE, SUM, Shown};
+use ppm_top::{WATCHERS, ppm};
 use std::alloc::Global;
 use std::process::Abort;
 use std::sync::Wait;
@@ -48,6 +46,49 @@ const FOUR_SLOTS: &str = "ppm 1\nroot 0\nproc 0 slots 4 entry 0\ncapsule 0 proc 
 
 /// The same with one slot.
 const ONE_SLOT: &str = "ppm 1\nroot 0\nproc 0 slots 1 entry 0\ncapsule 0 proc 0\n";
+
+/// A call over memory whose ports move at most `most` bytes at a time.
+pub(crate) fn ppm_over_memory(
+    rt: &(impl Threads + Wait + Sync),
+    alloc: Global,
+    text: &[u8],
+    words: &[&str],
+    most: usize,
+    failing: Failing,
+) -> Result<Shown, Fail>
+    requires { 0 < most }
+{
+    let mut watch = vec![in alloc; Silent; WATCHERS]?;
+    watched_over_memory(rt, alloc, text, words, most, failing, &mut watch)
+}
+
+/// The same with these watchers.
+fn watched_over_memory<R: Threads + Wait + Sync, W: Watch>(
+    rt: &R,
+    alloc: Global,
+    text: &[u8],
+    words: &[&str],
+    most: usize,
+    failing: Failing,
+    watch: &mut Vec<W>,
+) -> Result<Shown, Fail>
+    requires { 0 < most }
+{
+    if watch.len() != WATCHERS {
+        return Err(Fail::from("a watcher for each processor"));
+    }
+    let mut call = Call::new(alloc, text, words, most, failing)?;
+    let status = ppm(
+        rt,
+        alloc,
+        &call.words,
+        &mut call.source,
+        &mut call.out,
+        &mut call.err,
+        watch,
+    );
+    call.shown(alloc, status)
+}
 
 /// A call over ports that never fail, with these watchers.
 pub(crate) fn call<R: Threads + Wait + Sync, W: Watch>(
