@@ -58,11 +58,14 @@ impl Call {
         for word in words {
             given.push(String::from_str(alloc, word)?)?;
         }
+        let source = MemorySource::new(text.to_vec(alloc)?, most, failing.reads.to_vec(alloc)?);
+        let out = sink(alloc, most, failing.outs)?;
+        let err = sink(alloc, most, failing.errs)?;
         Ok(Call {
             words: given,
-            source: MemorySource::new(text.to_vec(alloc)?, most, failing.reads.to_vec(alloc)?),
-            out: sink(alloc, most, failing.outs)?,
-            err: sink(alloc, most, failing.errs)?,
+            source,
+            out,
+            err,
         })
     }
 

@@ -86,7 +86,8 @@ fn each_read_fails_in_turn(rt: HostRuntime) -> Result<(), Fail> {
         (STOP, SOURCE.as_bytes()),
     ] {
         // A read for each four bytes, and one that finds the end.
-        for call in 0..(text.len() as u64 + 7) / 4 {
+        let reads = text.len().saturating_add(3) / 4 + 1;
+        for call in 0..reads as u64 {
             let failing = Failing {
                 reads: &[call],
                 ..NONE
