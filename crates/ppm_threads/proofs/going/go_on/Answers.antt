@@ -1,16 +1,11 @@
-use Rattle.std.proofs.Common.{ℕ, ◌<◌, ◌^◌, sym, subst, arith}
-use Rattle.ppm_choice.specs.declared.pace.Pace.{Pace}
+use Rattle.std.proofs.Common.{ℕ, sym, subst, arith}
 use Rattle.ppm_table.specs.Shown.{deeds_of_processor, opening_of}
 use Rattle.ppm_table.proofs.TellingLemmas.{keeps_both}
 use Rattle.ppm_threads.specs.Going.{Obeying, GoesOn}
 use Rattle.ppm_threads.proofs.GoingLemmas.{goes_behind}
 use Rattle.ppm_threads.proofs.going.go_on.Goals as goal
 
--- no steps were made in a row, and the pace is what it was
-pub act-requires-clause-few : goal.act-requires-clause-few
-act-requires-clause-few g c κs within =
-    subst (λ (p : Pace). p.work < 2 ^ 62) (sym (c.in-Some.ensures.none c.if-made-eq0.true)) c.requires.few
-
+-- no steps were made in a row
 pub act-requires-clause-obeying : goal.act-requires-clause-obeying
 act-requires-clause-obeying g c κs within =
     subst (λ (n : ℕ). Obeying c.args.crew.now.plan.now c.args.crew.now.limits (opening_of c.args.crew.now.shared) n (deeds_of_processor c.go_ahead.new.processor)

@@ -1,4 +1,4 @@
-use Rattle.std.proofs.Common.{◌∙◌, Some, None, inr, sym, ap, arith}
+use Rattle.std.proofs.Common.{◌∙◌, Some, None, inr, sym, ap}
 use Rattle.ppm_step.specs.Told.{place_of}
 use Rattle.ppm_table.specs.Run.{stands_by}
 use Rattle.ppm_table.specs.Shown.{deeds_of_processor, opening_of}
@@ -42,16 +42,6 @@ unreachable-requires g c =
     c.next_act.new.victims None r
     c.rest.ensures.number (c.rest.ensures.pace c.args.crew.now.plan.now c.args.crew.now.limits r.obeying.past st r.obeying.pace_is) c.in_default.ensures in
     none_rests c.args.crew.now.plan.now c.args.crew.now.limits p.local.own r.obeying.past st next.0
-
-pub make-requires-clause-few : goal.make-requires-clause-few
-make-requires-clause-few g c =
-    let k = opening_of c.args.crew.now.shared in
-    let p = c.args.processor.now in
-    let o = c.requires.resting.obeying in
-    let new = (c.rest.ensures.pace c.args.crew.now.plan.now c.args.crew.now.limits o.past (stands_by k p.local.own (deeds_of_processor p)) o.pace_is).work in
-    let old = o.pace_is.work in
-    let few = c.requires.few in
-    omega (arith, new, old, few)
 
 pub make-requires-clause-lives : goal.make-requires-clause-lives
 make-requires-clause-lives g c κs within =
