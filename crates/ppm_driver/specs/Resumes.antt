@@ -45,7 +45,7 @@ use Rattle.ppm_cli.specs.declared.resume.ResumeOptions.{ResumeOptions}
 use Rattle.ppm_cli.specs.declared.stop.StopOptions.{StopOptions}
 use Rattle.ppm_cli.specs.Words.{AreStopped}
 use Rattle.ppm_stop.specs.Stops.{names_of, ProgramReads as StoppedReads}
-use Rattle.ppm_loading.specs.Loading.{Opens}
+use Rattle.ppm_loading.specs.Loading.{OpensRun}
 use Rattle.ppm_loading.specs.Planned.{IsRefusedBy}
 use Rattle.ppm_loading.specs.declared.loading.Sizes.{Sizes}
 use Rattle.ppm_driver.specs.Legs.{words_at_last, worked_in_all}
@@ -177,7 +177,7 @@ pub record IsLeftBy (source : List ℕ) (z : SavedState) : Type 0 where
   pub places : sizes.takeover ≡ ByPlaces
   pub keeper : ℕ
   pub start : Situation
-  pub opens : Opens sizes (code_of tree) (initial_arrays tree) keeper start
+  pub opens : OpensRun sizes (code_of tree) (initial_arrays tree) keeper start
   pub legs : List Leg
   pub are : AreLegs start.shape start.code start.state.words legs
   pub turns : List Turn
@@ -204,7 +204,7 @@ state_behind m arrays turns = record { shape = m.shape; arrays = names_of arrays
 -- that text.
 abbrev pub RunsLeaveStates : Type 0
 RunsLeaveStates = (text : List ℕ) (t : ProgramTree) → HasProgram text t → (sizes : Sizes) → sizes.takeover ≡ ByPlaces
-    → (keeper : ℕ) (m : Situation) → Opens sizes (code_of t) (initial_arrays t) keeper m
+    → (keeper : ℕ) (m : Situation) → OpensRun sizes (code_of t) (initial_arrays t) keeper m
     → (turns : List Turn) → AllByRecursion (IsTurnAmong m.shape.processors) turns → IsLeftBy text (state_behind m (initial_arrays t) turns)
 
 -- The state behind turns of fresh processors that went on from one that a program left is left by that program too, unless words came back so

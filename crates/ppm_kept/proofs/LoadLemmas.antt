@@ -50,7 +50,7 @@ use Rattle.ppm_frames.specs.Good.{Match, BumpsAt}
 use Rattle.ppm_frames.proofs.SkeletonLemmas.{inside_at, branch_from}
 use Rattle.ppm_kept.specs.Running.{asked_of, IsFair, IsOf, last_of, home_at, number_at, now, all_of, limit, HasRoom, IsRoomy, HasCome}
 use Rattle.ppm_kept.specs.Branches.{HasCopy}
-use Rattle.ppm_kept.specs.Kept.{Image, start, end_of, owner, seat_at, side_code, Doing, InRow, InRest, State, ceiling, Reach, Under, Does, carried, Ordered, IsKept}
+use Rattle.ppm_kept.specs.Kept.{Setting, start, end_of, owner, seat_at, side_code, Doing, InRow, InRest, State, ceiling, Reach, Under, Does, carried, Ordered, IsKept}
 use Rattle.ppm_kept.specs.Copies.{IsKnown}
 use Rattle.ppm_kept.specs.Loads.{IsLoadable, LoadsShow, AllLoadsShow}
 use Rattle.ppm_kept.specs.Pushing.{kind_seat}
@@ -76,7 +76,7 @@ abbrev cell_told : Rest → Cell → Cell
 cell_told (Loads c go) d = c
 cell_told _ d = d
 
-module _ (i : Image) (fair : IsFair i.code) (root : Tree (Frame FrameWord Point) Result) (input : Words) (s : State) (t : Skeleton) (law : IsKept i root input s t) (p : ℕ) (there : p < i.shape.processors) where
+module _ (i : Setting) (fair : IsFair i.code) (root : Tree (Frame FrameWord Point) Result) (input : Words) (s : State) (t : Skeleton) (law : IsKept i root input s t) (p : ℕ) (there : p < i.shape.processors) where
   abbrev m : Cell → ℕ
   m = s.words
 

@@ -16,7 +16,7 @@ use Rattle.ppm_code.specs.declared.code.CodeParts.{CodeParts}
 use Rattle.ppm_code.specs.declared.location.FrameWord.{FrameWord}
 use Rattle.ppm_layout.specs.Correct.{Opens}
 use Rattle.ppm_layout.specs.Root.{root_strand}
-use Rattle.ppm_layout.specs.declared.images.Image.{Image as RealImage}
+use Rattle.ppm_layout.specs.declared.images.Image.{Image}
 use Rattle.ppm_step.specs.Among.{IsTurnAmong}
 use Rattle.ppm_step.specs.State.{State as RunState, after, opening}
 use Rattle.ppm_tickets.specs.Along.{homes, forked as forked_in, taken as taken_in}
@@ -61,7 +61,7 @@ pub record EndsInParts (s : Shape) (code : CodeParts) (root : Tree (Frame FrameW
 
 -- so it is from an image of a sound code, whatever the parts
 abbrev pub PartsComeTo : Type 0
-PartsComeTo = (code : CodeParts) (input : List NamedArray) (s : Shape) (keeper : ℕ) (image : RealImage)
+PartsComeTo = (code : CodeParts) (input : List NamedArray) (s : Shape) (keeper : ℕ) (image : Image)
     → s.takeover ≡ ByPlaces → IsFair code → Opens code input s keeper image
     → Calm (strands s code) (root_strand code input) (arrays_at (view s image.words))
     → (parts : List Part)

@@ -49,8 +49,8 @@ module _ (s : Shape) (code : CodeParts) where
       → IsLawful (opening saved s.processors) h f tk
 
   -- and goes on, with either takeover
-  abbrev pub GoesOn : Type 0
-  GoesOn = (state : State) (turns : List Turn) (h : ℕ → Home) (f tk : List ℕ)
+  abbrev pub StaysLawful : Type 0
+  StaysLawful = (state : State) (turns : List Turn) (h : ℕ → Home) (f tk : List ℕ)
       → IsLawful state h f tk → AreOrderly s code state h f turns
       → IsLawful (after s code state turns) (homes s code state h turns) (forked s code state f turns) (taken s code state tk turns)
 
