@@ -303,8 +303,8 @@ table_processors options t sizes keeper shared are opens =
 
 -- what is said behind the run of a table, and told of it
 module _ {W : Type 0} (told : W → Option (List Event)) (options : RunOptions) (plan : Planned) (t : ProgramTree) where
-  abbrev Told : Planned → Limits → Situation → List Turn → List W → List W → Type 0
-  Told p l m turns old new = AreTold options.processors p l (map told old) (map told new) m turns
+  abbrev ListsTold : Planned → Limits → Situation → List Turn → List W → List W → Type 0
+  ListsTold p l m turns old new = AreTold options.processors p l (map told old) (map told new) m turns
 
   pub program_has : (sizes : Sizes) (limits : Limits) (keeper : ℕ) (shared : Shared) (closed : Closing) (old new : List W) (w : W)
       (arrays : List NamedArray) (a : Answer) → sizes ≡ sizes_of options → limits ≡ limits_of options
@@ -325,8 +325,8 @@ module _ {W : Type 0} (told : W → Option (List Event)) (options : RunOptions) 
       (subst (λ (l : Limits). ObeyAll plan l m.shape m.code m.state d.turns) limits_are d.obey) in
       let are = are_told told plan limits k closed.words shared.lengths options.processors old new w many
       (omega (arith, enough, count)) (sym count) others d in
-      let lists = subst (λ (p : Planned). Told p (limits_of options) m d.turns old new) (same_plan options plan same)
-      (subst (λ (l : Limits). Told plan l m d.turns old new) limits_are are) in
+      let lists = subst (λ (p : Planned). ListsTold p (limits_of options) m d.turns old new) (same_plan options plan same)
+      (subst (λ (l : Limits). ListsTold plan l m d.turns old new) limits_are are) in
       let said = subst (λ (l : List NamedArray). IsTheOne (IsSaid m.shape m.array_lengths l (words_behind m d.turns)) a) arrays_are
       (subst (λ (ws : List ℕ). IsTheOne (IsSaid m.shape m.array_lengths arrays ws) a) (sym d.words_are)
       (subst (λ (n : List ℕ). IsTheOne (IsSaid m.shape n arrays closed.words) a) lengths
