@@ -1,5 +1,6 @@
 //! A processor on its way.
 ghost use Rattle.std.specs.Prelude.{◌≡◌, ◌≢◌, true, false};
+ghost use Rattle.ppm_ports.specs.Told.{KeepsFront};
 ghost use Rattle.ppm_step.specs.Locals.{standing_of};
 ghost use Rattle.ppm_step.specs.Standings.{Standing, IsDone};
 ghost use Rattle.ppm_step.specs.Told.{place_of};
@@ -9,7 +10,6 @@ ghost use Rattle.ppm_choice.specs.Obeying.{Past, is_park};
 ghost use Rattle.ppm_choice.specs.Tells.{parked};
 ghost use Rattle.ppm_table.specs.Run.{IsActAt};
 ghost use Rattle.ppm_table.specs.Shown.{IsOf, deeds_of_processor, opening_of};
-ghost use Rattle.ppm_table.specs.Telling.{Keeps};
 ghost use Rattle.ppm_threads.specs.Driven.{Begins, Ends};
 ghost use Rattle.ppm_threads.specs.Going.{Obeying, Resting, Acting, TraceGrows, HasMoreDeeds, GoesAhead, RunsOn};
 ghost use Rattle.ppm_threads.specs.Going.{GaveUp, HasQuit, told_of_deeds, told_so_far, act_result_of};
@@ -73,7 +73,7 @@ fn go_ahead<W: Watch>(
     requires of { IsOf crew.now.shared processor.old }
     ensures of { IsOf crew.now.shared processor.new }
     ensures own { processor.new.local.own ≡ processor.old.local.own }
-    ensures keeps { Keeps (W.told watch.old) (W.told watch.new) }
+    ensures keeps { KeepsFront (W.told watch.old) (W.told watch.new) }
     ensures goes { (victims : Drawing)
         → Obeying crew.now.plan.now crew.now.limits (opening_of crew.now.shared) processor.old.local.own (deeds_of_processor processor.old) pace.old victims
         → GoesAhead crew.now.plan.now crew.now.limits (opening_of crew.now.shared) processor.old.local.own (W.told watch.old) (W.told watch.new)
@@ -135,7 +135,7 @@ fn make<W: Watch>(
     requires may { IsActAt crew.now.shared.shape (standing_of crew.now.shared.shape crew.now.shared.code processor.old.local) act }
     ensures of { IsOf crew.now.shared processor.new }
     ensures own { processor.new.local.own ≡ processor.old.local.own }
-    ensures keeps { Keeps (W.told watch.old) (W.told watch.new) }
+    ensures keeps { KeepsFront (W.told watch.old) (W.told watch.new) }
     ensures obeys { result ≡ true → (plan : Planned) (past : Past) (victims : Drawing)
         → Acting plan crew.now.limits (opening_of crew.now.shared) processor.old.local.own (deeds_of_processor processor.old) past pace.old victims act
         → Obeying plan crew.now.limits (opening_of crew.now.shared) processor.old.local.own (deeds_of_processor processor.new) pace.new victims
@@ -192,7 +192,7 @@ fn rest_first<W: Watch, R: Wait>(
         pace.old victims.old }
     ensures of { IsOf crew.now.shared processor.new }
     ensures own { processor.new.local.own ≡ processor.old.local.own }
-    ensures keeps { Keeps (W.told watch.old) (W.told watch.new) }
+    ensures keeps { KeepsFront (W.told watch.old) (W.told watch.new) }
     ensures goes { RunsOn crew.now.plan.now crew.now.limits (opening_of crew.now.shared) processor.old.local.own (W.told watch.old) (W.told watch.new)
         processor.old.seat.me processor.new.seat.me pace.new victims.new result }
 {
@@ -236,7 +236,7 @@ fn act<W: Watch, R: Wait>(
         pace.old victims.old }
     ensures of { IsOf crew.now.shared processor.new }
     ensures own { processor.new.local.own ≡ processor.old.local.own }
-    ensures keeps { Keeps (W.told watch.old) (W.told watch.new) }
+    ensures keeps { KeepsFront (W.told watch.old) (W.told watch.new) }
     ensures goes { RunsOn crew.now.plan.now crew.now.limits (opening_of crew.now.shared) processor.old.local.own (W.told watch.old) (W.told watch.new)
         processor.old.seat.me processor.new.seat.me pace.new victims.new result }
 {
@@ -265,7 +265,7 @@ fn go_on<W: Watch, R: Wait>(
         pace.old victims.old }
     ensures of { IsOf crew.now.shared processor.new }
     ensures own { processor.new.local.own ≡ processor.old.local.own }
-    ensures keeps { Keeps (W.told watch.old) (W.told watch.new) }
+    ensures keeps { KeepsFront (W.told watch.old) (W.told watch.new) }
     ensures goes { RunsOn crew.now.plan.now crew.now.limits (opening_of crew.now.shared) processor.old.local.own (W.told watch.old) (W.told watch.new)
         processor.old.seat.me processor.new.seat.me pace.new victims.new result }
 {
