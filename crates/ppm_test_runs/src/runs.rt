@@ -327,6 +327,7 @@ fn sources_are_run(rt: HostRuntime) -> Result<(), Fail> {
         shows(&rt, rt.alloc(), options, "none", text, (answer, status))?;
     }
     answers_are_one();
+    fronts_decide_resumed();
     runs_are_as_programs();
     runs_complete();
     runs_in_legs_are_as_programs();
