@@ -82,7 +82,7 @@ module _ (s : Shape) (code : CodeParts) where
   faults_due (due ∷ dues) = one_if (fails (act_of due)) + faults_due dues
 
   due_both : (first more : List Due) → faults_due (first ++ more) ≡ faults_due first + faults_due more
-  due_both [] more = refl
+  due_both [] more = omega arith
   due_both (due ∷ first) more = let rest = due_both first more in omega (arith, rest)
 
   due_listed : (acts : List ScheduledAct) → faults_due (map Listed acts) ≡ faults_among acts
@@ -91,7 +91,7 @@ module _ (s : Shape) (code : CodeParts) where
 
   due_round : (processors : List ℕ) → faults_due (map InRound processors) ≡ 0
   due_round [] = refl
-  due_round (p ∷ processors) = due_round processors
+  due_round (p ∷ processors) = let rest = due_round processors in omega (arith, rest)
 
   due_rounds : (processors count : ℕ) → faults_due (rounds processors count) ≡ 0
   due_rounds processors zero = refl
@@ -107,7 +107,7 @@ module _ (s : Shape) (code : CodeParts) where
   turn_fails w (scheduled.Fails p faults.Hard) = omega arith
 
   faults_both : (first more : List Turn) → faults_in (first ++ more) ≡ faults_in first + faults_in more
-  faults_both [] more = refl
+  faults_both [] more = omega arith
   faults_both (turn ∷ first) more = let rest = faults_both first more in omega (arith, rest)
 
   due_few : (w : Course) (dues : List Due) → faults_in (turns_of s code w dues) ≤ faults_due dues
