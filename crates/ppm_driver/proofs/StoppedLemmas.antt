@@ -36,7 +36,7 @@ use Rattle.ppm_driver.specs.Strikes.{scheduled_faults}
 use Rattle.ppm_driver.specs.Resumes.{SavedState, IsTextOf, IsNoText, TextHas, IsLeftBy, IsTextLeftBy, LeftWordsComeBack, StopsLeaveStates, state_behind, plan_of, limits_of}
 use Rattle.ppm_driver.proofs.OfResume.{work_split}
 use Rattle.ppm_driver.proofs.WorkLemmas.{obeyed_work}
-use Rattle.ppm_driver.specs.Stopped.{IsOutcomeOf, GoesOn, StoppedRunsGoOn}
+use Rattle.ppm_driver.specs.Stopped.{IsOutcomeOf, ResumesStopped, StoppedRunsGoOn}
 
 -- what is saved of the text that was read is left by it
 pub saved_left : StopsLeaveStates → (stop : StopOptions) → AreStopped stop → (schedule : List ℕ) (p : Ports) (text : List ℕ)
@@ -145,7 +145,7 @@ module _ (law : StopsLeaveStates) (program : RunsInLegsAreAsPrograms) (comes : L
         (enough_for t (lost_with faults stop.processors items) (faults_with l.by items) options.turns stop.room l.state.shape.room enough (few_faults items) room_is))
         before now answer h
 
-    pub goes_on : GoesOn w options plan o
+    pub goes_on : ResumesStopped w options plan o
     goes_on = record {
       left = λ text same. subst (IsTextLeftBy source faults) (sym same) text_left;
       taken = λ fault same. text_left.taken fault.0 (subst (λ (l : List ℕ). IsNoText l fault.0) same fault.1.2);

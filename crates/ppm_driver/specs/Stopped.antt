@@ -30,7 +30,7 @@ pub record IsOutcomeOf (source : List ℕ) (o : Outcome) : Type 0 where
 -- of `resume` say of such sources is said of this one. It is never refused, and with options in their ranges broken words are never met. The
 -- arrays that are written, or the trap, are the serial outcome of that source. Where turns and room are enough for its program, the faults of the
 -- schedule, one of each processor and those of the plan, each answer of the text is that the resumed run ended.
-pub record GoesOn {stop : StopOptions} {schedule : List ℕ} {p : Ports} (w : WritesSaved stop schedule p) (options : ResumeOptions) (plan : List ℕ)
+pub record ResumesStopped {stop : StopOptions} {schedule : List ℕ} {p : Ports} (w : WritesSaved stop schedule p) (options : ResumeOptions) (plan : List ℕ)
     (o : Outside) : Type 0 where
   pub left : (text : List ℕ) → text ≡ w.text → IsTextLeftBy w.read.0 (scheduled_faults w.read.2.items) text
   pub taken : (fault : WritesFault options plan o) → fault.1.0 ≡ w.text → ⊥
@@ -44,4 +44,4 @@ pub record GoesOn {stop : StopOptions} {schedule : List ℕ} {p : Ports} (w : Wr
 -- so it is whatever was stopped, with options in their ranges, and however it is resumed
 abbrev pub StoppedRunsGoOn : Type 0
 StoppedRunsGoOn = (stop : StopOptions) → AreStopped stop → (schedule : List ℕ) (p : Ports) (w : WritesSaved stop schedule p)
-    → (options : ResumeOptions) (plan : List ℕ) (o : Outside) → GoesOn w options plan o
+    → (options : ResumeOptions) (plan : List ℕ) (o : Outside) → ResumesStopped w options plan o
