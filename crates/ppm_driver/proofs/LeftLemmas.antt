@@ -78,7 +78,7 @@ module _ (tell : FaultsTellSavedTexts) (options : StopOptions) (are : AreStopped
       omega (arith, some)
 
   -- nor do more faults strike a row than the schedule has
-  struck : (keeper : ℕ) (m : Situation) → Opens (sizes_of options) (code_of t) (initial_arrays t) keeper m → struck_in_all m [] (made m) ≤ scheduled_faults items
+  struck : (keeper : ℕ) (m : Situation) → OpensRun (sizes_of options) (code_of t) (initial_arrays t) keeper m → struck_in_all m [] (made m) ≤ scheduled_faults items
   struck keeper m b =
       let some : length (along m.shape m.code strikes_of (opening m.state.words m.shape.processors) (made m)) ≤ scheduled_faults items =
       subst (λ (x : Situation). length (along x.shape x.code strikes_of (opening x.state.words x.shape.processors) (schedule_turns x.shape x.code x.state items options.after)) ≤ scheduled_faults items)
