@@ -55,7 +55,6 @@ use Rattle.ppm_kept.specs.Answers.{finish_by}
 use Rattle.ppm_kept.specs.Running.{IsFair, strands}
 use Rattle.ppm_runs.specs.Entries.{EndsAsRun, OnceInEachRun, RunsEndSo, RunsForkSo}
 use Rattle.ppm_runs.specs.Moments.{AreOnce}
-use Rattle.ppm_runs.specs.Run.{setting}
 use Rattle.ppm_runs.specs.Spent.{RoomIsSpentSo, RoomIsWithin}
 use Rattle.ppm_runs.specs.Unbroken.{NothingBreaks}
 use Rattle.ppm_runs.specs.Work.{WorkIsWithin256So}

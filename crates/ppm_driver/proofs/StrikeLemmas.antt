@@ -1,5 +1,5 @@
 -- Where all obey a plan each fault is one that it has for that act of the processor, and no two acts of one processor have the same number.
-use Rattle.std.proofs.Common.{◌≡◌, ◌≢◌, ◌≤◌, ◌<◌, ◌⊎◌, ℕ, zero, suc, ◌+◌, ◌^◌, ◌==◌, ◌&&◌, ◌||◌, nat_lt, nat_le, Bool, true, false, if◌then◌else◌, List, [], ◌∷◌, ◌++◌, length, Option, Some, None, inl, inr, refl, sym, ap, ◌∙◌, subst, arith}
+use Rattle.std.proofs.Common.{◌≡◌, ◌≤◌, ◌<◌, ℕ, zero, suc, ◌+◌, ◌^◌, ◌==◌, ◌&&◌, ◌||◌, nat_lt, nat_le, Bool, true, false, if◌then◌else◌, List, [], ◌∷◌, ◌++◌, length, Some, None, inl, inr, refl, sym, ap, ◌∙◌, subst, arith}
 use Rattle.std.specs.List.{AllByRecursion, list_any}
 use Rattle.std.proofs.lemmas.Bool.{cases_lt, eqb-true, eq-eqb, or_cases}
 use Rattle.std.proofs.lemmas.List.{length-append}
@@ -10,7 +10,6 @@ use Rattle.ppm_cells.specs.declared.cell.Cell.TheVariants.{RestartWord}
 use Rattle.ppm_cells.specs.declared.shape.Shape.{Shape}
 use Rattle.ppm_code.specs.declared.code.CodeParts.{CodeParts}
 use Rattle.ppm_core.specs.Situation.{Situation}
-use Rattle.ppm_plan.specs.declared.fault.Fault.{Fault}
 use Rattle.ppm_plan.specs.declared.fault.Fault.TheVariants as faults
 use Rattle.ppm_plan.specs.declared.plan_item.PlanItem.{PlanItem}
 use Rattle.ppm_plan.specs.Faults.{is_at, is_hard_at}
@@ -25,7 +24,7 @@ use Rattle.ppm_step.specs.declared.turn.Turn.{Turn}
 use Rattle.ppm_step.specs.declared.turn.Why.TheVariants.{Turns}
 use Rattle.ppm_paces.specs.Paces.{strikes_of}
 use Rattle.ppm_choice.specs.Deeds.{Deed, deeds_of}
-use Rattle.ppm_choice.specs.Obeying.{Past, nothing_done, ObeyAll, Obeys, fault_of, faulted, behind, awake, next_act}
+use Rattle.ppm_choice.specs.Obeying.{Past, nothing_done, ObeyAll, Obeys, faulted, behind, awake, next_act}
 use Rattle.ppm_choice.specs.declared.limits.Limits.{Limits}
 use Rattle.ppm_choice.proofs.ParkLemmas.{awake_acts}
 use Rattle.ppm_runs.specs.Deques.{one_if}

@@ -1,3 +1,4 @@
+use Rattle.ppm_ports.specs.Ports.{port}
 use Rattle.ppm_answers.proofs.Judged.{judging_delivered, judging_told}
 use Rattle.ppm_saved_reader.specs.Rules.{saved_limit}
 use Rattle.ppm_driver.specs.Resumes.{ResumeTells, TextHas}
