@@ -17,6 +17,8 @@ pub mod OfReplay
 pub mod WatchLemmas
 pub mod TakenLemmas
 pub mod WorkLemmas
+pub mod FaultLemmas
+pub mod PlaceLemmas
 pub mod MeantLemmas
 pub mod LegsMeant
 pub mod MeantRows
