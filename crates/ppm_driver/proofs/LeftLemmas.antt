@@ -14,7 +14,7 @@ use Rattle.ppm_step.specs.declared.turn.Turn.{Turn}
 use Rattle.ppm_resumed.specs.Resumed.{TagsMayRise, RenewedWordsComeBack}
 use Rattle.ppm_core.specs.Situation.{Situation}
 use Rattle.ppm_loading.specs.declared.loading.Sizes.{Sizes}
-use Rattle.ppm_loading.specs.Loading.{Opens}
+use Rattle.ppm_loading.specs.Loading.{OpensRun}
 use Rattle.ppm_plan.specs.declared.schedule_item.ScheduleItem.{ScheduleItem}
 use Rattle.ppm_plan.specs.Forms.{schedule_form}
 use Rattle.ppm_plan.specs.Refusals.{IsAccepted}
@@ -35,7 +35,7 @@ use Rattle.ppm_driver.proofs.TellLemmas.{text_left}
 use Rattle.ppm_driver.proofs.WorkLemmas.{scheduled_work}
 
 module _ (text : List ℕ) (t : ProgramTree) (has : HasProgram text t) (sizes : Sizes) (places : sizes.takeover ≡ ByPlaces)
-    (keeper : ℕ) (m : Situation) (b : Opens sizes (code_of t) (initial_arrays t) keeper m) where
+    (keeper : ℕ) (m : Situation) (b : OpensRun sizes (code_of t) (initial_arrays t) keeper m) where
   left : (turns : List Turn) → AllByRecursion (IsTurnAmong m.shape.processors) turns → IsLeftBy text (state_behind m (initial_arrays t) turns)
   left turns among = record {
     tree = t;
@@ -67,7 +67,7 @@ module _ (tell : FaultsTellSavedTexts) (options : StopOptions) (are : AreStopped
   made m = schedule_turns m.shape m.code m.state items options.after
 
   -- they make no more work than acts
-  worked : (keeper : ℕ) (m : Situation) → Opens (sizes_of options) (code_of t) (initial_arrays t) keeper m → worked_in_all m [] (made m) ≤ options.after
+  worked : (keeper : ℕ) (m : Situation) → OpensRun (sizes_of options) (code_of t) (initial_arrays t) keeper m → worked_in_all m [] (made m) ≤ options.after
   worked keeper m b =
       let some : length (along m.shape m.code work_of (opening m.state.words m.shape.processors) (made m)) ≤ options.after =
       subst (λ (x : Situation). length (along x.shape x.code work_of (opening x.state.words x.shape.processors) (schedule_turns x.shape x.code x.state items options.after)) ≤ options.after)

@@ -39,7 +39,7 @@ use Rattle.ppm_runs.proofs.LegSound.{few_risen}
 use Rattle.ppm_resumed.specs.Resumed.{TagsMayRise}
 use Rattle.ppm_core.specs.Situation.{Situation, loaded}
 use Rattle.ppm_loading.specs.declared.loading.Sizes.{Sizes}
-use Rattle.ppm_loading.specs.Loading.{Opens}
+use Rattle.ppm_loading.specs.Loading.{OpensRun}
 use Rattle.ppm_loading.specs.Says.{arrays_from}
 use Rattle.ppm_loading.proofs.ArrayLemmas.{same_arrays}
 use Rattle.ppm_driver.specs.Legs.{words_at_last, struck_in_all, EachIsTakenOnceInAll, EndsAsProgramInAll, IsAsProgramInAll, RunsInLegsAreAsPrograms, TagsMayRiseInLegs}
@@ -69,7 +69,7 @@ module _ (laws : Laws) (text : List ℕ) (t : ProgramTree) (has : HasProgram tex
   abbrev input : List NamedArray
   input = initial_arrays t
 
-  module _ (sizes : Sizes) (keeper : ℕ) (m : Situation) (b : Opens sizes code input keeper m) (places : sizes.takeover ≡ ByPlaces) where
+  module _ (sizes : Sizes) (keeper : ℕ) (m : Situation) (b : OpensRun sizes code input keeper m) (places : sizes.takeover ≡ ByPlaces) where
     abbrev s : Shape
     s = b.shape
 

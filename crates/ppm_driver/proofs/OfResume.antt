@@ -23,7 +23,7 @@ use Rattle.ppm_step.specs.declared.turn.Turn.{Turn}
 use Rattle.ppm_choice.specs.Deeds.{work_made}
 use Rattle.ppm_runs.specs.Legs.{Leg, GoOn}
 use Rattle.ppm_saved.specs.Names.{lengths_of}
-use Rattle.ppm_saved_reader.specs.Rules.{text_limit}
+use Rattle.ppm_saved_reader.specs.Rules.{saved_limit}
 use Rattle.ppm_answers.specs.declared.answer.Answer.{Answer}
 use Rattle.ppm_answers.specs.declared.answer.Answer.TheVariants as answers
 use Rattle.ppm_answers.specs.declared.status.Status.{Status}
@@ -232,7 +232,7 @@ module _ (law : RunsInLegsAreAsPrograms) (comes : LeftWordsComeBack) (options : 
 
 module _ (law : RunsInLegsAreAsPrograms) (comes : LeftWordsComeBack) (options : ResumeOptions) (plan : List ℕ) (o : Outside) where
   abbrev Reads : Answer → Type 0
-  Reads answer = ReadHas text_limit (Has options plan o) o.source answer
+  Reads answer = ReadHas saved_limit (Has options plan o) o.source answer
 
   -- what is said of faults and of want of memory
   of_ports : SaysOfPorts (ports_of o) (ResumeSays options plan o)
@@ -285,11 +285,11 @@ module _ (law : RunsInLegsAreAsPrograms) (comes : LeftWordsComeBack) (options : 
 
   module _ (status : Status) (d : DeliversAnswer (ResumeMay options plan o.told_before o.told_now o.source) (ports_of o) status) where
     abbrev Rows : Type 0
-    Rows = TextRows text_limit (Has options plan o) (ResumeSays options plan o) (ports_of o) status
+    Rows = TextRows saved_limit (Has options plan o) (ResumeSays options plan o) (ports_of o) status
 
     rows_of : Rows
     rows_of =
-        text_rows text_limit (Has options plan o) (fronts_decide options plan o.told_before o.told_now) (ResumeSays options plan o) (ports_of o) status d of_ports by
+        text_rows saved_limit (Has options plan o) (fronts_decide options plan o.told_before o.told_now) (ResumeSays options plan o) (ports_of o) status d of_ports by
 
     -- what is known to end is written with the status of an end
     ended : (answer : Answer) → IsEnd answer → status ≡ status_of answer → IsOneOf status (statuses.Ended ∷ statuses.Trapped ∷ [])

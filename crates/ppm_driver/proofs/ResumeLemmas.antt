@@ -37,7 +37,7 @@ use Rattle.ppm_saved.specs.declared.names.NamedLength.{NamedLength}
 use Rattle.ppm_saved.specs.declared.renewal.Renewed.{Renewed}
 use Rattle.ppm_saved.specs.declared.saved.Saved.{Saved}
 use Rattle.ppm_saved_reader.specs.Correct.{IsRefusal, IsWrongAt, Breaks, TooLong}
-use Rattle.ppm_saved_reader.specs.Rules.{text_limit}
+use Rattle.ppm_saved_reader.specs.Rules.{saved_limit}
 use Rattle.ppm_saved_reader.specs.declared.saved_error.Fault.{Fault}
 use Rattle.ppm_saved_reader.specs.declared.saved_error.Fault.TheVariants as fault
 use Rattle.ppm_saved_reader.specs.declared.saved_error.SavedError.{SavedError}
@@ -356,7 +356,7 @@ module _ (options : ResumeOptions) (plan : List ℕ) (before now : ToldLists) wh
   refused_text text (errors.WrongCount line) h = record { error = errors.WrongCount line; of_text = λ e. cc; refused = h; number_is = refl; line_is = refl }
 
   -- and so is one that is too long
-  pub long_text : (text : List ℕ) → text_limit < length text → TextHas options plan before now text (answers.SavedRefused (record { number = 1; line = 1 }))
+  pub long_text : (text : List ℕ) → saved_limit < length text → TextHas options plan before now text (answers.SavedRefused (record { number = 1; line = 1 }))
   long_text text long = record { error = errors.NoSuchForm 1; of_text = λ e. cc; refused = TooLong long; number_is = refl; line_is = refl }
 
   -- no text has a read fault
@@ -364,8 +364,8 @@ module _ (options : ResumeOptions) (plan : List ℕ) (before now : ToldLists) wh
   no_fault text h = has_kind options before now h.has.items h.state answers.ReadFault h.has.has
 
 -- what stands behind the limit changes no answer: a text that is longer is refused
-module _ (text rest : List ℕ) (long : text_limit < length text) where
-  longer : text_limit < length (text ++ rest)
+module _ (text rest : List ℕ) (long : saved_limit < length text) where
+  longer : saved_limit < length (text ++ rest)
   longer = let e = length-append text rest in omega (arith, long, e)
 
   long_wrong : (f : Fault) (line : ℕ) → IsWrongAt text f line → IsWrongAt (text ++ rest) f line

@@ -19,7 +19,7 @@ use Rattle.ppm_driver.specs.Legs.{RunsInLegsAreAsPrograms}
 use Rattle.ppm_driver.specs.Resumes.{SavedState, IsTextOf, IsNoText, IsLeftBy, IsTextLeftBy, LeftWordsComeBack, StopsLeaveStates, plan_of, limits_of}
 use Rattle.ppm_driver.proofs.OfResume.{work_split}
 use Rattle.ppm_driver.proofs.WorkLemmas.{obeyed_work}
-use Rattle.ppm_driver.specs.Stopped.{IsOutcomeOf, GoesOn, StoppedRunsGoOn}
+use Rattle.ppm_driver.specs.Stopped.{IsOutcomeOf, ResumesStopped, StoppedRunsGoOn}
 
 -- what is saved of the text that was read is left by it
 pub saved_left : StopsLeaveStates → (stop : StopOptions) → AreStopped stop → (schedule : List ℕ) (p : Ports) (text : List ℕ)
@@ -69,7 +69,7 @@ module _ (law : StopsLeaveStates) (program : RunsInLegsAreAsPrograms) (comes : L
         let l = left k.read.0 k.read.2.state k.read.2.is same in
         record { tree = l.tree; has = l.has; serially = (k.meant source l).serially }
 
-    pub goes_on : GoesOn w options plan o
+    pub goes_on : ResumesStopped w options plan o
     goes_on = record {
       left = λ text same. subst (IsTextLeftBy source) (sym same) text_left;
       taken = λ fault same. text_left.taken fault.0 (subst (λ (l : List ℕ). IsNoText l fault.0) same fault.1.2);

@@ -25,7 +25,7 @@ use Rattle.ppm_runs.specs.Legs.{Leg, AreLegs, last_state, all_forked, all_taken,
 use Rattle.ppm_runs.specs.Moments.{AreOnce}
 use Rattle.ppm_resumed.specs.Resumed.{TagsMayRise}
 use Rattle.ppm_core.specs.Situation.{Situation}
-use Rattle.ppm_loading.specs.Loading.{Opens}
+use Rattle.ppm_loading.specs.Loading.{OpensRun}
 use Rattle.ppm_loading.specs.Says.{arrays_from}
 use Rattle.ppm_loading.specs.declared.loading.Sizes.{Sizes}
 use Rattle.ppm_driver.specs.Meant.{HasOutcome, EndsDepthFirst, NeedsMoreRoom, NeedsMoreTurns}
@@ -93,14 +93,14 @@ module _ (m : Situation) (legs : List Leg) (turns : List Turn) where
 -- turns are, in whatever order, faults and quits among them. A run in which no words came back has no legs.
 abbrev pub RunsInLegsAreAsPrograms : Type 0
 RunsInLegsAreAsPrograms = (text : List ℕ) (t : ProgramTree) → HasProgram text t → (sizes : Sizes) → sizes.takeover ≡ ByPlaces
-    → (keeper : ℕ) (m : Situation) → Opens sizes (code_of t) (initial_arrays t) keeper m
+    → (keeper : ℕ) (m : Situation) → OpensRun sizes (code_of t) (initial_arrays t) keeper m
     → (legs : List Leg) → AreLegs m.shape m.code m.state.words legs
     → (turns : List Turn) → AllByRecursion (IsTurnAmong m.shape.processors) turns → IsAsProgramInAll m legs turns t
 
 -- and then no place's holder has the last tag, where words came back fewer than 2^50 times
 abbrev pub TagsMayRiseInLegs : Type 0
 TagsMayRiseInLegs = (text : List ℕ) (t : ProgramTree) → HasProgram text t → (sizes : Sizes) → sizes.takeover ≡ ByPlaces
-    → (keeper : ℕ) (m : Situation) → Opens sizes (code_of t) (initial_arrays t) keeper m
+    → (keeper : ℕ) (m : Situation) → OpensRun sizes (code_of t) (initial_arrays t) keeper m
     → (legs : List Leg) → AreLegs m.shape m.code m.state.words legs
     → (turns : List Turn) → AllByRecursion (IsTurnAmong m.shape.processors) turns
     → length legs < 2 ^ 50 → TagsMayRise m.shape (words_at_last m legs turns)

@@ -31,7 +31,7 @@ use Rattle.ppm_tickets.specs.Words.{has}
 use Rattle.ppm_runs.specs.Moments.{AreOnce}
 use Rattle.ppm_core.specs.Situation.{Situation}
 use Rattle.ppm_loading.specs.declared.loading.Sizes.{Sizes}
-use Rattle.ppm_loading.specs.Loading.{Opens}
+use Rattle.ppm_loading.specs.Loading.{OpensRun}
 use Rattle.ppm_driver.specs.RunOf.{words_behind, finish_behind}
 use Rattle.ppm_loading.specs.Says.{arrays_from}
 
@@ -123,6 +123,6 @@ module _ (m : Situation) (turns : List Turn) where
 -- and quits among them
 abbrev pub RunsAreAsPrograms : Type 0
 RunsAreAsPrograms = (text : List ℕ) (t : ProgramTree) → HasProgram text t → (sizes : Sizes)
-    → (keeper : ℕ) (m : Situation) → Opens sizes (code_of t) (initial_arrays t) keeper m
+    → (keeper : ℕ) (m : Situation) → OpensRun sizes (code_of t) (initial_arrays t) keeper m
     → (turns : List Turn) → AllByRecursion (IsTurnAmong m.shape.processors) turns
     → IsAsProgram m turns t

@@ -21,7 +21,7 @@ use Rattle.ppm_cli.specs.declared.resume.ResumeOptions.{ResumeOptions}
 use Rattle.ppm_cli.specs.Words.{AreResumed}
 use Rattle.ppm_plan.specs.Forms.{plan_form}
 use Rattle.ppm_plan.specs.Refusals.{IsAccepted}
-use Rattle.ppm_saved_reader.specs.Rules.{text_limit}
+use Rattle.ppm_saved_reader.specs.Rules.{saved_limit}
 use Rattle.ppm_step.specs.Laws.{IsFilledBehind}
 use Rattle.ppm_driver.specs.Meant.{NeedsMoreRoom, NeedsMoreTurns, struck_in}
 use Rattle.ppm_driver.specs.Strikes.{fault_count}
@@ -38,7 +38,7 @@ module _ (options : ResumeOptions) (plan : List ℕ) (o : Outside) where
 
   -- the text that was read has this answer
   abbrev pub HasRead : Answer → Type 0
-  HasRead answer = ReadHas text_limit Has o.source answer
+  HasRead answer = ReadHas saved_limit Has o.source answer
 
   -- the run of a state
   abbrev pub Resumed : List PlanItem → SavedState → Answer → Type 0
@@ -153,6 +153,6 @@ module _ (options : ResumeOptions) (plan : List ℕ) (o : Outside) where
   -- The rows of `resume` with such options and such a plan: what each status says; and where all goes well, something is judged, and the
   -- answer that the text has is written.
   pub record ResumeRows (status : Status) : Type 0 where
-    pub rows : TextRows text_limit Has ResumeSays (ports_of o) status
+    pub rows : TextRows saved_limit Has ResumeSays (ports_of o) status
     pub meant : AreAsPrograms
     pub completes : Completes status

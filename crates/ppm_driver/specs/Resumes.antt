@@ -34,7 +34,7 @@ use Rattle.ppm_saved.specs.declared.names.NamedLength.{NamedLength}
 use Rattle.ppm_saved.specs.declared.saved.Saved.{Saved}
 use Rattle.ppm_saved_reader.specs.Correct.{IsRefusal, IsSavedText}
 use Rattle.ppm_saved_reader.specs.ErrorNumbers.{line_of, number_of}
-use Rattle.ppm_saved_reader.specs.Rules.{text_limit}
+use Rattle.ppm_saved_reader.specs.Rules.{saved_limit}
 use Rattle.ppm_saved_reader.specs.declared.saved_error.SavedError.{SavedError}
 use Rattle.ppm_saved_reader.specs.declared.saved_error.SavedError.TheVariants as errors
 use Rattle.ppm_answers.specs.declared.answer.Answer.{Answer}
@@ -45,7 +45,7 @@ use Rattle.ppm_cli.specs.declared.resume.ResumeOptions.{ResumeOptions}
 use Rattle.ppm_cli.specs.declared.stop.StopOptions.{StopOptions}
 use Rattle.ppm_cli.specs.Words.{AreStopped}
 use Rattle.ppm_stop.specs.Stops.{names_of, ProgramReads as StoppedReads}
-use Rattle.ppm_loading.specs.Loading.{Opens}
+use Rattle.ppm_loading.specs.Loading.{OpensRun}
 use Rattle.ppm_loading.specs.Planned.{IsRefusedBy}
 use Rattle.ppm_loading.specs.declared.loading.Sizes.{Sizes}
 use Rattle.ppm_driver.specs.Legs.{words_at_last, worked_in_all}
@@ -70,7 +70,7 @@ saved_finish z = read z.shape z.words FinishWord
 
 -- the text of a state
 pub record IsTextOf (text : List ℕ) (z : SavedState) : Type 0 where
-  pub short : length text ≤ text_limit
+  pub short : length text ≤ saved_limit
   pub saved : IsSavedText text z.shape z.arrays z.code z.words
 
 -- a text is that of no state, for this fault: of the first line that is wrong the rule of the least number
@@ -157,7 +157,7 @@ TextHas options plan before now text answer = OfState (λ z. StateHas options pl
 
 -- the answers of `resume` with such options and such a plan, where watchers were told such lists
 abbrev pub ResumeMay : ResumeOptions → (plan : List ℕ) → (before now : ToldLists) → Port → Answer → Type 0
-ResumeMay options plan before now source answer = JudgingMay text_limit (TextHas options plan before now) source answer
+ResumeMay options plan before now source answer = JudgingMay saved_limit (TextHas options plan before now) source answer
 
 -- what watchers were told where an answer comes: nothing where the text or the plan is refused; the causes of an answer of a run say which turns
 abbrev pub ResumeTells : Answer → ToldLists → ToldLists → Type 0
@@ -166,7 +166,7 @@ ResumeTells answer before now = TellsOfRun (λ answer before now. ⊤) answer be
 -- what stands behind more bytes than a saved text may have changes no answer, with all options and all plans
 abbrev pub FrontsDecideResumed : Type 0
 FrontsDecideResumed = (options : ResumeOptions) (plan : List ℕ) (before now : ToldLists)
-    → FrontsDecide text_limit (TextHas options plan before now)
+    → FrontsDecide saved_limit (TextHas options plan before now)
 
 -- A state is that of a run of a source's program, with takeover by places, from its opening words, whatever turns its processors made, and
 -- however often its words came back, but fewer than 2^50 times: a tag of a holder rises with each.
@@ -177,7 +177,7 @@ pub record IsLeftBy (source : List ℕ) (z : SavedState) : Type 0 where
   pub places : sizes.takeover ≡ ByPlaces
   pub keeper : ℕ
   pub start : Situation
-  pub opens : Opens sizes (code_of tree) (initial_arrays tree) keeper start
+  pub opens : OpensRun sizes (code_of tree) (initial_arrays tree) keeper start
   pub legs : List Leg
   pub are : AreLegs start.shape start.code start.state.words legs
   pub turns : List Turn
@@ -204,7 +204,7 @@ state_behind m arrays turns = record { shape = m.shape; arrays = names_of arrays
 -- that text.
 abbrev pub RunsLeaveStates : Type 0
 RunsLeaveStates = (text : List ℕ) (t : ProgramTree) → HasProgram text t → (sizes : Sizes) → sizes.takeover ≡ ByPlaces
-    → (keeper : ℕ) (m : Situation) → Opens sizes (code_of t) (initial_arrays t) keeper m
+    → (keeper : ℕ) (m : Situation) → OpensRun sizes (code_of t) (initial_arrays t) keeper m
     → (turns : List Turn) → AllByRecursion (IsTurnAmong m.shape.processors) turns → IsLeftBy text (state_behind m (initial_arrays t) turns)
 
 -- The state behind turns of fresh processors that went on from one that a program left is left by that program too, unless words came back so

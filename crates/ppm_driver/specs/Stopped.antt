@@ -22,7 +22,7 @@ pub record IsOutcomeOf (source : List ℕ) (o : Outcome) : Type 0 where
 -- Where the text that `resume` read is the one that `stop` wrote: it is that of a state which the source left that `stop` read, so all that the rows
 -- of `resume` say of such sources is said of this one. It is never refused, and with options in their ranges broken words are never met. The
 -- arrays that are written, or the trap, are the serial outcome of that source.
-pub record GoesOn {stop : StopOptions} {schedule : List ℕ} {p : Ports} (w : WritesSaved stop schedule p) (options : ResumeOptions) (plan : List ℕ)
+pub record ResumesStopped {stop : StopOptions} {schedule : List ℕ} {p : Ports} (w : WritesSaved stop schedule p) (options : ResumeOptions) (plan : List ℕ)
     (o : Outside) : Type 0 where
   pub left : (text : List ℕ) → text ≡ w.text → IsTextLeftBy w.read.0 text
   pub taken : (fault : WritesFault options plan o) → fault.1.0 ≡ w.text → ⊥
@@ -33,4 +33,4 @@ pub record GoesOn {stop : StopOptions} {schedule : List ℕ} {p : Ports} (w : Wr
 -- so it is whatever was stopped, with options in their ranges, and however it is resumed
 abbrev pub StoppedRunsGoOn : Type 0
 StoppedRunsGoOn = (stop : StopOptions) → AreStopped stop → (schedule : List ℕ) (p : Ports) (w : WritesSaved stop schedule p)
-    → (options : ResumeOptions) (plan : List ℕ) (o : Outside) → GoesOn w options plan o
+    → (options : ResumeOptions) (plan : List ℕ) (o : Outside) → ResumesStopped w options plan o

@@ -24,7 +24,7 @@ use ppm_loading::refusal_answer;
 use ppm_plan::{Plan, read_plan};
 use ppm_ports::{Sink, Source, Watch, read_whole};
 use ppm_saved::{Names, Renewed, Saved, renew};
-use ppm_saved_reader::{SavedError, TEXT_LIMIT, read_saved};
+use ppm_saved_reader::{SavedError, SAVED_LIMIT, read_saved};
 use ppm_table::{Closed, Shared};
 use ppm_threads::drive;
 use ppm_words::{Idle, NoMemory};
@@ -89,7 +89,7 @@ fn read_answer<R: Threads + Wait + Sync, S: Source, W: Watch>(
     ensures kept { KeepFronts (map W.told watch.old.items) (map W.told watch.new.items) }
     ensures watchers { length watch.new.items ≡ watcher_count }
 {
-    match read_whole(alloc, source, TEXT_LIMIT) {
+    match read_whole(alloc, source, SAVED_LIMIT) {
         Ok(text) => text_answer(rt, alloc, options, faults, text, watch),
         Err(error) => answer_of_read(error),
     }
@@ -110,7 +110,7 @@ fn text_answer<R: Threads + Wait + Sync, W: Watch>(
     ensures kept { KeepFronts (map W.told watch.old.items) (map W.told watch.new.items) }
     ensures watchers { length watch.new.items ≡ watcher_count }
 {
-    if text.len() > TEXT_LIMIT {
+    if text.len() > SAVED_LIMIT {
         return Answer::SavedRefused(SavedRefusal { number: 1, line: 1 });
     }
     match read_saved(alloc, &text) {

@@ -17,7 +17,7 @@ use Rattle.ppm_table.specs.declared.view.Opening.{Opening}
 use Rattle.ppm_table.specs.Run.{behind, stood, stands_by, deeds_in, deed_by, seen, seated, Mine, IsSeat, IsAsked, IsFound}
 use Rattle.ppm_stretch.specs.Steady.{IsSteady, AreSteady, work_in, looks_in, looks_behind, is_exchange, exchanged_in, Goes, Moves, Lives, Refuses}
 use Rattle.ppm_stretch.specs.declared.way.Steps.{Steps}
-use Rattle.ppm_stretch.specs.Rows.{GivesUp, Makes, Stops}
+use Rattle.ppm_stretch.specs.Rows.{GivesUp, Makes, GivesUpIfRefused}
 use Rattle.ppm_table.specs.Telling.{shown, deeds_since, Keeps, Shows}
 use Rattle.ppm_table.proofs.TellingLemmas.{keeps_both, keeps_same, shown_both, since_is}
 use Rattle.ppm_table.proofs.StandLemmas.{deeds_seen, stands_on, step_told}
@@ -336,7 +336,7 @@ module _ {W : Type 0} (told : W → Option (List Event)) where
   row_makes k own a b w0 w1 m v x p steps is f = λ fine. subst (λ (s : Steps). Moves told k own a b w0 w1 s.made s.work s.looks s.exchanged) (sym is) f
 
   pub row_stops : (k : Opening) (own : ℕ) (a b : Mine) (w0 w1 : W) (m v x : ℕ) (p : Bool) (most : ℕ) (steps : Steps)
-      → steps ≡ record { made = m; work = v; looks = x; exchanged = p; refused = false } → Stops told k own a b w0 w1 most steps
+      → steps ≡ record { made = m; work = v; looks = x; exchanged = p; refused = false } → GivesUpIfRefused told k own a b w0 w1 most steps
   row_stops k own a b w0 w1 m v x p most steps is = λ refused. let e : true ≡ false = sym refused ∙ ap (λ (s : Steps). s.refused) is in absurd cc
 
   pub row_few : (m v x : ℕ) (p : Bool) (most : ℕ) (steps : Steps) → steps ≡ record { made = m; work = v; looks = x; exchanged = p; refused = false }
@@ -347,7 +347,7 @@ module _ {W : Type 0} (told : W → Option (List Event)) where
   moves_keep : (k : Opening) (own : ℕ) (me me' : Mine) (w w' : W) (m v x : ℕ) (p : Bool) → Moves told k own me me' w w' m v x p → Keeps (told w) (told w')
   moves_keep k own me me' w w' m v x p f = λ list e. (shown k.shape k.code own (stands_by k own (deeds_in me.0)) (deeds_since me me'), f.shows list e)
 
-  pub steps_keep : (k : Opening) (own : ℕ) (me me' : Mine) (w w' : W) (most : ℕ) (steps : Steps) → Makes told k own me me' w w' steps → Stops told k own me me' w w' most steps
+  pub steps_keep : (k : Opening) (own : ℕ) (me me' : Mine) (w w' : W) (most : ℕ) (steps : Steps) → Makes told k own me me' w w' steps → GivesUpIfRefused told k own me me' w w' most steps
       → Keeps (told w) (told w')
   steps_keep k own me me' w w' most steps makes stops = by steps.refused refl
     where

@@ -10,7 +10,7 @@ ghost use Rattle.ppm_step.specs.declared.turn.Next.TheVariants.{Seek};
 ghost use Rattle.ppm_table.specs.Run.{stands_by, deed_by, deeds_in, IsAtCode, IsSeat};
 ghost use Rattle.ppm_table.specs.Shown.{IsOf, opening_of};
 ghost use Rattle.ppm_table.specs.Telling.{Keeps};
-ghost use Rattle.ppm_stretch.specs.Rows.{IsChoosing, IsFree, Makes, Stops};
+ghost use Rattle.ppm_stretch.specs.Rows.{IsChoosing, IsFree, Makes, GivesUpIfRefused};
 ghost use Rattle.ppm_stretch.specs.Steady.{Moves, Refuses, is_exchange, looks_behind};
 
 use crate::asking::fills;
@@ -113,7 +113,7 @@ fn frame_steps<W: Watch>(
     ensures table { mine.new.table_id ≡ mine.old.table_id }
     ensures few { (result.made ≤ most) × (result.work ≤ result.made) × (result.looks ≤ result.made) }
     ensures makes { Makes W.told words.now.shared.key local.old.own mine.old.me mine.new.me watch.old watch.new result }
-    ensures stops { Stops W.told words.now.shared.key local.old.own mine.old.me mine.new.me watch.old watch.new most result }
+    ensures stops { GivesUpIfRefused W.told words.now.shared.key local.old.own mine.old.me mine.new.me watch.old watch.new most result }
     ensures sits_on { IsSeat local.old.own mine.new.me }
     ensures stands_on { standing_of shape.now code.now local.new ≡ stands_by words.now.shared.key local.old.own (deeds_in mine.new.me.0) }
     ensures holds { IsLocal shape.now code.now local.new }
@@ -176,7 +176,7 @@ fn some_steps<W: Watch>(
     ensures table { mine.new.table_id ≡ mine.old.table_id }
     ensures few { (result.made ≤ most) × (result.work ≤ result.made) × (result.looks ≤ result.made) }
     ensures makes { Makes W.told words.now.shared.key local.old.own mine.old.me mine.new.me watch.old watch.new result }
-    ensures stops { Stops W.told words.now.shared.key local.old.own mine.old.me mine.new.me watch.old watch.new most result }
+    ensures stops { GivesUpIfRefused W.told words.now.shared.key local.old.own mine.old.me mine.new.me watch.old watch.new most result }
     ensures on { result.refused ≡ false → result.made ≡ 0 → IsChoosing (standing_of shape.now code.now local.new) }
     ensures sits_on { IsSeat local.old.own mine.new.me }
     ensures stands_on { standing_of shape.now code.now local.new ≡ stands_by words.now.shared.key local.old.own (deeds_in mine.new.me.0) }
@@ -213,7 +213,7 @@ fn other_step<W: Watch>(
     ensures table { mine.new.table_id ≡ mine.old.table_id }
     ensures few { (result.made ≤ 1) × (result.work ≤ result.made) × (result.looks ≤ result.made) }
     ensures makes { Makes W.told words.now.shared.key local.old.own mine.old.me mine.new.me watch.old watch.new result }
-    ensures stops { Stops W.told words.now.shared.key local.old.own mine.old.me mine.new.me watch.old watch.new 1 result }
+    ensures stops { GivesUpIfRefused W.told words.now.shared.key local.old.own mine.old.me mine.new.me watch.old watch.new 1 result }
     ensures on { result.refused ≡ false → result.made ≡ 0 → IsChoosing (standing_of shape.now code.now local.new) }
     ensures sits_on { IsSeat local.old.own mine.new.me }
     ensures stands_on { standing_of shape.now code.now local.new ≡ stands_by words.now.shared.key local.old.own (deeds_in mine.new.me.0) }
@@ -294,7 +294,7 @@ pub(crate) fn steps_along<W: Watch>(
     ensures table { mine.new.table_id ≡ mine.old.table_id }
     ensures few { (result.made ≤ most) × (result.work ≤ result.made) × (result.looks ≤ result.made) }
     ensures makes { Makes W.told words.now.shared.key local.old.own mine.old.me mine.new.me watch.old watch.new result }
-    ensures stops { Stops W.told words.now.shared.key local.old.own mine.old.me mine.new.me watch.old watch.new most result }
+    ensures stops { GivesUpIfRefused W.told words.now.shared.key local.old.own mine.old.me mine.new.me watch.old watch.new most result }
     ensures on { result.refused ≡ false → result.made < most → IsChoosing (standing_of shape.now code.now local.new) }
     ensures sits_on { IsSeat local.old.own mine.new.me }
     ensures stands_on { standing_of shape.now code.now local.new ≡ stands_by words.now.shared.key local.old.own (deeds_in mine.new.me.0) }
@@ -354,7 +354,7 @@ pub fn steps<W: Watch>(
     ensures few { (result.made ≤ most) × (result.work ≤ result.made) × (result.looks ≤ result.made) }
     ensures makes { Makes W.told (opening_of shared.now) processor.old.local.own processor.old.seat.me processor.new.seat.me
         watch.old watch.new result }
-    ensures stops { Stops W.told (opening_of shared.now) processor.old.local.own processor.old.seat.me processor.new.seat.me
+    ensures stops { GivesUpIfRefused W.told (opening_of shared.now) processor.old.local.own processor.old.seat.me processor.new.seat.me
         watch.old watch.new most result }
     ensures on { result.refused ≡ false → result.made < most → IsChoosing (standing_of shared.now.shape shared.now.code processor.new.local) }
 {

@@ -11,7 +11,7 @@ ghost use Rattle.ppm_step.specs.Standings.{WantIsWithin};
 ghost use Rattle.std.specs.Prelude.{ℕ, true, false, ◌∷◌, []};
 ghost use Rattle.ppm_ports.specs.Told.{AppendsList, KeepsList};
 ghost use Rattle.ppm_step.specs.Told.{place_of};
-ghost use Rattle.ppm_table.specs.Run.{Does, Steps, IsFound, IsSeat, padding, seen, deed_by, stands_by};
+ghost use Rattle.ppm_table.specs.Run.{Does, IsToStep, IsFound, IsSeat, padding, seen, deed_by, stands_by};
 ghost use Rattle.ppm_table.specs.Run.{deeds_in};
 ghost use Rattle.ppm_table.specs.Telling.{Keeps, Shows};
 ghost use Rattle.ppm_table.specs.Events.{event_found};
@@ -40,7 +40,7 @@ pub fn touch(words: &Words, shape: &Shape, seat: &mut Seat<(), View>, want: Want
     requires table { seat.old.table_id ≡ words.now.shared.table_id }
     requires within { WantIsWithin words.now.shared.key.shape want }
     requires wide { padding + word_count words.now.shared.key.shape ≤ words.now.shared.table_id.words }
-    requires steps { Steps words.now.shared.key seat.old.me want }
+    requires steps { IsToStep words.now.shared.key seat.old.me want }
     ensures table { seat.new.table_id ≡ seat.old.table_id }
     ensures found { IsFound want result }
     ensures told { seat.new.me ≡ (seen seat.old.me.0 (deed_by want result), seat.old.me.1) }
@@ -77,7 +77,7 @@ pub fn tell<W: Watch>(
     requires table { seat.old.table_id ≡ words.now.shared.table_id }
     requires within { WantIsWithin words.now.shared.key.shape want }
     requires wide { padding + word_count words.now.shared.key.shape ≤ words.now.shared.table_id.words }
-    requires steps { Steps words.now.shared.key seat.old.me want }
+    requires steps { IsToStep words.now.shared.key seat.old.me want }
     ensures table { seat.new.table_id ≡ seat.old.table_id }
     ensures found { IsFound want result.word }
     ensures told { seat.new.me ≡ (seen seat.old.me.0 (deed_by want result.word), seat.old.me.1) }

@@ -17,7 +17,7 @@ use Rattle.ppm_table.specs.declared.view.Opening.{Opening}
 use Rattle.ppm_table.specs.Run.{start, behind_turns, deeds_in_run}
 use Rattle.ppm_table.specs.Shown.{IsOf, deeds_of_processor, opening_of}
 use Rattle.ppm_table.specs.Telling.{Keeps}
-use Rattle.ppm_threads.specs.Going.{Grows, HasQuit, OwnObeys, told_of_deeds}
+use Rattle.ppm_threads.specs.Going.{TraceGrows, HasQuit, OwnObeys, told_of_deeds}
 
 -- a processor that has done nothing
 abbrev pub Begins : Shared → Processor → Type 0
@@ -39,7 +39,7 @@ module _ {W : Type 0} (told : W → Option (List Event)) (plan : Planned) (limit
     pub of : IsOf s q
     pub own : q.local.own ≡ p.local.own
     pub keeps : Keeps (told w) (told v)
-    pub grows : taken ≡ true → Grows (told w) (told v) (told_of_deeds plan limits (opening_of s) p.local.own (deeds_of_processor p))
+    pub grows : taken ≡ true → TraceGrows (told w) (told v) (told_of_deeds plan limits (opening_of s) p.local.own (deeds_of_processor p))
         (told_of_deeds plan limits (opening_of s) p.local.own (deeds_of_processor q))
     pub obeys : taken ≡ true → OwnObeys plan limits (opening_of s) p.local.own (deeds_of_processor q)
     pub quits : taken ≡ false → HasQuit plan limits (opening_of s) p.local.own (told w) (told v)

@@ -11,12 +11,12 @@ ghost use Rattle.ppm_table.specs.Run.{IsActAt};
 ghost use Rattle.ppm_table.specs.Shown.{IsOf, deeds_of_processor, opening_of};
 ghost use Rattle.ppm_table.specs.Telling.{Keeps};
 ghost use Rattle.ppm_threads.specs.Driven.{Begins, Ends};
-ghost use Rattle.ppm_threads.specs.Going.{Obeying, Resting, Acting, Grows, HasMoreDeeds, GoesAhead, GoesOn};
-ghost use Rattle.ppm_threads.specs.Going.{GaveUp, HasQuit, told_of_deeds, told_so_far, way_of};
+ghost use Rattle.ppm_threads.specs.Going.{Obeying, Resting, Acting, TraceGrows, HasMoreDeeds, GoesAhead, RunsOn};
+ghost use Rattle.ppm_threads.specs.Going.{GaveUp, HasQuit, told_of_deeds, told_so_far, act_result_of};
 
+use crate::act_result::ActResult;
 use crate::crew::Crew;
 use crate::parking::{IdleParker, park, wake_all};
-use crate::way::Way;
 use crossbeam_utils::Backoff;
 use ppm_choice::{Idle, Limits, Pace, clear_steps, is_over, next_act};
 use ppm_plan::Victims;
@@ -146,7 +146,7 @@ fn make<W: Watch>(
     ensures obeys { result ≡ true → (plan : Planned) (past : Past) (victims : Drawing)
         → Acting plan crew.now.limits (opening_of crew.now.shared) processor.old.local.own (deeds_of_processor processor.old) past pace.old victims act
         → Obeying plan crew.now.limits (opening_of crew.now.shared) processor.old.local.own (deeds_of_processor processor.new) pace.new victims
-        × Grows (W.told watch.old) (W.told watch.new)
+        × TraceGrows (W.told watch.old) (W.told watch.new)
         (told_so_far plan crew.now.limits (opening_of crew.now.shared) processor.old.local.own (deeds_of_processor processor.old) past)
         (told_of_deeds plan crew.now.limits (opening_of crew.now.shared) processor.old.local.own (deeds_of_processor processor.new))
         × HasMoreDeeds 1 processor.old.seat.me processor.new.seat.me }
@@ -173,10 +173,14 @@ fn make<W: Watch>(
 }
 
 /// Where a processor goes behind an act that its watcher took, or refused.
-fn way_of(taken: bool) -> Way
-    ensures { result ≡ way_of taken }
+fn act_result_of(taken: bool) -> ActResult
+    ensures { result ≡ act_result_of taken }
 {
-    if taken { Way::More } else { Way::Refused }
+    if taken {
+        ActResult::More
+    } else {
+        ActResult::Refused
+    }
 }
 
 /// A processor that rests leaves; or it parks, and makes its next act behind that.
@@ -188,7 +192,7 @@ fn rest_first<W: Watch, R: Wait>(
     pace: &mut Pace,
     victims: &mut Victims,
     watch: &mut W,
-) -> Way
+) -> ActResult
     requires of { IsOf crew.now.shared processor.old }
     requires few { pace.old.work < 2 ^ 62 }
     requires plan { crew.now.plan.now.processors ≡ crew.now.shared.shape.processors }
@@ -197,15 +201,15 @@ fn rest_first<W: Watch, R: Wait>(
     ensures of { IsOf crew.now.shared processor.new }
     ensures own { processor.new.local.own ≡ processor.old.local.own }
     ensures keeps { Keeps (W.told watch.old) (W.told watch.new) }
-    ensures goes { GoesOn crew.now.plan.now crew.now.limits (opening_of crew.now.shared) processor.old.local.own (W.told watch.old) (W.told watch.new)
+    ensures goes { RunsOn crew.now.plan.now crew.now.limits (opening_of crew.now.shared) processor.old.local.own (W.told watch.old) (W.told watch.new)
         processor.old.seat.me processor.new.seat.me pace.new victims.new result }
 {
     if !is_park(crew.limits.idle) {
-        return Way::Over;
+        return ActResult::Over;
     }
     if !hear(watch, parked_at(processor.local.place())) {
         give_way(crew, processor);
-        return Way::Refused;
+        return ActResult::Refused;
     }
     park(rt, parker);
     pace.rest();
@@ -221,7 +225,7 @@ fn rest_first<W: Watch, R: Wait>(
     ) else {
         unreachable!()
     };
-    way_of(make(crew, processor, pace, watch, act))
+    act_result_of(make(crew, processor, pace, watch, act))
 }
 
 /// Makes the next act, if there is one.
@@ -233,7 +237,7 @@ fn act<W: Watch, R: Wait>(
     pace: &mut Pace,
     victims: &mut Victims,
     watch: &mut W,
-) -> Way
+) -> ActResult
     requires of { IsOf crew.now.shared processor.old }
     requires few { pace.old.work < 2 ^ 62 }
     requires plan { crew.now.plan.now.processors ≡ crew.now.shared.shape.processors }
@@ -242,16 +246,16 @@ fn act<W: Watch, R: Wait>(
     ensures of { IsOf crew.now.shared processor.new }
     ensures own { processor.new.local.own ≡ processor.old.local.own }
     ensures keeps { Keeps (W.told watch.old) (W.told watch.new) }
-    ensures goes { GoesOn crew.now.plan.now crew.now.limits (opening_of crew.now.shared) processor.old.local.own (W.told watch.old) (W.told watch.new)
+    ensures goes { RunsOn crew.now.plan.now crew.now.limits (opening_of crew.now.shared) processor.old.local.own (W.told watch.old) (W.told watch.new)
         processor.old.seat.me processor.new.seat.me pace.new victims.new result }
 {
     if is_over(pace.next) {
-        return Way::Over;
+        return ActResult::Over;
     }
     let Some(act) = next_act(pace, victims, crew.plan, crew.limits) else {
         return rest_first(rt, crew, parker, processor, pace, victims, watch);
     };
-    way_of(make(crew, processor, pace, watch, act))
+    act_result_of(make(crew, processor, pace, watch, act))
 }
 
 /// Some steps in a row that surely obey, or else the next act.
@@ -263,7 +267,7 @@ fn go_on<W: Watch, R: Wait>(
     pace: &mut Pace,
     victims: &mut Victims,
     watch: &mut W,
-) -> Way
+) -> ActResult
     requires of { IsOf crew.now.shared processor.old }
     requires few { pace.old.work < 2 ^ 62 }
     requires plan { crew.now.plan.now.processors ≡ crew.now.shared.shape.processors }
@@ -272,16 +276,16 @@ fn go_on<W: Watch, R: Wait>(
     ensures of { IsOf crew.now.shared processor.new }
     ensures own { processor.new.local.own ≡ processor.old.local.own }
     ensures keeps { Keeps (W.told watch.old) (W.told watch.new) }
-    ensures goes { GoesOn crew.now.plan.now crew.now.limits (opening_of crew.now.shared) processor.old.local.own (W.told watch.old) (W.told watch.new)
+    ensures goes { RunsOn crew.now.plan.now crew.now.limits (opening_of crew.now.shared) processor.old.local.own (W.told watch.old) (W.told watch.new)
         processor.old.seat.me processor.new.seat.me pace.new victims.new result }
 {
     let Some(made) = go_ahead(crew, processor, pace, watch) else {
-        return Way::Refused;
+        return ActResult::Refused;
     };
     if made == 0 {
         return act(rt, crew, parker, processor, pace, victims, watch);
     }
-    Way::More
+    ActResult::More
 }
 
 /// Lets a processor obey until its acts stop; whether its watcher refused none. It may never return.
@@ -305,9 +309,9 @@ pub(crate) fn run<W: Watch, R: Wait>(
             continue;
         }
         match go_on(rt, crew, parker, processor, &mut pace, &mut victims, watch) {
-            Way::More => stand_back(&pace, &backoff),
-            Way::Over => return true,
-            Way::Refused => return false,
+            ActResult::More => stand_back(&pace, &backoff),
+            ActResult::Over => return true,
+            ActResult::Refused => return false,
         }
     }
     unreachable!()

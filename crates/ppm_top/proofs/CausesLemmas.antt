@@ -2,7 +2,7 @@
 use Rattle.std.proofs.Common.{◌≡◌, ℕ, List, Option, Some, None, refl, sym, subst}
 use Rattle.ppm_ports.specs.Outside.{ToldLists, Outside, ports_of}
 use Rattle.ppm_text.specs.Limits.{text_limit}
-use Rattle.ppm_listing_reader.specs.Limits.{text_limit as listing_limit}
+use Rattle.ppm_listing_reader.specs.Limits.{listing_limit}
 use Rattle.ppm_answers.specs.declared.answer.Answer.{Answer}
 use Rattle.ppm_answers.specs.declared.answer.Answer.TheVariants as answers
 use Rattle.ppm_answers.specs.declared.status.Status.{Status}
@@ -26,7 +26,7 @@ use Rattle.ppm_driver.specs.Runs.{RunTells, TextHas as RunTextHas}
 use Rattle.ppm_loading.proofs.PlannedLemmas as planned
 use Rattle.ppm_driver.proofs.ResumeLemmas.{still_told}
 use Rattle.ppm_driver.proofs.WatchLemmas.{untold}
-use Rattle.ppm_saved_reader.specs.Rules.{text_limit as saved_limit}
+use Rattle.ppm_saved_reader.specs.Rules.{saved_limit}
 
 -- where nothing was read, out of memory may be the answer, whatever the command is
 pub memory_before : (command : Option Command) (o : Outside) → IsUnread o.source → CommandMay command o answers.NoMemory

@@ -4,7 +4,7 @@ use Rattle.std.proofs.Common.{refl, sym, ◌∙◌, subst, inl, inr}
 use Rattle.ppm_ports.specs.Ports.{Fails, Holds}
 use Rattle.ppm_ports.specs.Outside.{Outside, ports_of}
 use Rattle.ppm_text.specs.Limits.{text_limit}
-use Rattle.ppm_listing_reader.specs.Limits.{text_limit as listing_limit}
+use Rattle.ppm_listing_reader.specs.Limits.{listing_limit}
 use Rattle.ppm_answers.specs.declared.answer.Answer.{Answer}
 use Rattle.ppm_answers.specs.declared.answer.Answer.TheVariants as answers
 use Rattle.ppm_answers.specs.declared.status.Status.{Status}
@@ -46,7 +46,7 @@ use Rattle.ppm_driver.proofs.OfReplay as of_replay
 use Rattle.ppm_driver.proofs.OfResume as of_resume
 use Rattle.ppm_driver.proofs.OfRun as of_run
 use Rattle.ppm_driver.proofs.StoppedLemmas.{saved_left}
-use Rattle.ppm_saved_reader.specs.Rules.{text_limit as saved_limit}
+use Rattle.ppm_saved_reader.specs.Rules.{saved_limit}
 use Rattle.ppm_loading.proofs.PlannedLemmas as planned
 use Rattle.ppm_answers.specs.Reading.{IsUnread, JudgingMay, DeliversAnswer, Answers}
 use Rattle.ppm_answers.proofs.Delivered.{of_answers}

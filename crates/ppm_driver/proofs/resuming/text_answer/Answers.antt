@@ -7,11 +7,11 @@ use Rattle.ppm_driver.proofs.WatchLemmas.{fronts_stay}
 use Rattle.ppm_driver.proofs.resuming.text_answer.Goals as goal
 
 -- a text that is too long
-pub returns-then-len-gt-TEXT_LIMIT-clause-may : goal.returns-then-len-gt-TEXT_LIMIT-clause-may
-returns-then-len-gt-TEXT_LIMIT-clause-may g c = long_text c.args.options c.args.faults.now [] [] c.args.text.items (omega arith)
+pub returns-then-len-gt-SAVED_LIMIT-clause-may : goal.returns-then-len-gt-SAVED_LIMIT-clause-may
+returns-then-len-gt-SAVED_LIMIT-clause-may g c = long_text c.args.options c.args.faults.now [] [] c.args.text.items (omega arith)
 
-pub returns-then-len-gt-TEXT_LIMIT-clause-kept : goal.returns-then-len-gt-TEXT_LIMIT-clause-kept
-returns-then-len-gt-TEXT_LIMIT-clause-kept g c = fronts_stay _
+pub returns-then-len-gt-SAVED_LIMIT-clause-kept : goal.returns-then-len-gt-SAVED_LIMIT-clause-kept
+returns-then-len-gt-SAVED_LIMIT-clause-kept g c = fronts_stay _
 
 -- one of a state
 pub returns-in-Ok-clause-may : goal.returns-in-Ok-clause-may

@@ -2,7 +2,7 @@ use Rattle.std.proofs.Common.{ℕ, ◌<◌, ◌^◌, sym, subst, arith}
 use Rattle.ppm_choice.specs.declared.pace.Pace.{Pace}
 use Rattle.ppm_table.specs.Shown.{deeds_of_processor, opening_of}
 use Rattle.ppm_table.proofs.TellingLemmas.{keeps_both}
-use Rattle.ppm_threads.specs.Going.{Obeying, GoesOn}
+use Rattle.ppm_threads.specs.Going.{Obeying, RunsOn}
 use Rattle.ppm_threads.proofs.GoingLemmas.{goes_behind}
 use Rattle.ppm_threads.proofs.going.go_on.Goals as goal
 
@@ -35,7 +35,7 @@ returns-then-made-eq0-clause-goes g c =
     (g.W.Watch.told c.act.new.watch)
     p.seat.me c.go_ahead.new.processor.seat.me c.act.new.processor.seat.me c.act.new.pace c.act.new.victims c.act.result goes.1
     (let more = goes.2 in omega (arith, more, none))
-    (subst (λ (n : ℕ). GoesOn c.args.crew.now.plan.now c.args.crew.now.limits k n (g.W.Watch.told c.go_ahead.new.watch) (g.W.Watch.told c.act.new.watch)
+    (subst (λ (n : ℕ). RunsOn c.args.crew.now.plan.now c.args.crew.now.limits k n (g.W.Watch.told c.go_ahead.new.watch) (g.W.Watch.told c.act.new.watch)
     c.go_ahead.new.processor.seat.me c.act.new.processor.seat.me
     c.act.new.pace c.act.new.victims c.act.result) c.go_ahead.ensures.own c.act.ensures.goes)
 

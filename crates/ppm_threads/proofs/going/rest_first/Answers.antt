@@ -92,7 +92,7 @@ returns-clause-goes g c =
     let event = c.parked_at.ensures st (c.place.ensures shared.shape shared.code ∙ ap place_of c.requires.of.stands) in
     goes_by_act c.args.crew.now.plan.now c.args.crew.now.limits k own (g.W.Watch.told c.args.watch.now) (g.W.Watch.told c.hear.new.watch)
     (g.W.Watch.told c.make.new.watch) p.seat.me c.make.new.processor.seat.me
-    r.obeying.past c.make.new.pace c.next_act.new.victims c.make.result c.way_of.result c.way_of.ensures
+    r.obeying.past c.make.new.pace c.next_act.new.victims c.make.result c.act_result_of.result c.act_result_of.ensures
     (grows_parked c.args.crew.now.plan.now c.args.crew.now.limits k own (deeds_of_processor p) r.obeying.past (g.W.Watch.told c.args.watch.now)
     (g.W.Watch.told c.hear.new.watch) c.parked_at.result idle r.rests event
     (c.hear.ensures.heard c.if-not-hear.false))
