@@ -25,7 +25,7 @@ use Rattle.ppm_answers.specs.declared.status.Status.TheVariants as statuses
 use Rattle.ppm_answers.specs.Reading.{Reads}
 use Rattle.ppm_answers.specs.Texts.{arrays_text, trap_text, turns_text, room_text}
 use Rattle.ppm_cli.specs.declared.run.RunOptions.{RunOptions}
-use Rattle.ppm_loading.specs.Loading.{Opens}
+use Rattle.ppm_loading.specs.Loading.{OpensRun}
 use Rattle.ppm_driver.specs.Watchers.{AreTold}
 use Rattle.ppm_driver.specs.Meant.{NoneIsTakenTwice, EndsAsProgram}
 use Rattle.ppm_driver.specs.Runs.{sizes_of, limits_of, plan_of}
@@ -44,7 +44,7 @@ module _ (options : RunOptions) (watching : ℕ) (plan : List ℕ) (o : Outside)
     pub accepted : IsAccepted plan_form plan options.processors items
     pub keeper : ℕ
     pub start : Situation
-    pub opens : Opens (sizes_of options) (code_of program) (initial_arrays program) keeper start
+    pub opens : OpensRun (sizes_of options) (code_of program) (initial_arrays program) keeper start
     pub turns : List Turn
     pub obey : ObeyAll (plan_of options items) (limits_of options) start.shape start.code start.state turns
     pub told : AreTold watching (plan_of options items) (limits_of options) o.told_before o.told_now start turns
