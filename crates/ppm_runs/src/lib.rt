@@ -12,6 +12,7 @@
 
 mod laws;
 mod legs;
+mod moments;
 
 pub use laws::{
     births_follow, heirs_lead, joints_stay, nothing_breaks, room_is_spent, runs_come_back,
@@ -21,3 +22,4 @@ pub use laws::{
 pub use legs::{
     legs_come_to, nothing_breaks_over_legs, room_over_legs, tags_stay_low, work_over_legs,
 };
+pub use moments::{runners_are_counted, runs_are_orderly, what_is_left_ends_so};
