@@ -32,8 +32,10 @@ use Rattle.ppm_kept.specs.Left.{Followed}
 use Rattle.ppm_kept.specs.Steps.{tree_after}
 use Rattle.ppm_runs.specs.Run.{image, IsRun}
 use Rattle.ppm_runs.specs.Entries.{IsHeired}
-use Rattle.ppm_runs.specs.EveryRun.{RunsAreOrderly, EntriesGoOn, TicketsByPlaces, TicketsByEntries}
+use Rattle.ppm_runs.specs.EveryRun.{RunsAreOrderly, LegsAreOrderly, TicketsByPlaces, TicketsByEntries}
+use Rattle.ppm_runs.specs.Legs.{state_then, homes_then, forked_then, taken_then}
 use Rattle.ppm_runs.proofs.OpenLemmas.{runs_open}
+use Rattle.ppm_runs.proofs.LegLemmas.{legs_stay}
 use Rattle.ppm_runs.proofs.OrderlyLemmas.{turns_are_orderly, halves_owe, how_or}
 use Rattle.ppm_runs.proofs.MomentLemmas.{turns_lead_on, runs_stay}
 use Rattle.ppm_runs.proofs.HeiredLemmas.{inlined, heirs_lead_on, heired_first, runs_stay_heired}
@@ -70,6 +72,11 @@ runs_are_orderly code input s keeper im fair opens calm turns all = elim (how_or
   | inr ih ↦ all_by_entries s code fair (root_strand code input) (arrays_at (view s im.words)) ih (opening im.words s.processors) (λ r. Unborn) [] [] []
       (Leaf (InPlace keeper) (Begins 0) (pool_at s keeper) (slots_of code code.root)) turns all (heired_first code input s keeper im opens calm)
 ]
+
+pub legs_are_orderly : LegsAreOrderly
+legs_are_orderly code input s keeper im places fair opens calm legs are turns all =
+    let run = legs_stay code input s keeper im places fair opens calm legs are [] tt in
+    all_by_places s code fair (root_strand code input) (arrays_at (view s im.words)) places (state_then s code im.words legs) (homes_then s code im.words legs) (forked_then s code im.words legs) (taken_then s code im.words legs) run.0 turns all run.1
 
 module _ (code : CodeParts) (input : List NamedArray) (s : Shape) (keeper : ℕ) (im : RealImage) (fair : IsFair code) (opens : Opens code input s keeper im)
     (calm : Calm (strands s code) (root_strand code input) (arrays_at (view s im.words))) (turns : List Turn) (all : AllByRecursion (IsTurnAmong s.processors) turns) where

@@ -49,10 +49,10 @@ pub mod HeiredLemmas
 pub mod LongLemmas
 pub mod CountedLemmas
 pub mod ForkLemmas
+pub mod LegForks
 pub mod EveryRunLemmas
 pub mod TreeLemmas
 pub mod RunnerLemmas
-pub mod LegForks
 pub mod SoundRows
 pub mod CheckRows
 pub mod BidLemmas

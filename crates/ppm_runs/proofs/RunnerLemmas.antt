@@ -44,9 +44,11 @@ use Rattle.ppm_kept.proofs.PlaceLemmas.{Runs, leaf, run_leaf}
 use Rattle.ppm_kept.proofs.UnrunLemmas.{here_has}
 use Rattle.ppm_runs.specs.Run.{image, fate_of}
 use Rattle.ppm_runs.specs.Follow.{IsHalves}
-use Rattle.ppm_runs.specs.Trees.{IsInRight, RunnersAreCounted, BeginnersAreCounted}
+use Rattle.ppm_runs.specs.Legs.{last_state, all_homes, all_forked, all_taken}
+use Rattle.ppm_runs.specs.Trees.{IsInRight, RunnersAreCounted, RunnersAreCountedOverLegs, BeginnersAreCounted}
 use Rattle.ppm_runs.proofs.ForkLemmas.{has_both, has_either}
 use Rattle.ppm_runs.proofs.HeiredLemmas.{heirs_lead_on, runs_stay_heired}
+use Rattle.ppm_runs.proofs.LegLemmas.{legs_stay}
 use Rattle.ppm_runs.proofs.MomentLemmas.{turns_lead_on, runs_stay}
 use Rattle.ppm_runs.proofs.OrderlyLemmas.{how_or}
 use Rattle.ppm_runs.proofs.ShownLemmas.{halves}
@@ -63,7 +65,7 @@ module _ (s : Shape) (code : CodeParts) (fair : IsFair code) (root : Tree (Frame
   -- the right branch of the block is a place's
   module _ (a : IsInRight s state.words r) where
     kind : z.kind a.place ≡ Run a.frame a.copy
-    kind = kind_away l (places_of s state).kind a.place (open_away s code root input state h forked taken l t run a.place a.open) ∙ a.runs
+    kind = kind_away l (places_of s state).kind a.place (open_away s code root input state h forked taken l t run a.place a.is_open) ∙ a.runs
 
     at_leaf : Runs i z t a.place a.frame a.copy
     at_leaf = run_leaf i z t a.place a.frame a.copy kind (leaf i fair root input z t run.kept a.place (ap (carried z.words) kind))
@@ -172,6 +174,11 @@ module _ (code : CodeParts) (input : List NamedArray) (s : Shape) (keeper : ℕ)
 
 pub runners_are_counted : RunnersAreCounted
 runners_are_counted code input s keeper im fair opens calm turns all r was a = runner code input s keeper im fair opens calm turns all r was a
+
+pub runners_are_counted_over_legs : RunnersAreCountedOverLegs
+runners_are_counted_over_legs code input s keeper im places fair opens calm legs are turns all r was a =
+    let run = legs_stay code input s keeper im places fair opens calm legs are turns all in
+    was_taken s code fair (root_strand code input) (arrays_at (view s im.words)) (last_state s code im.words legs turns) (all_homes s code im.words legs turns) (all_forked s code im.words legs turns) (all_taken s code im.words legs turns) [] run.0 (halves run.1) run.1.agrees r was a
 
 pub beginners_are_counted : BeginnersAreCounted
 beginners_are_counted code input s keeper im fair opens calm turns all turn among r was out a =

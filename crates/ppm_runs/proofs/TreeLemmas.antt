@@ -35,8 +35,10 @@ use Rattle.ppm_kept.specs.Places.{places_of}
 use Rattle.ppm_kept.proofs.LeftLemmas.{left_same, kind_away, kind_or, shown}
 use Rattle.ppm_runs.specs.Run.{image}
 use Rattle.ppm_runs.specs.Follow.{IsHalves}
-use Rattle.ppm_runs.specs.Trees.{Shows, CountsForks, IsLeft, WhatIsLeftEndsSo}
-use Rattle.ppm_runs.proofs.ForkLemmas.{runs_fork}
+use Rattle.ppm_runs.specs.Legs.{last_state, all_homes, all_forked, all_taken}
+use Rattle.ppm_runs.specs.Trees.{Shows, IsLeft, WhatIsLeftEndsSo, WhatIsLeftOverLegs}
+use Rattle.ppm_runs.proofs.ForkLemmas.{IsForked, runs_fork}
+use Rattle.ppm_runs.proofs.LegForks.{stays}
 use Rattle.ppm_runs.proofs.ShownLemmas.{away}
 
 -- a number beyond all followed places
@@ -106,33 +108,36 @@ module _ (s : Shape) (code : CodeParts) (root : Tree (Frame FrameWord Point) Res
       | inl e ↦ let is = as_kind p e in omega (arith, is)
       | inr e ↦ let none : at p t ≡ 0 = run.kept.places p ∙ ap (carried z.words) e in omega (arith, none)
     ];
-    open = λ p open_. as_kind p (kind_away l S.kind p (open_away p open_));
+    each = λ p open_. as_kind p (kind_away l S.kind p (open_away p open_));
   }
 
   pub ahead : Ahead (strands s code) run.kept.ahead.0 root input (tree_of S.words t) (arrays_at S.words)
   ahead = subst₂ (λ (u : Tree (Frame FrameWord Point) Result) (a : Words). Ahead (strands s code) run.kept.ahead.0 root input u a) (sym tree_is) (sym arrays_are) run.kept.ahead.1
 
+-- so of a run's state whose forks are counted
+pub left_of : (s : Shape) (code : CodeParts) (root : Tree (Frame FrameWord Point) Result) (input : Words) (state : RunState) (h : ℕ → Home) (forked taken : List ℕ) (l : List Followed) (t : Skeleton)
+    → IsForked s code root input state h forked taken l t → IsLeft s code root input state.words forked
+left_of s code root input state h forked taken l t now = record {
+  tree = t;
+  shown = shows s code root input state h forked taken l t now.run.halves;
+  counts = now.run.halves.kept.ahead.0;
+  ahead = ahead s code root input state h forked taken l t now.run.halves;
+  forks = record {
+    blocks = now.counted.blocks;
+    once = now.counted.once;
+    many = now.counted.many;
+    each = now.counted.each;
+    all = λ r e. elim e [ inl was ↦ now.counted.made r was | inr fresh ↦ now.counted.fresh r fresh ];
+  };
+}
+
 pub what_is_left_ends_so : WhatIsLeftEndsSo
 what_is_left_ends_so code input s keeper im fair opens calm turns all =
     let first : RunState = opening im.words s.processors in
-    let root = root_strand code input in
-    let given = arrays_at (view s im.words) in
-    let last : RunState = after s code first turns in
-    let h = homes s code first (λ r. Unborn) turns in
-    let forked = forked_in s code first [] turns in
-    let taken = taken_in s code first [] turns in
     let a = runs_fork code input s keeper im fair opens calm turns all in
-    let counted = a.2.counted in
-    record {
-      tree = a.1;
-      shown = shows s code root given last h forked taken a.0 a.1 a.2.run.halves;
-      counts = a.2.run.halves.kept.ahead.0;
-      ahead = ahead s code root given last h forked taken a.0 a.1 a.2.run.halves;
-      forks = record {
-        blocks = counted.blocks;
-        once = counted.once;
-        many = counted.many;
-        each = counted.each;
-        all = λ r e. elim e [ inl was ↦ counted.made r was | inr fresh ↦ counted.fresh r fresh ];
-      };
-    }
+    left_of s code (root_strand code input) (arrays_at (view s im.words)) (after s code first turns) (homes s code first (λ r. Unborn) turns) (forked_in s code first [] turns) (taken_in s code first [] turns) a.0 a.1 a.2
+
+pub what_is_left_over_legs : WhatIsLeftOverLegs
+what_is_left_over_legs code input s keeper im places fair opens calm legs are turns all =
+    let a = stays code input s keeper im places fair opens calm legs are turns all in
+    left_of s code (root_strand code input) (arrays_at (view s im.words)) (last_state s code im.words legs turns) (all_homes s code im.words legs turns) (all_forked s code im.words legs turns) (all_taken s code im.words legs turns) [] a.0 a.1

@@ -23,6 +23,7 @@ use Rattle.ppm_tickets.specs.Words.{Slot}
 use Rattle.ppm_frames.specs.Views.{view}
 use Rattle.ppm_frames.specs.Seen.{arrays_at}
 use Rattle.ppm_kept.specs.Running.{IsFair, strands}
+use Rattle.ppm_runs.specs.Legs.{Leg, AreLegs, state_then, homes_then, forked_then}
 
 -- from an image of a sound code the turns of a run are orderly, with either takeover
 abbrev pub RunsAreOrderly : Type 0
@@ -31,6 +32,14 @@ RunsAreOrderly = (code : CodeParts) (input : List NamedArray) (s : Shape) (keepe
     → Calm (strands s code) (root_strand code input) (arrays_at (view s image.words))
     → (turns : List Turn) → AllByRecursion (IsTurnAmong s.processors) turns
     → AreOrderly s code (opening image.words s.processors) (λ r. Unborn) [] turns
+
+-- so with takeover by places are the turns behind legs, and those of each leg, which are turns behind the earlier ones
+abbrev pub LegsAreOrderly : Type 0
+LegsAreOrderly = (code : CodeParts) (input : List NamedArray) (s : Shape) (keeper : ℕ) (image : RealImage)
+    → s.takeover ≡ ByPlaces → IsFair code → Opens code input s keeper image
+    → Calm (strands s code) (root_strand code input) (arrays_at (view s image.words))
+    → (legs : List Leg) → AreLegs s code image.words legs → (turns : List Turn) → AllByRecursion (IsTurnAmong s.processors) turns
+    → AreOrderly s code (state_then s code image.words legs) (homes_then s code image.words legs) (forked_then s code image.words legs) turns
 
 -- the next turn, whosever it is, leaves each entry as it is, or changes it lawfully
 abbrev pub EntriesGoOn : Shape → CodeParts → RunState → Type 0

@@ -11,6 +11,7 @@ use Rattle.ppm_cells.specs.declared.cell.Cell.TheVariants.{BlockWord}
 use Rattle.ppm_cells.specs.declared.link.LinkKind.TheVariants.{Root, Branch}
 use Rattle.ppm_cells.specs.declared.restart.RestartKind.TheVariants.{Run}
 use Rattle.ppm_cells.specs.declared.shape.Shape.{Shape}
+use Rattle.ppm_cells.specs.declared.shape.Takeover.TheVariants.{ByPlaces}
 use Rattle.ppm_cells.specs.declared.side.Side.TheVariants.{Right}
 use Rattle.ppm_capsules.specs.Strand.{Frame}
 use Rattle.ppm_code.specs.Strands.{Point, Result}
@@ -36,6 +37,7 @@ use Rattle.ppm_kept.specs.Running.{IsFair, strands}
 use Rattle.ppm_kept.specs.Kept.{carried}
 use Rattle.ppm_kept.specs.Places.{kinds_of}
 use Rattle.ppm_kept.specs.Unruns.{HasUnrun}
+use Rattle.ppm_runs.specs.Legs.{Leg, AreLegs, last_state, all_forked, all_taken}
 
 -- The words show the tree of this skeleton: its frames and blocks stand in them, and no address is two words of it. A
 -- place has no more leaves in it than its restart kind has strands, one or none; and as many, but for a place that is
@@ -44,7 +46,7 @@ pub record Shows (s : Shape) (code : CodeParts) (words : List ℕ) (t : Skeleton
   pub good : Good code (view s words) (kinds_of s words) Root t
   pub apart : (x : ℕ) → count Root t x ≤ 1
   pub most : (p : ℕ) → at p t ≤ carried (view s words) (kinds_of s words p)
-  pub open : (p : ℕ) → (Closed s.takeover (spots.view s words) p → ⊥) → at p t ≡ carried (view s words) (kinds_of s words p)
+  pub each : (p : ℕ) → (Closed s.takeover (spots.view s words) p → ⊥) → at p t ≡ carried (view s words) (kinds_of s words p)
 
 -- as many forks are counted as there are blocks that were forked, or whose right branches nobody has pushed
 pub record CountsForks (forked : List ℕ) (t : Skeleton) (counts : Counts) : Type 0 where
@@ -73,12 +75,21 @@ WhatIsLeftEndsSo = (code : CodeParts) (input : List NamedArray) (s : Shape) (kee
     → IsLeft s code (root_strand code input) (arrays_at (view s image.words)) (reached s code image.words turns).words
     (forked_in s code (opening image.words s.processors) [] turns)
 
+-- so with takeover by places, whatever the legs and the turns behind them
+abbrev pub WhatIsLeftOverLegs : Type 0
+WhatIsLeftOverLegs = (code : CodeParts) (input : List NamedArray) (s : Shape) (keeper : ℕ) (image : RealImage)
+    → s.takeover ≡ ByPlaces → IsFair code → Opens code input s keeper image
+    → Calm (strands s code) (root_strand code input) (arrays_at (view s image.words))
+    → (legs : List Leg) → AreLegs s code image.words legs → (turns : List Turn) → AllByRecursion (IsTurnAmong s.processors) turns
+    → IsLeft s code (root_strand code input) (arrays_at (view s image.words)) (last_state s code image.words legs turns).words
+    (all_forked s code image.words legs turns)
+
 -- the place is not closed, and is to run a frame that hangs on block r as its right branch
 pub record IsInRight (s : Shape) (words : List ℕ) (r : ℕ) : Type 0 where
   pub place : ℕ
   pub frame : ℕ
   pub copy : ℕ
-  pub open : Closed s.takeover (spots.view s words) place → ⊥
+  pub is_open : Closed s.takeover (spots.view s words) place → ⊥
   pub runs : kinds_of s words place ≡ Run frame copy
   pub hangs : (link_at (view s words (BlockWord frame))).kind ≡ Branch Right r
 
@@ -91,6 +102,16 @@ RunnersAreCounted = (code : CodeParts) (input : List NamedArray) (s : Shape) (ke
     → (r : ℕ) → has (forked_in s code (opening image.words s.processors) [] turns) r ≡ true
     → IsInRight s (reached s code image.words turns).words r
     → has (taken_in s code (opening image.words s.processors) [] turns) r ≡ true
+
+-- so with takeover by places, over legs
+abbrev pub RunnersAreCountedOverLegs : Type 0
+RunnersAreCountedOverLegs = (code : CodeParts) (input : List NamedArray) (s : Shape) (keeper : ℕ) (image : RealImage)
+    → s.takeover ≡ ByPlaces → IsFair code → Opens code input s keeper image
+    → Calm (strands s code) (root_strand code input) (arrays_at (view s image.words))
+    → (legs : List Leg) → AreLegs s code image.words legs → (turns : List Turn) → AllByRecursion (IsTurnAmong s.processors) turns
+    → (r : ℕ) → has (all_forked s code image.words legs turns) r ≡ true
+    → IsInRight s (last_state s code image.words legs turns).words r
+    → has (all_taken s code image.words legs turns) r ≡ true
 
 -- and the turn by which a place first comes to run it is its take
 abbrev pub BeginnersAreCounted : Type 0
