@@ -116,10 +116,11 @@ module _ (s : Shape) (code : CodeParts) (root : Tree (Frame FrameWord Point) Res
 
 -- so of a run's state whose forks are counted
 pub left_of : (s : Shape) (code : CodeParts) (root : Tree (Frame FrameWord Point) Result) (input : Words) (state : RunState) (h : ℕ → Home) (forked taken : List ℕ) (l : List Followed) (t : Skeleton)
-    → IsForked s code root input state h forked taken l t → IsLeft s code root input state.words forked
+    → IsForked s code root input state h forked taken l t → IsLeft s code root input state.words h forked
 left_of s code root input state h forked taken l t now = record {
   tree = t;
   shown = shows s code root input state h forked taken l t now.run.halves;
+  agrees = now.run.joint.agrees;
   counts = now.run.halves.kept.ahead.0;
   ahead = ahead s code root input state h forked taken l t now.run.halves;
   forks = record {

@@ -24,8 +24,8 @@ use Rattle.ppm_step.specs.Among.{IsTurnAmong}
 use Rattle.ppm_step.specs.Laws.{reached}
 use Rattle.ppm_step.specs.State.{State as RunState, happens, opening, takes_of}
 use Rattle.ppm_step.specs.declared.turn.Turn.{Turn}
-use Rattle.ppm_tickets.specs.Along.{forked as forked_in, taken as taken_in}
-use Rattle.ppm_tickets.specs.Homes.{Once}
+use Rattle.ppm_tickets.specs.Along.{homes_by, forked as forked_in, taken as taken_in}
+use Rattle.ppm_tickets.specs.Homes.{Home, Once}
 use Rattle.ppm_tickets.specs.Lawful.{Closed}
 use Rattle.ppm_tickets.specs.View as spots
 use Rattle.ppm_tickets.specs.Words.{has}
@@ -34,10 +34,12 @@ use Rattle.ppm_frames.specs.Seen.{arrays_at}
 use Rattle.ppm_frames.specs.Skeletons.{Fresh, Skeleton, tree_of, count, at}
 use Rattle.ppm_frames.specs.Good.{link_at, Good}
 use Rattle.ppm_kept.specs.Running.{IsFair, strands}
+use Rattle.ppm_kept.specs.Fates.{Agrees}
 use Rattle.ppm_kept.specs.Kept.{carried}
 use Rattle.ppm_kept.specs.Places.{kinds_of}
 use Rattle.ppm_kept.specs.Unruns.{HasUnrun}
-use Rattle.ppm_runs.specs.Legs.{Leg, AreLegs, last_state, all_forked, all_taken}
+use Rattle.ppm_runs.specs.Run.{fate_of}
+use Rattle.ppm_runs.specs.Legs.{Leg, AreLegs, last_state, all_homes, all_forked, all_taken}
 
 -- The words show the tree of this skeleton: its frames and blocks stand in them, and no address is two words of it. A
 -- place has no more leaves in it than its restart kind has strands, one or none; and as many, but for a place that is
@@ -56,12 +58,14 @@ pub record CountsForks (forked : List ℕ) (t : Skeleton) (counts : Counts) : Ty
   pub each : (r : ℕ) → has blocks r ≡ true → (has forked r ≡ true) ⊎ HasUnrun Fresh r t
   pub all : (r : ℕ) → (has forked r ≡ true) ⊎ HasUnrun Fresh r t → has blocks r ≡ true
 
--- What is left of the root's run: a tree that the words show. With the words of the arrays as they are it comes to an
--- end exactly where the root does with those it began with, with the same outcome and the same words of the arrays;
--- and the root's end counts so many capsules, forks and block words more.
-pub record IsLeft (s : Shape) (code : CodeParts) (root : Tree (Frame FrameWord Point) Result) (input : Words) (words : List ℕ) (forked : List ℕ) : Type 0 where
+-- What is left of the root's run: a tree that the words show, in which each right branch that no place has run is as
+-- its home says. With the words of the arrays as they are it comes to an end exactly where the root does with those it
+-- began with, with the same outcome and the same words of the arrays; and the root's end counts so many capsules, forks
+-- and block words more.
+pub record IsLeft (s : Shape) (code : CodeParts) (root : Tree (Frame FrameWord Point) Result) (input : Words) (words : List ℕ) (h : ℕ → Home) (forked : List ℕ) : Type 0 where
   pub tree : Skeleton
   pub shown : Shows s code words tree
+  pub agrees : Agrees tree (λ r. fate_of (h r))
   pub counts : Counts
   pub ahead : Ahead (strands s code) counts root input (tree_of (view s words) tree) (arrays_at (view s words))
   pub forks : CountsForks forked tree counts
@@ -73,7 +77,7 @@ WhatIsLeftEndsSo = (code : CodeParts) (input : List NamedArray) (s : Shape) (kee
     → Calm (strands s code) (root_strand code input) (arrays_at (view s image.words))
     → (turns : List Turn) → AllByRecursion (IsTurnAmong s.processors) turns
     → IsLeft s code (root_strand code input) (arrays_at (view s image.words)) (reached s code image.words turns).words
-    (forked_in s code (opening image.words s.processors) [] turns)
+    (homes_by s code image.words turns) (forked_in s code (opening image.words s.processors) [] turns)
 
 -- so with takeover by places, whatever the legs and the turns behind them
 abbrev pub WhatIsLeftOverLegs : Type 0
@@ -82,7 +86,7 @@ WhatIsLeftOverLegs = (code : CodeParts) (input : List NamedArray) (s : Shape) (k
     → Calm (strands s code) (root_strand code input) (arrays_at (view s image.words))
     → (legs : List Leg) → AreLegs s code image.words legs → (turns : List Turn) → AllByRecursion (IsTurnAmong s.processors) turns
     → IsLeft s code (root_strand code input) (arrays_at (view s image.words)) (last_state s code image.words legs turns).words
-    (all_forked s code image.words legs turns)
+    (all_homes s code image.words legs turns) (all_forked s code image.words legs turns)
 
 -- the place is not closed, and is to run a frame that hangs on block r as its right branch
 pub record IsInRight (s : Shape) (words : List ℕ) (r : ℕ) : Type 0 where
