@@ -53,7 +53,7 @@ module _ (s : Shape) (code : CodeParts) (fair : IsFair code) (root : Tree (Frame
   all_by_places places state h f tk t (turn ∷ more) all run = (
     (turns_are_orderly s code places fair root input state h f tk t run).orderly turn all.0,
     all_by_places places (happens s code state turn) (by_act s state.words turn.act (stand_of state turn.processor) h) (forks_of state turn ++ f) (takes_of state turn ++ tk) (tree_after (image s code) state turn t) more all.1
-    (turns_lead_on s code places fair root input state h f tk t run turn all.0),
+        (turns_lead_on s code places fair root input state h f tk t run turn all.0),
   )
 
   all_by_entries : s.takeover ≡ ByEntries → (state : RunState) (h : ℕ → Home) (f tk : List ℕ) (l : List Followed) (t : Skeleton) (turns : List Turn) → AllByRecursion (IsTurnAmong s.processors) turns
