@@ -42,7 +42,7 @@ use Rattle.ppm_runs.proofs.LegForks.{stays}
 use Rattle.ppm_runs.proofs.ShownLemmas.{away}
 
 -- a number beyond all followed places
-beyond : List Followed → ℕ
+abbrev beyond : List Followed → ℕ
 beyond [] = 0
 beyond (v ∷ l) = v.place + 1 + beyond l
 
