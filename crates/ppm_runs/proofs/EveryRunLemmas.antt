@@ -14,7 +14,7 @@ use Rattle.ppm_code.specs.declared.code.CodeParts.{CodeParts}
 use Rattle.ppm_code.specs.declared.location.FrameWord.{FrameWord}
 use Rattle.ppm_layout.specs.Correct.{Opens}
 use Rattle.ppm_layout.specs.Root.{root_strand}
-use Rattle.ppm_layout.specs.declared.images.Image.{Image as RealImage}
+use Rattle.ppm_layout.specs.declared.images.Image.{Image}
 use Rattle.ppm_step.specs.Among.{IsTurnAmong}
 use Rattle.ppm_step.specs.State.{State as RunState, stand_of, happens, after, opening, along, forks_of, takes_of}
 use Rattle.ppm_step.specs.declared.turn.Turn.{Turn}
@@ -30,7 +30,7 @@ use Rattle.ppm_frames.specs.Skeletons.{Begins, InPlace, Skeleton, Leaf}
 use Rattle.ppm_kept.specs.Running.{IsFair, strands}
 use Rattle.ppm_kept.specs.Left.{Followed}
 use Rattle.ppm_kept.specs.Steps.{tree_after}
-use Rattle.ppm_runs.specs.Run.{image, IsRun}
+use Rattle.ppm_runs.specs.Run.{setting, IsRun}
 use Rattle.ppm_runs.specs.Entries.{IsHeired}
 use Rattle.ppm_runs.specs.EveryRun.{RunsAreOrderly, LegsAreOrderly, TicketsByPlaces, TicketsByEntries}
 use Rattle.ppm_runs.specs.Legs.{state_then, homes_then, forked_then, taken_then}
@@ -52,7 +52,7 @@ module _ (s : Shape) (code : CodeParts) (fair : IsFair code) (root : Tree (Frame
   all_by_places places state h f tk t [] all run = tt
   all_by_places places state h f tk t (turn ∷ more) all run = (
     (turns_are_orderly s code places fair root input state h f tk t run).orderly turn all.0,
-    all_by_places places (happens s code state turn) (by_act s state.words turn.act (stand_of state turn.processor) h) (forks_of state turn ++ f) (takes_of state turn ++ tk) (tree_after (image s code) state turn t) more all.1
+    all_by_places places (happens s code state turn) (by_act s state.words turn.act (stand_of state turn.processor) h) (forks_of state turn ++ f) (takes_of state turn ++ tk) (tree_after (setting s code) state turn t) more all.1
         (turns_lead_on s code places fair root input state h f tk t run turn all.0),
   )
 
@@ -78,7 +78,7 @@ legs_are_orderly code input s keeper im places fair opens calm legs are turns al
     let run = legs_stay code input s keeper im places fair opens calm legs are [] tt in
     all_by_places s code fair (root_strand code input) (arrays_at (view s im.words)) places (state_then s code im.words legs) (homes_then s code im.words legs) (forked_then s code im.words legs) (taken_then s code im.words legs) run.0 turns all run.1
 
-module _ (code : CodeParts) (input : List NamedArray) (s : Shape) (keeper : ℕ) (im : RealImage) (fair : IsFair code) (opens : Opens code input s keeper im)
+module _ (code : CodeParts) (input : List NamedArray) (s : Shape) (keeper : ℕ) (im : Image) (fair : IsFair code) (opens : Opens code input s keeper im)
     (calm : Calm (strands s code) (root_strand code input) (arrays_at (view s im.words))) (turns : List Turn) (all : AllByRecursion (IsTurnAmong s.processors) turns) where
   abbrev first : RunState
   first = opening im.words s.processors

@@ -19,7 +19,7 @@ use Rattle.ppm_code.specs.declared.code.CodeParts.{CodeParts}
 use Rattle.ppm_code.specs.declared.location.FrameWord.{FrameWord}
 use Rattle.ppm_layout.specs.Correct.{Opens}
 use Rattle.ppm_layout.specs.Root.{root_strand}
-use Rattle.ppm_layout.specs.declared.images.Image.{Image as RealImage}
+use Rattle.ppm_layout.specs.declared.images.Image.{Image}
 use Rattle.ppm_step.specs.Among.{IsTurnAmong}
 use Rattle.ppm_step.specs.State.{State as RunState, stand_of, happens, after, opening, forks_of, takes_of}
 use Rattle.ppm_step.specs.declared.turn.Turn.{Turn}
@@ -32,7 +32,7 @@ use Rattle.ppm_frames.specs.Skeletons.{Begins, Who, InPlace, Fresh, Waiting, Hel
 use Rattle.ppm_frames.specs.Good.{link_at}
 use Rattle.ppm_frames.proofs.SkeletonLemmas.{count_plug, inside_at, branch_from}
 use Rattle.ppm_kept.specs.Running.{IsFair, strands}
-use Rattle.ppm_kept.specs.Kept.{Image, State, carried}
+use Rattle.ppm_kept.specs.Kept.{Setting, State, carried}
 use Rattle.ppm_kept.specs.Fates.{Agrees}
 use Rattle.ppm_kept.specs.Left.{Followed, left}
 use Rattle.ppm_kept.specs.Places.{places_of}
@@ -42,7 +42,7 @@ use Rattle.ppm_kept.proofs.FateLemmas.{fates_show}
 use Rattle.ppm_kept.proofs.LeftLemmas.{kind_away}
 use Rattle.ppm_kept.proofs.PlaceLemmas.{Runs, leaf, run_leaf}
 use Rattle.ppm_kept.proofs.UnrunLemmas.{here_has}
-use Rattle.ppm_runs.specs.Run.{image, fate_of}
+use Rattle.ppm_runs.specs.Run.{setting, fate_of}
 use Rattle.ppm_runs.specs.Follow.{IsHalves}
 use Rattle.ppm_runs.specs.Legs.{last_state, all_homes, all_forked, all_taken}
 use Rattle.ppm_runs.specs.Trees.{IsInRight, RunnersAreCounted, RunnersAreCountedOverLegs, BeginnersAreCounted}
@@ -56,8 +56,8 @@ use Rattle.ppm_runs.proofs.TreeLemmas.{in_tree, open_away}
 
 module _ (s : Shape) (code : CodeParts) (fair : IsFair code) (root : Tree (Frame FrameWord Point) Result) (input : Words) (state : RunState) (h : ℕ → Home) (forked taken : List ℕ) (l : List Followed) (t : Skeleton)
     (run : IsHalves s code root input state h forked taken l t) (agrees : Agrees t (λ r. fate_of (h r))) (r : ℕ) (was : has forked r ≡ true) where
-  abbrev i : Image
-  i = image s code
+  abbrev i : Setting
+  i = setting s code
 
   abbrev z : State
   z = left i l (places_of s state)
@@ -117,7 +117,7 @@ module _ (s : Shape) (code : CodeParts) (fair : IsFair code) (root : Tree (Frame
     pub was_taken : has taken r ≡ true
     was_taken = taken_by (h r) refl
 
-module _ (code : CodeParts) (input : List NamedArray) (s : Shape) (keeper : ℕ) (im : RealImage) (fair : IsFair code) (opens : Opens code input s keeper im)
+module _ (code : CodeParts) (input : List NamedArray) (s : Shape) (keeper : ℕ) (im : Image) (fair : IsFair code) (opens : Opens code input s keeper im)
     (calm : Calm (strands s code) (root_strand code input) (arrays_at (view s im.words))) (turns : List Turn) (all : AllByRecursion (IsTurnAmong s.processors) turns) where
   abbrev root : Tree (Frame FrameWord Point) Result
   root = root_strand code input
@@ -165,7 +165,7 @@ module _ (code : CodeParts) (input : List NamedArray) (s : Shape) (keeper : ℕ)
       | inl places ↦
           let run = runs_stay code input s keeper im places fair opens calm turns all in
           let on = turns_lead_on s code places fair root given last h f tk run.0 run.1 turn among in
-          was_taken s code fair root given (happens s code last turn) then_at more took [] (tree_after (image s code) last turn run.0) (halves on) on.agrees r was a
+          was_taken s code fair root given (happens s code last turn) then_at more took [] (tree_after (setting s code) last turn run.0) (halves on) on.agrees r was a
       | inr ih ↦
           let run = runs_stay_heired code input s keeper im ih fair opens calm turns all in
           let on = heirs_lead_on s code ih fair root given last h f tk run.0 run.1 run.2 turn among in

@@ -29,11 +29,11 @@ use Rattle.ppm_frames.specs.Laws.{Same}
 use Rattle.ppm_frames.proofs.SkeletonLemmas.{tree_same}
 use Rattle.ppm_frames.proofs.SwapLemmas.{good_same}
 use Rattle.ppm_kept.specs.Running.{strands}
-use Rattle.ppm_kept.specs.Kept.{Image, State, Head, Ordered, side_code, carried}
+use Rattle.ppm_kept.specs.Kept.{Setting, State, Head, Ordered, side_code, carried}
 use Rattle.ppm_kept.specs.Left.{Followed, left, IsAway}
 use Rattle.ppm_kept.specs.Places.{places_of}
 use Rattle.ppm_kept.proofs.LeftLemmas.{left_same, kind_away, kind_or, shown}
-use Rattle.ppm_runs.specs.Run.{image}
+use Rattle.ppm_runs.specs.Run.{setting}
 use Rattle.ppm_runs.specs.Follow.{IsHalves}
 use Rattle.ppm_runs.specs.Legs.{last_state, all_homes, all_forked, all_taken}
 use Rattle.ppm_runs.specs.Trees.{Shows, IsLeft, WhatIsLeftEndsSo, WhatIsLeftOverLegs}
@@ -52,8 +52,8 @@ beyond_away (v ∷ l) p le = (λ e. omega (arith, le, e), beyond_away l p (omega
 
 module _ (s : Shape) (code : CodeParts) (root : Tree (Frame FrameWord Point) Result) (input : Words) (state : RunState) (h : ℕ → Home) (forked taken : List ℕ) (l : List Followed) (t : Skeleton)
     (run : IsHalves s code root input state h forked taken l t) where
-  abbrev i : Image
-  i = image s code
+  abbrev i : Setting
+  i = setting s code
 
   abbrev S : State
   S = places_of s state

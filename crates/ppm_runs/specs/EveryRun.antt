@@ -10,7 +10,7 @@ use Rattle.ppm_cells.specs.declared.shape.Takeover.TheVariants.{ByPlaces, ByEntr
 use Rattle.ppm_code.specs.declared.code.CodeParts.{CodeParts}
 use Rattle.ppm_layout.specs.Correct.{Opens}
 use Rattle.ppm_layout.specs.Root.{root_strand}
-use Rattle.ppm_layout.specs.declared.images.Image.{Image as RealImage}
+use Rattle.ppm_layout.specs.declared.images.Image.{Image}
 use Rattle.ppm_step.specs.Among.{IsTurnAmong}
 use Rattle.ppm_step.specs.State.{State as RunState, happens, opening, along, forks_of, takes_of}
 use Rattle.ppm_step.specs.declared.turn.Turn.{Turn}
@@ -27,7 +27,7 @@ use Rattle.ppm_runs.specs.Legs.{Leg, AreLegs, state_then, homes_then, forked_the
 
 -- from an image of a sound code the turns of a run are orderly, with either takeover
 abbrev pub RunsAreOrderly : Type 0
-RunsAreOrderly = (code : CodeParts) (input : List NamedArray) (s : Shape) (keeper : ℕ) (image : RealImage)
+RunsAreOrderly = (code : CodeParts) (input : List NamedArray) (s : Shape) (keeper : ℕ) (image : Image)
     → IsFair code → Opens code input s keeper image
     → Calm (strands s code) (root_strand code input) (arrays_at (view s image.words))
     → (turns : List Turn) → AllByRecursion (IsTurnAmong s.processors) turns
@@ -35,7 +35,7 @@ RunsAreOrderly = (code : CodeParts) (input : List NamedArray) (s : Shape) (keepe
 
 -- so with takeover by places are the turns behind legs, and those of each leg, which are turns behind the earlier ones
 abbrev pub LegsAreOrderly : Type 0
-LegsAreOrderly = (code : CodeParts) (input : List NamedArray) (s : Shape) (keeper : ℕ) (image : RealImage)
+LegsAreOrderly = (code : CodeParts) (input : List NamedArray) (s : Shape) (keeper : ℕ) (image : Image)
     → s.takeover ≡ ByPlaces → IsFair code → Opens code input s keeper image
     → Calm (strands s code) (root_strand code input) (arrays_at (view s image.words))
     → (legs : List Leg) → AreLegs s code image.words legs → (turns : List Turn) → AllByRecursion (IsTurnAmong s.processors) turns
@@ -49,7 +49,7 @@ EntriesGoOn s code state = (turn : Turn) → IsTurnAmong s.processors turn → (
 
 -- so with takeover by places each branch is at one place and is taken at most once, at each moment of each run
 abbrev pub TicketsByPlaces : Type 0
-TicketsByPlaces = (code : CodeParts) (input : List NamedArray) (s : Shape) (keeper : ℕ) (image : RealImage)
+TicketsByPlaces = (code : CodeParts) (input : List NamedArray) (s : Shape) (keeper : ℕ) (image : Image)
     → s.takeover ≡ ByPlaces → IsFair code → Opens code input s keeper image
     → Calm (strands s code) (root_strand code input) (arrays_at (view s image.words))
     → (turns : List Turn) → AllByRecursion (IsTurnAmong s.processors) turns
@@ -59,7 +59,7 @@ TicketsByPlaces = (code : CodeParts) (input : List NamedArray) (s : Shape) (keep
 
 -- and so by entries, where a closed place's strand comes to one heir, once
 abbrev pub TicketsByEntries : Type 0
-TicketsByEntries = (code : CodeParts) (input : List NamedArray) (s : Shape) (keeper : ℕ) (image : RealImage)
+TicketsByEntries = (code : CodeParts) (input : List NamedArray) (s : Shape) (keeper : ℕ) (image : Image)
     → s.takeover ≡ ByEntries → IsFair code → Opens code input s keeper image
     → Calm (strands s code) (root_strand code input) (arrays_at (view s image.words))
     → (turns : List Turn) → AllByRecursion (IsTurnAmong s.processors) turns

@@ -19,7 +19,7 @@ use Rattle.ppm_code.specs.declared.code.CodeParts.{CodeParts}
 use Rattle.ppm_code.specs.declared.location.FrameWord.{FrameWord}
 use Rattle.ppm_layout.specs.Correct.{Opens}
 use Rattle.ppm_layout.specs.Root.{root_strand}
-use Rattle.ppm_layout.specs.declared.images.Image.{Image as RealImage}
+use Rattle.ppm_layout.specs.declared.images.Image.{Image}
 use Rattle.ppm_step.specs.Among.{IsTurnAmong}
 use Rattle.ppm_step.specs.Laws.{reached}
 use Rattle.ppm_step.specs.State.{State as RunState, happens, opening, takes_of}
@@ -72,7 +72,7 @@ pub record IsLeft (s : Shape) (code : CodeParts) (root : Tree (Frame FrameWord P
 
 -- from an image of a sound code, whatever the takeover and the turns, also where the run was stopped
 abbrev pub WhatIsLeftEndsSo : Type 0
-WhatIsLeftEndsSo = (code : CodeParts) (input : List NamedArray) (s : Shape) (keeper : ℕ) (image : RealImage)
+WhatIsLeftEndsSo = (code : CodeParts) (input : List NamedArray) (s : Shape) (keeper : ℕ) (image : Image)
     → IsFair code → Opens code input s keeper image
     → Calm (strands s code) (root_strand code input) (arrays_at (view s image.words))
     → (turns : List Turn) → AllByRecursion (IsTurnAmong s.processors) turns
@@ -81,7 +81,7 @@ WhatIsLeftEndsSo = (code : CodeParts) (input : List NamedArray) (s : Shape) (kee
 
 -- so with takeover by places, whatever the legs and the turns behind them
 abbrev pub WhatIsLeftOverLegs : Type 0
-WhatIsLeftOverLegs = (code : CodeParts) (input : List NamedArray) (s : Shape) (keeper : ℕ) (image : RealImage)
+WhatIsLeftOverLegs = (code : CodeParts) (input : List NamedArray) (s : Shape) (keeper : ℕ) (image : Image)
     → s.takeover ≡ ByPlaces → IsFair code → Opens code input s keeper image
     → Calm (strands s code) (root_strand code input) (arrays_at (view s image.words))
     → (legs : List Leg) → AreLegs s code image.words legs → (turns : List Turn) → AllByRecursion (IsTurnAmong s.processors) turns
@@ -99,7 +99,7 @@ pub record IsInRight (s : Shape) (words : List ℕ) (r : ℕ) : Type 0 where
 
 -- so the right branch of a block that was forked, if a place is to run it, was taken
 abbrev pub RunnersAreCounted : Type 0
-RunnersAreCounted = (code : CodeParts) (input : List NamedArray) (s : Shape) (keeper : ℕ) (image : RealImage)
+RunnersAreCounted = (code : CodeParts) (input : List NamedArray) (s : Shape) (keeper : ℕ) (image : Image)
     → IsFair code → Opens code input s keeper image
     → Calm (strands s code) (root_strand code input) (arrays_at (view s image.words))
     → (turns : List Turn) → AllByRecursion (IsTurnAmong s.processors) turns
@@ -109,7 +109,7 @@ RunnersAreCounted = (code : CodeParts) (input : List NamedArray) (s : Shape) (ke
 
 -- so with takeover by places, over legs
 abbrev pub RunnersAreCountedOverLegs : Type 0
-RunnersAreCountedOverLegs = (code : CodeParts) (input : List NamedArray) (s : Shape) (keeper : ℕ) (image : RealImage)
+RunnersAreCountedOverLegs = (code : CodeParts) (input : List NamedArray) (s : Shape) (keeper : ℕ) (image : Image)
     → s.takeover ≡ ByPlaces → IsFair code → Opens code input s keeper image
     → Calm (strands s code) (root_strand code input) (arrays_at (view s image.words))
     → (legs : List Leg) → AreLegs s code image.words legs → (turns : List Turn) → AllByRecursion (IsTurnAmong s.processors) turns
@@ -119,7 +119,7 @@ RunnersAreCountedOverLegs = (code : CodeParts) (input : List NamedArray) (s : Sh
 
 -- and the turn by which a place first comes to run it is its take
 abbrev pub BeginnersAreCounted : Type 0
-BeginnersAreCounted = (code : CodeParts) (input : List NamedArray) (s : Shape) (keeper : ℕ) (image : RealImage)
+BeginnersAreCounted = (code : CodeParts) (input : List NamedArray) (s : Shape) (keeper : ℕ) (image : Image)
     → IsFair code → Opens code input s keeper image
     → Calm (strands s code) (root_strand code input) (arrays_at (view s image.words))
     → (turns : List Turn) → AllByRecursion (IsTurnAmong s.processors) turns
