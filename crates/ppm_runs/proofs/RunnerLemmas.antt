@@ -165,11 +165,11 @@ module _ (code : CodeParts) (input : List NamedArray) (s : Shape) (keeper : ℕ)
       | inl places ↦
           let run = runs_stay code input s keeper im places fair opens calm turns all in
           let on = turns_lead_on s code places fair root given last h f tk run.0 run.1 turn among in
-          was_taken s code fair root given (happens s code last turn) then_at more took [] (tree_after (setting s code) last turn run.0) (halves on) on.agrees r was a
+          was_taken s code fair root given (happens s code last turn) (by_act s last.words turn.act (stand_of last turn.processor) h) more took [] (tree_after (setting s code) last turn run.0) (halves on) on.agrees r was a
       | inr ih ↦
           let run = runs_stay_heired code input s keeper im ih fair opens calm turns all in
           let on = heirs_lead_on s code ih fair root given last h f tk run.0 run.1 run.2 turn among in
-          was_taken s code fair root given (happens s code last turn) then_at more took on.0 on.1 on.2.halves on.2.joint.agrees r was a
+          was_taken s code fair root given (happens s code last turn) (by_act s last.words turn.act (stand_of last turn.processor) h) more took on.0 on.1 on.2.halves on.2.joint.agrees r was a
     ]
 
 pub runners_are_counted : RunnersAreCounted
