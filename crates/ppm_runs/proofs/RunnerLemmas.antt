@@ -157,9 +157,6 @@ module _ (code : CodeParts) (input : List NamedArray) (s : Shape) (keeper : ℕ)
     abbrev took : List ℕ
     took = takes_of last turn ++ tk
 
-    then_at : ℕ → Home
-    then_at = by_act s last.words turn.act (stand_of last turn.processor) h
-
     next : (r : ℕ) → has more r ≡ true → IsInRight s (happens s code last turn).words r → has took r ≡ true
     next r was a = elim (how_or s.takeover) [
       | inl places ↦
