@@ -1,13 +1,12 @@
 -- Who runs a right branch that was forked has it in the tree, so nobody has it as one that is still to be run; and so it
 -- was begun, which counts as its take.
-use Rattle.std.proofs.Common.{◌≡◌, ◌≢◌, ◌⊎◌, ◌≤◌, ℕ, ◌+◌, true, false, List, [], ◌++◌, inl, inr, refl, sym, ap, ◌∙◌, subst, arith}
+use Rattle.std.proofs.Common.{◌≡◌, ℕ, ◌+◌, true, false, List, [], ◌++◌, inl, inr, refl, sym, ap, ◌∙◌, subst, arith}
 use Rattle.std.specs.List.{AllByRecursion}
 use Rattle.ppm_strands.specs.Tree.{Words, Tree}
 use Rattle.ppm_strands.specs.Calm.{Calm}
 use Rattle.ppm_words.specs.declared.named_array.NamedArray.{NamedArray}
 use Rattle.ppm_cells.specs.declared.cell.Cell.TheVariants.{BlockWord}
 use Rattle.ppm_cells.specs.declared.link.Link.{Link}
-use Rattle.ppm_cells.specs.declared.link.LinkKind.{LinkKind}
 use Rattle.ppm_cells.specs.declared.link.LinkKind.TheVariants.{Root, Branch}
 use Rattle.ppm_cells.specs.declared.restart.RestartKind.TheVariants.{Run}
 use Rattle.ppm_cells.specs.declared.shape.Shape.{Shape}
@@ -28,7 +27,7 @@ use Rattle.ppm_tickets.specs.Homes.{Home, Unborn, Pushing, Listed, Popping, Stol
 use Rattle.ppm_tickets.specs.Words.{has}
 use Rattle.ppm_frames.specs.Views.{view}
 use Rattle.ppm_frames.specs.Seen.{arrays_at}
-use Rattle.ppm_frames.specs.Skeletons.{Begins, Who, InPlace, Fresh, Waiting, Held, Skeleton, Leaf, Forking, header, count, plug, hook_at}
+use Rattle.ppm_frames.specs.Skeletons.{Begins, Who, InPlace, Fresh, Waiting, Held, Skeleton, Leaf, header, count, hook_at}
 use Rattle.ppm_frames.specs.Good.{link_at}
 use Rattle.ppm_frames.proofs.SkeletonLemmas.{count_plug, inside_at, branch_from}
 use Rattle.ppm_kept.specs.Running.{IsFair, strands}

@@ -4,7 +4,6 @@ use Rattle.std.proofs.Common.{◌≡◌, ◌≤◌, ℕ, ◌+◌, ◌==◌, cond
 use Rattle.std.proofs.Math.Path.{fun_ext}
 use Rattle.ppm_strands.specs.Tree.{Words, Tree}
 use Rattle.ppm_strands.specs.Ahead.{Ahead}
-use Rattle.ppm_cells.specs.declared.cell.Cell.{Cell}
 use Rattle.ppm_cells.specs.declared.cell.Cell.TheVariants.{BlockWord, ArrayWord}
 use Rattle.ppm_cells.specs.declared.link.LinkKind.TheVariants.{Root}
 use Rattle.ppm_cells.specs.declared.restart.RestartKind.{RestartKind}
@@ -24,7 +23,6 @@ use Rattle.ppm_tickets.proofs.EstateLemmas.{here}
 use Rattle.ppm_frames.specs.Views.{view}
 use Rattle.ppm_frames.specs.Seen.{arrays_at}
 use Rattle.ppm_frames.specs.Skeletons.{Skeleton, tree_of, count, at}
-use Rattle.ppm_frames.specs.Good.{Good}
 use Rattle.ppm_frames.specs.Laws.{Same}
 use Rattle.ppm_frames.proofs.SkeletonLemmas.{tree_same}
 use Rattle.ppm_frames.proofs.SwapLemmas.{good_same}

@@ -22,7 +22,7 @@ use Rattle.ppm_layout.specs.Root.{root_strand}
 use Rattle.ppm_layout.specs.declared.images.Image.{Image}
 use Rattle.ppm_step.specs.Among.{IsTurnAmong}
 use Rattle.ppm_step.specs.Laws.{reached}
-use Rattle.ppm_step.specs.State.{State as RunState, happens, opening, takes_of}
+use Rattle.ppm_step.specs.State.{happens, opening, takes_of}
 use Rattle.ppm_step.specs.declared.turn.Turn.{Turn}
 use Rattle.ppm_tickets.specs.Along.{homes_by, forked as forked_in, taken as taken_in}
 use Rattle.ppm_tickets.specs.Homes.{Home, Once}
