@@ -19,7 +19,7 @@ use Rattle.ppm_answers.specs.declared.answer.Answer.TheVariants as answers
 use Rattle.ppm_answers.specs.Reading.{AreOne, FrontsDecide, TellsOfRun}
 use Rattle.ppm_cli.specs.declared.run.RunOptions.{RunOptions}
 use Rattle.ppm_loading.specs.declared.loading.Sizes.{Sizes}
-use Rattle.ppm_loading.specs.Loading.{Opens}
+use Rattle.ppm_loading.specs.Loading.{OpensRun}
 use Rattle.ppm_loading.specs.Planned.{PlannedHas, PlannedMay}
 use Rattle.ppm_loading.specs.Programs as programs
 use Rattle.ppm_driver.specs.RunOf.{RunOf}
@@ -49,7 +49,7 @@ pub record ProgramHas (options : RunOptions) (watching : ℕ) (before now : Told
   pub keeper : ℕ
   pub spared : IsKeeper plan_form items keeper
   pub start : Situation
-  pub opens : Opens (sizes_of options) (code_of t) (initial_arrays t) keeper start
+  pub opens : OpensRun (sizes_of options) (code_of t) (initial_arrays t) keeper start
   pub run : RunOf (plan_of options items) (limits_of options) start
       (AreTold watching (plan_of options items) (limits_of options) before now start)
       (IsSaid start.shape start.array_lengths (initial_arrays t)) answer
@@ -67,9 +67,13 @@ abbrev pub RunMay : RunOptions → (watching : ℕ) → (plan : List ℕ) → (b
 RunMay options watching plan before now source answer =
     PlannedMay plan_form plan options.processors (TextHas options watching before now) text_limit source answer
 
--- what watchers were told where an answer comes: the causes of an answer of a run say which turns; those behind the first so many nothing
+-- what watchers were told where an answer comes: the causes of an answer of a run say which turns; and so it is with those behind the first
+-- so many, who were told nothing
+abbrev pub TellsOfTurns : Answer → ToldLists → ToldLists → Type 0
+TellsOfTurns answer before now = TellsOfRun (λ answer before now. ⊤) answer before now
+
 abbrev pub RunTells : (watching : ℕ) → Answer → ToldLists → ToldLists → Type 0
-RunTells watching answer before now = TellsOfRun (λ answer before now. ⊤) answer before now × OthersKeep watching before now
+RunTells watching answer before now = TellsOfTurns answer before now × OthersKeep watching before now
 
 -- two answers of a text are one where there is one processor, with such options and all plans
 abbrev pub AnswersAreOne : Type 0

@@ -63,8 +63,8 @@ use Rattle.ppm_kept.proofs.HeirLemmas.{not_idle}
 use Rattle.ppm_kept.proofs.LeftLemmas.{kind_away}
 use Rattle.ppm_kept.proofs.PayingLemmas.{credit_stays_left}
 use Rattle.ppm_kept.proofs.PutLemmas.{put_here as set_here, put_else as set_else}
-use Rattle.ppm_runs.specs.Run.{image, fate_of}
-use Rattle.ppm_runs.specs.Follow.{IsHalves, GoesOn, LooksOnly}
+use Rattle.ppm_runs.specs.Run.{setting, fate_of}
+use Rattle.ppm_runs.specs.Follow.{IsHalves, CarriesOn, LooksOnly}
 use Rattle.ppm_runs.specs.Entries.{IsHeired}
 use Rattle.ppm_runs.specs.Work.{undone_of, WorkIsBoundedSo, WorkIsWithin256So}
 use Rattle.ppm_runs.proofs.AgainLemmas.{again, again_not, again_live, left_at, row_live}
@@ -108,7 +108,7 @@ record Follows (x : Standing) : Type 0 where
   slot : ℕ
   is : x ≡ IsWithin seat (Now next)
   check : seat.restart.kind ≡ Check victim slot
-  on : GoesOn next
+  on : CarriesOn next
 
 step_or : (v : ℕ) (x : Standing) → LooksOnly (Step v) x ⊎ Follows x
 step_or v (IsWithin seat row) = elim (looks_or seat.restart.kind row) [
@@ -177,7 +177,7 @@ module _ (s : Shape) (code : CodeParts) (ih : s.takeover ≡ ByEntries) (fair : 
       others_go : (c : ℕ) (act : Act) → IsTurnAmong s.processors (record { processor = c; act = act }) → Stays c act → LooksOnly act (stand_of state c) → Then_ c act
       others_go c act among stays looks =
           let turn : Turn = record { processor = c; act = act } in
-          let i = image s code in
+          let i = setting s code in
           let orderly = (halves_owe s code fair root input state h forked taken l t run.halves run.joint.agrees (λ d seat re e. inlined s code ih fair root input state h forked taken l t run d seat re e)).orderly turn among in
           let next = halves_go_on s code ih fair root input state h forked taken l t run.halves run.joint.agrees run.broken turn among.processor orderly looks in
           let so = acts_so s code ih fair root input state h forked taken l t run.halves run.joint.agrees run.broken c act among.processor in
@@ -219,18 +219,18 @@ module _ (s : Shape) (code : CodeParts) (ih : s.takeover ≡ ByEntries) (fair : 
 
         lead : (w : ℕ)
             × Agrees (handed w p t) (λ r. fate_of (by_row s state.words seat (Now next) h r))
-            × IsHalves s code root input n (by_row s state.words seat (Now next) h) (fork_row (Now next) ++ forked) (take_row (Now next) ++ taken) (and_followed (image s code) l (places_of s state) w) (handed w p t)
-            × Heired (image s code) state l t c seat next w
+            × IsHalves s code root input n (by_row s state.words seat (Now next) h) (fork_row (Now next) ++ forked) (take_row (Now next) ++ taken) (and_followed (setting s code) l (places_of s state) w) (handed w p t)
+            × Heired (setting s code) state l t c seat next w
         lead = heirs_lead s code ih fair root input state h forked taken l t run.halves run.joint.agrees c victim seat next follows.victim follows.slot follows.is follows.check follows.on run.joint.opens
 
         abbrev w : ℕ
         w = lead.0
 
-        heir : Heired (image s code) state l t c seat next w
+        heir : Heired (setting s code) state l t c seat next w
         heir = lead.3
 
         abbrev l' : List Followed
-        l' = and_followed (image s code) l (places_of s state) w
+        l' = and_followed (setting s code) l (places_of s state) w
 
         abbrev t' : Skeleton
         t' = handed w p t
@@ -242,7 +242,7 @@ module _ (s : Shape) (code : CodeParts) (ih : s.takeover ≡ ByEntries) (fair : 
 
         led : Led x
         led = subst Led (sym follows.is) (
-            let counts = heirs_count_none (image s code) fair root input state l run.halves.apart t run.halves.kept c victim seat next w follows.is heir in
+            let counts = heirs_count_none (setting s code) fair root input state l run.halves.apart t run.halves.kept c victim seat next w follows.is heir in
             let halves : IsHalves s code root input n (by_act s state.words (Step victim) (IsWithin seat (Now next)) h) (fork_row (Now next) ++ forked) (take_row (Now next) ++ taken) l' t' =
             record { lawful = lead.2.lawful; apart = lead.2.apart; gone = lead.2.gone; kept = counts.0; born = lead.2.born } in
             record {
@@ -261,7 +261,7 @@ module _ (s : Shape) (code : CodeParts) (ih : s.takeover ≡ ByEntries) (fair : 
         abbrev K' : ℕ → RestartKind
         K' = spots.kinds s n.words
 
-        kinds_next : (next : Then) → GoesOn next → then_is_there s seat next ≡ true → spots.kinds s (acts s code state c (Step victim) (IsWithin seat (Now next))).words ≡ put K p (kind_then next)
+        kinds_next : (next : Then) → CarriesOn next → then_is_there s seat next ≡ true → spots.kinds s (acts s code state c (Step victim) (IsWithin seat (Now next))).words ≡ put K p (kind_then next)
         kinds_next (Install re) on there = kinds_then s code fair root input state h forked taken l t run.halves run.joint.agrees p re heir.holds.place there
         kinds_next (Fork r) on there = kinds_then s code fair root input state h forked taken l t run.halves run.joint.agrees p (forked_restart seat r) heir.holds.place there
         kinds_next _ on there = absurd on
@@ -270,7 +270,7 @@ module _ (s : Shape) (code : CodeParts) (ih : s.takeover ≡ ByEntries) (fair : 
         put_kinds = ap (λ (z : Standing). spots.kinds s (acts s code state c (Step victim) z).words) follows.is ∙ kinds_next next follows.on heir.there
 
         apart : p ≢ w
-        apart e = not_idle (left (image s code) l (places_of s state)) t w (kinds_of s state.words w) (kind_then next) (subst IsIdle (sym (ap (kinds_of s state.words) (sym e) ∙ heir.kind)) heir.idle) heir.goes
+        apart e = not_idle (left (setting s code) l (places_of s state)) t w (kinds_of s state.words w) (kind_then next) (subst IsIdle (sym (ap (kinds_of s state.words) (sym e) ∙ heir.kind)) heir.idle) heir.goes
 
         -- the sums
         here_kind : left_kinds l K' p ≡ kind_then next
@@ -357,7 +357,7 @@ module _ (s : Shape) (code : CodeParts) (ih : s.takeover ≡ ByEntries) (fair : 
                   let few = (made_few s code fair.code_is c (made c) x (now.stage.paces c)).0 in
                   let none : most (made c) x ≡ 0 = ap (most (made c)) follows.is ∙ ap cost follows.check in
                   let a = dues_then in let b = agains_then in let o = handed_owes w p t in
-                  let d = heir_due (left (image s code) l (places_of s state)) t w (kinds_of s state.words w) (kind_then next) heir.goes in
+                  let d = heir_due (left (setting s code) l (places_of s state)) t w (kinds_of s state.words w) (kind_then next) heir.goes in
                   omega (arith, look, few, none, a, b, o, d);
               owes = λ places. let two : ByPlaces ≡ ByEntries = sym places ∙ ih in cc;
             }

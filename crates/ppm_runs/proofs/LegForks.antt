@@ -14,7 +14,7 @@ use Rattle.ppm_code.specs.declared.code.CodeParts.{CodeParts}
 use Rattle.ppm_code.specs.declared.location.FrameWord.{FrameWord}
 use Rattle.ppm_layout.specs.Correct.{Opens}
 use Rattle.ppm_layout.specs.Root.{root_strand}
-use Rattle.ppm_layout.specs.declared.images.Image.{Image as RealImage}
+use Rattle.ppm_layout.specs.declared.images.Image.{Image}
 use Rattle.ppm_step.specs.Among.{IsTurnAmong}
 use Rattle.ppm_step.specs.State.{State as RunState, opening}
 use Rattle.ppm_step.specs.declared.turn.Turn.{Turn}
@@ -28,7 +28,7 @@ use Rattle.ppm_runs.proofs.CountedLemmas.{counted_on}
 use Rattle.ppm_runs.proofs.ForkLemmas.{IsForked, as_run, forked_run, all_places, opens_forked, ends_forked}
 use Rattle.ppm_runs.proofs.LegLemmas.{goes_on_back, forks_back}
 
-module _ (code : CodeParts) (input : List NamedArray) (s : Shape) (keeper : ℕ) (im : RealImage) (places : s.takeover ≡ ByPlaces) (fair : IsFair code) (opens : Opens code input s keeper im)
+module _ (code : CodeParts) (input : List NamedArray) (s : Shape) (keeper : ℕ) (im : Image) (places : s.takeover ≡ ByPlaces) (fair : IsFair code) (opens : Opens code input s keeper im)
     (calm : Calm (strands s code) (root_strand code input) (arrays_at (view s im.words))) where
   abbrev root : Tree (Frame FrameWord Point) Result
   root = root_strand code input

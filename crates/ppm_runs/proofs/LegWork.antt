@@ -17,7 +17,7 @@ use Rattle.ppm_code.specs.declared.code.CodeParts.{CodeParts}
 use Rattle.ppm_code.specs.declared.location.FrameWord.{FrameWord}
 use Rattle.ppm_layout.specs.Correct.{Opens}
 use Rattle.ppm_layout.specs.Root.{root_strand}
-use Rattle.ppm_layout.specs.declared.images.Image.{Image as RealImage}
+use Rattle.ppm_layout.specs.declared.images.Image.{Image}
 use Rattle.ppm_step.specs.Among.{IsTurnAmong}
 use Rattle.ppm_step.specs.Standings.{IsLost}
 use Rattle.ppm_step.specs.State.{State as RunState, stand_in, stand_of, opening}
@@ -91,7 +91,7 @@ lost_are n (leg ∷ legs) =
     let m = times_more n (length legs) in
     let all : lost_in n legs + 172 * n ≡ 172 * (n * suc (length legs)) = omega (arith, e, m) in all
 
-module _ (code : CodeParts) (input : List NamedArray) (s : Shape) (keeper : ℕ) (im : RealImage) (places : s.takeover ≡ ByPlaces) (fair : IsFair code) (opens : Opens code input s keeper im)
+module _ (code : CodeParts) (input : List NamedArray) (s : Shape) (keeper : ℕ) (im : Image) (places : s.takeover ≡ ByPlaces) (fair : IsFair code) (opens : Opens code input s keeper im)
     (calm : Calm (strands s code) (root_strand code input) (arrays_at (view s im.words))) (end : End Result) (ends : Ends (strands s code) (root_strand code input) (arrays_at (view s im.words)) end) where
   abbrev root : Tree (Frame FrameWord Point) Result
   root = root_strand code input

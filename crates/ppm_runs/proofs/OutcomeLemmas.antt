@@ -21,7 +21,7 @@ use Rattle.ppm_kept.proofs.AnswerLemmas.{ends_as_meant}
 use Rattle.ppm_kept.proofs.BlockLemmas.{finish_back}
 use Rattle.ppm_kept.proofs.FateLemmas.{none_is_left}
 use Rattle.ppm_kept.proofs.RoomLemmas.{room_is_bounded}
-use Rattle.ppm_runs.specs.Run.{image, fate_of}
+use Rattle.ppm_runs.specs.Run.{setting, fate_of}
 use Rattle.ppm_runs.specs.Outcomes.{RunsEnd, StopsStay}
 
 -- a branch of which nothing has come, or that was begun, is so in the deques too
@@ -57,7 +57,7 @@ same_lists h forked taken counts r (inr e) =
 
 pub runs_end : RunsEnd
 runs_end s code root input state h forked taken t run finish says out =
-    let answer = ends_as_meant (image s code) root input state t run.kept finish says out in
+    let answer = ends_as_meant (setting s code) root input state t run.kept finish says out in
     let counts = run.lawful.1.counts in
     let agrees = subst (λ (w : Skeleton). Agrees w (λ r. fate_of (h r))) answer.alone run.agrees in record {
       answer = answer;
@@ -67,7 +67,7 @@ runs_end s code root input state h forked taken t run finish says out =
       ]);
       forked_once = counts.forked_once;
       taken_once = counts.once;
-      room = room_is_bounded (image s code) root input (places_of s state) t run.kept answer.end answer.ends;
+      room = room_is_bounded (setting s code) root input (places_of s state) t run.kept answer.end answer.ends;
     }
 
 -- no finish word that says a stop is 0

@@ -24,8 +24,8 @@ use Rattle.ppm_frames.specs.Views.{view}
 use Rattle.ppm_frames.specs.Seen.{arrays_at}
 use Rattle.ppm_frames.specs.Skeletons.{Begins, InPlace, Skeleton, Leaf}
 use Rattle.ppm_kept.specs.Running.{IsFair}
-use Rattle.ppm_kept.specs.Steps.{tree_after, IsStop, IsStopped}
-use Rattle.ppm_runs.specs.Run.{image, IsRun}
+use Rattle.ppm_kept.specs.Steps.{tree_after, IsStop, SaysStop}
+use Rattle.ppm_runs.specs.Run.{setting, IsRun}
 use Rattle.ppm_runs.specs.Whole.{TurnsLead, RunsComeTo}
 use Rattle.ppm_runs.proofs.JoinLemmas.{joins_stay}
 use Rattle.ppm_runs.proofs.BearingLemmas.{births_follow}
@@ -68,7 +68,7 @@ module _ (s : Shape) (code : CodeParts) (places : s.takeover ≡ ByPlaces) (fair
   -- what turns come to from a state
   abbrev Comes : RunState → (ℕ → Home) → (f tk : List ℕ) → List Turn → Type 0
   Comes z h f tk more = ((t : Skeleton) × IsRun s code root input (after s code z more) (homes s code z h more) (forked_in s code z f more) (taken_in s code z tk more) t)
-      ⊎ IsStopped s (after s code z more).words
+      ⊎ SaysStop s (after s code z more).words
 
   comes : (first more : List Turn) (h : ℕ → Home) (f tk : List ℕ) (t : Skeleton) → AllByRecursion (IsTurnAmong s.processors) more
       → IsRun s code root input (reached s code words first) h f tk t → Comes (reached s code words first) h f tk more
@@ -78,11 +78,11 @@ module _ (s : Shape) (code : CodeParts) (places : s.takeover ≡ ByPlaces) (fair
       let e : reached s code words (first ++ turn ∷ []) ≡ happens s code z turn = in_two s code (opening words s.processors) first (turn ∷ []) in
       elim (turns_lead s code places fair root input z h f tk t run turn all.0) [
         | inl on ↦ subst (λ (w : RunState). Comes w (by_act s z.words turn.act (stand_of z turn.processor) h) (forks_of z turn ++ f) (takes_of z turn ++ tk) more) e
-            (comes (first ++ turn ∷ []) more (by_act s z.words turn.act (stand_of z turn.processor) h) (forks_of z turn ++ f) (takes_of z turn ++ tk) (tree_after (image s code) z turn t) all.1
-            (subst (λ (w : RunState). IsRun s code root input w (by_act s z.words turn.act (stand_of z turn.processor) h) (forks_of z turn ++ f) (takes_of z turn ++ tk) (tree_after (image s code) z turn t)) (sym e) on))
-        | inr stop ↦ inr (subst (λ (w : RunState). IsStopped s (after s code w more).words) e
-            (subst (λ (w : RunState). IsStopped s w.words) (in_two s code (opening words s.processors) (first ++ turn ∷ []) more)
-            (stops_stay s code fair.code_is words (first ++ turn ∷ []) more (subst (λ (w : RunState). IsStopped s w.words) (sym e) stop))))
+            (comes (first ++ turn ∷ []) more (by_act s z.words turn.act (stand_of z turn.processor) h) (forks_of z turn ++ f) (takes_of z turn ++ tk) (tree_after (setting s code) z turn t) all.1
+            (subst (λ (w : RunState). IsRun s code root input w (by_act s z.words turn.act (stand_of z turn.processor) h) (forks_of z turn ++ f) (takes_of z turn ++ tk) (tree_after (setting s code) z turn t)) (sym e) on))
+        | inr stop ↦ inr (subst (λ (w : RunState). SaysStop s (after s code w more).words) e
+            (subst (λ (w : RunState). SaysStop s w.words) (in_two s code (opening words s.processors) (first ++ turn ∷ []) more)
+            (stops_stay s code fair.code_is words (first ++ turn ∷ []) more (subst (λ (w : RunState). SaysStop s w.words) (sym e) stop))))
       ]
 
 pub runs_come_to : RunsComeTo

@@ -23,19 +23,19 @@ use Rattle.ppm_frames.specs.Skeletons.{Skeleton}
 use Rattle.ppm_kept.specs.Answers.{AnswersSo}
 use Rattle.ppm_kept.specs.Kept.{start, ceiling}
 use Rattle.ppm_kept.specs.Places.{kinds_of}
-use Rattle.ppm_kept.specs.Steps.{IsStopped}
-use Rattle.ppm_runs.specs.Run.{image, IsRun}
+use Rattle.ppm_kept.specs.Steps.{SaysStop}
+use Rattle.ppm_runs.specs.Run.{setting, IsRun}
 
 -- The depth-first run of the root ends so, with the words of the arrays as they are; each right branch
 -- that was forked was taken, and none was forked or taken twice; and no place has given out more of its
 -- pool than that run takes of all.
 pub record EndsWell (s : Shape) (code : CodeParts) (root : Tree (Frame FrameWord Point) Result) (input : Words) (state : RunState) (forked taken : List ℕ) (t : Skeleton) (finish : Finish) : Type 0 where
-  pub answer : AnswersSo (image s code) root input state t finish
+  pub answer : AnswersSo (setting s code) root input state t finish
   pub all : (r : ℕ) → has forked r ≡ has taken r
   pub forked_once : Once forked
   pub taken_once : Once taken
-  pub room : (p : ℕ) → ceiling (image s code) (view s state.words) p (kinds_of s state.words p)
-      ≤ start (image s code) p + (frame_size code code.root + answer.end.counts.block_words)
+  pub room : (p : ℕ) → ceiling (setting s code) (view s state.words) p (kinds_of s state.words p)
+      ≤ start (setting s code) p + (frame_size code code.root + answer.end.counts.block_words)
 
 -- so it is in each state of a run in which the finish word says an outcome of the root
 abbrev pub RunsEnd : Type 0
@@ -49,5 +49,5 @@ RunsEnd = (s : Shape) (code : CodeParts)
 -- turns are made
 abbrev pub StopsStay : Type 0
 StopsStay = (s : Shape) (code : CodeParts) → IsCode code → (words : List ℕ) (first more : List Turn)
-    → IsStopped s (reached s code words first).words
-    → IsStopped s (reached s code words (first ++ more)).words
+    → SaysStop s (reached s code words first).words
+    → SaysStop s (reached s code words (first ++ more)).words

@@ -17,7 +17,7 @@ use Rattle.ppm_code.specs.Strands.{Result}
 use Rattle.ppm_code.specs.declared.code.CodeParts.{CodeParts}
 use Rattle.ppm_layout.specs.Correct.{Opens}
 use Rattle.ppm_layout.specs.Root.{root_strand}
-use Rattle.ppm_layout.specs.declared.images.Image.{Image as RealImage}
+use Rattle.ppm_layout.specs.declared.images.Image.{Image}
 use Rattle.ppm_step.specs.Among.{IsTurnAmong}
 use Rattle.ppm_step.specs.Laws.{reached}
 use Rattle.ppm_step.specs.declared.turn.Turn.{Turn}
@@ -29,7 +29,7 @@ use Rattle.ppm_kept.specs.Running.{IsFair, strands}
 -- that a pool is full, and the depth-first run of the root comes to an end, the root's frame and the block
 -- words that it counts are more than a pool has.
 abbrev pub RoomIsSpent : Type 0
-RoomIsSpent = (code : CodeParts) (input : List NamedArray) (s : Shape) (keeper : ℕ) (image : RealImage)
+RoomIsSpent = (code : CodeParts) (input : List NamedArray) (s : Shape) (keeper : ℕ) (image : Image)
     → s.takeover ≡ ByPlaces → IsFair code → Opens code input s keeper image
     → Calm (strands s code) (root_strand code input) (arrays_at (view s image.words))
     → (turns : List Turn) → AllByRecursion (IsTurnAmong s.processors) turns
@@ -39,7 +39,7 @@ RoomIsSpent = (code : CodeParts) (input : List NamedArray) (s : Shape) (keeper :
 
 -- so it is whatever the takeover
 abbrev pub RoomIsSpentSo : Type 0
-RoomIsSpentSo = (code : CodeParts) (input : List NamedArray) (s : Shape) (keeper : ℕ) (image : RealImage)
+RoomIsSpentSo = (code : CodeParts) (input : List NamedArray) (s : Shape) (keeper : ℕ) (image : Image)
     → IsFair code → Opens code input s keeper image
     → Calm (strands s code) (root_strand code input) (arrays_at (view s image.words))
     → (turns : List Turn) → AllByRecursion (IsTurnAmong s.processors) turns
@@ -50,7 +50,7 @@ RoomIsSpentSo = (code : CodeParts) (input : List NamedArray) (s : Shape) (keeper
 -- At each moment, also behind a stop, and whatever the takeover: no place has given out more of its pool than
 -- the root's frame and the block words that the depth-first run counts to its end.
 abbrev pub RoomIsWithin : Type 0
-RoomIsWithin = (code : CodeParts) (input : List NamedArray) (s : Shape) (keeper : ℕ) (image : RealImage)
+RoomIsWithin = (code : CodeParts) (input : List NamedArray) (s : Shape) (keeper : ℕ) (image : Image)
     → IsFair code → Opens code input s keeper image
     → Calm (strands s code) (root_strand code input) (arrays_at (view s image.words))
     → (turns : List Turn) → AllByRecursion (IsTurnAmong s.processors) turns

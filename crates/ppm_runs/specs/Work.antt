@@ -17,7 +17,7 @@ use Rattle.ppm_code.specs.Strands.{Result}
 use Rattle.ppm_code.specs.declared.code.CodeParts.{CodeParts}
 use Rattle.ppm_layout.specs.Correct.{Opens}
 use Rattle.ppm_layout.specs.Root.{root_strand}
-use Rattle.ppm_layout.specs.declared.images.Image.{Image as RealImage}
+use Rattle.ppm_layout.specs.declared.images.Image.{Image}
 use Rattle.ppm_step.specs.Among.{IsTurnAmong}
 use Rattle.ppm_step.specs.Standings.{Standing}
 use Rattle.ppm_step.specs.State.{State, stand_of, along, opening, is_done_at, work_of}
@@ -41,7 +41,7 @@ module _ (s : Shape) (code : CodeParts) (words : List ℕ) where
 -- From an image of a sound code, with takeover by places, whatever the turns: where the depth-first run of the root ends, all work turns
 -- together are no more than 218 for each of its capsules, 171 for each fault that strikes a row, and 6
 abbrev pub WorkIsBounded : Type 0
-WorkIsBounded = (code : CodeParts) (input : List NamedArray) (s : Shape) (keeper : ℕ) (image : RealImage)
+WorkIsBounded = (code : CodeParts) (input : List NamedArray) (s : Shape) (keeper : ℕ) (image : Image)
     → s.takeover ≡ ByPlaces → IsFair code → Opens code input s keeper image
     → Calm (strands s code) (root_strand code input) (arrays_at (view s image.words))
     → (turns : List Turn) → AllByRecursion (IsTurnAmong s.processors) turns
@@ -50,7 +50,7 @@ WorkIsBounded = (code : CodeParts) (input : List NamedArray) (s : Shape) (keeper
 
 -- so fewer than 256 for each capsule and each such fault
 abbrev pub WorkIsWithin256 : Type 0
-WorkIsWithin256 = (code : CodeParts) (input : List NamedArray) (s : Shape) (keeper : ℕ) (image : RealImage)
+WorkIsWithin256 = (code : CodeParts) (input : List NamedArray) (s : Shape) (keeper : ℕ) (image : Image)
     → s.takeover ≡ ByPlaces → IsFair code → Opens code input s keeper image
     → Calm (strands s code) (root_strand code input) (arrays_at (view s image.words))
     → (turns : List Turn) → AllByRecursion (IsTurnAmong s.processors) turns
@@ -88,7 +88,7 @@ undone_in s code words turns = length (along s code (undone_of s) (opening words
 -- With either takeover all work turns together are no more than 218 for each capsule of the depth-first run, 171 for each fault that undoes
 -- work, and 6
 abbrev pub WorkIsBoundedSo : Type 0
-WorkIsBoundedSo = (code : CodeParts) (input : List NamedArray) (s : Shape) (keeper : ℕ) (image : RealImage)
+WorkIsBoundedSo = (code : CodeParts) (input : List NamedArray) (s : Shape) (keeper : ℕ) (image : Image)
     → IsFair code → Opens code input s keeper image
     → Calm (strands s code) (root_strand code input) (arrays_at (view s image.words))
     → (turns : List Turn) → AllByRecursion (IsTurnAmong s.processors) turns
@@ -97,7 +97,7 @@ WorkIsBoundedSo = (code : CodeParts) (input : List NamedArray) (s : Shape) (keep
 
 -- so fewer than 256 for each capsule and each such fault
 abbrev pub WorkIsWithin256So : Type 0
-WorkIsWithin256So = (code : CodeParts) (input : List NamedArray) (s : Shape) (keeper : ℕ) (image : RealImage)
+WorkIsWithin256So = (code : CodeParts) (input : List NamedArray) (s : Shape) (keeper : ℕ) (image : Image)
     → IsFair code → Opens code input s keeper image
     → Calm (strands s code) (root_strand code input) (arrays_at (view s image.words))
     → (turns : List Turn) → AllByRecursion (IsTurnAmong s.processors) turns
