@@ -26,7 +26,7 @@ use Rattle.ppm_loading.proofs.SayLemmas.{unset_is}
 
 module _ (sizes : Sizes) (code : CodeParts) (arrays : List NamedArray) (keeper : ℕ) where
   -- its words say nothing yet
-  unset : (start : Situation) (b : OpensRun sizes code arrays keeper start) → read b.shape b.image.words FinishWord ≡ 0
+  pub unset : (start : Situation) (b : OpensRun sizes code arrays keeper start) → read b.shape b.image.words FinishWord ≡ 0
   unset start b = b.opens.opened FinishWord tt ∙ unset_is
 
   pub unset_opened : (start : Situation) → OpensRun sizes code arrays keeper start → finish_in start ≡ 0

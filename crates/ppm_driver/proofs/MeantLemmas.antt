@@ -55,7 +55,6 @@ use Rattle.ppm_kept.specs.Answers.{finish_by}
 use Rattle.ppm_kept.specs.Running.{IsFair, strands}
 use Rattle.ppm_runs.specs.Entries.{EndsAsRun, OnceInEachRun, RunsEndSo, RunsForkSo}
 use Rattle.ppm_runs.specs.Moments.{AreOnce}
-use Rattle.ppm_runs.specs.Run.{setting}
 use Rattle.ppm_runs.specs.Spent.{RoomIsSpentSo, RoomIsWithin}
 use Rattle.ppm_runs.specs.Unbroken.{NothingBreaks}
 use Rattle.ppm_runs.specs.Work.{WorkIsWithin256So}
@@ -65,9 +64,10 @@ use Rattle.ppm_loading.specs.Loading.{OpensRun}
 use Rattle.ppm_driver.specs.Meant.{HasOutcome, EndsDepthFirst, NeedsMoreRoom, NeedsMoreTurns, undone_in, EachIsTakenOnce, EndsAsProgram, worked_in, IsAsProgram, RunsAreAsPrograms}
 use Rattle.ppm_loading.specs.Says.{arrays_from}
 use Rattle.ppm_loading.proofs.ArrayLemmas.{same_arrays}
-use Rattle.ppm_driver.proofs.EndLemmas.{keeper_opened, words_opened}
+use Rattle.ppm_driver.proofs.EndLemmas.{keeper_opened, unset, words_opened}
 use Rattle.ppm_runs.proofs.LongLemmas.{as_long}
-use Rattle.ppm_driver.proofs.StrikeLemmas.{undone_few}
+use Rattle.ppm_driver.proofs.FaultLemmas.{undone_few}
+use Rattle.ppm_driver.proofs.PlaceLemmas.{of_place}
 use Rattle.ppm_driver.proofs.WorkLemmas.{works_are}
 
 -- what the crates below show of every text, every code, every image and every run
@@ -241,14 +241,24 @@ module _ (laws : Laws) (text : List ℕ) (t : ProgramTree) (has : HasProgram tex
           laws.forks code input s keeper b.image fair opened calm turns among v says out e
           (ends_as (sym shown.strands) (sym shown.root) (sym shown.arrays) e comes)
 
-      -- a full pool is one that the program needs more of
+      -- a full pool is one of a place, and one that the program needs more of
+      there : (place : ℕ) → Says (finishes.OutOfRoom place) → place < s.processors
+      there = of_place s code is_code words (unset sizes code input keeper m b) [] tt turns among
+
       needs_more : (place : ℕ) → Says (finishes.OutOfRoom place) → NeedsMoreRoom t s.room
-      needs_more place says k z means =
-          let e = (laws.meant t inside has.admitted.admitted has.bounded input starts).ends k z means in
-          let ends_here = ends_as (sym shown.strands) (sym shown.root) (sym shown.arrays) e.0 e.1 in
-          let less = laws.room code input s keeper b.image fair opened calm turns among place says e.0 ends_here in
-          let words_are = e.2.pool_words in
-          omega (arith, less, words_are)
+      needs_more place says = record {
+        depth_first = more;
+        whole = λ k z means.
+            let e = (laws.meant t inside has.admitted.admitted has.bounded input starts).ends k z means in
+            let less = more e.0 e.1 in
+            let words_are = e.2.pool_words in
+            omega (arith, less, words_are);
+      }
+        where
+          more : (e : End Result) → ComesTo code input e → s.room < pool_words code e.counts
+          more e comes =
+              laws.room code input s keeper b.image fair opened calm turns among place says e
+              (ends_as (sym shown.strands) (sym shown.root) (sym shown.arrays) e comes)
 
       -- words are broken only behind more than 2^34 work turns
       breaks : (place : ℕ) → Says (finishes.Broken place) → 2 ^ 34 < worked_in start turns
@@ -274,7 +284,7 @@ module _ (laws : Laws) (text : List ℕ) (t : ProgramTree) (has : HasProgram tex
           (ends_as (sym shown.strands) (sym shown.root) (sym shown.arrays) e comes)
 
       as_program : IsAsProgram start turns t
-      as_program = record { once = none_twice; ended = when_ended; trapped = when_trapped; full = needs_more; unbroken = breaks; work = works; few = undone_few s code turns (opening words s.processors); pools = pools }
+      as_program = record { once = none_twice; ended = when_ended; trapped = when_trapped; full = λ place says. (there place says, needs_more place says); unbroken = breaks; work = works; few = undone_few s code turns (opening words s.processors); pools = pools }
         where
           when_ended : Says finishes.Ended → EndsAsProgram start turns t (outcome.Ended (arrays_from s b.image.lengths last.words 0 input))
           when_ended says =

@@ -43,10 +43,12 @@ HasOutcome t o = (within : ℕ) × Serial t within o
 abbrev pub EndsDepthFirst : ProgramTree → Outcome → Type 0
 EndsDepthFirst t o = (e : CapsuleEnd Result) × ComesTo (code_of t) (initial_arrays t) e × (said_of (initial_arrays t) e.words e.outcome ≡ o)
 
--- The program, both branches of each fork run whole, has no end, or it takes more words than so many: the frame of `main`, and those that its
--- calls, its forks and each `each` ask for. Each pool of a machine has as many words as its room.
-abbrev pub NeedsMoreRoom : ProgramTree → (room : ℕ) → Type 0
-NeedsMoreRoom t room = (k : Counts) (z : End ℤ) → Means Whole t (values_of (initial_arrays t)) k z → room < words_taken t k
+-- A pool of so many words is too small for the program: its code, run depth first, has no end, or takes more of them; and so does the program, both
+-- branches of each fork run whole. It takes the frame of `main`, and those that its calls, its forks and each `each` ask for. Each pool of a machine
+-- has as many words as its room.
+pub record NeedsMoreRoom (t : ProgramTree) (room : ℕ) : Type 0 where
+  pub depth_first : (e : CapsuleEnd Result) → ComesTo (code_of t) (initial_arrays t) e → room < pool_words (code_of t) e.counts
+  pub whole : (k : Counts) (z : End ℤ) → Means Whole t (values_of (initial_arrays t)) k z → room < words_taken t k
 
 -- The code of the program, run depth first, has no end, or so many turns are fewer than 256 for each of its capsules and each of so many faults.
 abbrev pub NeedsMoreTurns : ProgramTree → (faults limit : ℕ) → Type 0
@@ -101,7 +103,7 @@ module _ (m : Situation) (turns : List Turn) where
     pub forks : (e : CapsuleEnd Result) → ComesTo (code_of t) (initial_arrays t) e → length forked_in ≡ e.counts.forks
 
   -- What holds behind these turns. No branch is taken twice. Where the finish word says an outcome the run ends as the program does, with the
-  -- arrays of the words then, or this trap; where it says that a pool is full, the program takes more words. That words are broken it says only
+  -- arrays of the words then, or this trap; where it says that a pool is full, it is that of a place, and the program takes more words. That words are broken it says only
   -- behind more than 2^34 work turns. All work turns are fewer than 256 for each capsule of the program's code and each fault that undoes work; no more do
   -- so than turns are faults. No place has given out more of its pool than that run takes.
   pub record IsAsProgram (t : ProgramTree) : Type 0 where
@@ -110,7 +112,8 @@ module _ (m : Situation) (turns : List Turn) where
         → EndsAsProgram t (outcome.Ended (arrays_from m.shape m.array_lengths (words_behind m turns) 0 (initial_arrays t)))
     pub trapped : (trap : Trap) (line : ℕ) → finish_of (finish_behind m turns) ≡ Some (finishes.Trapped trap line)
         → EndsAsProgram t (outcome.Trapped trap line)
-    pub full : (place : ℕ) → finish_of (finish_behind m turns) ≡ Some (finishes.OutOfRoom place) → NeedsMoreRoom t m.shape.room
+    pub full : (place : ℕ) → finish_of (finish_behind m turns) ≡ Some (finishes.OutOfRoom place)
+        → (place < m.shape.processors) × NeedsMoreRoom t m.shape.room
     pub unbroken : (place : ℕ) → finish_of (finish_behind m turns) ≡ Some (finishes.Broken place) → 2 ^ 34 < worked_in
     pub work : NeedsMoreTurns t undone_in worked_in
     pub few : undone_in ≤ faults_in turns

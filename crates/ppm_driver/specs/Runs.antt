@@ -67,9 +67,13 @@ abbrev pub RunMay : RunOptions → (watching : ℕ) → (plan : List ℕ) → (b
 RunMay options watching plan before now source answer =
     PlannedMay plan_form plan options.processors (TextHas options watching before now) text_limit source answer
 
--- what watchers were told where an answer comes: the causes of an answer of a run say which turns; those behind the first so many nothing
+-- what watchers were told where an answer comes: the causes of an answer of a run say which turns; and so it is with those behind the first
+-- so many, who were told nothing
+abbrev pub TellsOfTurns : Answer → ToldLists → ToldLists → Type 0
+TellsOfTurns answer before now = TellsOfRun (λ answer before now. ⊤) answer before now
+
 abbrev pub RunTells : (watching : ℕ) → Answer → ToldLists → ToldLists → Type 0
-RunTells watching answer before now = TellsOfRun (λ answer before now. ⊤) answer before now × OthersKeep watching before now
+RunTells watching answer before now = TellsOfTurns answer before now × OthersKeep watching before now
 
 -- two answers of a text are one where there is one processor, with such options and all plans
 abbrev pub AnswersAreOne : Type 0

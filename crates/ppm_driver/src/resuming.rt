@@ -8,10 +8,10 @@ ghost use Rattle.ppm_loading.specs.Programs.{ProgramMay};
 ghost use Rattle.ppm_loading.specs.Says.{IsTheOne};
 ghost use Rattle.ppm_saved.specs.Names.{lengths_of};
 ghost use Rattle.ppm_driver.specs.Resumes.{ItemsHave, ResumeMay, ResumeTells, ResumedHas, StateHas};
-ghost use Rattle.ppm_driver.specs.Resumes.{TextHas, limits_of as limits_in, named, refusal_of, saved_finish, state_of};
+ghost use Rattle.ppm_driver.specs.Resumes.{TextHas, TextTells, limits_of as limits_in, named, refusal_of, saved_finish, state_of};
 ghost use Rattle.ppm_driver.specs.ResumeRows.{ResumeRows};
-ghost use Rattle.ppm_driver.specs.Runs.{IsSaid};
-ghost use Rattle.ppm_driver.specs.Watchers.{watcher_count};
+ghost use Rattle.ppm_driver.specs.Runs.{IsSaid, RunTells};
+ghost use Rattle.ppm_driver.specs.Watchers.{OthersKeep, watcher_count};
 
 use crate::complete_resume::resumes_complete;
 use crate::legs::{left_words_come_back, runs_in_legs_are_as_programs};
@@ -51,11 +51,12 @@ pub fn resume_command<R: Threads + Wait + Sync, S: Source, K: Sink, E: Sink, W: 
 
     // An answer that the command's causes allow, and its texts. Behind a run each processor's
     // watcher was told its turns; where the text or the plan is refused nobody was told anything;
-    // where memory is wanting, or a watcher refused, each list keeps what it had in front.
+    // where memory is wanting, or a watcher refused, each list keeps what it had in front. The other
+    // watchers are told nothing.
     ensures answers { let o = outside (port S.left S.fault_count source.old source.new)
         (port K.written K.fault_count out.old out.new) (port E.written E.fault_count err.old err.new)
         (map W.told watch.old.items) (map W.told watch.new.items)
-        in Answers (ResumeMay options faults.now o.told_before o.told_now o.source) ResumeTells o result }
+        in Answers (ResumeMay options faults.now o.told_before o.told_now o.source) (ResumeTells o.source) o result }
 
     // What follows from each status.
     ensures rows { ResumeRows options faults.now (outside (port S.left S.fault_count source.old source.new)
@@ -85,7 +86,7 @@ fn read_answer<R: Threads + Wait + Sync, S: Source, W: Watch>(
     requires watchers { length watch.old.items ≡ watcher_count }
     ensures may { ResumeMay options faults.now (map W.told watch.old.items) (map W.told watch.new.items)
         (port S.left S.fault_count source.old source.new) result }
-    ensures told { ResumeTells result (map W.told watch.old.items) (map W.told watch.new.items) }
+    ensures told { ResumeTells (port S.left S.fault_count source.old source.new) result (map W.told watch.old.items) (map W.told watch.new.items) }
     ensures kept { KeepFronts (map W.told watch.old.items) (map W.told watch.new.items) }
     ensures watchers { length watch.new.items ≡ watcher_count }
 {
@@ -106,7 +107,7 @@ fn text_answer<R: Threads + Wait + Sync, W: Watch>(
 ) -> Answer
     requires watchers { length watch.old.items ≡ watcher_count }
     ensures may { TextMay (TextHas options faults.now (map W.told watch.old.items) (map W.told watch.new.items)) text.items result }
-    ensures told { ResumeTells result (map W.told watch.old.items) (map W.told watch.new.items) }
+    ensures told { TextTells text.items result (map W.told watch.old.items) (map W.told watch.new.items) }
     ensures kept { KeepFronts (map W.told watch.old.items) (map W.told watch.new.items) }
     ensures watchers { length watch.new.items ≡ watcher_count }
 {
@@ -150,7 +151,7 @@ fn state_answer<R: Threads + Wait + Sync, W: Watch>(
 ) -> Answer
     requires watchers { length watch.old.items ≡ watcher_count }
     ensures may { ProgramMay (StateHas options faults.now (map W.told watch.old.items) (map W.told watch.new.items) (state_of saved)) result }
-    ensures told { ResumeTells result (map W.told watch.old.items) (map W.told watch.new.items) }
+    ensures told { RunTells saved.shape.processors result (map W.told watch.old.items) (map W.told watch.new.items) }
     ensures kept { KeepFronts (map W.told watch.old.items) (map W.told watch.new.items) }
     ensures watchers { length watch.new.items ≡ watcher_count }
 {
@@ -174,7 +175,7 @@ fn planned_answer<R: Threads + Wait + Sync, W: Watch>(
     requires watchers { length watch.old.items ≡ watcher_count }
     ensures may { ProgramMay (ItemsHave options (map W.told watch.old.items) (map W.told watch.new.items) plan.now.items (state_of saved))
         result }
-    ensures told { ResumeTells result (map W.told watch.old.items) (map W.told watch.new.items) }
+    ensures told { RunTells saved.shape.processors result (map W.told watch.old.items) (map W.told watch.new.items) }
     ensures kept { KeepFronts (map W.told watch.old.items) (map W.told watch.new.items) }
     ensures watchers { length watch.new.items ≡ watcher_count }
 {
@@ -200,6 +201,7 @@ fn resumed<R: Threads + Wait + Sync, W: Watch>(
     requires processors { plan.now.processors ≡ saved.shape.processors }
     requires watchers { length watch.old.items ≡ watcher_count }
     ensures has { IfOk result (ResumedHas options (map W.told watch.old.items) (map W.told watch.new.items) plan.now.items (state_of saved)) }
+    ensures others { OthersKeep saved.shape.processors (map W.told watch.old.items) (map W.told watch.new.items) }
     ensures kept { KeepFronts (map W.told watch.old.items) (map W.told watch.new.items) }
     ensures watchers { length watch.new.items ≡ watcher_count }
 {

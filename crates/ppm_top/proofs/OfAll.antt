@@ -125,7 +125,7 @@ reports_faults o may status reports a = record {
 -- what was delivered, without what watchers were told
 delivers : (words : List (List ℕ)) (o : Outside) (status : Status) → IsAnswered words o status →
     DeliversAnswer (CommandMay (command_of words) o) (ports_of o) status
-delivers words o status a = of_answers (CommandMay (command_of words) o) (CommandTells (command_of words)) o status a
+delivers words o status a = of_answers (CommandMay (command_of words) o) (CommandTells (command_of words) o) o status a
 
 faults : (words : List (List ℕ)) (o : Outside) (status : Status) → IsAnswered words o status → ReportsFaults o status
 faults words o status a =
@@ -273,8 +273,8 @@ program_rows laws words o status a = record {
   nothing_on_out = delivered.nothing_on_out o.out o.err a.answer status a.delivered;
 } where
   by_example : (options : SelfOptions) → command_of words ≡ Some (commands.Example options)
-      → Answers (CommandMay (Some (commands.Example options)) o) (CommandTells (Some (commands.Example options))) o status
-  by_example options e = subst (λ c. Answers (CommandMay c o) (CommandTells c) o status) e a
+      → Answers (CommandMay (Some (commands.Example options)) o) (CommandTells (Some (commands.Example options)) o) o status
+  by_example options e = subst (λ c. Answers (CommandMay c o) (CommandTells c o) o status) e a
 
   by_words : (command : Option Command) → command_of words ≡ command → DeliversAnswer (CommandMay command o) (ports_of o) status
   by_words command e = subst (λ c. DeliversAnswer (CommandMay c o) (ports_of o) status) e (delivers words o status a)
