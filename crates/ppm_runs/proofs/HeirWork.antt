@@ -66,7 +66,7 @@ use Rattle.ppm_kept.proofs.PutLemmas.{put_here as set_here, put_else as set_else
 use Rattle.ppm_runs.specs.Run.{image, fate_of}
 use Rattle.ppm_runs.specs.Follow.{IsHalves, GoesOn, LooksOnly}
 use Rattle.ppm_runs.specs.Entries.{IsHeired}
-use Rattle.ppm_runs.specs.Work.{undone_of, WorkIsBoundedSo, WorkIsWithin256So}
+use Rattle.ppm_runs.specs.Work.{undone_of, WorkIsBounded, WorkIsWithin256}
 use Rattle.ppm_runs.proofs.AgainLemmas.{again, again_not, again_live, left_at, row_live}
 use Rattle.ppm_runs.proofs.BoundLemmas.{live_stands, length_both, finish_still, undone_is, Stage, Pays, dues, agains, goes_on, alone_goes, made_all, work_of_stage, first_run, first_stage, first_tree}
 use Rattle.ppm_runs.proofs.BrokenLemmas.{broken_stays}
@@ -401,9 +401,9 @@ module _ (s : Shape) (code : CodeParts) (ih : s.takeover ≡ ByEntries) (fair : 
         subst₂ (λ (x y : ℕ). Moment (after s code state (turn ∷ more)) (homes s code state h (turn ∷ more)) (forked_in s code state forked (turn ∷ more)) (taken_in s code state taken (turn ∷ more)) x y (made_all s code fair root input end ends made state (turn ∷ more))) w z rest
 
 -- with either takeover
-pub work_is_bounded_so : WorkIsBoundedSo
+pub work_is_bounded : WorkIsBounded
 unfolding heired_first
-work_is_bounded_so code input s keeper im fair opens calm turns all end ends = elim (how_or s.takeover) [
+work_is_bounded code input s keeper im fair opens calm turns all end ends = elim (how_or s.takeover) [
   | inl places ↦
       let le = work_is_bounded code input s keeper im places fair opens calm turns all end ends in
       let same = ap (λ (told : RunState → Turn → List ℕ). length (along s code told (opening im.words s.processors) turns)) (undone_is s places) in
@@ -421,8 +421,8 @@ work_is_bounded_so code input s keeper im fair opens calm turns all end ends = e
       omega (arith, le)
 ]
 
-pub work_is_within_256_so : WorkIsWithin256So
-work_is_within_256_so code input s keeper im fair opens calm turns all end ends =
-    let le = work_is_bounded_so code input s keeper im fair opens calm turns all end ends in
+pub work_is_within_256 : WorkIsWithin256
+work_is_within_256 code input s keeper im fair opens calm turns all end ends =
+    let le = work_is_bounded code input s keeper im fair opens calm turns all end ends in
     let some = strands_are_counted (strands s code) (root_strand code input) (arrays_at (view s im.words)) end ends in
     omega (arith, le, some)
