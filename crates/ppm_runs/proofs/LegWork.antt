@@ -80,7 +80,7 @@ lost_in n (leg ∷ legs) = lost_in n legs + 172 * n
 times_more : (n k : ℕ) → n * suc k ≡ n + n * k
 times_more n k = grind arith
 
-none_of : (n : ℕ) → n * 0 ≡ 0
+pub none_of : (n : ℕ) → n * 0 ≡ 0
 none_of n = grind arith
 
 lost_are : (n : ℕ) (legs : List Leg) → lost_in n legs ≡ 172 * (n * length legs)
