@@ -55,9 +55,9 @@ use Rattle.ppm_kept.specs.Answers.{finish_by}
 use Rattle.ppm_kept.specs.Running.{IsFair, strands}
 use Rattle.ppm_runs.specs.Entries.{EndsAsRun, OnceInEachRun, RunsEndSo, RunsForkSo}
 use Rattle.ppm_runs.specs.Moments.{AreOnce}
-use Rattle.ppm_runs.specs.Spent.{RoomIsSpentSo, RoomIsWithin}
+use Rattle.ppm_runs.specs.Spent.{RoomIsSpent, RoomIsWithin}
 use Rattle.ppm_runs.specs.Unbroken.{NothingBreaks}
-use Rattle.ppm_runs.specs.Work.{WorkIsWithin256So}
+use Rattle.ppm_runs.specs.Work.{WorkIsWithin256}
 use Rattle.ppm_core.specs.Situation.{Situation, loaded}
 use Rattle.ppm_loading.specs.declared.loading.Sizes.{Sizes}
 use Rattle.ppm_loading.specs.Loading.{OpensRun}
@@ -83,9 +83,9 @@ pub record Laws : Type 0 where
   pub runs : RunsEndSo
   pub forks : RunsForkSo
   pub once : OnceInEachRun
-  pub room : RoomIsSpentSo
+  pub room : RoomIsSpent
   pub pools : RoomIsWithin
-  pub work : WorkIsWithin256So
+  pub work : WorkIsWithin256
   pub whole : NothingBreaks
 
 -- a machine has as many words after turns as before them

@@ -24,7 +24,7 @@ use ppm_loading::refusal_answer;
 use ppm_plan::{Plan, read_plan};
 use ppm_ports::{Sink, Source, Watch, read_whole};
 use ppm_saved::{Names, Renewed, Saved, renew};
-use ppm_saved_reader::{SavedError, SAVED_LIMIT, read_saved};
+use ppm_saved_reader::{SAVED_LIMIT, SavedError, read_saved};
 use ppm_table::{Closed, Shared};
 use ppm_threads::drive;
 use ppm_words::{Idle, NoMemory};
