@@ -68,7 +68,6 @@ use Rattle.ppm_driver.proofs.EndLemmas.{keeper_opened, unset, words_opened}
 use Rattle.ppm_runs.proofs.LongLemmas.{as_long}
 use Rattle.ppm_driver.proofs.FaultLemmas.{undone_few}
 use Rattle.ppm_driver.proofs.PlaceLemmas.{of_place}
-use Rattle.ppm_driver.proofs.WorkLemmas.{works_are}
 
 -- what the crates below show of every text, every code, every image and every run
 pub record Laws : Type 0 where
@@ -256,11 +255,10 @@ module _ (laws : Laws) (text : List ℕ) (t : ProgramTree) (has : HasProgram tex
       -- words are broken only behind more than 2^34 work turns
       breaks : (place : ℕ) → Says (finishes.Broken place) → 2 ^ 34 < worked_in start turns
       breaks place says =
-          let count = works_are s code (opening words s.processors) turns in
           elim (cases_lt (2 ^ 34) (worked_in start turns)) [
             | inl many ↦ many
             | inr few ↦ absurd ((laws.whole code input s keeper b.image fair opened calm turns among
-                (omega (arith, few, count))).finish (finishes.Broken place) says)
+                few).finish (finishes.Broken place) says)
           ]
 
       -- the work of all turns is within its bound
