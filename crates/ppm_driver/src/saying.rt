@@ -1,18 +1,12 @@
 //! What is answered behind a run, by the finish word: these arrays with their values, the trap, or
 //! why there are none. `Err` comes only where memory is refused.
-ghost use Rattle.std.specs.Prelude.{◌≡◌, IfOk, List, MatchOption, length, map};
-ghost use Rattle.ppm_cells.specs.Ending.{ending_of};
-ghost use Rattle.ppm_cells.specs.Memory.{read};
-ghost use Rattle.ppm_cells.specs.declared.cell.Cell.TheVariants.{FinishWord};
-ghost use Rattle.ppm_cells.specs.declared.ending.Ending.TheVariants.{With};
-ghost use Rattle.ppm_cells.specs.declared.finish.Finish.TheVariants.{Ended};
+ghost use Rattle.std.specs.Prelude.{◌≡◌, IfOk, length, map};
 ghost use Rattle.ppm_core.specs.Machine.{seen};
 ghost use Rattle.ppm_loading.specs.Says.{IsTheOne};
 ghost use Rattle.ppm_saved.specs.Names.{lengths_of};
-ghost use Rattle.ppm_words.specs.declared.named_array.NamedArray.{NamedArray};
 ghost use Rattle.ppm_driver.specs.Replays.{IsSaid as IsSaidOfReplay};
 ghost use Rattle.ppm_driver.specs.Resumes.{named};
-ghost use Rattle.ppm_driver.specs.Runs.{IsSaid as IsSaidOfRun};
+ghost use Rattle.ppm_driver.specs.Runs.{IsSaid as IsSaidOfRun, SaysWhyNone};
 
 use crate::names::arrays_of_names;
 use ppm_answers::{Answer, Tally};
@@ -56,8 +50,7 @@ pub(crate) fn resumed_answer(
 
 /// Why a run in which processors obey has no arrays, by the finish word; `None` where it has them.
 fn unended_answer(closed: &Closed) -> Option<Answer>
-    ensures { MatchOption result (ending_of (read closed.now.shape closed.now.words FinishWord) ≡ With Ended) (λ answer. (arrays : List NamedArray)
-        → IsTheOne (IsSaidOfRun closed.now.shape closed.now.array_lengths arrays closed.now.words) answer) }
+    ensures { SaysWhyNone closed.now.shape closed.now.array_lengths closed.now.words result }
 {
     match closed.outcome() {
         Ending::With(finish) => match finish {
