@@ -152,12 +152,19 @@ module _ (laws : Laws) (text : List ℕ) (t : ProgramTree) (has : HasProgram tex
       there = of_place s code (meant.is_code laws.base text t has) words (unset sizes code input keeper m b) legs are turns among
 
       needs_more : (place : ℕ) → Says (finishes.OutOfRoom place) → NeedsMoreRoom t s.room
-      needs_more place says k z means =
-          let e = (laws.base.meant t (meant.inside laws.base text t has) has.admitted.admitted has.bounded input (meant.starts laws.base text t has)).ends k z means in
-          let ends_here = ends_as (sym (meant.shown laws.base text t has sizes keeper m b).strands) (sym (meant.shown laws.base text t has sizes keeper m b).root) (sym (meant.shown laws.base text t has sizes keeper m b).arrays) e.0 e.1 in
-          let less = laws.room code input s keeper b.image (b.sized.takeover ∙ places) (meant.fair laws.base text t has) (meant.opened laws.base text t has sizes keeper m b) (meant.calm laws.base text t has sizes keeper m b) legs are turns among place says e.0 ends_here in
-          let words_are = e.2.pool_words in
-          omega (arith, less, words_are)
+      needs_more place says = record {
+        depth_first = more;
+        whole = λ k z means.
+            let e = (laws.base.meant t (meant.inside laws.base text t has) has.admitted.admitted has.bounded input (meant.starts laws.base text t has)).ends k z means in
+            let less = more e.0 e.1 in
+            let words_are = e.2.pool_words in
+            omega (arith, less, words_are);
+      }
+        where
+          more : (e : End Result) → ComesTo code input e → s.room < pool_words code e.counts
+          more e comes =
+              laws.room code input s keeper b.image (b.sized.takeover ∙ places) (meant.fair laws.base text t has) (meant.opened laws.base text t has sizes keeper m b) (meant.calm laws.base text t has sizes keeper m b) legs are turns among place says e
+              (ends_as (sym (meant.shown laws.base text t has sizes keeper m b).strands) (sym (meant.shown laws.base text t has sizes keeper m b).root) (sym (meant.shown laws.base text t has sizes keeper m b).arrays) e comes)
 
       -- the work of all turns is within its bound
       works : NeedsMoreTurns t (lost_in_all start legs turns) (all_work s code words legs turns)

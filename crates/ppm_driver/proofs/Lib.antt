@@ -26,6 +26,7 @@ pub mod RunLemmas
 pub mod OneRun
 pub mod StrikeLemmas
 pub mod CompleteLemmas
+pub mod HeadlineLemmas
 pub mod OfRun
 pub mod ResumeLemmas
 pub mod OfResume

@@ -226,12 +226,19 @@ module _ (laws : Laws) (text : List ℕ) (t : ProgramTree) (has : HasProgram tex
       there = of_place s code is_code words (unset sizes code input keeper m b) [] tt turns among
 
       needs_more : (place : ℕ) → Says (finishes.OutOfRoom place) → NeedsMoreRoom t s.room
-      needs_more place says k z means =
-          let e = (laws.meant t inside has.admitted.admitted has.bounded input starts).ends k z means in
-          let ends_here = ends_as (sym shown.strands) (sym shown.root) (sym shown.arrays) e.0 e.1 in
-          let less = laws.room code input s keeper b.image fair opened calm turns among place says e.0 ends_here in
-          let words_are = e.2.pool_words in
-          omega (arith, less, words_are)
+      needs_more place says = record {
+        depth_first = more;
+        whole = λ k z means.
+            let e = (laws.meant t inside has.admitted.admitted has.bounded input starts).ends k z means in
+            let less = more e.0 e.1 in
+            let words_are = e.2.pool_words in
+            omega (arith, less, words_are);
+      }
+        where
+          more : (e : End Result) → ComesTo code input e → s.room < pool_words code e.counts
+          more e comes =
+              laws.room code input s keeper b.image fair opened calm turns among place says e
+              (ends_as (sym shown.strands) (sym shown.root) (sym shown.arrays) e comes)
 
       -- words are broken only behind more than 2^34 work turns
       breaks : (place : ℕ) → Says (finishes.Broken place) → 2 ^ 34 < worked_in start turns

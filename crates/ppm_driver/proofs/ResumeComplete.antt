@@ -7,11 +7,6 @@ use Rattle.ppm_ports.specs.Outside.{ToldLists}
 use Rattle.ppm_cells.specs.Limits.{most_pool_words}
 use Rattle.ppm_words.specs.Limits.{word_limit}
 use Rattle.ppm_cells.specs.declared.shape.Shape.{Shape}
-use Rattle.ppm_tree.specs.Program.{initial_arrays}
-use Rattle.ppm_rows.specs.Correct.{TreesAreWithin}
-use Rattle.ppm_program.proofs.WithinLemmas.{tree_within}
-use Rattle.ppm_cut_correct.specs.Beginning.{StartWithInput}
-use Rattle.ppm_cut_correct.specs.Correct.{EndAsMeant}
 use Rattle.ppm_plan.specs.declared.plan_item.PlanItem.{PlanItem}
 use Rattle.ppm_plan.specs.Correct.{HaveOneAnswer as PlansHaveOneAnswer}
 use Rattle.ppm_plan.specs.Forms.{plan_form}
@@ -40,9 +35,6 @@ use Rattle.ppm_driver.proofs.ResumeLemmas.{spent_has, has_kind}
 pub record Laws : Type 0 where
   pub runs : RunsInLegsAreAsPrograms
   pub comes : LeftWordsComeBack
-  pub within : TreesAreWithin
-  pub starts : StartWithInput
-  pub meant : EndAsMeant
   pub plans : PlansHaveOneAnswer
   pub states : SavedTextsTellStates
   pub faults : FaultsTellSavedTexts
@@ -107,13 +99,7 @@ module _ (laws : Laws) where
     -- enough room is not too little
     not_little : NeedsMoreRoom left.tree z.shape.room → ⊥
     not_little needs =
-        let inside = tree_within laws.within source left.tree left.has.admitted.tree in
-        let means = (laws.meant left.tree inside left.has.admitted.admitted left.has.bounded (initial_arrays left.tree) (laws.starts left.tree inside left.has.admitted.admitted)).ends_only
-        enough.end enough.comes in
-        let more = needs means.0 means.1 means.2 in
-        let same = means.3.pool_words in
-        let some = enough.for_room in
-        omega (arith, more, same, some)
+        let more = needs.depth_first enough.end enough.comes in let some = enough.for_room in omega (arith, more, some)
 
     items_end : (a : Answer) → ItemsHave options before now items z a → IsEnd a
     items_end (answers.Ended arrays) h = tt

@@ -41,10 +41,12 @@ HasOutcome t o = (within : ℕ) × Serial t within o
 abbrev pub EndsDepthFirst : ProgramTree → Outcome → Type 0
 EndsDepthFirst t o = (e : CapsuleEnd Result) × ComesTo (code_of t) (initial_arrays t) e × (said_of (initial_arrays t) e.words e.outcome ≡ o)
 
--- The program, both branches of each fork run whole, has no end, or it takes more words than so many: the frame of `main`, and those that its
--- calls, its forks and each `each` ask for. Each pool of a machine has as many words as its room.
-abbrev pub NeedsMoreRoom : ProgramTree → (room : ℕ) → Type 0
-NeedsMoreRoom t room = (k : Counts) (z : End ℤ) → Means Whole t (values_of (initial_arrays t)) k z → room < words_taken t k
+-- A pool of so many words is too small for the program: its code, run depth first, has no end, or takes more of them; and so does the program, both
+-- branches of each fork run whole. It takes the frame of `main`, and those that its calls, its forks and each `each` ask for. Each pool of a machine
+-- has as many words as its room.
+pub record NeedsMoreRoom (t : ProgramTree) (room : ℕ) : Type 0 where
+  pub depth_first : (e : CapsuleEnd Result) → ComesTo (code_of t) (initial_arrays t) e → room < pool_words (code_of t) e.counts
+  pub whole : (k : Counts) (z : End ℤ) → Means Whole t (values_of (initial_arrays t)) k z → room < words_taken t k
 
 -- The code of the program, run depth first, has no end, or so many turns are fewer than 256 for each of its capsules and each of so many faults.
 abbrev pub NeedsMoreTurns : ProgramTree → (faults limit : ℕ) → Type 0

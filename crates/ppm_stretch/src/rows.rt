@@ -2,6 +2,7 @@
 ghost use Rattle.std.specs.Prelude.{◌≡◌, ◌≢◌, ◌≤◌, ◌<◌, ◌+◌, ◌^◌, ◌||◌, ℕ, Bool, true, false, not, if◌then◌else◌};
 ghost use Rattle.ppm_cells.specs.declared.shape.Shape.{Shape};
 ghost use Rattle.ppm_code.specs.declared.code.CodeParts.{CodeParts};
+ghost use Rattle.ppm_ports.specs.Told.{KeepsFront};
 ghost use Rattle.ppm_step.specs.Locals.{IsLocal, standing_of};
 ghost use Rattle.ppm_step.specs.Standings.{IsDone};
 ghost use Rattle.ppm_step.specs.State.{is_done_at, next_of, seeks_holder};
@@ -9,7 +10,6 @@ ghost use Rattle.ppm_step.specs.Told.{is_work_next};
 ghost use Rattle.ppm_step.specs.declared.turn.Next.TheVariants.{Seek};
 ghost use Rattle.ppm_table.specs.Run.{stands_by, deed_by, deeds_in, IsAtCode, IsSeat};
 ghost use Rattle.ppm_table.specs.Shown.{IsOf, opening_of};
-ghost use Rattle.ppm_table.specs.Telling.{Keeps};
 ghost use Rattle.ppm_stretch.specs.Rows.{IsChoosing, IsFree, Makes, GivesUpIfRefused};
 ghost use Rattle.ppm_stretch.specs.Steady.{Moves, Refuses, is_exchange, looks_behind};
 
@@ -350,7 +350,7 @@ pub fn steps<W: Watch>(
     requires of { IsOf shared.now processor.old }
     ensures of { IsOf shared.now processor.new }
     ensures own { processor.new.local.own ≡ processor.old.local.own }
-    ensures keeps { Keeps (W.told watch.old) (W.told watch.new) }
+    ensures keeps { KeepsFront (W.told watch.old) (W.told watch.new) }
     ensures few { (result.made ≤ most) × (result.work ≤ result.made) × (result.looks ≤ result.made) }
     ensures makes { Makes W.told (opening_of shared.now) processor.old.local.own processor.old.seat.me processor.new.seat.me
         watch.old watch.new result }

@@ -49,7 +49,7 @@ fn act_alone(
     plan: &Plan,
     limits: Limits,
 ) -> Option<Event> {
-    if is_over(pace.next) || pace.work > 100_000 {
+    if is_over(pace.next) {
         return None;
     }
     let act = next_act(pace, victims, plan, limits)?;

@@ -11,7 +11,7 @@ use Rattle.ppm_table.specs.declared.view.Deed.{Deed}
 use Rattle.ppm_table.specs.declared.view.Opening.{Opening}
 use Rattle.ppm_table.specs.Run.{AllTold, start, behind_turns, deeds_in_run}
 use Rattle.ppm_table.specs.Shown.{InOrder, AllNew, AllIn, ClosedRun, deeds_of_processor, opening_of}
-use Rattle.ppm_table.specs.Telling.{Keeps}
+use Rattle.ppm_ports.specs.Told.{KeepsFront}
 use Rattle.ppm_table.proofs.RunLemmas.{lost_length}
 use Rattle.ppm_table.proofs.TellingLemmas.{keeps_still}
 use Rattle.ppm_threads.specs.Going.{OwnObeys, HasQuit, told_of_deeds}
@@ -122,7 +122,7 @@ module _ {W : Type 0} (told : W → Option (List Event)) (plan : Planned) (limit
   pub keep_still : (ws : List W) → AllKeep told ws ws
   keep_still ws j d = keeps_still told (get_or ws j d) (get_or ws j d) refl
 
-  keep_at : (w v : W) (ws vs : List W) → Keeps (told w) (told v) → AllKeep told ws vs → AllKeep told (w ∷ ws) (v ∷ vs)
+  keep_at : (w v : W) (ws vs : List W) → KeepsFront (told w) (told v) → AllKeep told ws vs → AllKeep told (w ∷ ws) (v ∷ vs)
   keep_at w v ws vs h r zero d = h
   keep_at w v ws vs h r (suc j) d = r j d
 

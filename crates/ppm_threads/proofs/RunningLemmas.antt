@@ -9,7 +9,7 @@ use Rattle.ppm_table.specs.declared.processor.Processor.{Processor}
 use Rattle.ppm_table.specs.declared.processor.Shared.{Shared}
 use Rattle.ppm_table.specs.declared.view.Opening.{Opening}
 use Rattle.ppm_table.specs.Shown.{IsOf, deeds_of_processor, opening_of}
-use Rattle.ppm_table.specs.Telling.{Keeps}
+use Rattle.ppm_ports.specs.Told.{KeepsFront}
 use Rattle.ppm_table.proofs.TellingLemmas.{keeps_both}
 use Rattle.ppm_threads.specs.declared.act_result.ActResult.{ActResult}
 use Rattle.ppm_threads.specs.declared.act_result.ActResult.TheVariants.{More, Over, Refused}
@@ -28,7 +28,7 @@ module _ {W : Type 0} (told : W → Option (List Event)) (plan : Planned) (limit
   pub record Runs (q : Processor) (v : W) (pace : Pace) (victims : Drawing) : Type 0 where
     pub of : IsOf s q
     pub own_is : q.local.own ≡ own
-    pub keeps : Keeps (told w) (told v)
+    pub keeps : KeepsFront (told w) (told v)
     pub obeying : Obeying plan limits k own (deeds_of_processor q) pace victims
     pub grows : TraceGrows (told w) (told v) (told_of_deeds plan limits k own (deeds_of_processor p)) (told_of_deeds plan limits k own (deeds_of_processor q))
 
@@ -39,7 +39,7 @@ module _ {W : Type 0} (told : W → Option (List Event)) (plan : Planned) (limit
 
   module _ (q : Processor) (v : W) (pace : Pace) (victims : Drawing) (r : Runs q v pace victims)
       (q' : Processor) (v' : W) (pace' : Pace) (victims' : Drawing) (of : IsOf s q') (same : q'.local.own ≡ q.local.own)
-      (keeps : Keeps (told v) (told v')) where
+      (keeps : KeepsFront (told v) (told v')) where
     abbrev Goes : ActResult → Type 0
     Goes came = RunsOn plan limits k own (told v) (told v') q.seat.me q'.seat.me pace' victims' came
 

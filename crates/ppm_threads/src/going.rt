@@ -1,5 +1,6 @@
 //! A processor on its way.
-ghost use Rattle.std.specs.Prelude.{◌≡◌, ◌≢◌, ◌<◌, ◌≤◌, ◌^◌, IfSome, true, false};
+ghost use Rattle.std.specs.Prelude.{◌≡◌, ◌≢◌, true, false};
+ghost use Rattle.ppm_ports.specs.Told.{KeepsFront};
 ghost use Rattle.ppm_step.specs.Locals.{standing_of};
 ghost use Rattle.ppm_step.specs.Standings.{Standing, IsDone};
 ghost use Rattle.ppm_step.specs.Told.{place_of};
@@ -9,7 +10,6 @@ ghost use Rattle.ppm_choice.specs.Obeying.{Past, is_park};
 ghost use Rattle.ppm_choice.specs.Tells.{parked};
 ghost use Rattle.ppm_table.specs.Run.{IsActAt};
 ghost use Rattle.ppm_table.specs.Shown.{IsOf, deeds_of_processor, opening_of};
-ghost use Rattle.ppm_table.specs.Telling.{Keeps};
 ghost use Rattle.ppm_threads.specs.Driven.{Begins, Ends};
 ghost use Rattle.ppm_threads.specs.Going.{Obeying, Resting, Acting, TraceGrows, HasMoreDeeds, GoesAhead, RunsOn};
 ghost use Rattle.ppm_threads.specs.Going.{GaveUp, HasQuit, told_of_deeds, told_so_far, act_result_of};
@@ -26,9 +26,6 @@ use ppm_stretch::{is_due, steps};
 use ppm_table::{Processor, hear};
 use ppm_words::Event;
 use std::sync::Wait;
-
-/// More work turns than any limit allows.
-const MOST_WORK: u64 = 1 << 62;
 
 /// So many steps a processor makes at most before it wakes those that have parked, where it has put
 /// a job into a deque.
@@ -56,14 +53,13 @@ fn parked_at(place: u32) -> Event
     }
 }
 
-/// How many steps in a row are made before those are woken that have parked.
-fn most_at_once(limits: Limits) -> u64
-    ensures { result ≤ 2 ^ 62 }
-{
+/// How many steps in a row are made before those are woken that have parked: any number, where none
+/// parks.
+fn most_at_once(limits: Limits) -> u64 {
     if is_park(limits.idle) {
         MOST_UNTOLD
     } else {
-        MOST_WORK
+        u64::MAX
     }
 }
 
@@ -75,15 +71,13 @@ fn go_ahead<W: Watch>(
     watch: &mut W,
 ) -> Option<u64>
     requires of { IsOf crew.now.shared processor.old }
-    requires few { pace.old.work < 2 ^ 62 }
     ensures of { IsOf crew.now.shared processor.new }
     ensures own { processor.new.local.own ≡ processor.old.local.own }
-    ensures keeps { Keeps (W.told watch.old) (W.told watch.new) }
+    ensures keeps { KeepsFront (W.told watch.old) (W.told watch.new) }
     ensures goes { (victims : Drawing)
         → Obeying crew.now.plan.now crew.now.limits (opening_of crew.now.shared) processor.old.local.own (deeds_of_processor processor.old) pace.old victims
         → GoesAhead crew.now.plan.now crew.now.limits (opening_of crew.now.shared) processor.old.local.own (W.told watch.old) (W.told watch.new)
         processor.old.seat.me processor.new.seat.me pace.new victims result }
-    ensures none { IfSome result (λ made. made ≡ 0 → pace.new ≡ pace.old) }
 {
     let most = clear_steps(pace, crew.plan, crew.limits).min(most_at_once(crew.limits));
     let row = steps(processor, &crew.shared, most, watch);
@@ -137,12 +131,11 @@ fn make<W: Watch>(
     act: Act,
 ) -> bool
     requires of { IsOf crew.now.shared processor.old }
-    requires few { pace.old.work < 2 ^ 62 }
     requires lives { standing_of crew.now.shared.shape crew.now.shared.code processor.old.local ≢ IsDone }
     requires may { IsActAt crew.now.shared.shape (standing_of crew.now.shared.shape crew.now.shared.code processor.old.local) act }
     ensures of { IsOf crew.now.shared processor.new }
     ensures own { processor.new.local.own ≡ processor.old.local.own }
-    ensures keeps { Keeps (W.told watch.old) (W.told watch.new) }
+    ensures keeps { KeepsFront (W.told watch.old) (W.told watch.new) }
     ensures obeys { result ≡ true → (plan : Planned) (past : Past) (victims : Drawing)
         → Acting plan crew.now.limits (opening_of crew.now.shared) processor.old.local.own (deeds_of_processor processor.old) past pace.old victims act
         → Obeying plan crew.now.limits (opening_of crew.now.shared) processor.old.local.own (deeds_of_processor processor.new) pace.new victims
@@ -194,13 +187,12 @@ fn rest_first<W: Watch, R: Wait>(
     watch: &mut W,
 ) -> ActResult
     requires of { IsOf crew.now.shared processor.old }
-    requires few { pace.old.work < 2 ^ 62 }
     requires plan { crew.now.plan.now.processors ≡ crew.now.shared.shape.processors }
     requires resting { Resting crew.now.plan.now crew.now.limits (opening_of crew.now.shared) processor.old.local.own (deeds_of_processor processor.old)
         pace.old victims.old }
     ensures of { IsOf crew.now.shared processor.new }
     ensures own { processor.new.local.own ≡ processor.old.local.own }
-    ensures keeps { Keeps (W.told watch.old) (W.told watch.new) }
+    ensures keeps { KeepsFront (W.told watch.old) (W.told watch.new) }
     ensures goes { RunsOn crew.now.plan.now crew.now.limits (opening_of crew.now.shared) processor.old.local.own (W.told watch.old) (W.told watch.new)
         processor.old.seat.me processor.new.seat.me pace.new victims.new result }
 {
@@ -239,13 +231,12 @@ fn act<W: Watch, R: Wait>(
     watch: &mut W,
 ) -> ActResult
     requires of { IsOf crew.now.shared processor.old }
-    requires few { pace.old.work < 2 ^ 62 }
     requires plan { crew.now.plan.now.processors ≡ crew.now.shared.shape.processors }
     requires obeying { Obeying crew.now.plan.now crew.now.limits (opening_of crew.now.shared) processor.old.local.own (deeds_of_processor processor.old)
         pace.old victims.old }
     ensures of { IsOf crew.now.shared processor.new }
     ensures own { processor.new.local.own ≡ processor.old.local.own }
-    ensures keeps { Keeps (W.told watch.old) (W.told watch.new) }
+    ensures keeps { KeepsFront (W.told watch.old) (W.told watch.new) }
     ensures goes { RunsOn crew.now.plan.now crew.now.limits (opening_of crew.now.shared) processor.old.local.own (W.told watch.old) (W.told watch.new)
         processor.old.seat.me processor.new.seat.me pace.new victims.new result }
 {
@@ -269,13 +260,12 @@ fn go_on<W: Watch, R: Wait>(
     watch: &mut W,
 ) -> ActResult
     requires of { IsOf crew.now.shared processor.old }
-    requires few { pace.old.work < 2 ^ 62 }
     requires plan { crew.now.plan.now.processors ≡ crew.now.shared.shape.processors }
     requires obeying { Obeying crew.now.plan.now crew.now.limits (opening_of crew.now.shared) processor.old.local.own (deeds_of_processor processor.old)
         pace.old victims.old }
     ensures of { IsOf crew.now.shared processor.new }
     ensures own { processor.new.local.own ≡ processor.old.local.own }
-    ensures keeps { Keeps (W.told watch.old) (W.told watch.new) }
+    ensures keeps { KeepsFront (W.told watch.old) (W.told watch.new) }
     ensures goes { RunsOn crew.now.plan.now crew.now.limits (opening_of crew.now.shared) processor.old.local.own (W.told watch.old) (W.told watch.new)
         processor.old.seat.me processor.new.seat.me pace.new victims.new result }
 {
@@ -305,9 +295,6 @@ pub(crate) fn run<W: Watch, R: Wait>(
     let mut victims = Victims::new(crew.limits.seed, own, crew.plan.processors());
     let backoff = Backoff::new();
     for _ in rt.forever() {
-        if pace.work >= MOST_WORK {
-            continue;
-        }
         match go_on(rt, crew, parker, processor, &mut pace, &mut victims, watch) {
             ActResult::More => stand_back(&pace, &backoff),
             ActResult::Over => return true,
