@@ -11,7 +11,7 @@ ghost use Rattle.ppm_commands.specs.Check.{CheckHas, VerdictOf, CheckMay, IsChec
 use crate::laws::listings_have_one_answer;
 use ppm_answers::{Answer, ListingRefusal, Status, answer_of_read, deliver};
 use ppm_code::{Class, Code};
-use ppm_listing_reader::{ListingError, LISTING_LIMIT, read_listing};
+use ppm_listing_reader::{LISTING_LIMIT, ListingError, read_listing};
 use ppm_ports::{Sink, Source, read_whole};
 use ppm_war::{Conflict, check};
 use std::alloc::Global;
