@@ -81,11 +81,11 @@ use Rattle.ppm_runs.proofs.OpenLemmas.{runs_open}
 use Rattle.ppm_runs.proofs.OrderlyLemmas.{halves_owe, how_or}
 use Rattle.ppm_runs.proofs.ShownLemmas.{halves}
 
-has_both : (r : ℕ) (l f : List ℕ) → has f r ≡ true → has (l ++ f) r ≡ true
+pub has_both : (r : ℕ) (l f : List ℕ) → has f r ≡ true → has (l ++ f) r ≡ true
 has_both r [] f e = e
 has_both r (x ∷ l) f e = has_more x r (l ++ f) (has_both r l f e)
 
-has_either : (r : ℕ) (l f : List ℕ) → has (l ++ f) r ≡ true → (has l r ≡ true) ⊎ (has f r ≡ true)
+pub has_either : (r : ℕ) (l f : List ℕ) → has (l ++ f) r ≡ true → (has l r ≡ true) ⊎ (has f r ≡ true)
 has_either r [] f e = inr e
 has_either r (x ∷ l) f e = elim (has_or x r (l ++ f) e) [
   | inl is ↦ inl (has_here_at x r l is)
@@ -367,7 +367,7 @@ module _ (code : CodeParts) (input : List NamedArray) (s : Shape) (keeper : ℕ)
       }
 
   -- so at each moment
-  runs_fork : (turns : List Turn) → AllByRecursion (IsTurnAmong s.processors) turns
+  pub runs_fork : (turns : List Turn) → AllByRecursion (IsTurnAmong s.processors) turns
       → (l : List Followed) × (t : Skeleton) × IsForked s code root (arrays_at (view s im.words)) (after s code first turns) (homes s code first (λ r. Unborn) turns) (forked_in s code first [] turns) (taken_in s code first [] turns) l t
   runs_fork turns all = elim (how_or s.takeover) [
     | inl places ↦ let a = all_places s code places fair root (arrays_at (view s im.words)) first (λ r. Unborn) [] [] seed turns all opens_forked in ([], a.0, a.1)

@@ -64,7 +64,7 @@ module _ (code : CodeParts) (input : List NamedArray) (s : Shape) (keeper : ℕ)
         back (last_state s code im.words legs leg.turns) (all_homes s code im.words legs leg.turns) (all_forked s code im.words legs leg.turns) (all_taken s code im.words legs leg.turns) now.0 now.1 leg.back are.2,
       )
 
-  stays : (legs : List Leg) → AreLegs s code im.words legs → (turns : List Turn) → AllByRecursion (IsTurnAmong s.processors) turns → (t : Skeleton) × IsForkedBehind legs turns t
+  pub stays : (legs : List Leg) → AreLegs s code im.words legs → (turns : List Turn) → AllByRecursion (IsTurnAmong s.processors) turns → (t : Skeleton) × IsForkedBehind legs turns t
   stays legs are turns all = behind legs (begins_so legs are) turns all
 
 pub forks_over_legs : ForksOverLegs
