@@ -35,7 +35,7 @@ use Rattle.ppm_loading.specs.Loading.{AreSizes, OpensRun, opened_by}
 use Rattle.ppm_choice.specs.Deeds.{work_made}
 use Rattle.ppm_choice.specs.Finishes.{Finishes, Proposed, Spent, Stood}
 use Rattle.ppm_driver.specs.RunOf.{words_behind, finish_behind}
-use Rattle.ppm_loading.specs.Says.{arrays_from, IsTheOne, IsOfFinish, IsOfEnding}
+use Rattle.ppm_loading.specs.Says.{IsTheOne, IsOfFinish, IsOfEnding}
 use Rattle.ppm_table.specs.Closed.{Closing}
 use Rattle.ppm_table.specs.Shown.{opening_of}
 use Rattle.ppm_table.specs.declared.processor.Shared.{Shared}
@@ -132,15 +132,6 @@ module _ (s : Shape) (lengths words : List ℕ) (arrays : List NamedArray) where
     pub proposed_of : (w : IsProposedWord processors word) (a : Answer) → IsSaid s lengths arrays words a → Of w.finish a
     proposed_of w a h =
         of_proposed answers.Ended answers.Trapped IsOutOfTurns HasNoEnd s lengths words arrays processors word w a h
-
-  -- of an ending, the answer that it is, and no other
-  pub is_of : (ending : Ending) → ending ≡ ending_of word → (a : Answer) → ((said : Answer) → At ending said → a ≡ said)
-      → IsTheOne (IsSaid s lengths arrays words) a
-  is_of ending e a one said h = one said (subst (λ (x : Ending). At x said) (sym e) h)
-
-  pub is_ended : ending_of word ≡ With finishes.Ended → (found : List NamedArray) → found ≡ arrays_from s lengths words 0 arrays
-      → IsTheOne (IsSaid s lengths arrays words) (answers.Ended found)
-  is_ended e found same = is_of (With finishes.Ended) (sym e) (answers.Ended found) (λ said h. ap (λ (l : List NamedArray). answers.Ended l) same ∙ sym h)
 
   -- where it is that a processor has made its turns, the answer is
   pub spent_ending : (processor : ℕ) → finish_of word ≡ Some (finishes.OutOfTurns processor) → ending_of word ≡ With (finishes.OutOfTurns processor)
