@@ -146,10 +146,11 @@ fn texts_that_are_cut_short_have_theirs(rt: HostRuntime) -> Result<(), Fail> {
         (41, 1, 5),
     ];
     for (len, number, line) in cuts {
-        if len < whole.len() {
-            let found = fault(alloc, &whole[..len])?;
-            assert_eq!(rt; found, (number, line), "{len} bytes");
+        if len >= whole.len() {
+            return Err(Fail::from("the text ends in front of a cut"));
         }
+        let found = fault(alloc, &whole[..len])?;
+        assert_eq!(rt; found, (number, line), "{len} bytes");
     }
     let last = fault(alloc, &whole[..whole.len().saturating_sub(1)])?;
     assert_eq!(rt; last, (5, 14));

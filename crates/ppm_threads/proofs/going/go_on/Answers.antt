@@ -18,7 +18,7 @@ returns-in_default-clause-goes g c = c.in_default.ensures.goes c.args.victims.no
 
 -- its next act
 pub returns-then-made-eq0-clause-keeps : goal.returns-then-made-eq0-clause-keeps
-returns-then-made-eq0-clause-keeps g c = 
+returns-then-made-eq0-clause-keeps g c =
     keeps_both (g.W.Watch.told c.args.watch.now) (g.W.Watch.told c.go_ahead.new.watch) (g.W.Watch.told c.act.new.watch)
     c.go_ahead.ensures.keeps c.act.ensures.keeps
 

@@ -61,7 +61,7 @@ make-requires-clause-may g c κs within =
     may_act shared p c.args.crew.now.plan.now c.args.crew.now.limits r.obeying.past c.in-Some.act c.requires.of c.requires.plan next.1
 
 pub returns-clause-keeps : goal.returns-clause-keeps
-returns-clause-keeps g c = 
+returns-clause-keeps g c =
     keeps_both (g.W.Watch.told c.args.watch.now) (g.W.Watch.told c.hear.new.watch) (g.W.Watch.told c.make.new.watch)
     c.hear.ensures.keeps c.make.ensures.keeps
 
