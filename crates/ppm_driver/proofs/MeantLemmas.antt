@@ -1,6 +1,6 @@
 -- Runs end as their programs do. What the machine begins with is what the depth-first run of the program's code does
 -- (`ShowsTheRun`), and that code is sound: so an outcome of the run is the depth-first run's, and that is the program's.
-use Rattle.std.proofs.Common.{◌≡◌, ℕ, ◌+◌, ◌^◌, ◌<◌, ◌≤◌, List, [], ◌∷◌, length, map, Some, refl, sym, ap, ap₂, ◌∙◌, subst, arith, inl, inr}
+use Rattle.std.proofs.Common.{◌≡◌, ℕ, ◌+◌, ◌^◌, ◌<◌, ◌≤◌, List, [], length, map, Some, refl, sym, ap, ap₂, ◌∙◌, subst, arith, inl, inr}
 use Rattle.std.proofs.lemmas.Bool.{cases_lt}
 use Rattle.std.specs.List.{AllByRecursion, sum}
 use Rattle.ppm_strands.specs.Tree.{Words, Tree, Code}
@@ -42,11 +42,8 @@ use Rattle.ppm_cut_correct.specs.Beginning.{StartWithInput, NameArrays}
 use Rattle.ppm_cut_correct.specs.Correct.{EndAsMeant, EndsSerially}
 use Rattle.ppm_step.specs.Among.{IsTurnAmong}
 use Rattle.ppm_step.specs.Laws.{reached}
-use Rattle.ppm_step.specs.Standings.{Standing, IsLost, IsPlaced, IsAt, IsWithin as IsInRow, IsRunning, IsBroken, IsDone}
-use Rattle.ppm_step.specs.State.{State, stand_of, want_of, acts, happens, after, opening}
-use Rattle.ppm_step.specs.declared.turn.Act.{Act}
+use Rattle.ppm_step.specs.State.{State, opening}
 use Rattle.ppm_step.specs.declared.turn.Turn.{Turn}
-use Rattle.ppm_step.proofs.WordLemmas.{length_stays}
 use Rattle.ppm_tickets.specs.Along.{forked, taken}
 use Rattle.ppm_frames.specs.Seen.{arrays_at}
 use Rattle.ppm_frames.specs.Skeletons.{Skeleton}
@@ -55,9 +52,9 @@ use Rattle.ppm_kept.specs.Answers.{finish_by}
 use Rattle.ppm_kept.specs.Running.{IsFair, strands}
 use Rattle.ppm_runs.specs.Entries.{EndsAsRun, OnceInEachRun, RunsEndSo, RunsForkSo}
 use Rattle.ppm_runs.specs.Moments.{AreOnce}
-use Rattle.ppm_runs.specs.Spent.{RoomIsSpentSo, RoomIsWithin}
+use Rattle.ppm_runs.specs.Spent.{RoomIsSpent, RoomIsWithin}
 use Rattle.ppm_runs.specs.Unbroken.{NothingBreaks}
-use Rattle.ppm_runs.specs.Work.{WorkIsWithin256So}
+use Rattle.ppm_runs.specs.Work.{WorkIsWithin256}
 use Rattle.ppm_core.specs.Situation.{Situation, loaded}
 use Rattle.ppm_loading.specs.declared.loading.Sizes.{Sizes}
 use Rattle.ppm_loading.specs.Loading.{OpensRun}
@@ -66,9 +63,9 @@ use Rattle.ppm_loading.specs.Says.{arrays_from}
 use Rattle.ppm_loading.proofs.ArrayLemmas.{same_arrays}
 use Rattle.ppm_driver.proofs.EndLemmas.{keeper_opened, unset, words_opened}
 use Rattle.ppm_runs.proofs.LongLemmas.{as_long}
+use Rattle.ppm_stop.proofs.ReadBackLemmas.{run_length}
 use Rattle.ppm_driver.proofs.FaultLemmas.{undone_few}
 use Rattle.ppm_driver.proofs.PlaceLemmas.{of_place}
-use Rattle.ppm_driver.proofs.WorkLemmas.{works_are}
 
 -- what the crates below show of every text, every code, every image and every run
 pub record Laws : Type 0 where
@@ -83,27 +80,10 @@ pub record Laws : Type 0 where
   pub runs : RunsEndSo
   pub forks : RunsForkSo
   pub once : OnceInEachRun
-  pub room : RoomIsSpentSo
+  pub room : RoomIsSpent
   pub pools : RoomIsWithin
-  pub work : WorkIsWithin256So
+  pub work : WorkIsWithin256
   pub whole : NothingBreaks
-
--- a machine has as many words after turns as before them
-module _ (s : Shape) (code : CodeParts) where
-  act_length : (state : State) (p : ℕ) (act : Act) (standing : Standing) → length (acts s code state p act standing).words ≡ length state.words
-  act_length state p act IsLost = length_stays state.words (want_of s code p act IsLost)
-  act_length state p act (IsPlaced place) = length_stays state.words (want_of s code p act (IsPlaced place))
-  act_length state p act (IsAt place restart) = length_stays state.words (want_of s code p act (IsAt place restart))
-  act_length state p act (IsInRow seat row) = length_stays state.words (want_of s code p act (IsInRow seat row))
-  act_length state p act (IsRunning seat rest) = length_stays state.words (want_of s code p act (IsRunning seat rest))
-  act_length state p act (IsBroken place) = length_stays state.words (want_of s code p act (IsBroken place))
-  act_length state p act IsDone = refl
-
-  pub run_length : (state : State) (turns : List Turn) → length (after s code state turns).words ≡ length state.words
-  run_length state [] = refl
-  run_length state (turn ∷ turns) =
-      run_length (happens s code state turn) turns
-      ∙ act_length state turn.processor turn.act (stand_of state turn.processor)
 
 -- strands, a tree and words that are the same
 module _ {c d : Code (Frame FrameWord Point) Result} {t u : Tree (Frame FrameWord Point) Result} {a b : Words}
@@ -263,11 +243,10 @@ module _ (laws : Laws) (text : List ℕ) (t : ProgramTree) (has : HasProgram tex
       -- words are broken only behind more than 2^34 work turns
       breaks : (place : ℕ) → Says (finishes.Broken place) → 2 ^ 34 < worked_in start turns
       breaks place says =
-          let count = works_are s code (opening words s.processors) turns in
           elim (cases_lt (2 ^ 34) (worked_in start turns)) [
             | inl many ↦ many
             | inr few ↦ absurd ((laws.whole code input s keeper b.image fair opened calm turns among
-                (omega (arith, few, count))).finish (finishes.Broken place) says)
+                few).finish (finishes.Broken place) says)
           ]
 
       -- the work of all turns is within its bound

@@ -19,13 +19,11 @@ use Rattle.ppm_program.specs.Programs.{HasProgram}
 use Rattle.ppm_cut_code.specs.Routines.{code_of}
 use Rattle.ppm_cut_correct.specs.Correct.{words_taken}
 use Rattle.ppm_step.specs.Among.{IsTurnAmong}
-use Rattle.ppm_step.specs.State.{along, work_of}
 use Rattle.ppm_step.specs.declared.turn.Act.{Act}
 use Rattle.ppm_step.specs.declared.turn.Act.TheVariants.{Soft, Hard}
 use Rattle.ppm_step.specs.declared.turn.Turn.{Turn}
-use Rattle.ppm_paces.specs.Paces.{strikes_of}
 use Rattle.ppm_runs.specs.Deques.{one_if}
-use Rattle.ppm_runs.specs.Work.{undone_of}
+use Rattle.ppm_runs.specs.Work.{work_in, strikes_in, undone_in as undone_among}
 use Rattle.ppm_tickets.specs.Along.{forked, taken}
 use Rattle.ppm_tickets.specs.Words.{has}
 use Rattle.ppm_runs.specs.Moments.{AreOnce}
@@ -84,15 +82,15 @@ module _ (m : Situation) (turns : List Turn) where
 
   -- how many faults of these turns strike a row of work: they find one under way, or at the broken words that it has met
   abbrev pub struck_in : ℕ
-  struck_in = length (along m.shape m.code strikes_of m.state turns)
+  struck_in = strikes_in m.shape m.code m.state turns
 
   -- how many of them undo work: those that strike a row of work, and with takeover by entries hard ones too that close a place behind its push
   abbrev pub undone_in : ℕ
-  undone_in = length (along m.shape m.code (undone_of m.shape) m.state turns)
+  undone_in = undone_among m.shape m.code m.state turns
 
   -- how many of these turns are work
   abbrev pub worked_in : ℕ
-  worked_in = length (along m.shape m.code work_of m.state turns)
+  worked_in = work_in m.shape m.code m.state turns
 
   -- a run of these turns ends as the program does: with its serial outcome, and that of its code, run depth first; with each branch that was
   -- forked taken once, and as many of them as forks that this code makes

@@ -1,8 +1,13 @@
 -- What `run` answers, and when it may.
-use Rattle.std.specs.Prelude.{◌≡◌, ℕ, List, [], ⊤}
+use Rattle.std.specs.Prelude.{◌≡◌, ℕ, List, [], Option, Some, None, ⊤}
 use Rattle.ppm_ports.specs.Ports.{Port}
 use Rattle.ppm_ports.specs.Outside.{ToldLists}
 use Rattle.ppm_text.specs.Limits.{text_limit}
+use Rattle.ppm_cells.specs.Ending.{ending_of}
+use Rattle.ppm_cells.specs.Memory.{read}
+use Rattle.ppm_cells.specs.declared.cell.Cell.TheVariants.{FinishWord}
+use Rattle.ppm_cells.specs.declared.ending.Ending.TheVariants.{With}
+use Rattle.ppm_cells.specs.declared.finish.Finish.TheVariants as finishes
 use Rattle.ppm_cells.specs.declared.shape.Shape.{Shape}
 use Rattle.ppm_core.specs.Situation.{Situation}
 use Rattle.ppm_choice.specs.declared.limits.Limits.{Limits}
@@ -23,7 +28,7 @@ use Rattle.ppm_loading.specs.Loading.{OpensRun}
 use Rattle.ppm_loading.specs.Planned.{PlannedHas, PlannedMay}
 use Rattle.ppm_loading.specs.Programs as programs
 use Rattle.ppm_driver.specs.RunOf.{RunOf}
-use Rattle.ppm_loading.specs.Says.{IsOfWords}
+use Rattle.ppm_loading.specs.Says.{IsOfWords, IsTheOne}
 use Rattle.ppm_driver.specs.Watchers.{AreTold, OthersKeep}
 
 -- the machine's sizes and the limits, as the options say them
@@ -41,6 +46,11 @@ plan_of options items = record { processors = options.processors; items = items 
 abbrev pub IsSaid : Shape → (lengths : List ℕ) → List NamedArray → (words : List ℕ) → Answer → Type 0
 IsSaid s lengths arrays words answer =
     IsOfWords s lengths words answers.Ended answers.Trapped (λ processor a. a ≡ answers.OutOfTurns processor) (λ a. ⊥) arrays answer
+
+-- why a run has no arrays, whichever these would be: the one answer that its words say, unless they say that it ended
+abbrev pub SaysWhyNone : Shape → (lengths words : List ℕ) → Option Answer → Type 0
+SaysWhyNone s lengths words None = ending_of (read s words FinishWord) ≡ With finishes.Ended
+SaysWhyNone s lengths words (Some answer) = (arrays : List NamedArray) → IsTheOne (IsSaid s lengths arrays words) answer
 
 -- the answer of a program by the items of a plan, where the first so many watchers are told what their processors do, with such lists before
 -- the run and after it: that of a run from the machine with which a run of the program's code on its arrays begins, with the plan's keeper

@@ -5,27 +5,25 @@ ghost use Rattle.ppm_ports.specs.Outside.{KeepFronts, outside};
 ghost use Rattle.ppm_answers.specs.Reading.{Answers, TextMay};
 ghost use Rattle.ppm_cells.specs.Finish.{finish_of};
 ghost use Rattle.ppm_loading.specs.Programs.{ProgramMay};
-ghost use Rattle.ppm_loading.specs.Says.{IsTheOne};
-ghost use Rattle.ppm_saved.specs.Names.{lengths_of};
 ghost use Rattle.ppm_driver.specs.Resumes.{ItemsHave, ResumeMay, ResumeTells, ResumedHas, StateHas};
-ghost use Rattle.ppm_driver.specs.Resumes.{TextHas, TextTells, limits_of as limits_in, named, refusal_of, saved_finish, state_of};
+ghost use Rattle.ppm_driver.specs.Resumes.{TextHas, TextTells, limits_of as limits_in, refusal_of, saved_finish, state_of};
 ghost use Rattle.ppm_driver.specs.ResumeRows.{ResumeRows};
-ghost use Rattle.ppm_driver.specs.Runs.{IsSaid, RunTells};
+ghost use Rattle.ppm_driver.specs.Runs.{RunTells};
 ghost use Rattle.ppm_driver.specs.Watchers.{OthersKeep, watcher_count};
 
 use crate::complete_resume::resumes_complete;
 use crate::legs::{left_words_come_back, runs_in_legs_are_as_programs};
-use crate::names::arrays_of_names;
+use crate::saying::resumed_answer;
 use ppm_answers::{Answer, SavedRefusal, Status, answer_of_read, deliver};
-use ppm_cells::{Ending, Finish, UNKNOWN_PLACE};
+use ppm_cells::UNKNOWN_PLACE;
 use ppm_choice::Limits;
 use ppm_cli::ResumeOptions;
 use ppm_loading::refusal_answer;
 use ppm_plan::{Plan, read_plan};
 use ppm_ports::{Sink, Source, Watch, read_whole};
-use ppm_saved::{Names, Renewed, Saved, renew};
+use ppm_saved::{Renewed, Saved, renew};
 use ppm_saved_reader::{SAVED_LIMIT, SavedError, read_saved};
-use ppm_table::{Closed, Shared};
+use ppm_table::Shared;
 use ppm_threads::drive;
 use ppm_words::{Idle, NoMemory};
 use std::alloc::Global;
@@ -221,26 +219,6 @@ fn resumed<R: Threads + Wait + Sync, W: Watch>(
     )?;
     let answer = resumed_answer(alloc, &closed, &names)?;
     Ok(answer)
-}
-
-/// What is answered behind a run from a state: the arrays of these names with the values that the
-/// words have, the trap, or why there are none.
-fn resumed_answer(alloc: Global, closed: &Closed, names: &Names) -> Result<Answer, NoMemory>
-    requires lengths { closed.now.array_lengths ≡ lengths_of names.now }
-    ensures { IfOk result (IsTheOne (IsSaid closed.now.shape closed.now.array_lengths (named names.now) closed.now.words)) }
-{
-    match closed.outcome() {
-        Ending::With(finish) => match finish {
-            Finish::Ended => Ok(Answer::Ended(arrays_of_names(alloc, closed, names.as_slice())?)),
-            Finish::Trapped { trap, line } => Ok(Answer::Trapped(trap, line)),
-            Finish::OutOfRoom { place } => Ok(Answer::OutOfRoom(place)),
-            Finish::OutOfTurns { processor } => Ok(Answer::OutOfTurns(processor)),
-            Finish::Broken { place } => Ok(Answer::Broken(place)),
-            // Of no run, as what follows.
-            Finish::Stopped | Finish::Unset => Ok(Answer::Broken(UNKNOWN_PLACE)),
-        },
-        Ending::NotYet | Ending::Unknown => Ok(Answer::Broken(UNKNOWN_PLACE)),
-    }
 }
 
 /// The limits, as the options say them; who finds nothing to do leaves.

@@ -14,7 +14,7 @@ use ppm_pieces::number;
 use ppm_plan::{Schedule, read_schedule};
 use ppm_ports::{Source, StdSink, StdSource, read_whole};
 use ppm_saved::{Renewed, Saved, renew, write_saved};
-use ppm_saved_reader::{TEXT_LIMIT, read_saved};
+use ppm_saved_reader::{SAVED_LIMIT, read_saved};
 use ppm_words::{Items, NoMemory};
 use std::alloc::Global;
 use std::env;
@@ -54,7 +54,7 @@ fn words_answer<S: Source>(alloc: Global, words: &[String], source: &mut S) -> A
     let Some(acts) = number(acts.as_bytes()) else {
         return Answer::WordsRefused;
     };
-    let text = match read_whole(alloc, source, TEXT_LIMIT) {
+    let text = match read_whole(alloc, source, SAVED_LIMIT) {
         Ok(text) => text,
         Err(error) => return answer_of_read(error),
     };

@@ -1,6 +1,6 @@
 -- The work of runs with takeover by entries: each turn leads from one moment to the next, also that by which a place goes on with what it
 -- inherited; and the bound of both takeovers.
-use Rattle.std.proofs.Common.{◌≡◌, ◌≢◌, ◌⊎◌, ◌≤◌, ℕ, ◌+◌, true, false, List, [], ◌∷◌, ◌++◌, length, inl, inr, refl, sym, ap, ◌∙◌, subst, subst₂, arith, true≢false}
+use Rattle.std.proofs.Common.{◌≡◌, ◌≢◌, ◌⊎◌, ◌≤◌, ℕ, ◌+◌, ◌*◌, true, false, List, [], ◌∷◌, ◌++◌, length, inl, inr, refl, sym, ap, ◌∙◌, subst, subst₂, arith, true≢false}
 use Rattle.std.specs.List.{AllByRecursion}
 use Rattle.std.proofs.lemmas.Bool.{cases_eq}
 use Rattle.ppm_strands.specs.Tree.{Words, Tree}
@@ -66,7 +66,7 @@ use Rattle.ppm_kept.proofs.PutLemmas.{put_here as set_here, put_else as set_else
 use Rattle.ppm_runs.specs.Run.{setting, fate_of}
 use Rattle.ppm_runs.specs.Follow.{IsHalves, CarriesOn, LooksOnly}
 use Rattle.ppm_runs.specs.Entries.{IsHeired}
-use Rattle.ppm_runs.specs.Work.{undone_of, WorkIsBoundedSo, WorkIsWithin256So}
+use Rattle.ppm_runs.specs.Work.{undone_of, work_in, strikes_in, WorkIsBounded, WorkIsWithin256}
 use Rattle.ppm_runs.proofs.AgainLemmas.{again, again_not, again_live, left_at, row_live}
 use Rattle.ppm_runs.proofs.BoundLemmas.{live_stands, length_both, finish_still, undone_is, Stage, Pays, dues, agains, goes_on, alone_goes, made_all, work_of_stage, first_run, first_stage, first_tree}
 use Rattle.ppm_runs.proofs.BrokenLemmas.{broken_stays}
@@ -75,7 +75,7 @@ use Rattle.ppm_runs.proofs.HalvesLemmas.{acts_so, steps_away, halves_go_on}
 use Rattle.ppm_runs.proofs.HeirJoinLemmas.{heir_joint}
 use Rattle.ppm_runs.proofs.HeiredLemmas.{looks_or, alone_of, inlined, heired_first}
 use Rattle.ppm_runs.proofs.JoinLemmas.{joints_stay}
-use Rattle.ppm_runs.proofs.LegWork.{work_is_bounded}
+use Rattle.ppm_runs.proofs.LegWork.{none_of, work_over_legs}
 use Rattle.ppm_runs.proofs.OrderlyLemmas.{how_or, halves_owe}
 use Rattle.ppm_runs.proofs.StandLemmas.{kinds_same}
 use Rattle.ppm_runs.proofs.SumLemmas.{sum_at, sum_le}
@@ -400,14 +400,17 @@ module _ (s : Shape) (code : CodeParts) (ih : s.takeover ≡ ByEntries) (fair : 
         let z : strikes + length (undone_of s state turn) + length (along s code (undone_of s) (happens s code state turn) more) ≡ strikes + length (along s code (undone_of s) state (turn ∷ more)) = omega (arith, b) in
         subst₂ (λ (x y : ℕ). Moment (after s code state (turn ∷ more)) (homes s code state h (turn ∷ more)) (forked_in s code state forked (turn ∷ more)) (taken_in s code state taken (turn ∷ more)) x y (made_all s code fair root input end ends made state (turn ∷ more))) w z rest
 
--- with either takeover
-pub work_is_bounded_so : WorkIsBoundedSo
+-- with either takeover: by places a run that no words come back in has no legs
+pub work_is_bounded : WorkIsBounded
 unfolding heired_first
-work_is_bounded_so code input s keeper im fair opens calm turns all end ends = elim (how_or s.takeover) [
+work_is_bounded code input s keeper im fair opens calm turns all end ends = elim (how_or s.takeover) [
   | inl places ↦
-      let le = work_is_bounded code input s keeper im places fair opens calm turns all end ends in
+      let state = opening im.words s.processors in
+      let le : 0 + work_in s code state turns ≤ 218 * end.counts.capsules + 171 * (0 + strikes_in s code state turns) + 172 * (s.processors * 0) + 6 =
+      work_over_legs code input s keeper im places fair opens calm [] tt turns all end ends in
+      let none = none_of s.processors in
       let same = ap (λ (told : RunState → Turn → List ℕ). length (along s code told (opening im.words s.processors) turns)) (undone_is s places) in
-      omega (arith, le, same)
+      omega (arith, le, none, same)
   | inr ih ↦
       let root = root_strand code input in
       let arrays = arrays_at (view s im.words) in
@@ -421,8 +424,8 @@ work_is_bounded_so code input s keeper im fair opens calm turns all end ends = e
       omega (arith, le)
 ]
 
-pub work_is_within_256_so : WorkIsWithin256So
-work_is_within_256_so code input s keeper im fair opens calm turns all end ends =
-    let le = work_is_bounded_so code input s keeper im fair opens calm turns all end ends in
+pub work_is_within_256 : WorkIsWithin256
+work_is_within_256 code input s keeper im fair opens calm turns all end ends =
+    let le = work_is_bounded code input s keeper im fair opens calm turns all end ends in
     let some = strands_are_counted (strands s code) (root_strand code input) (arrays_at (view s im.words)) end ends in
     omega (arith, le, some)

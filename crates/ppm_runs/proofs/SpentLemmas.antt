@@ -44,7 +44,7 @@ use Rattle.ppm_kept.proofs.LeftLemmas.{shown}
 use Rattle.ppm_kept.proofs.SpentLemmas.{full_pools_are_spent}
 use Rattle.ppm_runs.specs.Run.{setting}
 use Rattle.ppm_runs.specs.Follow.{IsHalves}
-use Rattle.ppm_runs.specs.Spent.{RoomIsSpent, RoomIsSpentSo}
+use Rattle.ppm_runs.specs.Spent.{RoomIsSpent}
 use Rattle.ppm_runs.proofs.ShownLemmas.{carried_away, Runs, runs}
 use Rattle.ppm_runs.proofs.OutcomeLemmas.{unset_is}
 use Rattle.ppm_runs.proofs.HeiredLemmas.{halves_stay}
@@ -133,14 +133,11 @@ module _ (s : Shape) (code : CodeParts) (fair : IsFair code) (root : Tree (Frame
   pub spent_at : s.room < frame_size code code.root + end.counts.block_words
   spent_at = by_kind (z.kind place) refl going
 
-pub room_is_spent_so : RoomIsSpentSo
-room_is_spent_so code input s keeper im fair opens calm turns all place says end ends =
+pub room_is_spent : RoomIsSpent
+room_is_spent code input s keeper im fair opens calm turns all place says end ends =
     let cause = room_has_cause s code opens.code_is im.words turns place (opens.image_is.opened FinishWord tt ∙ unset_is) says in
     let among = front (IsTurnAmong s.processors) cause.first (cause.turn ∷ cause.more) (subst (AllByRecursion (IsTurnAmong s.processors)) cause.turns_are all) in
     let run = halves_stay code input s keeper im fair opens calm cause.first among in
     spent_at s code fair (root_strand code input) (arrays_at (view s im.words)) (reached s code im.words cause.first)
     (homes s code (opening im.words s.processors) (λ r. Unborn) cause.first) (forked_in s code (opening im.words s.processors) [] cause.first) (taken_in s code (opening im.words s.processors) [] cause.first)
     run.0 run.1 run.2 place cause.turn cause.finds end ends
-
-pub room_is_spent : RoomIsSpent
-room_is_spent code input s keeper im places fair opens calm turns all place says end ends = room_is_spent_so code input s keeper im fair opens calm turns all place says end ends

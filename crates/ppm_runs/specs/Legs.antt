@@ -19,9 +19,8 @@ use Rattle.ppm_layout.specs.Correct.{Opens}
 use Rattle.ppm_layout.specs.Root.{root_strand}
 use Rattle.ppm_layout.specs.declared.images.Image.{Image}
 use Rattle.ppm_step.specs.Among.{IsTurnAmong}
-use Rattle.ppm_step.specs.State.{State as RunState, after, along, opening, work_of}
+use Rattle.ppm_step.specs.State.{State as RunState, after, opening}
 use Rattle.ppm_step.specs.declared.turn.Turn.{Turn}
-use Rattle.ppm_paces.specs.Paces.{strikes_of}
 use Rattle.ppm_tickets.specs.Along.{homes, forked as forked_in, taken as taken_in}
 use Rattle.ppm_tickets.specs.Homes.{Home, Unborn}
 use Rattle.ppm_tickets.specs.Renewal.{IsRenewal}
@@ -31,6 +30,7 @@ use Rattle.ppm_frames.specs.Skeletons.{Skeleton}
 use Rattle.ppm_kept.specs.Running.{IsFair, strands}
 use Rattle.ppm_runs.specs.Run.{IsRun}
 use Rattle.ppm_runs.specs.Moments.{AreOnce}
+use Rattle.ppm_runs.specs.Work.{work_in, strikes_in}
 use Rattle.ppm_runs.specs.Outcomes.{EndsWell}
 
 -- turns, and the words with which fresh processors go on behind them
@@ -75,11 +75,11 @@ module _ (s : Shape) (code : CodeParts) (words : List ℕ) where
   -- the work turns that were made in them, and the faults that struck a row of work
   abbrev pub work_then : List Leg → ℕ
   work_then [] = 0
-  work_then (leg ∷ legs) = work_then legs + length (along s code work_of (state_then legs) leg.turns)
+  work_then (leg ∷ legs) = work_then legs + work_in s code (state_then legs) leg.turns
 
   abbrev pub strikes_then : List Leg → ℕ
   strikes_then [] = 0
-  strikes_then (leg ∷ legs) = strikes_then legs + length (along s code strikes_of (state_then legs) leg.turns)
+  strikes_then (leg ∷ legs) = strikes_then legs + strikes_in s code (state_then legs) leg.turns
 
   module _ (legs : List Leg) (turns : List Turn) where
     -- so behind turns that follow
@@ -96,10 +96,10 @@ module _ (s : Shape) (code : CodeParts) (words : List ℕ) where
     all_taken = taken_in s code (state_then legs) (taken_then legs) turns
 
     abbrev pub all_work : ℕ
-    all_work = work_then legs + length (along s code work_of (state_then legs) turns)
+    all_work = work_then legs + work_in s code (state_then legs) turns
 
     abbrev pub all_strikes : ℕ
-    all_strikes = strikes_then legs + length (along s code strikes_of (state_then legs) turns)
+    all_strikes = strikes_then legs + strikes_in s code (state_then legs) turns
 
 -- From an image of a sound code, whatever the legs and the turns behind them: a run's state is come to
 abbrev pub LegsStay : Type 0

@@ -18,8 +18,8 @@ mod moments;
 
 pub use laws::{
     births_follow, heirs_lead, joints_stay, nothing_breaks, room_is_spent, runs_come_back,
-    runs_come_to, runs_end, runs_end_so, runs_open, runs_stay, runs_stay_heired, stops_stay,
-    takers_have, turns_are_orderly, turns_go_on, work_is_bounded,
+    runs_come_to, runs_end, runs_end_so, runs_open, runs_stay, runs_stay_heired, takers_have,
+    turns_are_orderly, turns_go_on, work_is_bounded,
 };
 pub use legs::{
     legs_come_to, nothing_breaks_over_legs, room_over_legs, tags_stay_low, work_over_legs,

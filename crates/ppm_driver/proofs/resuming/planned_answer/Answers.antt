@@ -1,6 +1,6 @@
 use Rattle.ppm_driver.specs.Resumes.{state_of}
 use Rattle.ppm_driver.proofs.ResumeLemmas.{has_kind, items_may, run_tells}
-use Rattle.ppm_driver.proofs.WatchLemmas.{fronts_stay, untold}
+use Rattle.ppm_driver.proofs.WatchLemmas.{fronts_stay, others_still}
 use Rattle.ppm_driver.proofs.resuming.planned_answer.Goals as goal
 
 -- what the run comes to
@@ -14,7 +14,7 @@ returns-in-Ok-clause-told g c =
 
 -- the saved finish word stands for nothing
 pub returns-then-is_none-clause-told : goal.returns-then-is_none-clause-told
-returns-then-is_none-clause-told g c = untold c.args.saved.shape.processors _ _
+returns-then-is_none-clause-told g c = (tt, others_still c.args.saved.shape.processors _)
 
 pub returns-then-is_none-clause-kept : goal.returns-then-is_none-clause-kept
 returns-then-is_none-clause-kept g c = fronts_stay _

@@ -9,7 +9,7 @@ use Rattle.ppm_driver.proofs.resuming.resume_command.Goals as goal
 pub returns-clause-answers : goal.returns-clause-answers
 returns-clause-answers g c =
     judging_told saved_limit (TextHas c.args.options c.args.faults.now _ _)
-    (ResumeTells (port g.S.Source.left g.S.Source.fault_count c.args.source.now c.source.new)) _ _ _ c.read_answer-answer.ensures.told
+    (ResumeTells (port g.S.Source.left g.S.Source.fault_count c.args.source.now c.read_answer-answer.new.source)) _ _ _ c.read_answer-answer.ensures.told
     (c.read_answer-answer.ensures.kept, c.read_answer-answer.ensures.told.1) c.read_answer-answer.ensures.may c.deliver.ensures
 
 -- and the rows follow from it

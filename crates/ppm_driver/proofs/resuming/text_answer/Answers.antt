@@ -1,4 +1,4 @@
-use Rattle.std.proofs.Common.{[], sym, subst, arith}
+use Rattle.std.proofs.Common.{[], inl, refl, sym, subst, arith}
 use Rattle.ppm_answers.specs.Reading.{TextMay}
 use Rattle.ppm_saved_reader.specs.Correct.{IsRefusal, IsSavedText}
 use Rattle.ppm_driver.specs.Resumes.{TextHas, state_of}
@@ -11,7 +11,7 @@ pub returns-then-len-gt-SAVED_LIMIT-clause-may : goal.returns-then-len-gt-SAVED_
 returns-then-len-gt-SAVED_LIMIT-clause-may g c = long_text c.args.options c.args.faults.now [] [] c.args.text.items (omega arith)
 
 pub returns-then-len-gt-SAVED_LIMIT-clause-told : goal.returns-then-len-gt-SAVED_LIMIT-clause-told
-returns-then-len-gt-SAVED_LIMIT-clause-told g c = untold_text c.args.text.items _ _
+returns-then-len-gt-SAVED_LIMIT-clause-told g c = (refl, inl refl)
 
 pub returns-then-len-gt-SAVED_LIMIT-clause-kept : goal.returns-then-len-gt-SAVED_LIMIT-clause-kept
 returns-then-len-gt-SAVED_LIMIT-clause-kept g c = fronts_stay _
