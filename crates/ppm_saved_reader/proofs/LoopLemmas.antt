@@ -26,6 +26,9 @@ use Rattle.ppm_saved_reader.proofs.PlaceLemmas.{reads_on}
 pub shorter : (t l r : List ℕ) → halves_of 10 t ≡ Some (l, r) → length r < length t
 shorter t l r e = omega (arith, ap (λ (x : List ℕ). length x) (halves_back 10 t l r e), length-append l (10 ∷ r))
 
+pub line_shorter : (t r : List ℕ) (said : Option ℕ × ℕ) → first_line run_in t ≡ Some (said, r) → length r < length t
+line_shorter t r said first = let (line, says, cut) = first_line_back run_in t r said first in shorter t line r cut
+
 -- arrays were read up to a line
 pub record ArraysSoFar (text : List ℕ) (line : ℕ) (arrays : List NamedLength) (words number : ℕ) (left : List ℕ) : Type 0 where
   pub words_are : words ≡ sum (lengths_of arrays)

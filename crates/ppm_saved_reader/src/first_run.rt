@@ -44,6 +44,7 @@ fn any_line(text: &[u8]) -> Option<((Option<u64>, u64), &[u8])>
     ensures says { MatchOption result
         (first_line run text.now ≡ None)
         (λ p. first_line run text.now ≡ Some (p.0, p.1.now)) }
+    ensures shorter { MatchOption result (Unit {0}) (λ p. length p.1.now < length text.now) }
 {
     match split_once(text, b'\n') {
         Some((line, rest)) => match run_in(line) {

@@ -3,8 +3,8 @@ use Rattle.ppm_saved_reader.proofs.FrontLemmas.{IsFront}
 use Rattle.ppm_saved_reader.proofs.first_run.plain_line.Given as goal
 
 -- the digits so far
-abbrev pub invariant-loop-byte : goal.invariant-loop-byte
-invariant-loop-byte l = IsFront l.text l.word l.left
+abbrev pub invariant-loop-left : goal.invariant-loop-left
+invariant-loop-left l = IsFront l.text l.word l.left
 
-abbrev pub decreases-loop-byte : goal.decreases-loop-byte
-decreases-loop-byte l = length l.left
+abbrev pub decreases-loop-left : goal.decreases-loop-left
+decreases-loop-left l = length l.left
