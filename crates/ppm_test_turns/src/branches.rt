@@ -42,6 +42,9 @@ fn heir_of(known: &Known, place: u32) -> Option<u32> {
 /// Whether another place has followed it: `gone` of `AtMostOnceByEntries`. It was inherited
 /// (`followed`), and its heir is no more where it took it, or was followed itself (`heirs`).
 pub(crate) fn was_followed(known: &Known, place: u32) -> bool {
+    if !known.by_entries() {
+        return false;
+    }
     let mut closed = place;
     for _ in 0..known.shape.processors {
         let Some(heir) = heir_of(known, closed) else {
@@ -58,12 +61,15 @@ pub(crate) fn was_followed(known: &Known, place: u32) -> bool {
 /// `Covers` of `ppm_tickets`: an entry is as it would be, had none been inherited; or it was local, of
 /// a closed place, and is taken by an heir.
 pub(crate) fn is_covered(known: &Known, place: u32, slot: u32) -> bool {
+    if known.is_unclaimed(place, slot) {
+        return true;
+    }
+    let closed = known.by_entries() && known.is_dead(place);
     match known.entry(place, slot) {
         Some(Entry::Taken { taker, .. }) if taker > 63 => {
-            let closed = known.by_entries() && known.is_dead(place);
             closed && is_local(known.unclaimed(place, slot))
         }
-        entry => entry == known.unclaimed(place, slot),
+        _ => false,
     }
 }
 

@@ -124,6 +124,12 @@ impl Known {
         self.entry_in(self.unclaimed.as_slice(), place, slot)
     }
 
+    /// Whether an entry is as it would be, had none been inherited.
+    pub(crate) fn is_unclaimed(&self, place: u32, slot: u32) -> bool {
+        let at = self.place_at(place, slot.saturating_add(5));
+        self.word(at) == word_of(self.unclaimed.as_slice(), at)
+    }
+
     /// What a place is at.
     pub(crate) fn restart(&self, place: u32) -> Option<Restart> {
         Restart::unpack(self.word(self.place_at(place, 0)))

@@ -114,11 +114,12 @@ fn flaw_of_sweep(
     Ok(None)
 }
 
-/// The same of both listings and of both takeovers: with one fork at each act, with a fork in a fork at
-/// fewer. No number of acts between faults is a multiple of the number of processors.
+/// The same of both listings and of both takeovers: with one fork at each act of two processors, and at
+/// fewer of more; with a fork in a fork at fewer still. So each processor has its share of the faults.
 fn flaw_of_sweeps(alloc: Global, trial: Trial, apart: u32) -> Result<Option<(u32, Flaw)>, Fail> {
+    let often = trial.processors.saturating_sub(1).max(1);
     let seldom = trial.processors.saturating_mul(8).saturating_sub(1);
-    for (listing, every) in [(FORK, 1), (SUM, seldom)] {
+    for (listing, every) in [(FORK, often), (SUM, seldom)] {
         for by_entries in [false, true] {
             let swept = Trial {
                 listing,
@@ -153,14 +154,7 @@ const NEVER: u32 = 1_000_000;
 #[test]
 fn soft_faults_break_nothing(rt: HostRuntime) -> Result<(), Fail> {
     let alloc = rt.alloc();
-    let rows = [
-        (1, 4, 1),
-        (2, 4, 1),
-        (2, 2, 3),
-        (3, 4, 1),
-        (3, 2, 2),
-        (4, 4, 1),
-    ];
+    let rows = [(1, 4, 1), (2, 4, 1), (3, 2, 2), (4, 4, 1)];
     for (processors, slots, burst) in rows {
         let trial = Trial {
             processors,
@@ -182,13 +176,9 @@ fn deaths_break_nothing(rt: HostRuntime) -> Result<(), Fail> {
     let alloc = rt.alloc();
     let rows = [
         (2, 4, 1, NEVER),
-        (2, 2, 3, NEVER),
         (3, 4, 1, NEVER),
         (3, 2, 2, 20),
-        (3, 4, 1, 55),
-        (4, 4, 1, NEVER),
-        (4, 4, 1, 1),
-        (4, 4, 3, 140),
+        (4, 4, 3, 55),
     ];
     for (processors, slots, burst, apart) in rows {
         let trial = Trial {
