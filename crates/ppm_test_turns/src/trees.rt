@@ -202,18 +202,27 @@ fn are_apart(node: Node, other: Node) -> bool {
     node.at.saturating_add(node.size) <= other.at || other.at.saturating_add(other.size) <= node.at
 }
 
+/// How many nodes have a word of this one, which is one of them.
+fn count_at(nodes: &[Node], node: Node) -> u32 {
+    let mut count = 0u32;
+    for other in nodes {
+        if !are_apart(node, *other) {
+            count = count.saturating_add(1);
+        }
+    }
+    count
+}
+
 /// `apart` of `IsKept`: no word belongs to two nodes; each lies below a ceiling, and hangs where it is
 /// to hang.
 fn lie_well(known: &Known, nodes: &[Node]) -> bool {
-    let mut left = nodes;
-    while let [node, rest @ ..] = left {
-        if !rest.iter().all(|other| are_apart(*node, *other)) {
+    for node in nodes {
+        if count_at(nodes, *node) != 1 {
             return false;
         }
         if !hangs_well(known, *node) || !lies_below(known, node.at, node.size) {
             return false;
         }
-        left = rest;
     }
     true
 }
