@@ -7,13 +7,6 @@ ghost use Rattle.ppm_core.specs.Acts.{IsActAmong, IsTurnAmong};
 use ppm_cells::{Ending, Finish, Shape};
 use ppm_code::Code;
 use ppm_core::{Act, Machine, Next, Told, Turn, Why, done_is_done, turns_follow_on, turns_tell_on};
-use ppm_cut_code::{
-    few_capsules, keeps_the_rules, lines_alone, names_have_slots, procedures_stand,
-};
-use ppm_cut_correct::{end_as_meant, ends_serially, name_arrays, start_with_input};
-use ppm_cut_sound::{code_is_sound, may_be_stopped, store_tidily};
-use ppm_driver::examples_sum_up;
-use ppm_example::{examples_are_programs, examples_sum};
 use ppm_layout::image;
 use ppm_listing_reader::read_listing;
 use ppm_words::{Input, Items, Name, NamedArray};
@@ -22,19 +15,30 @@ use std::test::Fail;
 
 /// Cuts its array behind the first element, and puts 1 and 2 into the first elements of the parts,
 /// side by side.
-const FORK: &str = "ppm 1\nroot 0 0\nproc 0 slots 1 entry 0\nproc 1 slots 2 entry 2\n\
+pub(crate) const FORK: &str = "ppm 1\nroot 0 0\nproc 0 slots 1 entry 0\nproc 1 slots 2 entry 2\n\
 capsule 0 proc 0\nroom 21\nloadslot r0 0\nconst r1 1\nconst r2 2\ncutl r3 r0 r1 1\ncutr r4 r0 r1 1\n\
 storenew 11 r3\nstorenew 12 r1\nstorenew 19 r4\nstorenew 20 r2\nfork 1 1 1\ncapsule 1 proc 0\nend\n\
 capsule 2 proc 1\nloadslot r0 0\nconst r1 0\nloadslot r2 1\nput r0 r1 r2 1\nend\n";
 
+/// Adds up its array in a tree of forks, by a call: the first word of each part becomes its sum.
+pub(crate) const SUM: &str = "ppm 1\nroot 0 0\nproc 0 slots 1 entry 0\nproc 1 slots 5 entry 2\n\
+capsule 0 proc 0\nroom 11\nloadslot r0 0\nstorenew 6 r0\ncall 1 1\ncapsule 1 proc 0\nend\n\
+capsule 2 proc 1\nloadslot r0 0\nlen r1 r0\nconst r2 1\nlt r3 r2 r1\nbranchz r3 6\nnext 3\nend\n\
+capsule 3 proc 1\nloadslot r0 0\nlen r1 r0\nconst r2 2\ndiv r1 r1 r2 1\ncutl r3 r0 r1 1\ncutr r4 r0 r1 1\n\
+storecur 1 r3\nstorecur 2 r4\nnext 4\n\
+capsule 4 proc 1\nroom 27\nloadslot r0 1\nloadslot r1 2\nstorenew 11 r0\nstorenew 22 r1\nfork 1 1 5\n\
+capsule 5 proc 1\nloadslot r0 1\nloadslot r1 2\nconst r2 0\nget r3 r0 r2 1\nget r4 r1 r2 1\nadd r3 r3 r4 1\n\
+storecur 3 r3\nnext 6\n\
+capsule 6 proc 1\nloadslot r0 1\nconst r1 0\nloadslot r2 3\nput r0 r1 r2 1\nend\n";
+
 /// A machine's sizes, and an act that comes in the place of a step: whose, at which turn, and what.
 #[derive(Clone, Copy)]
-pub(crate) struct Trial {
-    pub(crate) processors: u32,
-    pub(crate) by_entries: bool,
-    pub(crate) processor: u32,
-    pub(crate) at: u32,
-    pub(crate) act: Act,
+struct Trial {
+    processors: u32,
+    by_entries: bool,
+    processor: u32,
+    at: u32,
+    act: Act,
 }
 
 /// Whether a code's root names the first array alone.
@@ -48,43 +52,50 @@ fn names_first(code: &Code) -> bool
         .all(|array| *array < 1)
 }
 
-/// The code of the listing, if its root names the first array alone.
-fn fork_code(alloc: Global) -> Result<Code, Fail>
+/// The code of a listing, if its root names the first array alone.
+fn code_of(alloc: Global, listing: &str) -> Result<Code, Fail>
     ensures { IfOk result (λ code. All (λ array. array < 1) code.arrays) }
 {
-    let code = read_listing(alloc, FORK.as_bytes()).map_err(|_| "no listing")?;
+    let code = read_listing(alloc, listing.as_bytes()).map_err(|_| "no listing")?;
     if !names_first(&code) {
         return Err("another root")?;
     }
     Ok(code)
 }
 
-/// An array of three words.
-fn three_words(alloc: Global) -> Result<Input, Fail>
+/// An array of four words.
+fn four_words(alloc: Global) -> Result<Input, Fail>
     ensures one { IfOk result (λ input. length input ≡ 1) }
-    ensures three { IfOk result (λ input. value_count input ≡ 3) }
+    ensures four { IfOk result (λ input. value_count input ≡ 4) }
 {
     let array = NamedArray {
         name: Name::from_bytes(vec![in alloc; b'a']?),
-        values: Items::from_vec(vec![in alloc; 0i64, 0i64, 7i64]?),
+        values: Items::from_vec(vec![in alloc; 0i64, 0i64, 7i64, 4i64]?),
     };
     Ok(Input::from_vec(vec![in alloc; array]?))
 }
 
-/// A machine for the listing and this array, with four slots.
-pub(crate) fn fork_machine(
+/// A machine for a listing and this array, with so many slots.
+pub(crate) fn machine_of(
     alloc: Global,
+    listing: &str,
     processors: u32,
+    slots: u32,
     by_entries: bool,
 ) -> Result<Machine, Fail> {
-    let code = fork_code(alloc)?;
-    let input = three_words(alloc)?;
-    let mut shape = Shape::new(processors, 64, 4, 3).ok_or("within the limits")?;
+    let code = code_of(alloc, listing)?;
+    let input = four_words(alloc)?;
+    let mut shape = Shape::new(processors, 128, slots, 4).ok_or("within the limits")?;
     if by_entries {
         shape = shape.stealing();
     }
     let made = image(alloc, &code, &input, shape, 0).map_err(|_| "memory")?;
     Ok(Machine::load(alloc, made, code).map_err(|_| "memory")?)
+}
+
+/// A machine for the listing with one fork, with four slots.
+fn fork_machine(alloc: Global, processors: u32, by_entries: bool) -> Result<Machine, Fail> {
+    machine_of(alloc, FORK, processors, 4, by_entries)
 }
 
 /// Whether the victim of an act is there.
@@ -141,14 +152,14 @@ fn run(machine: &mut Machine, trial: Trial) -> u32 {
     3000
 }
 
-/// Whether the trial comes to 1, 2 and 7, by one fork that is taken once.
+/// Whether the trial comes to 1, 2, 7 and 4, by one fork that is taken once.
 fn is_right(alloc: Global, trial: Trial) -> Result<bool, Fail> {
     let mut machine = fork_machine(alloc, trial.processors, trial.by_entries)?;
     run(&mut machine, trial);
     if machine.outcome() != Ending::With(Finish::Ended) || machine.arrays() != 1 {
         return Ok(false);
     }
-    Ok(machine.array(0) == [1, 2, 7].as_slice() && machine.forks() == 1 && machine.takes() == 1)
+    Ok(machine.array(0) == [1, 2, 7, 4].as_slice() && machine.forks() == 1 && machine.takes() == 1)
 }
 
 /// With no fault.
@@ -168,7 +179,7 @@ fn one_runs_both_branches(rt: HostRuntime) -> Result<(), Fail> {
     let turns = run(&mut machine, ALONE);
     assert_eq!(rt; machine.turns(), u64::from(turns));
     assert!(rt; machine.work() < machine.turns());
-    assert_eq!(rt; machine.words().len(), 79);
+    assert_eq!(rt; machine.words().len(), 144);
     assert_eq!(rt; machine.shape().slots, 4);
     assert_eq!(rt; machine.code().parts().root, 0);
     Ok(())
@@ -309,27 +320,4 @@ fn laws_are_called() {
     turns_follow_on();
     turns_tell_on();
     done_is_done();
-}
-
-#[test]
-fn states_laws_of_the_compiler() {
-    keeps_the_rules();
-    procedures_stand();
-    names_have_slots();
-    few_capsules();
-    lines_alone();
-    may_be_stopped();
-    store_tidily();
-    code_is_sound();
-    end_as_meant();
-    ends_serially();
-    start_with_input();
-    name_arrays();
-}
-
-#[test]
-fn states_laws_of_the_example() {
-    examples_are_programs();
-    examples_sum();
-    examples_sum_up();
 }
