@@ -7,6 +7,8 @@
 //! The words of its command line are this project's.
 #![tactic(auto)]
 
+ghost use Rattle.std.specs.Prelude.{◌≡◌};
+
 use ppm_answers::{Answer, SavedRefusal, answer_of_read, deliver};
 use ppm_core::Machine;
 use ppm_following::follow;
