@@ -47,6 +47,13 @@ is_kept n most a e h = omega (arith, e, h)
 below_most : (n most a : ℕ) → a ≡ min n most → a < most → a ≡ n
 below_most n most a e h = omega (arith, e, h)
 
+most_shows : (n most a : ℕ) → a ≡ min n most → nat_le most a ≡ nat_le most n
+most_shows n most a e = go (cases_lt n most)
+  where
+    go : (n < most) ⊎ (most ≤ n) → nat_le most a ≡ nat_le most n
+    go (inl less) = ap (nat_le most) (omega (arith, e, less))
+    go (inr more) = le-leb most a (is_kept n most a e more) ∙ sym (le-leb most n more)
+
 -- the fault of an act that is kept
 fault_is : (items : List PlanItem) (processor n a : ℕ) → a ≡ min n (2 ^ 32) → fault_of items processor a ≡ fault_of items processor n
 fault_is items processor n a e = go (cases_lt a (2 ^ 32))
@@ -86,7 +93,7 @@ module _ (plan : Planned) (limits : Limits) (past : Past) (stood : Standing) (pa
       → ¬ Rests plan limits c past stood → IsChoice plan limits c past stood (unfaulted limits pace)
   unfaulted_is en stays =
       step_is (is_work_next pace.next && nat_le limits.turns pace.work) pace.due
-      (ap (λ n. is_work_next n && nat_le limits.turns pace.work) p.next ∙ ap (λ n. is_work_next (next_of stood) && nat_le limits.turns n) p.work)
+      (ap (λ n. is_work_next n && nat_le limits.turns pace.work) p.next ∙ ap (λ b. is_work_next (next_of stood) && b) (most_shows past.work limits.turns pace.work p.work))
       p.due en stays
 
   -- a fault comes first

@@ -37,20 +37,20 @@ module _ (plan : Planned) (limits : Limits) (past : Past) (stood : Standing) (pa
   kept : (k : ℕ) → fault_of plan.items c (past.acts + k) ≡ fault_ahead k
   kept k = faults_kept plan.items c past.acts pace.acts k p.acts
 
-  left_for : (k turns steps : ℕ) → steps ≡ turns - pace.work → k < steps → past.work + k < turns
-  left_for k turns steps e l = omega (arith, e, p.work, l)
+  left_for : (k turns steps : ℕ) → pace.work ≡ min past.work turns → steps ≡ turns - pace.work → k < steps → past.work + k < turns
+  left_for k turns steps w e l = omega (arith, w, e, l)
 
   -- up to the next fault, and as many as there are work turns left
   pub are_clear : (next : Option ℕ) (steps : ℕ) → IsLeastFrom fault_ahead 0 next → steps ≡ at_most next (limits.turns - pace.work)
       → AreClear plan limits c past steps
-  are_clear None steps h e k l = (kept k ∙ h k (omega arith), left_for k limits.turns steps e l)
+  are_clear None steps h e k l = (kept k ∙ h k (omega arith), left_for k limits.turns steps p.work e l)
   are_clear (Some next) steps h e k l = (
     kept k ∙ h.2 k (omega arith) (omega (arith, e, l)),
-    left_for k limits.turns (limits.turns - pace.work) refl (omega (arith, e, l)),
+    left_for k limits.turns (limits.turns - pace.work) p.work refl (omega (arith, e, l)),
   )
 
-  spent : (turns steps : ℕ) → steps ≡ turns - pace.work → past.work + steps < turns → ⊥
-  spent turns steps e l = omega (arith, e, p.work, l)
+  spent : (turns steps : ℕ) → pace.work ≡ min past.work turns → steps ≡ turns - pace.work → past.work + steps < turns → ⊥
+  spent turns steps w e l = omega (arith, w, e, l)
 
   -- and no more
   pub are_most : (next : Option ℕ) (steps : ℕ) → IsLeastFrom fault_ahead 0 next → steps ≡ at_most next (limits.turns - pace.work)
@@ -63,7 +63,7 @@ module _ (plan : Planned) (limits : Limits) (past : Past) (stood : Standing) (pa
       go : (next : Option ℕ) → IsLeastFrom fault_ahead 0 next → steps ≡ at_most next (limits.turns - pace.work)
           → (steps < more) ⊎ (more ≤ steps) → more ≤ steps
       go next h e (inr l) = l
-      go None h e (inl l) = absurd (spent limits.turns steps e (clear steps l).1)
+      go None h e (inl l) = absurd (spent limits.turns steps p.work e (clear steps l).1)
       go (Some next) h e (inl l) =
           let turns_left = (clear steps l).1 in
           let same : steps ≡ next = omega (arith, e, p.work, turns_left) in

@@ -20,7 +20,7 @@ pub use Rattle.ppm_choice.specs.Obeying.{is_seek}
 pub record IsPace (plan : Planned) (limits : Limits) (past : Past) (stood : Standing) (pace : Pace) : Type 0 where
   pub keeper : IsTrue pace.keeper ↔ IsKeeper plan_form plan.items pace.processor
   pub acts : pace.acts ≡ min past.acts (2 ^ 32)
-  pub work : pace.work ≡ past.work
+  pub work : pace.work ≡ min past.work limits.turns
   pub looks : pace.looks ≡ min past.looks limits.looks
   pub next : pace.next ≡ next_of stood
   pub due : pace.due ≡ seeks_holder stood

@@ -1,5 +1,5 @@
 //! The pace of a processor.
-ghost use Rattle.std.specs.Prelude.{◌≡◌, ◌<◌, ◌≤◌, ◌+◌, ◌^◌, min, if◌then◌else◌};
+ghost use Rattle.std.specs.Prelude.{◌≡◌, ◌+◌, min, if◌then◌else◌};
 ghost use Rattle.ppm_step.specs.Standings.{Standing, IsLost};
 ghost use Rattle.ppm_step.specs.State.{next_of, seeks_holder};
 ghost use Rattle.ppm_plan.specs.Schedules.{Planned};
@@ -25,7 +25,7 @@ pub struct Pace {
     pub keeper: bool,
     /// How many acts it has made; from 2^32 on, 2^32.
     pub acts: u64,
-    /// How many of these were work turns.
+    /// How many of these were work turns; from the limit on, the limit.
     pub work: u64,
     /// How many looks it has made since the last of these, or since it rested; from the limit on,
     /// the limit.
@@ -54,26 +54,23 @@ impl Pace {
     }
 
     /// Behind an act of which this was told, where a victim is due for the coming step or is not.
-    /// There were fewer than 2^63 work turns.
     pub fn count(&mut self, limits: Limits, told: Told, due: bool)
-        requires few { self.old.work < 2 ^ 63 }
         ensures number { self.new.processor ≡ self.old.processor }
-        ensures work { self.new.work ≤ self.old.work + 1 }
+        ensures work { self.new.work ≡ (if told.work then min (self.old.work + 1) limits.turns else self.old.work) }
         ensures pace { (plan : Planned) (past : Past) (deed : Deed) (stands : Standing)
             → IsPace plan limits past deed.stood self.old
             → told.work ≡ is_work_deed deed → told.next ≡ next_of stands → due ≡ seeks_holder stands
             → IsPace plan limits (behind past deed) stands self.new }
     {
         self.acts = more(self.acts, 1, MOST_ACTS);
-        self.work = work_behind(self.work, told.work);
+        self.work = work_behind(self.work, limits.turns, told.work);
         self.looks = looks_behind(self.looks, limits.looks, told.work);
         self.next = told.next;
         self.due = due;
     }
 
     /// Behind so many steps in a row: so many of them were work, and so many were looks since the
-    /// last of these, or in all where none was; a victim is due for the coming step or is not. With
-    /// them there were fewer than 2^63 work turns.
+    /// last of these, or in all where none was; a victim is due for the coming step or is not.
     pub fn count_steps(
         &mut self,
         limits: Limits,
@@ -83,9 +80,8 @@ impl Pace {
         next: Next,
         due: bool,
     )
-        requires few { self.old.work + work < 2 ^ 63 }
         ensures number { self.new.processor ≡ self.old.processor }
-        ensures work { self.new.work ≡ self.old.work + work }
+        ensures work { self.new.work ≡ min (self.old.work + work) limits.turns }
         ensures pace { (plan : Planned) (past past' : Past) (stood stands : Standing)
             → IsPace plan limits past stood self.old → past'.acts ≡ past.acts + steps
             → past'.work ≡ past.work + work → past'.looks ≡ looks_along past.looks work looks
@@ -94,7 +90,7 @@ impl Pace {
     {
         self.acts = more(self.acts, steps, MOST_ACTS);
         self.looks = looks_along(self.looks, limits.looks, work, looks);
-        self.work += work;
+        self.work = more(self.work, work, limits.turns);
         self.next = next;
         self.due = due;
     }
@@ -121,12 +117,11 @@ fn more(count: u64, further: u64, most: u64) -> u64
     }
 }
 
-/// The work turns behind an act.
-fn work_behind(work: u64, is_work: bool) -> u64
-    requires { work < 2 ^ 63 }
-    ensures { result ≡ (if is_work then work + 1 else work) }
+/// The work turns behind an act, up to the most.
+fn work_behind(work: u64, most: u64, is_work: bool) -> u64
+    ensures { result ≡ (if is_work then min (work + 1) most else work) }
 {
-    if is_work { work + 1 } else { work }
+    if is_work { more(work, 1, most) } else { work }
 }
 
 /// The looks in a row behind an act, up to the most.

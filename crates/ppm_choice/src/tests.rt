@@ -148,19 +148,17 @@ fn paces_count(rt: HostRuntime) -> Result<(), Fail> {
         (false, (6, 1, 3)),
         (true, (7, 2, 0)),
     ] {
-        if pace.work < 100 {
-            pace.count(LIMITS, told(work), false);
-        }
+        pace.count(LIMITS, told(work), false);
         assert_eq!(&rt; (pace.acts, pace.work, pace.looks), counts);
     }
-    if pace.work < 100 {
-        pace.count_steps(LIMITS, 1000, 400, 2, Next::Seek, true);
-    }
+    pace.count_steps(LIMITS, 1000, 5, 2, Next::Seek, true);
     let counts = (pace.acts, pace.work, pace.looks, pace.next, pace.due);
-    assert!(&rt; counts == (1007, 402, 2, Next::Seek, true));
-    if pace.work < 1000 {
-        pace.count_steps(LIMITS, 9, 0, 9, Next::Look, false);
-    }
-    assert_eq!(&rt; (pace.acts, pace.work, pace.looks), (1016, 402, 3));
+    assert!(&rt; counts == (1007, 7, 2, Next::Seek, true));
+    pace.count_steps(LIMITS, 9, 0, 9, Next::Look, false);
+    assert_eq!(&rt; (pace.acts, pace.work, pace.looks), (1016, 7, 3));
+    // Work turns are kept up to their limit, however many there were.
+    pace.count_steps(LIMITS, u64::MAX, u64::MAX, 1, Next::Work, false);
+    pace.count(LIMITS, told(true), false);
+    assert_eq!(&rt; (pace.acts, pace.work, pace.looks), (1 << 32, 10, 0));
     Ok(())
 }

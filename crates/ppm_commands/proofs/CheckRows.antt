@@ -1,7 +1,7 @@
 -- The rows of `check`.
 use Rattle.std.proofs.Common.{◌≡◌, ◌⊎◌, ℕ, List, inl, inr}
 use Rattle.ppm_ports.specs.Outside.{Ports}
-use Rattle.ppm_listing_reader.specs.Limits.{text_limit}
+use Rattle.ppm_listing_reader.specs.Limits.{listing_limit}
 use Rattle.ppm_answers.specs.declared.answer.Answer.{Answer}
 use Rattle.ppm_answers.specs.declared.answer.Answer.TheVariants as answers
 use Rattle.ppm_answers.specs.declared.status.Status.{Status}
@@ -18,7 +18,7 @@ no_fault text h = h
 
 module _ (o : Ports) where
   -- what an answer's own status says follows from the answer
-  by_answer : (answer : Answer) → ReadHas text_limit CheckHas o.source answer → IsWritten o.out o.err answer (status_of answer)
+  by_answer : (answer : Answer) → ReadHas listing_limit CheckHas o.source answer → IsWritten o.out o.err answer (status_of answer)
       → CheckSays o (status_of answer)
   by_answer answers.Accepted h w = (h, w.out_takes.0)
   by_answer (answers.Conflicting c) h w = inl (c, h, w.err_takes.0)
@@ -27,6 +27,6 @@ module _ (o : Ports) where
 
   pub check_rows : HaveOneAnswer → (status : Status) → DeliversAnswer (CheckMay o.source) o status → CheckRows o status
   check_rows law status d =
-      let rows = text_rows text_limit CheckHas law.front (CheckSays o) o status d
+      let rows = text_rows listing_limit CheckHas law.front (CheckSays o) o status d
       (record { read_fault = λ f. f; write_fault = λ f. f; memory = tt }) by_answer in
-      record { rows = rows; shown = shown (ReadHas text_limit CheckHas) CheckHas (CheckSays o) o status law.one rows }
+      record { rows = rows; shown = shown (ReadHas listing_limit CheckHas) CheckHas (CheckSays o) o status law.one rows }

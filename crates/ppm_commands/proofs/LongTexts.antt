@@ -7,7 +7,7 @@ use Rattle.ppm_listing_reader.specs.declared.listing_error.Fault.TheVariants as 
 use Rattle.ppm_listing_reader.specs.declared.part.Part.{Part}
 use Rattle.ppm_listing_reader.specs.declared.part.Part.TheVariants as part
 use Rattle.ppm_listing_reader.specs.declared.place.Place.TheVariants.{AtVersion}
-use Rattle.ppm_listing_reader.specs.Limits.{text_limit}
+use Rattle.ppm_listing_reader.specs.Limits.{listing_limit}
 use Rattle.ppm_listing_reader.specs.ErrorNumbers.{fault_number}
 use Rattle.ppm_listing_reader.specs.Tokens.{split}
 use Rattle.ppm_listing_reader.specs.Forms.{line_of, lines_in}
@@ -85,7 +85,7 @@ most_number fault.NoEnd = omega arith
 most_number fault.WrongRoom = omega arith
 most_number fault.NotThere = omega arith
 
-module _ (text : List ℕ) (long : text_limit < length text) where
+module _ (text : List ℕ) (long : listing_limit < length text) where
   -- a fault of the first line
   first_fault : (code : CodeParts) (s : Option Part) (ls : List (Option Part)) → (s ≡ None) ⊎ (s ≡ Some part.Version) → (rule : Fault) →
       BreaksAt code rule AtVersion (s ∷ ls) zero → fault_number (long_fault s) ≤ fault_number rule
@@ -121,18 +121,18 @@ module _ (text : List ℕ) (long : text_limit < length text) where
       record { there = there (stands (first_line text)) b.0 c b.1; first = not_before (stands (first_line text)) b.0 c b.1 }
 
 -- what is behind the front of a text that is too long changes no fault
-same_fault : (text rest : List ℕ) (rule : Fault) (line : ℕ) → FaultsTellListings → text_limit < length text → IsFirstFault text rule line →
+same_fault : (text rest : List ℕ) (rule : Fault) (line : ℕ) → FaultsTellListings → listing_limit < length text → IsFirstFault text rule line →
     IsFirstFault (text ++ rest) rule line
 same_fault text rest rule line law long f =
     let of_front = law.one_fault text rule (long_fault (stands (first_line text))) line 1 f (first_of_long text long) in
     let same = same_stand text rest (first_line text) (first_line (text ++ rest)) (omega (arith, long)) refl refl in
-    let longer : text_limit < length (text ++ rest) = omega (arith, long, length-append text rest) in
+    let longer : listing_limit < length (text ++ rest) = omega (arith, long, length-append text rest) in
     let of_all = first_of_long (text ++ rest) longer in
     let at_line = subst (λ n. IsFirstFault (text ++ rest) (long_fault (stands (first_line (text ++ rest)))) n) (sym of_front.1) of_all in
     subst (λ r. IsFirstFault (text ++ rest) r line) (sym (of_front.0 ∙ ap long_fault same)) at_line
 
 -- nor an answer
-pub front : FaultsTellListings → (text rest : List ℕ) (a : Answer) → text_limit < length text → CheckHas text a → CheckHas (text ++ rest) a
+pub front : FaultsTellListings → (text rest : List ℕ) (a : Answer) → listing_limit < length text → CheckHas text a → CheckHas (text ++ rest) a
 front law text rest answers.Accepted long h = absurd (law.excludes text h.code fault.NotThere 1 h.listed (TooLong long))
 front law text rest (answers.Conflicting c) long h = absurd (law.excludes text h.code fault.NotThere 1 h.listed (TooLong long))
 front law text rest (answers.ListingRefused r) long h =

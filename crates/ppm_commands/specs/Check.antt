@@ -10,7 +10,7 @@ use Rattle.ppm_war.specs.Conflicts.{IsFree, IsFirstConflictOf}
 use Rattle.ppm_listing_reader.specs.declared.listing_error.Fault.{Fault}
 use Rattle.ppm_listing_reader.specs.declared.listing_error.ListingError.{ListingError}
 use Rattle.ppm_listing_reader.specs.declared.listing_error.ListingError.TheVariants as error
-use Rattle.ppm_listing_reader.specs.Limits.{text_limit}
+use Rattle.ppm_listing_reader.specs.Limits.{listing_limit}
 use Rattle.ppm_listing_reader.specs.ErrorNumbers.{fault_number, number_of, line_of}
 use Rattle.ppm_listing_reader.specs.Correct.{IsListing, IsFirstFault}
 use Rattle.ppm_answers.specs.declared.conflict.Class.{Class as ToldClass}
@@ -88,17 +88,17 @@ error_answer (error.NotThere line) = listing_refused (error.NotThere line)
 -- for its first fault, or its code has a first conflict, or it is accepted.
 pub record HaveOneAnswer : Type 0 where
   pub one : AreOne CheckHas
-  pub front : FrontsDecide text_limit CheckHas
+  pub front : FrontsDecide listing_limit CheckHas
   pub some : (text : List ℕ) → ((r : ListingRefusal) → ¬ IsUnlisted text r) → ((c : ToldConflict) → ¬ IsConflicting text c) → IsAccepted text
 
 -- the answers of `check`
 abbrev pub CheckMay : Port → Answer → Type 0
-CheckMay source answer = JudgingMay text_limit CheckHas source answer
+CheckMay source answer = JudgingMay listing_limit CheckHas source answer
 
 module _ (o : Ports) where
   -- the text that was read has this answer
   abbrev pub HasRead : Answer → Type 0
-  HasRead answer = ReadHas text_limit CheckHas o.source answer
+  HasRead answer = ReadHas listing_limit CheckHas o.source answer
 
   -- the text that was read is the listing of a code without conflicts, and out got exactly `ok`
   abbrev pub WritesOk : Type 0
@@ -121,7 +121,7 @@ module _ (o : Ports) where
 -- The rows of `check`: what each status says; where all goes well, the answer that the text has is written, and of a source whose bytes are
 -- known, the one that they have.
 pub record CheckRows (o : Ports) (status : Status) : Type 0 where
-  pub rows : TextRows text_limit CheckHas (CheckSays o) o status
+  pub rows : TextRows listing_limit CheckHas (CheckSays o) o status
   pub shown : IsShown CheckHas o status
 
 -- `check` is done

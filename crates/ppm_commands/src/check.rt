@@ -11,7 +11,7 @@ ghost use Rattle.ppm_commands.specs.Check.{CheckHas, VerdictOf, CheckMay, IsChec
 use crate::laws::listings_have_one_answer;
 use ppm_answers::{Answer, ListingRefusal, Status, answer_of_read, deliver};
 use ppm_code::{Class, Code};
-use ppm_listing_reader::{ListingError, TEXT_LIMIT, read_listing};
+use ppm_listing_reader::{LISTING_LIMIT, ListingError, read_listing};
 use ppm_ports::{Sink, Source, read_whole};
 use ppm_war::{Conflict, check};
 use std::alloc::Global;
@@ -39,7 +39,7 @@ pub fn check_command<S: Source, K: Sink, E: Sink>(
 fn check_answer<S: Source>(alloc: Global, source: &mut S) -> Answer
     ensures { CheckMay (port S.left S.fault_count source.old source.new) result }
 {
-    match read_whole(alloc, source, TEXT_LIMIT) {
+    match read_whole(alloc, source, LISTING_LIMIT) {
         Ok(text) => text_answer(alloc, &text),
         Err(error) => answer_of_read(error),
     }

@@ -2,13 +2,8 @@
 use Rattle.std.proofs.Common.{◌≡◌, ◌≤◌, ◌<◌, ℕ, ◌+◌, ◌*◌, List, sym, subst, arith}
 use Rattle.ppm_ports.specs.Outside.{ToldLists}
 use Rattle.ppm_tree.specs.Tree.{ProgramTree}
-use Rattle.ppm_tree.specs.Program.{initial_arrays}
-use Rattle.ppm_rows.specs.Correct.{TreesAreWithin}
 use Rattle.ppm_program.specs.Programs.{HasProgram}
 use Rattle.ppm_program.specs.Correct.{HaveOneAnswer as TextsHaveOneProgram}
-use Rattle.ppm_program.proofs.WithinLemmas.{tree_within}
-use Rattle.ppm_cut_correct.specs.Beginning.{StartWithInput}
-use Rattle.ppm_cut_correct.specs.Correct.{EndAsMeant}
 use Rattle.ppm_plan.specs.declared.plan_item.PlanItem.{PlanItem}
 use Rattle.ppm_plan.specs.Correct.{HaveOneAnswer as PlansHaveOneAnswer}
 use Rattle.ppm_plan.specs.Forms.{plan_form}
@@ -29,9 +24,6 @@ use Rattle.ppm_driver.proofs.StrikeLemmas.{undone_are_planned}
 -- what the crates below show of every text, every plan and every run
 pub record Laws : Type 0 where
   pub runs : RunsAreAsPrograms
-  pub within : TreesAreWithin
-  pub starts : StartWithInput
-  pub meant : EndAsMeant
   pub plans : PlansHaveOneAnswer
   pub texts : TextsHaveOneProgram
 
@@ -46,13 +38,7 @@ module _ (laws : Laws) (options : RunOptions) (are : AreRun options) (plan : Lis
   -- enough room is not too little
   not_little : NeedsMoreRoom t options.room → ⊥
   not_little needs =
-      let inside = tree_within laws.within text t has.admitted.tree in
-      let means = (laws.meant t inside has.admitted.admitted has.bounded (initial_arrays t) (laws.starts t inside has.admitted.admitted)).ends_only
-      enough.end enough.comes in
-      let more = needs means.0 means.1 means.2 in
-      let same = means.3.pool_words in
-      let some = enough.for_room in
-      omega (arith, more, same, some)
+      let more = needs.depth_first enough.end enough.comes in let some = enough.for_room in omega (arith, more, some)
 
   -- the text has one program, and the plan has one list of items
   same_tree : (u : ProgramTree) → HasProgram text u → u ≡ t

@@ -20,29 +20,29 @@ use Rattle.ppm_choice.specs.Finishes.{Finishes}
 use Rattle.ppm_choice.specs.Obeying.{ObeyAll}
 use Rattle.ppm_choice.proofs.EndLemmas.{runs_finish}
 use Rattle.ppm_loading.specs.declared.loading.Sizes.{Sizes}
-use Rattle.ppm_loading.specs.Loading.{Opens}
+use Rattle.ppm_loading.specs.Loading.{OpensRun}
 use Rattle.ppm_driver.specs.RunOf.{finish_behind}
 use Rattle.ppm_loading.proofs.SayLemmas.{unset_is}
 
 module _ (sizes : Sizes) (code : CodeParts) (arrays : List NamedArray) (keeper : ℕ) where
   -- its words say nothing yet
-  unset : (start : Situation) (b : Opens sizes code arrays keeper start) → read b.shape b.image.words FinishWord ≡ 0
+  pub unset : (start : Situation) (b : OpensRun sizes code arrays keeper start) → read b.shape b.image.words FinishWord ≡ 0
   unset start b = b.opens.opened FinishWord tt ∙ unset_is
 
-  pub unset_opened : (start : Situation) → Opens sizes code arrays keeper start → finish_in start ≡ 0
+  pub unset_opened : (start : Situation) → OpensRun sizes code arrays keeper start → finish_in start ≡ 0
   unset_opened start b = subst (λ (m : Situation). finish_in m ≡ 0) (sym b.loads) (unset start b)
 
-  pub words_opened : (start : Situation) (b : Opens sizes code arrays keeper start) → AreWordsOf b.shape b.image.words
+  pub words_opened : (start : Situation) (b : OpensRun sizes code arrays keeper start) → AreWordsOf b.shape b.image.words
   words_opened start b = subst (λ (s : Shape). AreWordsOf s b.image.words) b.opens.shape_is b.image.sized.words_are
 
   -- its keeper is there
-  pub keeper_opened : (start : Situation) (b : Opens sizes code arrays keeper start) → keeper < b.shape.processors
+  pub keeper_opened : (start : Situation) (b : OpensRun sizes code arrays keeper start) → keeper < b.shape.processors
   keeper_opened start b =
       subst (λ (k : ℕ). k < b.shape.processors) b.opens.keeper_is
       (subst (λ (s : Shape). b.image.keeper < s.processors) b.opens.shape_is b.image.sized.keeper_below)
 
   -- the finish word says that a pool is full only where one of the turns found it so
-  pub has_filled : (start : Situation) (turns : List Turn) (place : ℕ) → Opens sizes code arrays keeper start → IsCode code
+  pub has_filled : (start : Situation) (turns : List Turn) (place : ℕ) → OpensRun sizes code arrays keeper start → IsCode code
       → finish_of (finish_in (run_on start turns)) ≡ Some (finishes.OutOfRoom place)
       → IsFilledBehind start.shape start.code place start.state.words turns
   has_filled start turns place b is =
@@ -51,7 +51,7 @@ module _ (sizes : Sizes) (code : CodeParts) (arrays : List NamedArray) (keeper :
       (room_has_header b.shape code is b.image.words turns place (unset start b))
 
   -- where each processor obeys a plan with this keeper, it has a cause
-  pub has_finished : (plan : Planned) (limits : Limits) (start : Situation) (turns : List Turn) → Opens sizes code arrays keeper start → IsCode code
+  pub has_finished : (plan : Planned) (limits : Limits) (start : Situation) (turns : List Turn) → OpensRun sizes code arrays keeper start → IsCode code
       → IsKeeper plan_form plan.items keeper → ObeyAll plan limits start.shape start.code start.state turns
       → Finishes start.shape start.code limits start.state turns (finish_behind start turns)
   has_finished plan limits start turns b is spared obey =

@@ -10,7 +10,7 @@ use Rattle.ppm_step.specs.Laws.{IsProposedWord}
 use Rattle.ppm_words.specs.declared.named_array.NamedArray.{NamedArray}
 use Rattle.ppm_code.specs.declared.code.CodeParts.{CodeParts}
 use Rattle.ppm_loading.specs.declared.loading.Sizes.{Sizes}
-use Rattle.ppm_loading.specs.Loading.{Opens}
+use Rattle.ppm_loading.specs.Loading.{OpensRun}
 use Rattle.ppm_following.specs.Followed.{followed}
 use Rattle.ppm_choice.proofs.UnfinishedLemmas.{none_quits, unfinished_is_exact}
 use Rattle.ppm_driver.proofs.EndLemmas.{words_opened, keeper_opened}
@@ -18,12 +18,12 @@ use Rattle.ppm_loading.proofs.SayLemmas.{unset_is}
 
 module _ (sizes : Sizes) (code : CodeParts) (arrays : List NamedArray) (keeper : ℕ) where
   -- its code is a code
-  pub code_opened : (start : Situation) → Opens sizes code arrays keeper start → IsCode start.code → IsCode code
+  pub code_opened : (start : Situation) → OpensRun sizes code arrays keeper start → IsCode start.code → IsCode code
   code_opened start b = subst IsCode (ap (λ (m : Situation). m.code) b.loads)
 
   module _ (items : List ScheduleItem) (turns : ℕ) where
     -- where it isn't 0, it stands for what steps propose
-    pub says_proposed : (start : Situation) → Opens sizes code arrays keeper start → IsCode code
+    pub says_proposed : (start : Situation) → OpensRun sizes code arrays keeper start → IsCode code
         → finish_in (followed start items turns) ≢ 0 → IsProposedWord sizes.processors (finish_in (followed start items turns))
     says_proposed start b is some =
         subst (λ (n : ℕ). IsProposedWord n (finish_in (followed start items turns))) b.sized.processors
@@ -32,7 +32,7 @@ module _ (sizes : Sizes) (code : CodeParts) (arrays : List NamedArray) (keeper :
         (none_quits b.shape code is b.image.words items turns (b.opens.opened FinishWord tt ∙ unset_is)) some)
 
     -- where it says nothing, exactly as many acts were made as may be
-    pub unfinished_exactly : (start : Situation) → Opens sizes code arrays keeper start → IsCode code → IsKeeper schedule_form items keeper
+    pub unfinished_exactly : (start : Situation) → OpensRun sizes code arrays keeper start → IsCode code → IsKeeper schedule_form items keeper
         → finish_in (followed start items turns) ≡ 0 → (followed start items turns).turns ≡ turns
     unfinished_exactly start b is spared none =
         subst (λ (m : Situation). (followed m items turns).turns ≡ turns) (sym b.loads)

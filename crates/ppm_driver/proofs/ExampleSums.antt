@@ -140,7 +140,7 @@ module _ (laws : Laws) (o : SelfOptions) (are : AreSelf o) (before now : ToldLis
   in_room : (place : ℕ) → HasRun o before now tree (answers.OutOfRoom place) → ⊥
   in_room place h =
       let needs = run_needs laws.runs (text_of o) tree there (run_options_of o) o.processors before now (items_of o) place h in
-      let less : 262144 < words_taken tree sums.words.0 = needs sums.words.0 sums.words.1 sums.words.2 in
+      let less : 262144 < words_taken tree sums.words.0 = needs.whole sums.words.0 sums.words.1 sums.words.2 in
       let short = sums.words.3 in
       let size = is_size.last in
       omega (arith, less, short, size)

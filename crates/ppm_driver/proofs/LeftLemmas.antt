@@ -9,12 +9,13 @@ use Rattle.ppm_tree.specs.Program.{initial_arrays}
 use Rattle.ppm_program.specs.Programs.{HasProgram}
 use Rattle.ppm_cut_code.specs.Routines.{code_of}
 use Rattle.ppm_step.specs.Among.{IsTurnAmong}
-use Rattle.ppm_step.specs.State.{after, along, opening, work_of}
+use Rattle.ppm_step.specs.State.{State, after, along, opening, work_of}
 use Rattle.ppm_step.specs.declared.turn.Turn.{Turn}
+use Rattle.ppm_paces.specs.Paces.{strikes_of}
 use Rattle.ppm_resumed.specs.Resumed.{TagsMayRise, RenewedWordsComeBack}
 use Rattle.ppm_core.specs.Situation.{Situation}
 use Rattle.ppm_loading.specs.declared.loading.Sizes.{Sizes}
-use Rattle.ppm_loading.specs.Loading.{Opens}
+use Rattle.ppm_loading.specs.Loading.{OpensRun}
 use Rattle.ppm_plan.specs.declared.schedule_item.ScheduleItem.{ScheduleItem}
 use Rattle.ppm_plan.specs.Forms.{schedule_form}
 use Rattle.ppm_plan.specs.Refusals.{IsAccepted}
@@ -28,14 +29,16 @@ use Rattle.ppm_following.proofs.ScheduledLemmas.{scheduled_among}
 use Rattle.ppm_loading.proofs.LoadingLemmas.{opens_processors}
 use Rattle.ppm_saved_reader.specs.Correct.{FaultsTellSavedTexts}
 use Rattle.ppm_stop.specs.Stops.{sizes_of, text_of, ProgramReads as StoppedReads}
-use Rattle.ppm_driver.specs.Legs.{worked_in_all, TagsMayRiseInLegs}
+use Rattle.ppm_driver.specs.Legs.{worked_in_all, struck_in_all, TagsMayRiseInLegs}
 use Rattle.ppm_driver.specs.RunOf.{words_behind}
 use Rattle.ppm_driver.specs.Resumes.{state_behind, IsLeftBy, IsTextLeftBy, RunsLeaveStates, StopsLeaveStates, LeftWordsComeBack}
+use Rattle.ppm_driver.specs.Strikes.{scheduled_faults}
+use Rattle.ppm_driver.proofs.FaultLemmas.{struck_few, faults_are_scheduled}
 use Rattle.ppm_driver.proofs.TellLemmas.{text_left}
 use Rattle.ppm_driver.proofs.WorkLemmas.{scheduled_work}
 
 module _ (text : List ℕ) (t : ProgramTree) (has : HasProgram text t) (sizes : Sizes) (places : sizes.takeover ≡ ByPlaces)
-    (keeper : ℕ) (m : Situation) (b : Opens sizes (code_of t) (initial_arrays t) keeper m) where
+    (keeper : ℕ) (m : Situation) (b : OpensRun sizes (code_of t) (initial_arrays t) keeper m) where
   left : (turns : List Turn) → AllByRecursion (IsTurnAmong m.shape.processors) turns → IsLeftBy text (state_behind m (initial_arrays t) turns)
   left turns among = record {
     tree = t;
@@ -67,14 +70,30 @@ module _ (tell : FaultsTellSavedTexts) (options : StopOptions) (are : AreStopped
   made m = schedule_turns m.shape m.code m.state items options.after
 
   -- they make no more work than acts
-  worked : (keeper : ℕ) (m : Situation) → Opens (sizes_of options) (code_of t) (initial_arrays t) keeper m → worked_in_all m [] (made m) ≤ options.after
+  worked : (keeper : ℕ) (m : Situation) → OpensRun (sizes_of options) (code_of t) (initial_arrays t) keeper m → worked_in_all m [] (made m) ≤ options.after
   worked keeper m b =
       let some : length (along m.shape m.code work_of (opening m.state.words m.shape.processors) (made m)) ≤ options.after =
       subst (λ (x : Situation). length (along x.shape x.code work_of (opening x.state.words x.shape.processors) (schedule_turns x.shape x.code x.state items options.after)) ≤ options.after)
       (sym b.loads) (scheduled_work b.shape (code_of t) (opening b.image.words b.shape.processors) items options.after) in
       omega (arith, some)
 
-  stop_leaves : (answer : Answer) → StoppedReads options items t answer → (saved : List ℕ) × (answer ≡ answers.Saved saved) × IsTextLeftBy text saved
+  -- nor do more faults strike a row than the schedule has
+  struck : (keeper : ℕ) (m : Situation) → OpensRun (sizes_of options) (code_of t) (initial_arrays t) keeper m → struck_in_all m [] (made m) ≤ scheduled_faults items
+  struck keeper m b =
+      let some : length (along m.shape m.code strikes_of (opening m.state.words m.shape.processors) (made m)) ≤ scheduled_faults items =
+      subst (λ (x : Situation). length (along x.shape x.code strikes_of (opening x.state.words x.shape.processors) (schedule_turns x.shape x.code x.state items options.after)) ≤ scheduled_faults items)
+      (sym b.loads)
+      (few b.shape (opening b.image.words b.shape.processors)) in
+      omega (arith, some)
+    where
+      few : (s : Shape) (state : State) → length (along s (code_of t) strikes_of state (schedule_turns s (code_of t) state items options.after)) ≤ scheduled_faults items
+      few s state =
+          let strike = struck_few s (code_of t) (schedule_turns s (code_of t) state items options.after) state in
+          let fault = faults_are_scheduled s (code_of t) state items options.after in
+          omega (arith, strike, fault)
+
+  stop_leaves : (answer : Answer) → StoppedReads options items t answer
+      → (saved : List ℕ) × (answer ≡ answers.Saved saved) × IsTextLeftBy text (scheduled_faults items) saved
   unfolding left
   stop_leaves answer h =
       let m = h.has.start in
@@ -87,7 +106,11 @@ module _ (tell : FaultsTellSavedTexts) (options : StopOptions) (are : AreStopped
       let most = worked h.has.keeper m h.has.opens in
       let after_most = are.1.1 in
       let few_most = are.0.1 in
-      (saved, h.has.saves, text_left tell saved z h.read_back text from_it refl (omega (arith, most, after_most)) (omega (arith, few_most, count)))
+      let struck_most = struck h.has.keeper m h.has.opens in (
+        saved,
+        h.has.saves,
+        text_left tell saved z h.read_back text (scheduled_faults items) from_it refl (omega (arith, most, after_most)) struck_most (omega (arith, few_most, count)),
+      )
 
 pub stops_leave_states : FaultsTellSavedTexts → StopsLeaveStates
 stops_leave_states tell options are schedule items accepted text t has answer h =

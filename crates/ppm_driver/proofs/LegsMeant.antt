@@ -1,6 +1,6 @@
 -- With takeover by places runs in legs end as their programs do: as of a run without legs, an outcome is the depth-first run's, and that is the
 -- program's.
-use Rattle.std.proofs.Common.{◌≡◌, ◌≢◌, ℕ, ◌≤◌, ◌<◌, ◌+◌, ◌^◌, List, [], ◌∷◌, length, map, Some, None, inl, inr, refl, sym, ap, ◌∙◌, subst, arith}
+use Rattle.std.proofs.Common.{◌≡◌, ◌≢◌, ℕ, ◌≤◌, ◌<◌, ◌+◌, ◌^◌, List, [], ◌∷◌, length, map, Some, None, inl, inr, sym, ap, ◌∙◌, subst, arith}
 use Rattle.std.specs.List.{AllByRecursion, sum}
 use Rattle.std.proofs.lemmas.Bool.{cases_lt}
 use Rattle.ppm_strands.specs.Run.{End}
@@ -39,14 +39,17 @@ use Rattle.ppm_runs.proofs.LegSound.{few_risen}
 use Rattle.ppm_resumed.specs.Resumed.{TagsMayRise}
 use Rattle.ppm_core.specs.Situation.{Situation, loaded}
 use Rattle.ppm_loading.specs.declared.loading.Sizes.{Sizes}
-use Rattle.ppm_loading.specs.Loading.{Opens}
+use Rattle.ppm_loading.specs.Loading.{OpensRun}
 use Rattle.ppm_loading.specs.Says.{arrays_from}
 use Rattle.ppm_loading.proofs.ArrayLemmas.{same_arrays}
-use Rattle.ppm_driver.specs.Legs.{words_at_last, struck_in_all, EachIsTakenOnceInAll, EndsAsProgramInAll, IsAsProgramInAll, RunsInLegsAreAsPrograms, TagsMayRiseInLegs}
+use Rattle.ppm_driver.specs.Legs.{words_at_last, faults_in_all, struck_in_all, lost_in_all, EachIsTakenOnceInAll, EndsAsProgramInAll, IsAsProgramInAll, RunsInLegsAreAsPrograms, TagsMayRiseInLegs}
 use Rattle.ppm_driver.specs.Meant.{HasOutcome, EndsDepthFirst, NeedsMoreRoom, NeedsMoreTurns}
-use Rattle.ppm_driver.proofs.EndLemmas.{words_opened}
+use Rattle.ppm_driver.proofs.EndLemmas.{unset, words_opened}
+use Rattle.ppm_driver.proofs.FaultLemmas.{struck_few, legs_struck_few}
+use Rattle.ppm_driver.proofs.PlaceLemmas.{of_place}
 use Rattle.ppm_driver.proofs.MeantLemmas as meant
-use Rattle.ppm_driver.proofs.MeantLemmas.{run_length, ends_as, ended_said, trapped_said}
+use Rattle.ppm_driver.proofs.MeantLemmas.{ends_as, ended_said, trapped_said}
+use Rattle.ppm_stop.proofs.ReadBackLemmas.{run_length}
 use Rattle.ppm_runs.proofs.LongLemmas.{as_long}
 
 -- what the crates below show of every run, and of every run in legs
@@ -69,7 +72,7 @@ module _ (laws : Laws) (text : List ℕ) (t : ProgramTree) (has : HasProgram tex
   abbrev input : List NamedArray
   input = initial_arrays t
 
-  module _ (sizes : Sizes) (keeper : ℕ) (m : Situation) (b : Opens sizes code input keeper m) (places : sizes.takeover ≡ ByPlaces) where
+  module _ (sizes : Sizes) (keeper : ℕ) (m : Situation) (b : OpensRun sizes code input keeper m) (places : sizes.takeover ≡ ByPlaces) where
     abbrev s : Shape
     s = b.shape
 
@@ -144,20 +147,37 @@ module _ (laws : Laws) (text : List ℕ) (t : ProgramTree) (has : HasProgram tex
           laws.forks code input s keeper b.image (b.sized.takeover ∙ places) (meant.fair laws.base text t has) (meant.opened laws.base text t has sizes keeper m b) (meant.calm laws.base text t has sizes keeper m b) legs are turns among v says out e
           (ends_as (sym (meant.shown laws.base text t has sizes keeper m b).strands) (sym (meant.shown laws.base text t has sizes keeper m b).root) (sym (meant.shown laws.base text t has sizes keeper m b).arrays) e comes)
 
-      -- a full pool is one that the program needs more of
+      -- a full pool is one of a place, and one that the program needs more of
+      there : (place : ℕ) → Says (finishes.OutOfRoom place) → place < s.processors
+      there = of_place s code (meant.is_code laws.base text t has) words (unset sizes code input keeper m b) legs are turns among
+
       needs_more : (place : ℕ) → Says (finishes.OutOfRoom place) → NeedsMoreRoom t s.room
-      needs_more place says k z means =
-          let e = (laws.base.meant t (meant.inside laws.base text t has) has.admitted.admitted has.bounded input (meant.starts laws.base text t has)).ends k z means in
-          let ends_here = ends_as (sym (meant.shown laws.base text t has sizes keeper m b).strands) (sym (meant.shown laws.base text t has sizes keeper m b).root) (sym (meant.shown laws.base text t has sizes keeper m b).arrays) e.0 e.1 in
-          let less = laws.room code input s keeper b.image (b.sized.takeover ∙ places) (meant.fair laws.base text t has) (meant.opened laws.base text t has sizes keeper m b) (meant.calm laws.base text t has sizes keeper m b) legs are turns among place says e.0 ends_here in
-          let words_are = e.2.pool_words in
-          omega (arith, less, words_are)
+      needs_more place says = record {
+        depth_first = more;
+        whole = λ k z means.
+            let e = (laws.base.meant t (meant.inside laws.base text t has) has.admitted.admitted has.bounded input (meant.starts laws.base text t has)).ends k z means in
+            let less = more e.0 e.1 in
+            let words_are = e.2.pool_words in
+            omega (arith, less, words_are);
+      }
+        where
+          more : (e : End Result) → ComesTo code input e → s.room < pool_words code e.counts
+          more e comes =
+              laws.room code input s keeper b.image (b.sized.takeover ∙ places) (meant.fair laws.base text t has) (meant.opened laws.base text t has sizes keeper m b) (meant.calm laws.base text t has sizes keeper m b) legs are turns among place says e
+              (ends_as (sym (meant.shown laws.base text t has sizes keeper m b).strands) (sym (meant.shown laws.base text t has sizes keeper m b).root) (sym (meant.shown laws.base text t has sizes keeper m b).arrays) e comes)
 
       -- the work of all turns is within its bound
-      works : NeedsMoreTurns t (struck_in_all start legs turns) (all_work s code words legs turns)
+      works : NeedsMoreTurns t (lost_in_all start legs turns) (all_work s code words legs turns)
       works e comes =
           laws.work code input s keeper b.image (b.sized.takeover ∙ places) (meant.fair laws.base text t has) (meant.opened laws.base text t has sizes keeper m b) (meant.calm laws.base text t has sizes keeper m b) legs are turns among e
           (ends_as (sym (meant.shown laws.base text t has sizes keeper m b).strands) (sym (meant.shown laws.base text t has sizes keeper m b).root) (sym (meant.shown laws.base text t has sizes keeper m b).arrays) e comes)
+
+      -- no more faults strike a row than there are
+      few : struck_in_all start legs turns ≤ faults_in_all start legs turns
+      few =
+          let before = legs_struck_few s code words legs in
+          let last = struck_few s code turns (state_then s code words legs) in
+          omega (arith, before, last)
 
       -- no place has given out more than the depth-first run takes
       pools : (e : End Result) → ComesTo code input e → (place : ℕ) → place < s.processors
@@ -190,7 +210,7 @@ module _ (laws : Laws) (text : List ℕ) (t : ProgramTree) (has : HasProgram tex
           (k.0, k.1, omega (arith, tag, most, risen))
 
       as_program : IsAsProgramInAll start legs turns t
-      as_program = record { once = none_twice; ended = when_ended; trapped = when_trapped; work = works; full = needs_more; pools = pools; stands = stands; unbroken = breaks }
+      as_program = record { once = none_twice; ended = when_ended; trapped = when_trapped; work = works; few = few; full = λ place says. (there place says, needs_more place says); pools = pools; stands = stands; unbroken = breaks }
         where
           when_ended : Says finishes.Ended → EndsAsProgramInAll start legs turns t (outcome.Ended (arrays_from s b.image.lengths last.words 0 input))
           when_ended says =

@@ -17,6 +17,8 @@ pub mod OfReplay
 pub mod WatchLemmas
 pub mod TakenLemmas
 pub mod WorkLemmas
+pub mod FaultLemmas
+pub mod PlaceLemmas
 pub mod MeantLemmas
 pub mod LegsMeant
 pub mod MeantRows
@@ -24,6 +26,7 @@ pub mod RunLemmas
 pub mod OneRun
 pub mod StrikeLemmas
 pub mod CompleteLemmas
+pub mod HeadlineLemmas
 pub mod OfRun
 pub mod ResumeLemmas
 pub mod OfResume

@@ -1,6 +1,6 @@
 -- Runs end as their programs do. What the machine begins with is what the depth-first run of the program's code does
 -- (`ShowsTheRun`), and that code is sound: so an outcome of the run is the depth-first run's, and that is the program's.
-use Rattle.std.proofs.Common.{◌≡◌, ℕ, ◌+◌, ◌^◌, ◌<◌, ◌≤◌, List, [], ◌∷◌, length, map, Some, refl, sym, ap, ap₂, ◌∙◌, subst, arith, inl, inr}
+use Rattle.std.proofs.Common.{◌≡◌, ℕ, ◌+◌, ◌^◌, ◌<◌, ◌≤◌, List, [], length, map, Some, refl, sym, ap, ap₂, ◌∙◌, subst, arith, inl, inr}
 use Rattle.std.proofs.lemmas.Bool.{cases_lt}
 use Rattle.std.specs.List.{AllByRecursion, sum}
 use Rattle.ppm_strands.specs.Tree.{Words, Tree, Code}
@@ -42,11 +42,8 @@ use Rattle.ppm_cut_correct.specs.Beginning.{StartWithInput, NameArrays}
 use Rattle.ppm_cut_correct.specs.Correct.{EndAsMeant, EndsSerially}
 use Rattle.ppm_step.specs.Among.{IsTurnAmong}
 use Rattle.ppm_step.specs.Laws.{reached}
-use Rattle.ppm_step.specs.Standings.{Standing, IsLost, IsPlaced, IsAt, IsWithin as IsInRow, IsRunning, IsBroken, IsDone}
-use Rattle.ppm_step.specs.State.{State, stand_of, want_of, acts, happens, after, opening}
-use Rattle.ppm_step.specs.declared.turn.Act.{Act}
+use Rattle.ppm_step.specs.State.{State, opening}
 use Rattle.ppm_step.specs.declared.turn.Turn.{Turn}
-use Rattle.ppm_step.proofs.WordLemmas.{length_stays}
 use Rattle.ppm_tickets.specs.Along.{forked, taken}
 use Rattle.ppm_frames.specs.Seen.{arrays_at}
 use Rattle.ppm_frames.specs.Skeletons.{Skeleton}
@@ -55,20 +52,20 @@ use Rattle.ppm_kept.specs.Answers.{finish_by}
 use Rattle.ppm_kept.specs.Running.{IsFair, strands}
 use Rattle.ppm_runs.specs.Entries.{EndsAsRun, OnceInEachRun, RunsEndSo, RunsForkSo}
 use Rattle.ppm_runs.specs.Moments.{AreOnce}
-use Rattle.ppm_runs.specs.Run.{image}
-use Rattle.ppm_runs.specs.Spent.{RoomIsSpentSo, RoomIsWithin}
+use Rattle.ppm_runs.specs.Spent.{RoomIsSpent, RoomIsWithin}
 use Rattle.ppm_runs.specs.Unbroken.{NothingBreaks}
-use Rattle.ppm_runs.specs.Work.{WorkIsWithin256So}
+use Rattle.ppm_runs.specs.Work.{WorkIsWithin256}
 use Rattle.ppm_core.specs.Situation.{Situation, loaded}
 use Rattle.ppm_loading.specs.declared.loading.Sizes.{Sizes}
-use Rattle.ppm_loading.specs.Loading.{Opens}
+use Rattle.ppm_loading.specs.Loading.{OpensRun}
 use Rattle.ppm_driver.specs.Meant.{HasOutcome, EndsDepthFirst, NeedsMoreRoom, NeedsMoreTurns, undone_in, EachIsTakenOnce, EndsAsProgram, worked_in, IsAsProgram, RunsAreAsPrograms}
 use Rattle.ppm_loading.specs.Says.{arrays_from}
 use Rattle.ppm_loading.proofs.ArrayLemmas.{same_arrays}
-use Rattle.ppm_driver.proofs.EndLemmas.{keeper_opened, words_opened}
+use Rattle.ppm_driver.proofs.EndLemmas.{keeper_opened, unset, words_opened}
 use Rattle.ppm_runs.proofs.LongLemmas.{as_long}
-use Rattle.ppm_driver.proofs.StrikeLemmas.{undone_few}
-use Rattle.ppm_driver.proofs.WorkLemmas.{works_are}
+use Rattle.ppm_stop.proofs.ReadBackLemmas.{run_length}
+use Rattle.ppm_driver.proofs.FaultLemmas.{undone_few}
+use Rattle.ppm_driver.proofs.PlaceLemmas.{of_place}
 
 -- what the crates below show of every text, every code, every image and every run
 pub record Laws : Type 0 where
@@ -83,27 +80,10 @@ pub record Laws : Type 0 where
   pub runs : RunsEndSo
   pub forks : RunsForkSo
   pub once : OnceInEachRun
-  pub room : RoomIsSpentSo
+  pub room : RoomIsSpent
   pub pools : RoomIsWithin
-  pub work : WorkIsWithin256So
+  pub work : WorkIsWithin256
   pub whole : NothingBreaks
-
--- a machine has as many words after turns as before them
-module _ (s : Shape) (code : CodeParts) where
-  act_length : (state : State) (p : ℕ) (act : Act) (standing : Standing) → length (acts s code state p act standing).words ≡ length state.words
-  act_length state p act IsLost = length_stays state.words (want_of s code p act IsLost)
-  act_length state p act (IsPlaced place) = length_stays state.words (want_of s code p act (IsPlaced place))
-  act_length state p act (IsAt place restart) = length_stays state.words (want_of s code p act (IsAt place restart))
-  act_length state p act (IsInRow seat row) = length_stays state.words (want_of s code p act (IsInRow seat row))
-  act_length state p act (IsRunning seat rest) = length_stays state.words (want_of s code p act (IsRunning seat rest))
-  act_length state p act (IsBroken place) = length_stays state.words (want_of s code p act (IsBroken place))
-  act_length state p act IsDone = refl
-
-  pub run_length : (state : State) (turns : List Turn) → length (after s code state turns).words ≡ length state.words
-  run_length state [] = refl
-  run_length state (turn ∷ turns) =
-      run_length (happens s code state turn) turns
-      ∙ act_length state turn.processor turn.act (stand_of state turn.processor)
 
 -- strands, a tree and words that are the same
 module _ {c d : Code (Frame FrameWord Point) Result} {t u : Tree (Frame FrameWord Point) Result} {a b : Words}
@@ -161,7 +141,7 @@ module _ (laws : Laws) (text : List ℕ) (t : ProgramTree) (has : HasProgram tex
   pub fair : IsFair code
   fair = record { code_is = is_code; tidy = is_sound.tidy; free = is_sound.free }
 
-  module _ (sizes : Sizes) (keeper : ℕ) (m : Situation) (b : Opens sizes code input keeper m) where
+  module _ (sizes : Sizes) (keeper : ℕ) (m : Situation) (b : OpensRun sizes code input keeper m) where
     abbrev s : Shape
     s = b.shape
 
@@ -241,23 +221,32 @@ module _ (laws : Laws) (text : List ℕ) (t : ProgramTree) (has : HasProgram tex
           laws.forks code input s keeper b.image fair opened calm turns among v says out e
           (ends_as (sym shown.strands) (sym shown.root) (sym shown.arrays) e comes)
 
-      -- a full pool is one that the program needs more of
+      -- a full pool is one of a place, and one that the program needs more of
+      there : (place : ℕ) → Says (finishes.OutOfRoom place) → place < s.processors
+      there = of_place s code is_code words (unset sizes code input keeper m b) [] tt turns among
+
       needs_more : (place : ℕ) → Says (finishes.OutOfRoom place) → NeedsMoreRoom t s.room
-      needs_more place says k z means =
-          let e = (laws.meant t inside has.admitted.admitted has.bounded input starts).ends k z means in
-          let ends_here = ends_as (sym shown.strands) (sym shown.root) (sym shown.arrays) e.0 e.1 in
-          let less = laws.room code input s keeper b.image fair opened calm turns among place says e.0 ends_here in
-          let words_are = e.2.pool_words in
-          omega (arith, less, words_are)
+      needs_more place says = record {
+        depth_first = more;
+        whole = λ k z means.
+            let e = (laws.meant t inside has.admitted.admitted has.bounded input starts).ends k z means in
+            let less = more e.0 e.1 in
+            let words_are = e.2.pool_words in
+            omega (arith, less, words_are);
+      }
+        where
+          more : (e : End Result) → ComesTo code input e → s.room < pool_words code e.counts
+          more e comes =
+              laws.room code input s keeper b.image fair opened calm turns among place says e
+              (ends_as (sym shown.strands) (sym shown.root) (sym shown.arrays) e comes)
 
       -- words are broken only behind more than 2^34 work turns
       breaks : (place : ℕ) → Says (finishes.Broken place) → 2 ^ 34 < worked_in start turns
       breaks place says =
-          let count = works_are s code (opening words s.processors) turns in
           elim (cases_lt (2 ^ 34) (worked_in start turns)) [
             | inl many ↦ many
             | inr few ↦ absurd ((laws.whole code input s keeper b.image fair opened calm turns among
-                (omega (arith, few, count))).finish (finishes.Broken place) says)
+                few).finish (finishes.Broken place) says)
           ]
 
       -- the work of all turns is within its bound
@@ -274,7 +263,7 @@ module _ (laws : Laws) (text : List ℕ) (t : ProgramTree) (has : HasProgram tex
           (ends_as (sym shown.strands) (sym shown.root) (sym shown.arrays) e comes)
 
       as_program : IsAsProgram start turns t
-      as_program = record { once = none_twice; ended = when_ended; trapped = when_trapped; full = needs_more; unbroken = breaks; work = works; few = undone_few s code turns (opening words s.processors); pools = pools }
+      as_program = record { once = none_twice; ended = when_ended; trapped = when_trapped; full = λ place says. (there place says, needs_more place says); unbroken = breaks; work = works; few = undone_few s code turns (opening words s.processors); pools = pools }
         where
           when_ended : Says finishes.Ended → EndsAsProgram start turns t (outcome.Ended (arrays_from s b.image.lengths last.words 0 input))
           when_ended says =

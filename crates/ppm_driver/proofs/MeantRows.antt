@@ -190,7 +190,7 @@ module _ (law : RunsAreAsPrograms) (text : List ℕ) (t : ProgramTree) (has : Ha
         h.start.array_lengths w (initial_arrays t) (finish_behind h.start h.run.turns) (answers.OutOfRoom place) (λ none. none) h.run.says in
         let e = full_run h.start.shape h.start.array_lengths w (initial_arrays t) k.0 place k.2 in
         subst (NeedsMoreRoom t) (opens_room (runs.sizes_of options) (code_of t) (initial_arrays t) h.keeper h.start h.opens)
-        ((run_is (answers.OutOfRoom place) h).full place (k.1 ∙ ap (λ (f : Finish). Some f) e))
+        ((run_is (answers.OutOfRoom place) h).full place (k.1 ∙ ap (λ (f : Finish). Some f) e)).1
 
     -- with options in their ranges it is never that words are broken
     pub run_unbroken : AreRun options → (place : ℕ) → Has (answers.Broken place) → ⊥
@@ -287,7 +287,7 @@ module _ (law : RunsAreAsPrograms) (text : List ℕ) (t : ProgramTree) (has : Ha
         (answers.OutOfRoom place) (no_other_room options.turns place) h.says in
         let e = full_replay m.shape m.array_lengths m.state.words (initial_arrays t) options.turns (tally_of m) k.0 place k.2 in
         subst (NeedsMoreRoom t) (opens_room (replays.sizes_of options) (code_of t) (initial_arrays t) h.keeper h.start h.opens)
-        ((replay_is (answers.OutOfRoom place) h).full place (k.1 ∙ ap (λ (f : Finish). Some f) e))
+        ((replay_is (answers.OutOfRoom place) h).full place (k.1 ∙ ap (λ (f : Finish). Some f) e)).1
 
     pub replay_unbroken : AreReplayed options → (place : ℕ) → HasReplay (answers.Broken place) → ⊥
     replay_unbroken are place h =

@@ -1,6 +1,6 @@
 -- What rows say of `resume`: each status says its sentence; and of each program that left the state the whole run, with the legs before, is as
 -- the program.
-use Rattle.std.proofs.Common.{◌≡◌, ◌≢◌, ◌≤◌, ◌<◌, ◌+◌, ◌^◌, ℕ, List, [], ◌∷◌, length, map, Some, None, inl, inr, refl, sym, ap, ◌∙◌, subst, arith}
+use Rattle.std.proofs.Common.{◌≡◌, ◌≢◌, ◌≤◌, ◌<◌, ◌+◌, ◌*◌, ◌^◌, ℕ, suc, List, [], ◌∷◌, length, map, Some, None, inl, inr, refl, sym, ap, ◌∙◌, subst, arith}
 use Rattle.std.specs.List.{AllByRecursion}
 use Rattle.std.proofs.lemmas.List.Elements.{recursion_from_All}
 use Rattle.ppm_words.specs.TwosComplement.{value_of}
@@ -20,10 +20,11 @@ use Rattle.ppm_cut_code.specs.Routines.{code_of}
 use Rattle.ppm_step.specs.Among.{IsTurnAmong}
 use Rattle.ppm_step.specs.State.{State, after, along, opening, work_of}
 use Rattle.ppm_step.specs.declared.turn.Turn.{Turn}
+use Rattle.ppm_paces.specs.Paces.{strikes_of}
 use Rattle.ppm_choice.specs.Deeds.{work_made}
 use Rattle.ppm_runs.specs.Legs.{Leg, GoOn}
 use Rattle.ppm_saved.specs.Names.{lengths_of}
-use Rattle.ppm_saved_reader.specs.Rules.{text_limit}
+use Rattle.ppm_saved_reader.specs.Rules.{saved_limit}
 use Rattle.ppm_answers.specs.declared.answer.Answer.{Answer}
 use Rattle.ppm_answers.specs.declared.answer.Answer.TheVariants as answers
 use Rattle.ppm_answers.specs.declared.status.Status.{Status}
@@ -39,12 +40,12 @@ use Rattle.ppm_loading.specs.Says.{array_words, arrays_from, IsOfFinish}
 use Rattle.ppm_loading.proofs.LoadingLemmas.{opens_lengths}
 use Rattle.ppm_loading.proofs.SayLemmas.{said_of_word}
 use Rattle.ppm_stop.specs.Stops.{names_of}
-use Rattle.ppm_driver.specs.Legs.{words_at_last, finish_at_last, worked_in_all, struck_in_all, NoneIsTakenTwiceInAll, EndsAsProgramInAll, IsAsProgramInAll, RunsInLegsAreAsPrograms}
-use Rattle.ppm_driver.specs.Meant.{NeedsMoreRoom, NeedsMoreTurns}
+use Rattle.ppm_driver.specs.Legs.{words_at_last, finish_at_last, worked_in_all, lost_in_all, NoneIsTakenTwiceInAll, EndsAsProgramInAll, IsAsProgramInAll, RunsInLegsAreAsPrograms}
+use Rattle.ppm_driver.specs.Meant.{NeedsMoreRoom, NeedsMoreTurns, struck_in}
 use Rattle.ppm_driver.specs.RunOf.{words_behind, finish_behind}
-use Rattle.ppm_driver.specs.Resumes.{SavedState, GoesOnFrom, named, limits_of, plan_of, saved_finish, ResumedHas, ItemsHave, ResumeMay, IsLeftBy, LeftWordsComeBack, ResumesLeaveStates, legs_with}
+use Rattle.ppm_driver.specs.Resumes.{SavedState, GoesOnFrom, named, limits_of, plan_of, saved_finish, ResumedHas, ItemsHave, ResumeMay, IsLeftBy, IsTextOf, IsTextLeftBy, LeftWordsComeBack, ResumesLeaveStates, legs_with}
 use Rattle.ppm_driver.specs.Completeness.{IsEnd}
-use Rattle.ppm_driver.specs.ResumeCompleteness.{ResumesComplete}
+use Rattle.ppm_driver.specs.ResumeCompleteness.{faults_with, lost_with, ResumesComplete}
 use Rattle.ppm_driver.specs.ResumeRows.{Has, RefusesPlan, ResumeSays, ComesLate, Completes, ResumeRows}
 use Rattle.ppm_driver.proofs.MeantRows.{ended_run, trapped_run, full_run, broken_run}
 use Rattle.ppm_driver.proofs.ResumeLemmas.{spent_has, filled_has, has_kind, fronts_decide, saved_or_none}
@@ -189,24 +190,44 @@ module _ (law : RunsInLegsAreAsPrograms) (comes : LeftWordsComeBack) (options : 
       (is_program law comes source z left h.start h.goes_on h.run.turns all).trapped trap line
       (ap finish_of (sym (finish_is law comes source z left h.start h.goes_on h.run.turns all)) ∙ k.1 ∙ ap (λ (f : Finish). Some f) e)
 
-  pub resumed_needs : (place : ℕ) (h : Resumed (answers.OutOfRoom place)) (source : List ℕ) (left : IsLeftBy source z) → NeedsMoreRoom left.tree z.shape.room
-  resumed_needs place h source left =
+  -- a full pool is one of a place, and each such program needs more of it
+  pub resumed_full : (place : ℕ) (h : Resumed (answers.OutOfRoom place)) (source : List ℕ) (left : IsLeftBy source z)
+      → (place < z.shape.processors) × NeedsMoreRoom left.tree z.shape.room
+  resumed_full place h source left =
       let k = said (answers.OutOfRoom place) h in
       let e = full_run h.start.shape h.start.array_lengths (words_behind h.start h.run.turns) (named z.arrays) k.0 place k.2 in
       let all = among (answers.OutOfRoom place) h in
-      subst (λ (s : Shape). NeedsMoreRoom left.tree s.room) (sym left.shape_is)
+      subst (λ (s : Shape). (place < s.processors) × NeedsMoreRoom left.tree s.room) (sym left.shape_is)
       ((is_program law comes source z left h.start h.goes_on h.run.turns all).full place
       (ap finish_of (sym (finish_is law comes source z left h.start h.goes_on h.run.turns all)) ∙ k.1 ∙ ap (λ (f : Finish). Some f) e))
 
   pub resumed_needs_turns : (c : ℕ) (h : Resumed (answers.OutOfTurns c)) → work_made h.start.shape h.start.code c h.start.state h.run.turns ≡ options.turns
       → (source : List ℕ) (left : IsLeftBy source z)
-      → NeedsMoreTurns left.tree (struck_in_all left.start (legs_with left h.start.state.words) h.run.turns) options.turns
+      → NeedsMoreTurns left.tree (lost_in_all left.start (legs_with left h.start.state.words) h.run.turns) options.turns
   resumed_needs_turns c h made source left e ends =
       let all = among (answers.OutOfTurns c) h in
       let within = (is_program law comes source z left h.start h.goes_on h.run.turns all).work e ends in
       let part = work_is law comes source z left h.start h.goes_on h.run.turns all in
       let mine = of_all h.start.shape h.start.code c h.start.state h.run.turns in
       omega (arith, within, part, mine, made)
+
+  -- no more rows of work are lost than those before, one of each place, and one by each fault of the plan
+  pub resumed_loses : (a : Answer) (h : Resumed a) (source : List ℕ) (left : IsLeftBy source z)
+      → lost_in_all left.start (legs_with left h.start.state.words) h.run.turns ≤ faults_with left items
+  resumed_loses a h source left =
+      let few = strikes_are_planned (plan_of z items) (limits_of options) h.start h.run.turns h.run.obey in
+      let all = among a h in
+      let at = state_is law comes source z left h.start h.goes_on h.run.turns all in
+      let shape = shape_is law comes source z left h.start h.goes_on h.run.turns all in
+      let code = code_is law comes source z left h.start h.goes_on h.run.turns all in
+      let same : struck_in h.start h.run.turns ≡ length (along left.start.shape left.start.code strikes_of (opening h.start.state.words left.start.shape.processors) h.run.turns) =
+      ap (λ (x : State). length (along h.start.shape h.start.code strikes_of x h.run.turns)) at
+      ∙ (λ i. length (along (shape i) (code i) strikes_of (opening h.start.state.words (shape i).processors) h.run.turns)) in
+      let more = times_more left.start.shape.processors (length left.legs) in
+      omega (arith, few, same, more)
+    where
+      times_more : (n k : ℕ) → n * suc k ≡ n * k + n
+      times_more n k = grind arith
 
   -- broken words are met late
   pub resumed_breaks : (place : ℕ) (h : Resumed (answers.Broken place)) (source : List ℕ) (left : IsLeftBy source z)
@@ -230,9 +251,33 @@ module _ (law : RunsInLegsAreAsPrograms) (comes : LeftWordsComeBack) (options : 
       → NoneIsTakenTwiceInAll left.start (legs_with left h.start.state.words) h.run.turns
   resumed_once a h source left = (is_program law comes source z left h.start h.goes_on h.run.turns (among a h)).once
 
+-- of a text that was left by turns of one machine alone, by so many faults
+module _ (law : RunsInLegsAreAsPrograms) (comes : LeftWordsComeBack) (options : ResumeOptions) (before now : ToldLists) (items : List PlanItem)
+    (source : List ℕ) (faults : ℕ) (text : List ℕ) (left : IsTextLeftBy source faults text) (c : ℕ) where
+  abbrev IsShort : SavedState → Type 0
+  IsShort z = (h : ResumedHas options before now items z (answers.OutOfTurns c))
+      → work_made h.start.shape h.start.code c h.start.state h.run.turns ≡ options.turns
+      → NeedsMoreTurns left.by.tree (lost_with faults z.shape.processors items) options.turns
+
+  short_there : IsShort left.state
+  short_there h made e ends =
+      let needs = resumed_needs_turns law comes options before now items left.state c h made source left.by e ends in
+      let loses = resumed_loses law comes options before now items left.state (answers.OutOfTurns c) h source left.by in
+      let struck = left.struck in
+      let none : left.by.start.shape.processors * length left.by.legs ≡ 0 =
+      ap (λ (l : List Leg). left.by.start.shape.processors * length l) left.alone ∙ times_none left.by.start.shape.processors in
+      let same : left.state.shape.processors ≡ left.by.start.shape.processors = ap (λ (s : Shape). s.processors) left.by.shape_is in
+      omega (arith, needs, loses, struck, none, same)
+    where
+      times_none : (n : ℕ) → n * 0 ≡ 0
+      times_none n = omega arith
+
+  pub short_behind_stop : (z : SavedState) → IsTextOf text z → IsShort z
+  short_behind_stop z is = subst IsShort (sym (left.one z is)) short_there
+
 module _ (law : RunsInLegsAreAsPrograms) (comes : LeftWordsComeBack) (options : ResumeOptions) (plan : List ℕ) (o : Outside) where
   abbrev Reads : Answer → Type 0
-  Reads answer = ReadHas text_limit (Has options plan o) o.source answer
+  Reads answer = ReadHas saved_limit (Has options plan o) o.source answer
 
   -- what is said of faults and of want of memory
   of_ports : SaysOfPorts (ports_of o) (ResumeSays options plan o)
@@ -269,6 +314,8 @@ module _ (law : RunsInLegsAreAsPrograms) (comes : LeftWordsComeBack) (options : 
         needs = resumed_needs_turns law comes options o.told_before o.told_now h.2.has.items h.2.state processor h.2.has.has spent.1;
         struck = strikes_are_planned (plan_of h.2.state h.2.has.items) (limits_of options) h.2.has.has.start h.2.has.has.run.turns
             h.2.has.has.run.obey;
+        stopped = λ source faults left.
+            short_behind_stop law comes options o.told_before o.told_now h.2.has.items source faults h.0 left processor h.2.state h.2.is h.2.has.has spent.1;
         once = resumed_once law comes options o.told_before o.told_now h.2.has.items h.2.state (answers.OutOfTurns processor) h.2.has.has;
         gets = w.err_takes.0;
       }
@@ -276,7 +323,8 @@ module _ (law : RunsInLegsAreAsPrograms) (comes : LeftWordsComeBack) (options : 
     place = place;
     read = h;
     full = filled_has options o.told_before o.told_now h.2.has.items h.2.state place h.2.has.has;
-    needs = resumed_needs law comes options o.told_before o.told_now h.2.has.items h.2.state place h.2.has.has;
+    there = λ source left. (resumed_full law comes options o.told_before o.told_now h.2.has.items h.2.state place h.2.has.has source left).0;
+    needs = λ source left. (resumed_full law comes options o.told_before o.told_now h.2.has.items h.2.state place h.2.has.has source left).1;
     once = resumed_once law comes options o.told_before o.told_now h.2.has.items h.2.state (answers.OutOfRoom place) h.2.has.has;
     gets = w.err_takes.0;
   }
@@ -285,11 +333,11 @@ module _ (law : RunsInLegsAreAsPrograms) (comes : LeftWordsComeBack) (options : 
 
   module _ (status : Status) (d : DeliversAnswer (ResumeMay options plan o.told_before o.told_now o.source) (ports_of o) status) where
     abbrev Rows : Type 0
-    Rows = TextRows text_limit (Has options plan o) (ResumeSays options plan o) (ports_of o) status
+    Rows = TextRows saved_limit (Has options plan o) (ResumeSays options plan o) (ports_of o) status
 
     rows_of : Rows
     rows_of =
-        text_rows text_limit (Has options plan o) (fronts_decide options plan o.told_before o.told_now) (ResumeSays options plan o) (ports_of o) status d of_ports by
+        text_rows saved_limit (Has options plan o) (fronts_decide options plan o.told_before o.told_now) (ResumeSays options plan o) (ports_of o) status d of_ports by
 
     -- what is known to end is written with the status of an end
     ended : (answer : Answer) → IsEnd answer → status ≡ status_of answer → IsOneOf status (statuses.Ended ∷ statuses.Trapped ∷ [])

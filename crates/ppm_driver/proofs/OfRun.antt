@@ -20,13 +20,14 @@ use Rattle.ppm_cli.specs.Words.{AreRun}
 use Rattle.ppm_loading.specs.MachineRows.{RefusesPlan}
 use Rattle.ppm_driver.specs.Meant.{RunsAreAsPrograms}
 use Rattle.ppm_loading.specs.Planned.{IsRefusedBy, HasByItems}
-use Rattle.ppm_driver.specs.Runs.{RunHas, RunMay, plan_of, limits_of, AnswersAreOne, FrontsDecideAnswers}
+use Rattle.ppm_driver.specs.Runs.{ProgramHas, RunHas, RunMay, plan_of, limits_of, AnswersAreOne, FrontsDecideAnswers}
 use Rattle.ppm_driver.specs.Completeness.{IsEnd, RunsComplete}
-use Rattle.ppm_driver.specs.RunRows.{Has, RunSays, Completes, RunRows}
+use Rattle.ppm_driver.specs.RunRows.{Has, RunSays, AreAsPrograms, Completes, RunRows}
 use Rattle.ppm_driver.proofs.MeantRows.{run_is, run_ends, run_traps, run_needs, run_needs_turns, run_unbroken, run_once}
 use Rattle.ppm_loading.proofs.PlannedLemmas as planned
 use Rattle.ppm_driver.proofs.RunLemmas.{of_program, spent_has, filled_has, run_forgets}
 use Rattle.ppm_driver.proofs.StrikeLemmas.{undone_are_planned}
+use Rattle.ppm_driver.proofs.HeadlineLemmas.{headline}
 
 module _ (law : RunsAreAsPrograms) (options : RunOptions) (are : AreRun options) (watching : ℕ) (plan : List ℕ) (o : Outside) where
   abbrev Read : Port → Answer → Type 0
@@ -120,10 +121,21 @@ module _ (law : RunsAreAsPrograms) (options : RunOptions) (are : AreRun options)
         let k = rows.rows.known all e well in
         ended k.0 (complete options are plan items accepted all t has enough watching o.told_before o.told_now k.0 k.1) k.2.own
 
+    -- a run is as its program, whatever became of its answer
+    as_planned : AreAsPrograms options watching plan o
+    as_planned items text t has answer h = record {
+      as_program = run_is law text t has options watching o.told_before o.told_now items answer h;
+      undone = undone_are_planned (plan_of options items) (limits_of options) h.start h.run.turns h.run.obey;
+      unbroken = λ place broken.
+          run_unbroken law text t has options watching o.told_before o.told_now items are place
+          (subst (λ (a : Answer). ProgramHas options watching o.told_before o.told_now items t a) broken h);
+    }
+
     pub run_rows : PlansHaveOneAnswer → AnswersAreOne → FrontsDecideAnswers → RunsComplete → RunRows options watching plan o status
     run_rows plans one fronts complete = record {
+      headline = headline options watching plan o status says;
       rows = planned_rows plans fronts;
       shown = shown (planned_rows plans fronts) one;
-      meant = λ items text t has answer h. run_is law text t has options watching o.told_before o.told_now items answer h;
+      meant = as_planned;
       completes = completes (planned_rows plans fronts) complete;
     }

@@ -24,7 +24,7 @@ use Rattle.ppm_answers.specs.declared.refusal.Refusal.{Refusal}
 use Rattle.ppm_answers.specs.declared.answer.Answer.{Answer}
 use Rattle.ppm_cli.specs.declared.replay.ReplayOptions.{ReplayOptions}
 use Rattle.ppm_cli.specs.Words.{AreReplayed}
-use Rattle.ppm_loading.specs.Loading.{Opens}
+use Rattle.ppm_loading.specs.Loading.{OpensRun}
 use Rattle.ppm_following.specs.Followed.{followed}
 use Rattle.ppm_driver.specs.Replays.{sizes_of, IsSaid, ProgramHas, TextHas, HaveOneAnswer}
 use Rattle.ppm_loading.proofs.LoadingLemmas.{one_opening, some_opening}
@@ -51,7 +51,7 @@ module _ (laws : Laws) (options : ReplayOptions) where
       → a ≡ b
   program_one items t a b h k =
       let keeper : k.keeper ≡ h.keeper = one_keeper schedule_form items k.keeper h.keeper k.spared h.spared in
-      let begins = subst (λ (n : ℕ). Opens (sizes_of options) (code_of t) (initial_arrays t) n k.start) keeper k.opens in
+      let begins = subst (λ (n : ℕ). OpensRun (sizes_of options) (code_of t) (initial_arrays t) n k.start) keeper k.opens in
       let start : h.start ≡ k.start =
       one_opening (sizes_of options) (code_of t) (initial_arrays t) h.keeper laws.images h.start k.start h.opens begins in
       one_said options.processors options.turns (followed h.start items options.turns) (initial_arrays t) a b h.says

@@ -18,7 +18,7 @@ use Rattle.ppm_program.specs.Correct.{HaveOneAnswer as TextsHaveOneProgram}
 use Rattle.ppm_ports.specs.Outside.{ToldLists}
 use Rattle.ppm_answers.specs.declared.answer.Answer.{Answer}
 use Rattle.ppm_cli.specs.declared.run.RunOptions.{RunOptions}
-use Rattle.ppm_loading.specs.Loading.{Opens}
+use Rattle.ppm_loading.specs.Loading.{OpensRun}
 use Rattle.ppm_choice.specs.Obeying.{ObeyAll}
 use Rattle.ppm_driver.specs.RunOf.{words_behind}
 use Rattle.ppm_driver.specs.Runs.{IsSaid, plan_of, limits_of, sizes_of, ProgramHas, TextHas, AnswersAreOne, FrontsDecideAnswers}
@@ -38,7 +38,7 @@ pub record Laws : Type 0 where
 
 module _ (laws : Laws) (options : RunOptions) (alone : options.processors ≡ 1) (items : List PlanItem) (t : ProgramTree) where
   abbrev Begins : (keeper : ℕ) → Situation → Type 0
-  Begins keeper m = Opens (sizes_of options) (code_of t) (initial_arrays t) keeper m
+  Begins keeper m = OpensRun (sizes_of options) (code_of t) (initial_arrays t) keeper m
 
   abbrev Obey : Situation → List Turn → Type 0
   Obey m turns = ObeyAll (plan_of options items) (limits_of options) m.shape m.code m.state turns

@@ -21,7 +21,7 @@ use Rattle.ppm_cli.specs.Words.{AreReplayed}
 use Rattle.ppm_plan.specs.Forms.{schedule_form}
 use Rattle.ppm_plan.specs.Refusals.{IsKeeper}
 use Rattle.ppm_loading.specs.declared.loading.Sizes.{Sizes}
-use Rattle.ppm_loading.specs.Loading.{AreSizes, Opens}
+use Rattle.ppm_loading.specs.Loading.{AreSizes, OpensRun}
 use Rattle.ppm_loading.specs.Says.{IsTheOne, IsOfFinish, IsOfEnding}
 use Rattle.ppm_choice.specs.Schedules.{schedule_turns}
 use Rattle.ppm_following.specs.Followed.{followed}
@@ -135,7 +135,7 @@ module _ (processors turns : ℕ) (m : Situation) (arrays : List NamedArray) whe
 
 module _ (options : ReplayOptions) (items : List ScheduleItem) where
   module _ (t : ProgramTree) (keeper : ℕ) (start : Situation) (spared : IsKeeper schedule_form items keeper)
-      (opens : Opens (sizes_of options) (code_of t) (initial_arrays t) keeper start) (is : IsCode (code_of t)) where
+      (opens : OpensRun (sizes_of options) (code_of t) (initial_arrays t) keeper start) (is : IsCode (code_of t)) where
     abbrev ending : Situation
     ending = followed start items options.turns
 
@@ -169,11 +169,11 @@ module _ (options : ReplayOptions) (items : List ScheduleItem) where
         subst (ProgramHas options items t) (sym (only s.0 s.1)) (has_said s.0 s.1)
 
   pub program_has : (t : ProgramTree) (sizes : Sizes) (keeper : ℕ) (start end : Situation) (arrays : List NamedArray) (a : Answer)
-      → sizes ≡ sizes_of options → IsKeeper schedule_form items keeper → Opens sizes (code_of t) (initial_arrays t) keeper start → IsCode (code_of t)
+      → sizes ≡ sizes_of options → IsKeeper schedule_form items keeper → OpensRun sizes (code_of t) (initial_arrays t) keeper start → IsCode (code_of t)
       → end ≡ followed start items options.turns → arrays ≡ initial_arrays t → IsTheOne (IsSaid options.turns end arrays) a
       → ProgramHas options items t a
   program_has t sizes keeper start end arrays a is_sizes spared opens is ends is_arrays only =
-      the_one_has t keeper start spared (subst (λ (s : Sizes). Opens s (code_of t) (initial_arrays t) keeper start) is_sizes opens) is a
+      the_one_has t keeper start spared (subst (λ (s : Sizes). OpensRun s (code_of t) (initial_arrays t) keeper start) is_sizes opens) is a
       (subst (λ (l : List NamedArray). IsTheOne (IsSaid options.turns (followed start items options.turns) l) a) is_arrays
       (subst (λ (m : Situation). IsTheOne (IsSaid options.turns m arrays) a) ends only))
 

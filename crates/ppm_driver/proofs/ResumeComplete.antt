@@ -1,5 +1,5 @@
 -- Where turns and room are enough for a program that left a state, no other answer of its text is left but that the resumed run ended.
-use Rattle.std.proofs.Common.{◌≡◌, ◌≤◌, ℕ, suc, ◌+◌, ◌*◌, ◌^◌, List, length, inl, inr, refl, sym, ap, ◌∙◌, subst, arith}
+use Rattle.std.proofs.Common.{◌≡◌, ◌≤◌, ℕ, ◌*◌, ◌^◌, List, inl, inr, refl, sym, ap, ◌∙◌, subst, arith}
 use mathlib.Core.HLevel.{is_prop→PathP}
 use Rattle.std.specs.Coded.{le_prop}
 use Rattle.std.specs.List.{sum}
@@ -7,13 +7,6 @@ use Rattle.ppm_ports.specs.Outside.{ToldLists}
 use Rattle.ppm_cells.specs.Limits.{most_pool_words}
 use Rattle.ppm_words.specs.Limits.{word_limit}
 use Rattle.ppm_cells.specs.declared.shape.Shape.{Shape}
-use Rattle.ppm_tree.specs.Program.{initial_arrays}
-use Rattle.ppm_rows.specs.Correct.{TreesAreWithin}
-use Rattle.ppm_program.proofs.WithinLemmas.{tree_within}
-use Rattle.ppm_cut_correct.specs.Beginning.{StartWithInput}
-use Rattle.ppm_cut_correct.specs.Correct.{EndAsMeant}
-use Rattle.ppm_step.specs.State.{State, along, opening}
-use Rattle.ppm_paces.specs.Paces.{strikes_of}
 use Rattle.ppm_plan.specs.declared.plan_item.PlanItem.{PlanItem}
 use Rattle.ppm_plan.specs.Correct.{HaveOneAnswer as PlansHaveOneAnswer}
 use Rattle.ppm_plan.specs.Forms.{plan_form}
@@ -30,22 +23,18 @@ use Rattle.ppm_answers.specs.declared.answer.Answer.TheVariants as answers
 use Rattle.ppm_cli.specs.declared.resume.ResumeOptions.{ResumeOptions}
 use Rattle.ppm_cli.specs.Words.{AreResumed}
 use Rattle.ppm_driver.specs.Completeness.{IsEnough, IsEnd}
-use Rattle.ppm_driver.specs.Legs.{struck_in_all, worked_in_all, RunsInLegsAreAsPrograms}
-use Rattle.ppm_driver.specs.Meant.{NeedsMoreRoom, struck_in}
+use Rattle.ppm_driver.specs.Legs.{lost_in_all, worked_in_all, RunsInLegsAreAsPrograms}
+use Rattle.ppm_driver.specs.Meant.{NeedsMoreRoom}
 use Rattle.ppm_driver.specs.ResumeCompleteness.{faults_with, ResumesComplete}
-use Rattle.ppm_driver.specs.Resumes.{SavedState, IsTextOf, limits_of, plan_of, ResumedHas, ItemsHave, StateHas, TextHas, IsLeftBy, LeftWordsComeBack, legs_with}
+use Rattle.ppm_driver.specs.Resumes.{SavedState, IsTextOf, ResumedHas, ItemsHave, StateHas, TextHas, IsLeftBy, LeftWordsComeBack, legs_with}
 use Rattle.ppm_driver.proofs.CompleteLemmas.{not_few}
-use Rattle.ppm_driver.proofs.OfResume.{shape_is, code_is, state_is, is_program, among, resumed_needs, resumed_needs_turns, resumed_breaks, left_stands}
+use Rattle.ppm_driver.proofs.OfResume.{is_program, among, resumed_full, resumed_needs_turns, resumed_loses, resumed_breaks, left_stands}
 use Rattle.ppm_driver.proofs.ResumeLemmas.{spent_has, has_kind}
-use Rattle.ppm_driver.proofs.StrikeLemmas.{strikes_are_planned}
 
 -- what the crates below show of every text, every plan and every run in legs
 pub record Laws : Type 0 where
   pub runs : RunsInLegsAreAsPrograms
   pub comes : LeftWordsComeBack
-  pub within : TreesAreWithin
-  pub starts : StartWithInput
-  pub meant : EndAsMeant
   pub plans : PlansHaveOneAnswer
   pub states : SavedTextsTellStates
   pub faults : FaultsTellSavedTexts
@@ -92,23 +81,10 @@ module _ (laws : Laws) where
     abbrev Resumed : Answer → Type 0
     Resumed a = ResumedHas options before now items z a
 
-    -- the faults of all legs are no more than those that turns are enough for
     module _ (a : Answer) (h : Resumed a) where
-      struck : struck_in_all left.start (legs_with left h.start.state.words) h.run.turns ≤ faults_with left items
-      struck =
-          let few = strikes_are_planned (plan_of z items) (limits_of options) h.start h.run.turns h.run.obey in
-          let all = among laws.runs laws.comes options before now items z a h in
-          let at = state_is laws.runs laws.comes source z left h.start h.goes_on h.run.turns all in
-          let shape = shape_is laws.runs laws.comes source z left h.start h.goes_on h.run.turns all in
-          let code = code_is laws.runs laws.comes source z left h.start h.goes_on h.run.turns all in
-          let same : struck_in h.start h.run.turns ≡ length (along left.start.shape left.start.code strikes_of (opening h.start.state.words left.start.shape.processors) h.run.turns) =
-          ap (λ (x : State). length (along h.start.shape h.start.code strikes_of x h.run.turns)) at
-          ∙ (λ i. length (along (shape i) (code i) strikes_of (opening h.start.state.words (shape i).processors) h.run.turns)) in
-          let more = times_more left.start.shape.processors (length left.legs) in
-          omega (arith, few, same, more)
-        where
-          times_more : (n k : ℕ) → n * suc k ≡ n * k + n
-          times_more n k = grind arith
+      -- no more rows are lost than turns are enough for
+      lost : lost_in_all left.start (legs_with left h.start.state.words) h.run.turns ≤ faults_with left items
+      lost = resumed_loses laws.runs laws.comes options before now items z a h source left
 
       -- all work turns are few
       few_works : worked_in_all left.start (legs_with left h.start.state.words) h.run.turns ≤ 2 ^ 34
@@ -116,29 +92,23 @@ module _ (laws : Laws) where
           let all = among laws.runs laws.comes options before now items z a h in
           let less = (is_program laws.runs laws.comes source z left h.start h.goes_on h.run.turns all).work enough.end enough.comes in
           let some = enough.for_turns in
-          let counted = struck in
+          let counted = lost in
           let most : options.turns ≤ 268435456 = are.0.1 in
           omega (arith, less, some, counted, most)
 
     -- enough room is not too little
     not_little : NeedsMoreRoom left.tree z.shape.room → ⊥
     not_little needs =
-        let inside = tree_within laws.within source left.tree left.has.admitted.tree in
-        let means = (laws.meant left.tree inside left.has.admitted.admitted left.has.bounded (initial_arrays left.tree) (laws.starts left.tree inside left.has.admitted.admitted)).ends_only
-        enough.end enough.comes in
-        let more = needs means.0 means.1 means.2 in
-        let same = means.3.pool_words in
-        let some = enough.for_room in
-        omega (arith, more, same, some)
+        let more = needs.depth_first enough.end enough.comes in let some = enough.for_room in omega (arith, more, some)
 
     items_end : (a : Answer) → ItemsHave options before now items z a → IsEnd a
     items_end (answers.Ended arrays) h = tt
     items_end (answers.Trapped trap line) h = tt
     items_end (answers.OutOfTurns c) h =
         let spent = spent_has options before now items z c h in
-        absurd (not_few left.tree (faults_with left items) (struck_in_all left.start (legs_with left h.start.state.words) h.run.turns) options.turns z.shape.room (struck (answers.OutOfTurns c) h) enough
+        absurd (not_few left.tree (faults_with left items) (lost_in_all left.start (legs_with left h.start.state.words) h.run.turns) options.turns z.shape.room (lost (answers.OutOfTurns c) h) enough
         (resumed_needs_turns laws.runs laws.comes options before now items z c h spent.1 source left))
-    items_end (answers.OutOfRoom place) h = absurd (not_little (resumed_needs laws.runs laws.comes options before now items z place h source left))
+    items_end (answers.OutOfRoom place) h = absurd (not_little (resumed_full laws.runs laws.comes options before now items z place h source left).1)
     items_end (answers.Broken place) (inl k) = absurd (left_stands laws.runs laws.comes options before now items z source left k.0.none)
     items_end (answers.Broken place) (inr h) =
         let much = resumed_breaks laws.runs laws.comes options before now items z place h source left in

@@ -2,6 +2,7 @@
 use Rattle.std.proofs.Common.{◌≡◌, ◌≢◌, ◌⊎◌, ◌≤◌, ◌<◌, ◌∙◌, inl, inr, ℕ, List, ◌++◌, length, map, Option, Some, None, arith, refl, sym, ap, subst, length-append}
 use Rattle.ppm_words.specs.declared.event.Event.{Event}
 use Rattle.ppm_words.specs.declared.named_array.NamedArray.{NamedArray}
+use Rattle.ppm_ports.specs.Ports.{Port}
 use Rattle.ppm_ports.specs.Outside.{ToldLists}
 use Rattle.ppm_cells.specs.Finish.{finish_of, finish_word, IsFinish}
 use Rattle.ppm_cells.specs.Memory.{read}
@@ -22,7 +23,7 @@ use Rattle.ppm_plan.specs.declared.plan_item.PlanItem.{PlanItem}
 use Rattle.ppm_plan.specs.Forms.{plan_form}
 use Rattle.ppm_plan.specs.Refusals.{IsAccepted, IsKeeper, IsRefused}
 use Rattle.ppm_plan.specs.Schedules.{Planned}
-use Rattle.ppm_step.specs.Laws.{IsFilledBehind}
+use Rattle.ppm_step.specs.Laws.{IsProposed, IsFilledBehind}
 use Rattle.ppm_step.specs.Standings.{unknown_place}
 use Rattle.ppm_step.specs.State.{opening}
 use Rattle.ppm_step.specs.declared.turn.Turn.{Turn}
@@ -37,14 +38,14 @@ use Rattle.ppm_saved.specs.declared.names.NamedLength.{NamedLength}
 use Rattle.ppm_saved.specs.declared.renewal.Renewed.{Renewed}
 use Rattle.ppm_saved.specs.declared.saved.Saved.{Saved}
 use Rattle.ppm_saved_reader.specs.Correct.{IsRefusal, IsWrongAt, Breaks, TooLong}
-use Rattle.ppm_saved_reader.specs.Rules.{text_limit}
+use Rattle.ppm_saved_reader.specs.Rules.{saved_limit}
 use Rattle.ppm_saved_reader.specs.declared.saved_error.Fault.{Fault}
 use Rattle.ppm_saved_reader.specs.declared.saved_error.Fault.TheVariants as fault
 use Rattle.ppm_saved_reader.specs.declared.saved_error.SavedError.{SavedError}
 use Rattle.ppm_saved_reader.specs.declared.saved_error.SavedError.TheVariants as errors
 use Rattle.ppm_answers.specs.declared.answer.Answer.{Answer}
 use Rattle.ppm_answers.specs.declared.answer.Answer.TheVariants as answers
-use Rattle.ppm_answers.specs.Reading.{TextMay}
+use Rattle.ppm_answers.specs.Reading.{Reads, TextMay}
 use Rattle.ppm_cli.specs.declared.resume.ResumeOptions.{ResumeOptions}
 use Rattle.ppm_loading.specs.Planned.{refusal_of as plan_refusal}
 use Rattle.ppm_loading.specs.Programs.{ProgramMay}
@@ -56,9 +57,9 @@ use Rattle.ppm_table.specs.declared.processor.Shared.{Shared}
 use Rattle.ppm_table.specs.declared.view.Opening.{Opening}
 use Rattle.ppm_threads.specs.Driven.{Driven, OthersStay}
 use Rattle.ppm_driver.specs.RunOf.{words_behind, finish_behind}
-use Rattle.ppm_driver.specs.Runs.{IsSaid}
-use Rattle.ppm_driver.specs.Watchers.{AreTold}
-use Rattle.ppm_driver.specs.Resumes.{SavedState, saved_finish, IsTextOf, named, limits_of, plan_of, ResumedHas, ItemsHave, StateHas, TextHas, ResumeTells, FrontsDecideResumed, refusal_of, state_of}
+use Rattle.ppm_driver.specs.Runs.{IsSaid, RunTells}
+use Rattle.ppm_driver.specs.Watchers.{AreTold, OthersKeep}
+use Rattle.ppm_driver.specs.Resumes.{SavedState, saved_finish, IsTextOf, named, limits_of, plan_of, ResumedHas, ItemsHave, StateHas, TextHas, TextTells, ResumeTells, FrontsDecideResumed, refusal_of, state_of}
 use Rattle.ppm_driver.proofs.RunLemmas.{not_spent, room_finish, proposed_of, spent_ending, spent_answer}
 use Rattle.ppm_driver.proofs.WatchLemmas.{are_told, told_none}
 
@@ -241,9 +242,12 @@ module _ (z : SavedState) (words : List ℕ) (renewed : AreRenewed z.shape z.wor
               let k = stood_ending same (λ e. ne (same ∙ e)) in
               absurd (other_stood k.0 k.2 (of_ending k.0 k.3 (answers.OutOfTurns processor) h))
 
-      -- and that a pool is full only where a turn found it so, or the saved words said it
+      -- and that a pool is full only where a turn found that of a place so, or the saved words said it
+      abbrev IsFull : (place : ℕ) → Type 0
+      IsFull place = (place < z.shape.processors) × IsFilledBehind z.shape z.code place words turns
+
       pub filled_said : (place : ℕ) → Said (answers.OutOfRoom place)
-          → IsFilledBehind z.shape z.code place words turns ⊎ (finish_of (saved_finish z) ≡ Some (finishes.OutOfRoom place))
+          → IsFull place ⊎ (finish_of (saved_finish z) ≡ Some (finishes.OutOfRoom place))
       filled_said place h = by has_end
         where
           different : (other : ℕ) → answers.OutOfRoom place ≡ answers.OutOfTurns other → ⊥
@@ -259,11 +263,11 @@ module _ (z : SavedState) (words : List ℕ) (renewed : AreRenewed z.shape z.wor
           room_stood finishes.Unset s k = absurd s
 
           by : Finishes z.shape z.code limits start.state turns (finish_behind start turns)
-              → IsFilledBehind z.shape z.code place words turns ⊎ (finish_of (saved_finish z) ≡ Some (finishes.OutOfRoom place))
+              → IsFull place ⊎ (finish_of (saved_finish z) ≡ Some (finishes.OutOfRoom place))
           by (Proposed w filled) =
               let is = room_finish z.shape (lengths_of z.arrays) (words_behind start turns) arrays z.shape.processors w.finish w.is_proposed place
               (proposed_of z.shape (lengths_of z.arrays) (words_behind start turns) arrays z.shape.processors w (answers.OutOfRoom place) h) in
-              inl (filled place (w.stands ∙ ap Some is))
+              inl (subst (IsProposed z.shape.processors) is w.is_proposed, filled place (w.stands ∙ ap Some is))
           by (Spent other there stands_ made) =
               absurd (different other (spent_answer z.shape (lengths_of z.arrays) (words_behind start turns) arrays other stands_ (answers.OutOfRoom place) h))
           by (Stood same ne) =
@@ -287,11 +291,13 @@ module _ (options : ResumeOptions) (before now : ToldLists) (items : List PlanIt
       h.run.finished h.run.says
 
   pub filled_has : (place : ℕ) (h : ResumedHas options before now items z (answers.OutOfRoom place))
-      → IsFilledBehind h.start.shape h.start.code place h.start.state.words h.run.turns ⊎ (finish_of (saved_finish z) ≡ Some (finishes.OutOfRoom place))
+      → ((place < z.shape.processors) × IsFilledBehind h.start.shape h.start.code place h.start.state.words h.run.turns)
+      ⊎ (finish_of (saved_finish z) ≡ Some (finishes.OutOfRoom place))
   filled_has place h =
       subst (λ (m : Situation). Finishes m.shape m.code (limits_of options) m.state h.run.turns (finish_behind m h.run.turns)
       → IsSaid m.shape m.array_lengths (named z.arrays) (words_behind m h.run.turns) (answers.OutOfRoom place)
-      → IsFilledBehind m.shape m.code place m.state.words h.run.turns ⊎ (finish_of (saved_finish z) ≡ Some (finishes.OutOfRoom place)))
+      → ((place < z.shape.processors) × IsFilledBehind m.shape m.code place m.state.words h.run.turns)
+      ⊎ (finish_of (saved_finish z) ≡ Some (finishes.OutOfRoom place)))
       (sym h.goes_on.loads)
       (λ finished says. filled_said z h.goes_on.words h.goes_on.renewed h.stands (limits_of options) h.run.turns (named z.arrays) finished place says)
       h.run.finished h.run.says
@@ -311,16 +317,29 @@ module _ (options : ResumeOptions) (before now : ToldLists) (items : List PlanIt
   items_kind a h = has_kind a h
 
 -- what watchers were told belongs to an answer of a run
-pub run_tells : (a : Answer) (before now : ToldLists) → IsOfResumed a → ResumeTells a before now
-run_tells (answers.Ended arrays) before now h = tt
-run_tells (answers.Trapped t line) before now h = tt
-run_tells (answers.OutOfTurns processor) before now h = tt
-run_tells (answers.OutOfRoom place) before now h = tt
-run_tells (answers.Broken place) before now h = tt
-run_tells a before now h = absurd h
+pub run_tells : (processors : ℕ) (a : Answer) (before now : ToldLists) → IsOfResumed a → OthersKeep processors before now → RunTells processors a before now
+run_tells processors (answers.Ended arrays) before now h others = (tt, others)
+run_tells processors (answers.Trapped t line) before now h others = (tt, others)
+run_tells processors (answers.OutOfTurns processor) before now h others = (tt, others)
+run_tells processors (answers.OutOfRoom place) before now h others = (tt, others)
+run_tells processors (answers.Broken place) before now h others = (tt, others)
+run_tells processors a before now h others = absurd h
 
-pub still_told : (a : Answer) (lists : ToldLists) → ResumeTells a lists lists
-still_told a lists = told_none a lists
+-- that belongs to it as one of the text of the state, and of the source from which this was read
+pub text_tells : (text : List ℕ) (z : SavedState) → IsTextOf text z → (a : Answer) (before now : ToldLists) → RunTells z.shape.processors a before now
+    → TextTells text a before now
+text_tells text z is a before now told = (told.0, inr (record { state = z; is = is; has = told.1 }))
+
+pub source_tells : (source : Port) (text : List ℕ) → Reads saved_limit source text → (a : Answer) (before now : ToldLists) → TextTells text a before now
+    → ResumeTells source a before now
+source_tells source text r a before now told = (told.0, elim told.1 [ inl still ↦ inl still | inr of ↦ inr (text, r, of) ])
+
+-- and so it does where nobody was told anything
+pub untold_text : (text : List ℕ) (a : Answer) (lists : ToldLists) → TextTells text a lists lists
+untold_text text a lists = (told_none a lists, inl refl)
+
+pub untold_source : (source : Port) (a : Answer) (lists : ToldLists) → ResumeTells source a lists lists
+untold_source source a lists = (told_none a lists, inl refl)
 
 module _ (options : ResumeOptions) (plan : List ℕ) (before now : ToldLists) where
   -- with a plan that is accepted
@@ -356,7 +375,7 @@ module _ (options : ResumeOptions) (plan : List ℕ) (before now : ToldLists) wh
   refused_text text (errors.WrongCount line) h = record { error = errors.WrongCount line; of_text = λ e. cc; refused = h; number_is = refl; line_is = refl }
 
   -- and so is one that is too long
-  pub long_text : (text : List ℕ) → text_limit < length text → TextHas options plan before now text (answers.SavedRefused (record { number = 1; line = 1 }))
+  pub long_text : (text : List ℕ) → saved_limit < length text → TextHas options plan before now text (answers.SavedRefused (record { number = 1; line = 1 }))
   long_text text long = record { error = errors.NoSuchForm 1; of_text = λ e. cc; refused = TooLong long; number_is = refl; line_is = refl }
 
   -- no text has a read fault
@@ -364,8 +383,8 @@ module _ (options : ResumeOptions) (plan : List ℕ) (before now : ToldLists) wh
   no_fault text h = has_kind options before now h.has.items h.state answers.ReadFault h.has.has
 
 -- what stands behind the limit changes no answer: a text that is longer is refused
-module _ (text rest : List ℕ) (long : text_limit < length text) where
-  longer : text_limit < length (text ++ rest)
+module _ (text rest : List ℕ) (long : saved_limit < length text) where
+  longer : saved_limit < length (text ++ rest)
   longer = let e = length-append text rest in omega (arith, long, e)
 
   long_wrong : (f : Fault) (line : ℕ) → IsWrongAt text f line → IsWrongAt (text ++ rest) f line
@@ -470,3 +489,9 @@ module _ {W : Type 0} (told : W → Option (List Event)) (options : ResumeOption
       (subst (λ (o : Opening). Driven told plan (limits_of options) o closed.words old new) opening_is
       (subst (λ (l : Limits). Driven told plan l (opening_of shared) closed.words old new) limits_are d))
       (subst (λ (l : List NamedArray). IsTheOne (IsSaid closed.shape closed.array_lengths l closed.words) a) named_are only)
+
+-- such a table has as many processors as the state
+pub table_count : (saved : Saved) (keeper : ℕ) (r : Renewed) (shared : Shared) → IsRenewalOf saved keeper r
+    → opening_of shared ≡ record { shape = r.image.shape; code = r.code; words = r.image.words } → shared.shape.processors ≡ saved.shape.processors
+table_count saved keeper r shared is opens =
+    ap (λ (s : Shape). s.processors) (sym shared.told.0) ∙ ap (λ (o : Opening). o.shape.processors) opens ∙ ap (λ (s : Shape). s.processors) is.shape_is

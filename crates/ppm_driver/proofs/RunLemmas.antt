@@ -31,7 +31,7 @@ use Rattle.ppm_answers.specs.declared.answer.Answer.TheVariants as answers
 use Rattle.ppm_cli.specs.declared.run.RunOptions.{RunOptions}
 use Rattle.ppm_cli.specs.Words.{AreRun}
 use Rattle.ppm_loading.specs.declared.loading.Sizes.{Sizes}
-use Rattle.ppm_loading.specs.Loading.{AreSizes, Opens, opened_by}
+use Rattle.ppm_loading.specs.Loading.{AreSizes, OpensRun, opened_by}
 use Rattle.ppm_choice.specs.Deeds.{work_made}
 use Rattle.ppm_choice.specs.Finishes.{Finishes, Proposed, Spent, Stood}
 use Rattle.ppm_driver.specs.RunOf.{words_behind, finish_behind}
@@ -270,7 +270,7 @@ same_plan options plan same = λ i. record { processors = same i; items = plan.i
 -- the answer of a program is what is said of the words behind its run
 module _ (options : RunOptions) (items : List PlanItem) (t : ProgramTree) (before now : ToldLists) where
   has_run : (keeper : ℕ) (start : Situation) (turns : List Turn) → IsKeeper plan_form items keeper
-      → Opens (sizes_of options) (code_of t) (initial_arrays t) keeper start → IsCode (code_of t)
+      → OpensRun (sizes_of options) (code_of t) (initial_arrays t) keeper start → IsCode (code_of t)
       → ObeyAll (plan_of options items) (limits_of options) start.shape start.code start.state turns
       → AreTold options.processors (plan_of options items) (limits_of options) before now start turns
       → (a : Answer) → IsTheOne (IsSaid start.shape start.array_lengths (initial_arrays t) (words_behind start turns)) a
@@ -296,20 +296,20 @@ module _ (options : RunOptions) (items : List PlanItem) (t : ProgramTree) (befor
 
 -- a table has as many processors as the options say
 pub table_processors : (options : RunOptions) (t : ProgramTree) (sizes : Sizes) (keeper : ℕ) (shared : Shared) → sizes ≡ sizes_of options
-    → Opens sizes (code_of t) (initial_arrays t) keeper (opened_by shared) → shared.shape.processors ≡ options.processors
+    → OpensRun sizes (code_of t) (initial_arrays t) keeper (opened_by shared) → shared.shape.processors ≡ options.processors
 table_processors options t sizes keeper shared are opens =
     ap (λ (s : Shape). s.processors) (sym shared.told.0)
     ∙ opens_processors sizes (code_of t) (initial_arrays t) keeper (opened_by shared) opens ∙ ap (λ (z : Sizes). z.processors) are
 
 -- what is said behind the run of a table, and told of it
 module _ {W : Type 0} (told : W → Option (List Event)) (options : RunOptions) (plan : Planned) (t : ProgramTree) where
-  abbrev Told : Planned → Limits → Situation → List Turn → List W → List W → Type 0
-  Told p l m turns old new = AreTold options.processors p l (map told old) (map told new) m turns
+  abbrev ListsTold : Planned → Limits → Situation → List Turn → List W → List W → Type 0
+  ListsTold p l m turns old new = AreTold options.processors p l (map told old) (map told new) m turns
 
   pub program_has : (sizes : Sizes) (limits : Limits) (keeper : ℕ) (shared : Shared) (closed : Closing) (old new : List W) (w : W)
       (arrays : List NamedArray) (a : Answer) → sizes ≡ sizes_of options → limits ≡ limits_of options
       → plan.processors ≡ options.processors → IsKeeper plan_form plan.items keeper
-      → Opens sizes (code_of t) (initial_arrays t) keeper (opened_by shared) → IsCode (code_of t)
+      → OpensRun sizes (code_of t) (initial_arrays t) keeper (opened_by shared) → IsCode (code_of t)
       → length new ≡ length old → options.processors ≤ length old
       → closed.shape ≡ (opening_of shared).shape → closed.array_lengths ≡ shared.lengths
       → OthersStay (opening_of shared).shape.processors old new → Driven told plan limits (opening_of shared) closed.words old new → arrays ≡ initial_arrays t
@@ -318,15 +318,15 @@ module _ {W : Type 0} (told : W → Option (List Event)) (options : RunOptions) 
   program_has sizes limits keeper shared closed old new w arrays a sizes_are limits_are same spared opens is many enough shape lengths others d arrays_are only =
       let k = opening_of shared in
       let m = opened_by shared in
-      let begins = subst (λ (z : Sizes). Opens z (code_of t) (initial_arrays t) keeper m) sizes_are opens in
+      let begins = subst (λ (z : Sizes). OpensRun z (code_of t) (initial_arrays t) keeper m) sizes_are opens in
       let count : k.shape.processors ≡ options.processors =
       opens_processors (sizes_of options) (code_of t) (initial_arrays t) keeper m begins in
       let obey = subst (λ (p : Planned). ObeyAll p (limits_of options) m.shape m.code m.state d.turns) (same_plan options plan same)
       (subst (λ (l : Limits). ObeyAll plan l m.shape m.code m.state d.turns) limits_are d.obey) in
       let are = are_told told plan limits k closed.words shared.lengths options.processors old new w many
       (omega (arith, enough, count)) (sym count) others d in
-      let lists = subst (λ (p : Planned). Told p (limits_of options) m d.turns old new) (same_plan options plan same)
-      (subst (λ (l : Limits). Told plan l m d.turns old new) limits_are are) in
+      let lists = subst (λ (p : Planned). ListsTold p (limits_of options) m d.turns old new) (same_plan options plan same)
+      (subst (λ (l : Limits). ListsTold plan l m d.turns old new) limits_are are) in
       let said = subst (λ (l : List NamedArray). IsTheOne (IsSaid m.shape m.array_lengths l (words_behind m d.turns)) a) arrays_are
       (subst (λ (ws : List ℕ). IsTheOne (IsSaid m.shape m.array_lengths arrays ws) a) (sym d.words_are)
       (subst (λ (n : List ℕ). IsTheOne (IsSaid m.shape n arrays closed.words) a) lengths

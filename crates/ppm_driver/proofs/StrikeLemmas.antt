@@ -1,5 +1,5 @@
 -- Where all obey a plan each fault is one that it has for that act of the processor, and no two acts of one processor have the same number.
-use Rattle.std.proofs.Common.{◌≡◌, ◌≢◌, ◌≤◌, ◌<◌, ◌⊎◌, ℕ, zero, suc, ◌+◌, ◌^◌, ◌==◌, ◌&&◌, ◌||◌, nat_lt, nat_le, Bool, true, false, if◌then◌else◌, List, [], ◌∷◌, ◌++◌, length, Option, Some, None, inl, inr, refl, sym, ap, ◌∙◌, subst, arith}
+use Rattle.std.proofs.Common.{◌≡◌, ◌≤◌, ◌<◌, ℕ, zero, suc, ◌+◌, ◌^◌, ◌==◌, ◌&&◌, ◌||◌, nat_lt, nat_le, Bool, true, false, if◌then◌else◌, List, [], ◌∷◌, ◌++◌, length, Some, None, inl, inr, refl, sym, ap, ◌∙◌, subst, arith}
 use Rattle.std.specs.List.{AllByRecursion, list_any}
 use Rattle.std.proofs.lemmas.Bool.{cases_lt, eqb-true, eq-eqb, or_cases}
 use Rattle.std.proofs.lemmas.List.{length-append}
@@ -7,13 +7,9 @@ use Rattle.std.proofs.lemmas.List.Elements.{recursion_from_All}
 use Rattle.ppm_cells.specs.Memory.{read}
 use Rattle.ppm_cells.specs.Restart.{restart_of}
 use Rattle.ppm_cells.specs.declared.cell.Cell.TheVariants.{RestartWord}
-use Rattle.ppm_cells.specs.declared.restart.Restart.{Restart}
 use Rattle.ppm_cells.specs.declared.shape.Shape.{Shape}
-use Rattle.ppm_cells.specs.declared.shape.Takeover.{Takeover}
-use Rattle.ppm_cells.specs.declared.shape.Takeover.TheVariants.{ByPlaces, ByEntries}
 use Rattle.ppm_code.specs.declared.code.CodeParts.{CodeParts}
 use Rattle.ppm_core.specs.Situation.{Situation}
-use Rattle.ppm_plan.specs.declared.fault.Fault.{Fault}
 use Rattle.ppm_plan.specs.declared.fault.Fault.TheVariants as faults
 use Rattle.ppm_plan.specs.declared.plan_item.PlanItem.{PlanItem}
 use Rattle.ppm_plan.specs.Faults.{is_at, is_hard_at}
@@ -26,46 +22,17 @@ use Rattle.ppm_step.specs.declared.turn.Act.{Act}
 use Rattle.ppm_step.specs.declared.turn.Act.TheVariants.{Step, Soft, Hard, Quit}
 use Rattle.ppm_step.specs.declared.turn.Turn.{Turn}
 use Rattle.ppm_step.specs.declared.turn.Why.TheVariants.{Turns}
-use Rattle.ppm_paces.specs.Paces.{is_strike, strikes_of}
+use Rattle.ppm_paces.specs.Paces.{strikes_of}
 use Rattle.ppm_choice.specs.Deeds.{Deed, deeds_of}
-use Rattle.ppm_choice.specs.Obeying.{Past, nothing_done, ObeyAll, Obeys, fault_of, faulted, behind, awake, next_act}
+use Rattle.ppm_choice.specs.Obeying.{Past, nothing_done, ObeyAll, Obeys, faulted, behind, awake, next_act}
 use Rattle.ppm_choice.specs.declared.limits.Limits.{Limits}
 use Rattle.ppm_choice.proofs.ParkLemmas.{awake_acts}
 use Rattle.ppm_runs.specs.Deques.{one_if}
 use Rattle.ppm_runs.proofs.SumLemmas.{sum, sum_le, sum_plus, sum_same, sum_zero}
-use Rattle.ppm_runs.specs.Work.{undoes, undone_of}
-use Rattle.ppm_driver.specs.Meant.{is_fault, faults_in}
+use Rattle.ppm_runs.specs.Work.{undone_of}
+use Rattle.ppm_driver.specs.Meant.{is_fault}
 use Rattle.ppm_driver.specs.Strikes.{fault_count, StrikesArePlanned, UndoneArePlanned}
-
-one_or_none : (b : Bool) (c : ℕ) → length (if b then c ∷ [] else []) ≤ 1
-one_or_none true c = omega arith
-one_or_none false c = omega arith
-
--- a fault that strikes a row is one
-strike_faults : (act : Act) (x : Standing) (c : ℕ) → length (if is_strike act x then c ∷ [] else []) ≤ one_if (is_fault act)
-strike_faults (Step v) x c = omega arith
-strike_faults (Quit why) x c = omega arith
-strike_faults Soft x c = one_or_none (is_strike Soft x) c
-strike_faults Hard x c = one_or_none (is_strike Hard x) c
-
--- so is one that undoes work
-undone_faults : (how : Takeover) (act : Act) (x : Standing) (r : Option Restart) (c : ℕ)
-    → length (if undoes how act x r then c ∷ [] else []) ≤ one_if (is_fault act)
-undone_faults ByPlaces act x r c = strike_faults act x c
-undone_faults ByEntries (Step v) x r c = strike_faults (Step v) x c
-undone_faults ByEntries (Quit why) x r c = strike_faults (Quit why) x c
-undone_faults ByEntries Soft x r c = strike_faults Soft x c
-undone_faults ByEntries Hard x r c = one_or_none (undoes ByEntries Hard x r) c
-
--- no more of them undo work than there are
-module _ (s : Shape) (code : CodeParts) where
-  pub undone_few : (turns : List Turn) (state : State) → length (along s code (undone_of s) state turns) ≤ faults_in turns
-  undone_few [] state = omega arith
-  undone_few (turn ∷ turns) state =
-      let both = length-append (undone_of s state turn) (along s code (undone_of s) (happens s code state turn) turns) in
-      let one = undone_faults s.takeover turn.act (stand_of state turn.processor) (restart_of (read s state.words (RestartWord turn.processor))) turn.processor in
-      let rest = undone_few turns (happens s code state turn) in
-      omega (arith, both, one, rest)
+use Rattle.ppm_driver.proofs.FaultLemmas.{strike_faults, undone_faults}
 
 -- how many there are among acts
 abbrev faults_among : List Deed → ℕ

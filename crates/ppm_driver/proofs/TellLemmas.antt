@@ -1,11 +1,11 @@
 -- The text of a state is never refused, and no other state is read from it.
-use Rattle.std.proofs.Common.{◌≡◌, ◌≢◌, ◌≤◌, ℕ, List, [], refl, sym, subst}
+use Rattle.std.proofs.Common.{◌≡◌, ◌≢◌, ◌≤◌, ℕ, List, [], refl}
 use Rattle.ppm_words.specs.Limits.{turn_limit}
 use Rattle.ppm_saved_reader.specs.Correct.{FaultsTellSavedTexts, IsRefusal, IsSavedText}
 use Rattle.ppm_saved_reader.specs.declared.saved_error.Fault.TheVariants as fault
 use Rattle.ppm_saved_reader.specs.declared.saved_error.SavedError.{SavedError}
 use Rattle.ppm_saved_reader.specs.declared.saved_error.SavedError.TheVariants as errors
-use Rattle.ppm_driver.specs.Legs.{worked_in_all}
+use Rattle.ppm_driver.specs.Legs.{worked_in_all, struck_in_all}
 use Rattle.ppm_driver.specs.Resumes.{SavedState, IsTextOf, IsLeftBy, IsTextLeftBy}
 
 module _ (law : FaultsTellSavedTexts) (text : List ℕ) (z : SavedState) (is : IsSavedText text z.shape z.arrays z.code z.words) where
@@ -22,16 +22,16 @@ module _ (law : FaultsTellSavedTexts) (text : List ℕ) (z : SavedState) (is : I
       let k = law.one_state text y.shape z.shape y.arrays z.arrays y.code z.code y.words z.words other.saved is in
       λ i. record { shape = k.0 i; arrays = k.1 i; code = k.2 i; words = k.3 i }
 
-  pub text_left : (source : List ℕ) (left : IsLeftBy source z) → left.legs ≡ [] → worked_in_all left.start left.legs left.turns ≤ turn_limit
-      → z.shape.processors ≤ 16 → IsTextLeftBy source text
-  text_left source left alone work few = record {
+  pub text_left : (source : List ℕ) (faults : ℕ) (left : IsLeftBy source z) → left.legs ≡ [] → worked_in_all left.start left.legs left.turns ≤ turn_limit
+      → struck_in_all left.start left.legs left.turns ≤ faults → z.shape.processors ≤ 16 → IsTextLeftBy source faults text
+  text_left source faults left alone work struck few = record {
     state = z;
     is = record { short = law.short text z.shape z.arrays z.code z.words is; saved = is };
     taken = λ r refused. never_refused refused.error refused.of_text refused.refused;
     one = one_state;
-    left = λ y other. subst (IsLeftBy source) (sym (one_state y other)) left;
     by = left;
     alone = alone;
     work = work;
+    struck = struck;
     few = few;
   }

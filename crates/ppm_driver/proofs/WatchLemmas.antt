@@ -11,7 +11,6 @@ use Rattle.ppm_choice.specs.declared.limits.Limits.{Limits}
 use Rattle.ppm_choice.specs.Tells.{told_in}
 use Rattle.ppm_table.specs.declared.view.Opening.{Opening}
 use Rattle.ppm_table.specs.Run.{start}
-use Rattle.ppm_table.specs.Telling.{Keeps}
 use Rattle.ppm_threads.specs.Driven.{AllKeep, OthersStay, Driven}
 use Rattle.ppm_answers.specs.declared.answer.Answer.{Answer}
 use Rattle.ppm_answers.specs.declared.answer.Answer.TheVariants as answers
@@ -81,18 +80,12 @@ module _ {W : Type 0} (told : W → Option (List Event)) where
   none_at (w ∷ ws) (suc c) least = none_at ws c (omega (arith, least))
 
   -- each keeps its front
-  known_front : (before now : Option (List Event)) → Keeps before now → KeepsFront before now
-  known_front None now k = tt
-  known_front (Some before) None k = let h = k before refl in let e : None ≡ Some (before ++ h.0) = h.1 in cc
-  known_front (Some before) (Some now) k =
-      let h = k before refl in let e : Some now ≡ Some (before ++ h.0) = h.1 in let same : now ≡ before ++ h.0 = cc in (h.0, same)
-
   pub keep_fronts : (old new : List W) → length new ≡ length old → AllKeep told old new → KeepFronts (map told old) (map told new)
   keep_fronts [] [] e k = tt
   keep_fronts [] (v ∷ vs) e k = absurd (omega (arith, e))
   keep_fronts (w ∷ ws) [] e k = absurd (omega (arith, e))
   keep_fronts (w ∷ ws) (v ∷ vs) e k =
-      (known_front (told w) (told v) (k 0 w), keep_fronts ws vs (omega (arith, e)) (λ j d. k (suc j) d))
+      (k 0 w, keep_fronts ws vs (omega (arith, e)) (λ j d. k (suc j) d))
 
   -- the watchers that stay are told nothing
   pub others_keep : (count : ℕ) (old new : List W) (w : W) → length new ≡ length old → OthersStay count old new → OthersKeep count (map told old) (map told new)

@@ -19,16 +19,11 @@ use Rattle.ppm_choice.specs.declared.limits.Limits.{Limits}
 use Rattle.ppm_choice.proofs.DeedLemmas.{work_is_counted}
 use Rattle.ppm_choice.proofs.MadeLemmas.{Makes, Skips, made_or_not}
 use Rattle.ppm_choice.proofs.SpentLemmas.{at_most}
-use Rattle.ppm_runs.specs.Deques.{one_if}
-use Rattle.ppm_runs.specs.Unbroken.{works}
+use Rattle.ppm_runs.specs.Work.{work_in}
 
-none_or : (b : Bool) (p : ℕ) → length (if b then p ∷ [] else []) ≡ one_if b
-none_or true p = refl
-none_or false p = refl
-
-one_at_most : (b : Bool) → one_if b ≤ 1
-one_at_most true = omega arith
-one_at_most false = omega arith
+one_or_none : (b : Bool) (p : ℕ) → length (if b then p ∷ [] else []) ≤ 1
+one_or_none true p = omega arith
+one_or_none false p = omega arith
 
 some_of : (b : Bool) (l : List ℕ) → length (if b then l else []) ≤ length l
 some_of true l = omega arith
@@ -42,22 +37,14 @@ below p n less other = elim (cases_lt p n) [
 ]
 
 module _ (s : Shape) (code : CodeParts) where
-  -- work turns are counted in two ways
-  pub works_are : (state : State) (turns : List Turn) → works s code state turns ≡ length (along s code work_of state turns)
-  works_are state [] = refl
-  works_are state (turn ∷ turns) =
-      let rest = works_are (happens s code state turn) turns in
-      let both = length-append (work_of state turn) (along s code work_of (happens s code state turn) turns) in
-      let one = none_or (is_work_turn turn.act (stand_of state turn.processor)) turn.processor in
-      omega (arith, rest, both, one)
-
-  -- and are no more than the turns
-  works_few : (state : State) (turns : List Turn) → works s code state turns ≤ length turns
+  -- work turns are no more than the turns
+  works_few : (state : State) (turns : List Turn) → work_in s code state turns ≤ length turns
   works_few state [] = omega arith
   works_few state (turn ∷ turns) =
       let rest = works_few (happens s code state turn) turns in
-      let one = one_at_most (is_work_turn turn.act (stand_of state turn.processor)) in
-      omega (arith, rest, one)
+      let both = length-append (work_of state turn) (along s code work_of (happens s code state turn) turns) in
+      let one = one_or_none (is_work_turn turn.act (stand_of state turn.processor)) turn.processor in
+      omega (arith, rest, both, one)
 
   -- a processor's work is no more than that of all
   pub of_all : (processor : ℕ) (state : State) (turns : List Turn)
@@ -151,7 +138,6 @@ module _ (s : Shape) (code : CodeParts) where
   pub scheduled_work : (state : State) (items : List ScheduleItem) (turns : ℕ)
       → length (along s code work_of state (schedule_turns s code state items turns)) ≤ turns
   scheduled_work state items turns =
-      let is = works_are state (schedule_turns s code state items turns) in
       let few = works_few state (schedule_turns s code state items turns) in
       let acts = few_turns (beginning state turns) (dues_of s.processors items turns) in
-      omega (arith, is, few, acts)
+      omega (arith, few, acts)

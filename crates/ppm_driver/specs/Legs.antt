@@ -1,6 +1,6 @@
 -- What runs in legs of a program's machine come to, in the words of the program's serial meaning: turns, the words behind them that came back,
 -- turns of fresh processors, and so on.
-use Rattle.std.specs.Prelude.{◌≡◌, ◌≢◌, ◌≤◌, ◌<◌, ℕ, ◌+◌, ◌*◌, ◌^◌, List, Some, None, length}
+use Rattle.std.specs.Prelude.{◌≡◌, ◌≢◌, ◌≤◌, ◌<◌, ℕ, ◌+◌, ◌*◌, ◌^◌, List, [], ◌∷◌, Some, None, length}
 use Rattle.std.specs.List.{AllByRecursion}
 use Rattle.ppm_strands.specs.Run.{End as CapsuleEnd}
 use Rattle.ppm_words.specs.declared.outcome.Outcome.{Outcome}
@@ -25,10 +25,15 @@ use Rattle.ppm_runs.specs.Legs.{Leg, AreLegs, last_state, all_forked, all_taken,
 use Rattle.ppm_runs.specs.Moments.{AreOnce}
 use Rattle.ppm_resumed.specs.Resumed.{TagsMayRise}
 use Rattle.ppm_core.specs.Situation.{Situation}
-use Rattle.ppm_loading.specs.Loading.{Opens}
+use Rattle.ppm_loading.specs.Loading.{OpensRun}
 use Rattle.ppm_loading.specs.Says.{arrays_from}
 use Rattle.ppm_loading.specs.declared.loading.Sizes.{Sizes}
-use Rattle.ppm_driver.specs.Meant.{HasOutcome, EndsDepthFirst, NeedsMoreRoom, NeedsMoreTurns}
+use Rattle.ppm_driver.specs.Meant.{HasOutcome, EndsDepthFirst, NeedsMoreRoom, NeedsMoreTurns, faults_in}
+
+-- how many turns of legs are faults
+abbrev pub faults_then : List Leg → ℕ
+faults_then [] = 0
+faults_then (leg ∷ legs) = faults_then legs + faults_in leg.turns
 
 -- the legs of a run from a machine, the latest first, and the turns behind them
 module _ (m : Situation) (legs : List Leg) (turns : List Turn) where
@@ -46,12 +51,20 @@ module _ (m : Situation) (legs : List Leg) (turns : List Turn) where
   abbrev pub taken_in_all : List ℕ
   taken_in_all = all_taken m.shape m.code m.state.words legs turns
 
-  -- the work turns of all of them; and how many faults struck a row of work, with one for each fresh processor, whose place's row began again
+  -- the work turns of all of them
   abbrev pub worked_in_all : ℕ
   worked_in_all = all_work m.shape m.code m.state.words legs turns
 
+  -- how many turns of all of them are faults, and how many faults struck a row of work
+  abbrev pub faults_in_all : ℕ
+  faults_in_all = faults_then legs + faults_in turns
+
   abbrev pub struck_in_all : ℕ
-  struck_in_all = all_strikes m.shape m.code m.state.words legs turns + m.shape.processors * length legs
+  struck_in_all = all_strikes m.shape m.code m.state.words legs turns
+
+  -- how many rows of work were lost, to begin again: by each of these faults one, and one of each place whenever fresh processors came
+  abbrev pub lost_in_all : ℕ
+  lost_in_all = struck_in_all + m.shape.processors * length legs
 
   -- over all of them no right branch is forked twice, none is taken twice, and each that is taken was forked
   abbrev pub NoneIsTakenTwiceInAll : Type 0
@@ -72,9 +85,9 @@ module _ (m : Situation) (legs : List Leg) (turns : List Turn) where
     pub forks : (e : CapsuleEnd Result) → ComesTo (code_of t) (initial_arrays t) e → length forked_in_all ≡ e.counts.forks
 
   -- What holds behind them. No branch is taken twice. Where the finish word says an outcome the run ends as the program does, with the arrays
-  -- of the words then, or this trap; where it says that a pool is full, the program takes more words. All work turns are fewer than 256 for
-  -- each capsule of the program's code, each fault that strikes a row of work, and each fresh processor. No place has given out more of its
-  -- pool than that run takes. The finish word stands for a finish; that words are broken it says only behind more than 2^34 work turns, where
+  -- of the words then, or this trap; where it says that a pool is full, it is that of a place, and the program takes more words. All work turns
+  -- are fewer than 256 for each capsule of the program's code, each fault that strikes a row of work, and each fresh processor; no more faults
+  -- strike one than turns are faults. No place has given out more of its pool than that run takes. The finish word stands for a finish; that words are broken it says only behind more than 2^34 work turns, where
   -- words came back at most 2^50 times.
   pub record IsAsProgramInAll (t : ProgramTree) : Type 0 where
     pub once : NoneIsTakenTwiceInAll
@@ -82,8 +95,10 @@ module _ (m : Situation) (legs : List Leg) (turns : List Turn) where
         → EndsAsProgramInAll t (outcome.Ended (arrays_from m.shape m.array_lengths words_at_last 0 (initial_arrays t)))
     pub trapped : (trap : Trap) (line : ℕ) → finish_of finish_at_last ≡ Some (finishes.Trapped trap line)
         → EndsAsProgramInAll t (outcome.Trapped trap line)
-    pub work : NeedsMoreTurns t struck_in_all worked_in_all
-    pub full : (place : ℕ) → finish_of finish_at_last ≡ Some (finishes.OutOfRoom place) → NeedsMoreRoom t m.shape.room
+    pub work : NeedsMoreTurns t lost_in_all worked_in_all
+    pub few : struck_in_all ≤ faults_in_all
+    pub full : (place : ℕ) → finish_of finish_at_last ≡ Some (finishes.OutOfRoom place)
+        → (place < m.shape.processors) × NeedsMoreRoom t m.shape.room
     pub pools : (e : CapsuleEnd Result) → ComesTo (code_of t) (initial_arrays t) e → (place : ℕ) → place < m.shape.processors
         → read m.shape words_at_last (RoomCounter place) ≤ pool_at m.shape place + pool_words (code_of t) e.counts
     pub stands : finish_of finish_at_last ≢ None
@@ -93,14 +108,14 @@ module _ (m : Situation) (legs : List Leg) (turns : List Turn) where
 -- turns are, in whatever order, faults and quits among them. A run in which no words came back has no legs.
 abbrev pub RunsInLegsAreAsPrograms : Type 0
 RunsInLegsAreAsPrograms = (text : List ℕ) (t : ProgramTree) → HasProgram text t → (sizes : Sizes) → sizes.takeover ≡ ByPlaces
-    → (keeper : ℕ) (m : Situation) → Opens sizes (code_of t) (initial_arrays t) keeper m
+    → (keeper : ℕ) (m : Situation) → OpensRun sizes (code_of t) (initial_arrays t) keeper m
     → (legs : List Leg) → AreLegs m.shape m.code m.state.words legs
     → (turns : List Turn) → AllByRecursion (IsTurnAmong m.shape.processors) turns → IsAsProgramInAll m legs turns t
 
 -- and then no place's holder has the last tag, where words came back fewer than 2^50 times
 abbrev pub TagsMayRiseInLegs : Type 0
 TagsMayRiseInLegs = (text : List ℕ) (t : ProgramTree) → HasProgram text t → (sizes : Sizes) → sizes.takeover ≡ ByPlaces
-    → (keeper : ℕ) (m : Situation) → Opens sizes (code_of t) (initial_arrays t) keeper m
+    → (keeper : ℕ) (m : Situation) → OpensRun sizes (code_of t) (initial_arrays t) keeper m
     → (legs : List Leg) → AreLegs m.shape m.code m.state.words legs
     → (turns : List Turn) → AllByRecursion (IsTurnAmong m.shape.processors) turns
     → length legs < 2 ^ 50 → TagsMayRise m.shape (words_at_last m legs turns)

@@ -4,6 +4,7 @@ pub mod Meant
 pub mod Runs
 pub mod Strikes
 pub mod Completeness
+pub mod Headline
 pub mod RunRows
 pub mod Replays
 pub mod ReplayRows

@@ -19,19 +19,17 @@ use Rattle.ppm_program.specs.Programs.{HasProgram}
 use Rattle.ppm_cut_code.specs.Routines.{code_of}
 use Rattle.ppm_cut_correct.specs.Correct.{words_taken}
 use Rattle.ppm_step.specs.Among.{IsTurnAmong}
-use Rattle.ppm_step.specs.State.{along, work_of}
 use Rattle.ppm_step.specs.declared.turn.Act.{Act}
 use Rattle.ppm_step.specs.declared.turn.Act.TheVariants.{Soft, Hard}
 use Rattle.ppm_step.specs.declared.turn.Turn.{Turn}
-use Rattle.ppm_paces.specs.Paces.{strikes_of}
 use Rattle.ppm_runs.specs.Deques.{one_if}
-use Rattle.ppm_runs.specs.Work.{undone_of}
+use Rattle.ppm_runs.specs.Work.{work_in, strikes_in, undone_in as undone_among}
 use Rattle.ppm_tickets.specs.Along.{forked, taken}
 use Rattle.ppm_tickets.specs.Words.{has}
 use Rattle.ppm_runs.specs.Moments.{AreOnce}
 use Rattle.ppm_core.specs.Situation.{Situation}
 use Rattle.ppm_loading.specs.declared.loading.Sizes.{Sizes}
-use Rattle.ppm_loading.specs.Loading.{Opens}
+use Rattle.ppm_loading.specs.Loading.{OpensRun}
 use Rattle.ppm_driver.specs.RunOf.{words_behind, finish_behind}
 use Rattle.ppm_loading.specs.Says.{arrays_from}
 
@@ -43,10 +41,12 @@ HasOutcome t o = (within : ℕ) × Serial t within o
 abbrev pub EndsDepthFirst : ProgramTree → Outcome → Type 0
 EndsDepthFirst t o = (e : CapsuleEnd Result) × ComesTo (code_of t) (initial_arrays t) e × (said_of (initial_arrays t) e.words e.outcome ≡ o)
 
--- The program, both branches of each fork run whole, has no end, or it takes more words than so many: the frame of `main`, and those that its
--- calls, its forks and each `each` ask for. Each pool of a machine has as many words as its room.
-abbrev pub NeedsMoreRoom : ProgramTree → (room : ℕ) → Type 0
-NeedsMoreRoom t room = (k : Counts) (z : End ℤ) → Means Whole t (values_of (initial_arrays t)) k z → room < words_taken t k
+-- A pool of so many words is too small for the program: its code, run depth first, has no end, or takes more of them; and so does the program, both
+-- branches of each fork run whole. It takes the frame of `main`, and those that its calls, its forks and each `each` ask for. Each pool of a machine
+-- has as many words as its room.
+pub record NeedsMoreRoom (t : ProgramTree) (room : ℕ) : Type 0 where
+  pub depth_first : (e : CapsuleEnd Result) → ComesTo (code_of t) (initial_arrays t) e → room < pool_words (code_of t) e.counts
+  pub whole : (k : Counts) (z : End ℤ) → Means Whole t (values_of (initial_arrays t)) k z → room < words_taken t k
 
 -- The code of the program, run depth first, has no end, or so many turns are fewer than 256 for each of its capsules and each of so many faults.
 abbrev pub NeedsMoreTurns : ProgramTree → (faults limit : ℕ) → Type 0
@@ -82,15 +82,15 @@ module _ (m : Situation) (turns : List Turn) where
 
   -- how many faults of these turns strike a row of work: they find one under way, or at the broken words that it has met
   abbrev pub struck_in : ℕ
-  struck_in = length (along m.shape m.code strikes_of m.state turns)
+  struck_in = strikes_in m.shape m.code m.state turns
 
   -- how many of them undo work: those that strike a row of work, and with takeover by entries hard ones too that close a place behind its push
   abbrev pub undone_in : ℕ
-  undone_in = length (along m.shape m.code (undone_of m.shape) m.state turns)
+  undone_in = undone_among m.shape m.code m.state turns
 
   -- how many of these turns are work
   abbrev pub worked_in : ℕ
-  worked_in = length (along m.shape m.code work_of m.state turns)
+  worked_in = work_in m.shape m.code m.state turns
 
   -- a run of these turns ends as the program does: with its serial outcome, and that of its code, run depth first; with each branch that was
   -- forked taken once, and as many of them as forks that this code makes
@@ -101,7 +101,7 @@ module _ (m : Situation) (turns : List Turn) where
     pub forks : (e : CapsuleEnd Result) → ComesTo (code_of t) (initial_arrays t) e → length forked_in ≡ e.counts.forks
 
   -- What holds behind these turns. No branch is taken twice. Where the finish word says an outcome the run ends as the program does, with the
-  -- arrays of the words then, or this trap; where it says that a pool is full, the program takes more words. That words are broken it says only
+  -- arrays of the words then, or this trap; where it says that a pool is full, it is that of a place, and the program takes more words. That words are broken it says only
   -- behind more than 2^34 work turns. All work turns are fewer than 256 for each capsule of the program's code and each fault that undoes work; no more do
   -- so than turns are faults. No place has given out more of its pool than that run takes.
   pub record IsAsProgram (t : ProgramTree) : Type 0 where
@@ -110,7 +110,8 @@ module _ (m : Situation) (turns : List Turn) where
         → EndsAsProgram t (outcome.Ended (arrays_from m.shape m.array_lengths (words_behind m turns) 0 (initial_arrays t)))
     pub trapped : (trap : Trap) (line : ℕ) → finish_of (finish_behind m turns) ≡ Some (finishes.Trapped trap line)
         → EndsAsProgram t (outcome.Trapped trap line)
-    pub full : (place : ℕ) → finish_of (finish_behind m turns) ≡ Some (finishes.OutOfRoom place) → NeedsMoreRoom t m.shape.room
+    pub full : (place : ℕ) → finish_of (finish_behind m turns) ≡ Some (finishes.OutOfRoom place)
+        → (place < m.shape.processors) × NeedsMoreRoom t m.shape.room
     pub unbroken : (place : ℕ) → finish_of (finish_behind m turns) ≡ Some (finishes.Broken place) → 2 ^ 34 < worked_in
     pub work : NeedsMoreTurns t undone_in worked_in
     pub few : undone_in ≤ faults_in turns
@@ -121,6 +122,6 @@ module _ (m : Situation) (turns : List Turn) where
 -- and quits among them
 abbrev pub RunsAreAsPrograms : Type 0
 RunsAreAsPrograms = (text : List ℕ) (t : ProgramTree) → HasProgram text t → (sizes : Sizes)
-    → (keeper : ℕ) (m : Situation) → Opens sizes (code_of t) (initial_arrays t) keeper m
+    → (keeper : ℕ) (m : Situation) → OpensRun sizes (code_of t) (initial_arrays t) keeper m
     → (turns : List Turn) → AllByRecursion (IsTurnAmong m.shape.processors) turns
     → IsAsProgram m turns t

@@ -18,7 +18,7 @@ use Rattle.ppm_answers.specs.Reading.{AreOne, FrontsDecide}
 use Rattle.ppm_cli.specs.declared.replay.ReplayOptions.{ReplayOptions}
 use Rattle.ppm_cli.specs.Words.{AreReplayed}
 use Rattle.ppm_loading.specs.declared.loading.Sizes.{Sizes}
-use Rattle.ppm_loading.specs.Loading.{Opens}
+use Rattle.ppm_loading.specs.Loading.{OpensRun}
 use Rattle.ppm_loading.specs.Planned.{PlannedHas, PlannedMay, HasSomeAnswer}
 use Rattle.ppm_loading.specs.Programs as programs
 use Rattle.ppm_choice.specs.Finishes.{FilledIfSaid}
@@ -48,7 +48,7 @@ pub record ProgramHas (options : ReplayOptions) (items : List ScheduleItem) (t :
   pub keeper : ℕ
   pub spared : IsKeeper schedule_form items keeper
   pub start : Situation
-  pub opens : Opens (sizes_of options) (code_of t) (initial_arrays t) keeper start
+  pub opens : OpensRun (sizes_of options) (code_of t) (initial_arrays t) keeper start
   pub proposed : finish_in (followed start items options.turns) ≢ 0
       → IsProposedWord options.processors (finish_in (followed start items options.turns))
   pub exact : finish_in (followed start items options.turns) ≡ 0 → (followed start items options.turns).turns ≡ options.turns

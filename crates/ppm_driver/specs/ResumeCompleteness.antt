@@ -8,14 +8,18 @@ use Rattle.ppm_answers.specs.declared.answer.Answer.{Answer}
 use Rattle.ppm_cli.specs.declared.resume.ResumeOptions.{ResumeOptions}
 use Rattle.ppm_cli.specs.Words.{AreResumed}
 use Rattle.ppm_driver.specs.Completeness.{IsEnough, IsEnd}
-use Rattle.ppm_driver.specs.Legs.{struck_in_all}
+use Rattle.ppm_driver.specs.Legs.{lost_in_all}
 use Rattle.ppm_driver.specs.Resumes.{SavedState, IsTextOf, TextHas, IsLeftBy}
 use Rattle.ppm_driver.specs.Strikes.{fault_count}
 
--- How many faults a program's run has to make up for that is resumed by the items of a plan: those that struck a row of work in all legs that left
--- its state, with one for each fresh processor whenever words came back; and so with these items, and fresh processors once more.
+-- How many rows of work a run may lose that goes on by the items of a plan behind so many that were lost: one of each place, whose processor is a
+-- fresh one, and one by each fault of the plan.
+abbrev pub lost_with : (lost processors : ℕ) → List PlanItem → ℕ
+lost_with lost processors items = lost + processors + fault_count items
+
+-- so of a program's run behind all legs that left its state
 abbrev pub faults_with : {source : List ℕ} {z : SavedState} → IsLeftBy source z → List PlanItem → ℕ
-faults_with left items = struck_in_all left.start left.legs left.turns + left.start.shape.processors + fault_count items
+faults_with left items = lost_with (lost_in_all left.start left.legs left.turns) left.start.shape.processors items
 
 -- with options in their ranges, the text of a state that a program left, and a plan that is accepted for its processors: where turns and room are
 -- enough for the program and its faults, each answer of the text is that the run ended

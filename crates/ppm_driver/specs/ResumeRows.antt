@@ -21,14 +21,14 @@ use Rattle.ppm_cli.specs.declared.resume.ResumeOptions.{ResumeOptions}
 use Rattle.ppm_cli.specs.Words.{AreResumed}
 use Rattle.ppm_plan.specs.Forms.{plan_form}
 use Rattle.ppm_plan.specs.Refusals.{IsAccepted}
-use Rattle.ppm_saved_reader.specs.Rules.{text_limit}
+use Rattle.ppm_saved_reader.specs.Rules.{saved_limit}
 use Rattle.ppm_step.specs.Laws.{IsFilledBehind}
 use Rattle.ppm_driver.specs.Meant.{NeedsMoreRoom, NeedsMoreTurns, struck_in}
 use Rattle.ppm_driver.specs.Strikes.{fault_count}
 use Rattle.ppm_driver.specs.Completeness.{IsEnough}
-use Rattle.ppm_driver.specs.Legs.{worked_in_all, struck_in_all, NoneIsTakenTwiceInAll, EndsAsProgramInAll, IsAsProgramInAll}
-use Rattle.ppm_driver.specs.ResumeCompleteness.{faults_with}
-use Rattle.ppm_driver.specs.Resumes.{SavedState, saved_finish, IsTextOf, ResumedHas, TextHas, IsLeftBy, legs_with}
+use Rattle.ppm_driver.specs.Legs.{worked_in_all, lost_in_all, NoneIsTakenTwiceInAll, EndsAsProgramInAll, IsAsProgramInAll}
+use Rattle.ppm_driver.specs.ResumeCompleteness.{faults_with, lost_with}
+use Rattle.ppm_driver.specs.Resumes.{SavedState, saved_finish, IsTextOf, ResumedHas, TextHas, IsLeftBy, legs_with, IsTextLeftBy}
 use Rattle.ppm_plan.specs.declared.plan_item.PlanItem.{PlanItem}
 
 module _ (options : ResumeOptions) (plan : List ℕ) (o : Outside) where
@@ -38,7 +38,7 @@ module _ (options : ResumeOptions) (plan : List ℕ) (o : Outside) where
 
   -- the text that was read has this answer
   abbrev pub HasRead : Answer → Type 0
-  HasRead answer = ReadHas text_limit Has o.source answer
+  HasRead answer = ReadHas saved_limit Has o.source answer
 
   -- the run of a state
   abbrev pub Resumed : List PlanItem → SavedState → Answer → Type 0
@@ -62,7 +62,7 @@ module _ (options : ResumeOptions) (plan : List ℕ) (o : Outside) where
     -- struck a row of work, and for each processor whenever its words came back; or that run has no end
     abbrev pub AreTooFew : Type 0
     AreTooFew = (source : List ℕ) (left : IsLeftBy source z)
-        → NeedsMoreTurns left.tree (struck_in_all left.start (legs_with left run.start.state.words) run.run.turns) options.turns
+        → NeedsMoreTurns left.tree (lost_in_all left.start (legs_with left run.start.state.words) run.run.turns) options.turns
 
   -- the run ends with arrays, those with which each program that left the state ends serially, and out got exactly their text
   pub record WritesArrays : Type 0 where
@@ -89,7 +89,8 @@ module _ (options : ResumeOptions) (plan : List ℕ) (o : Outside) where
 
   -- A processor has made exactly as many work turns as it may make, in this run, and err got exactly the line that says so. So many are too
   -- few for each program that left the state, and no branch of it was taken twice. No more faults of this run struck a row of work than the plan
-  -- has.
+  -- has. So where the text is one that `stop` wrote, they are fewer than 256 for each capsule of the program's code, each fault of the schedule
+  -- then and of this plan, and each processor.
   pub record WritesOutOfTurns : Type 0 where
     pub processor : ℕ
     pub read : HasRead (answers.OutOfTurns processor)
@@ -97,16 +98,21 @@ module _ (options : ResumeOptions) (plan : List ℕ) (o : Outside) where
         (processor < read.2.state.shape.processors) × (work_made r.start.shape r.start.code processor r.start.state r.run.turns ≡ options.turns)
     pub needs : AreTooFew read.2.has.has
     pub struck : struck_in read.2.has.has.start read.2.has.has.run.turns ≤ fault_count read.2.has.items
+    pub stopped : (source : List ℕ) (faults : ℕ) (left : IsTextLeftBy source faults read.0)
+        → NeedsMoreTurns left.by.tree (lost_with faults read.2.state.shape.processors read.2.has.items) options.turns
     pub once : IsOnce read.2.has.has
     pub gets : Gets o.err (turns_text processor)
 
-  -- A turn of this run found the pool of a place full, or the saved words said so; and err got exactly the line that says so. Each program
-  -- that left the state takes more words than a pool has, or has no end; and no branch of it was taken twice.
+  -- A turn of this run found the pool of a place full, or the saved words said so; and err got exactly the line that says so. Also these say it
+  -- of a place, if a program left the state. Each such program takes more words than a pool has, or has no end; and no branch of it was taken
+  -- twice.
   pub record WritesOutOfRoom : Type 0 where
     pub place : ℕ
     pub read : HasRead (answers.OutOfRoom place)
-    pub full : let r = read.2.has.has in IsFilledBehind r.start.shape r.start.code place r.start.state.words r.run.turns
+    pub full : let r = read.2.has.has in
+        ((place < read.2.state.shape.processors) × IsFilledBehind r.start.shape r.start.code place r.start.state.words r.run.turns)
         ⊎ (finish_of (saved_finish read.2.state) ≡ Some (finishes.OutOfRoom place))
+    pub there : (source : List ℕ) → IsLeftBy source read.2.state → place < read.2.state.shape.processors
     pub needs : (source : List ℕ) (left : IsLeftBy source read.2.state) → NeedsMoreRoom left.tree read.2.state.shape.room
     pub once : IsOnce read.2.has.has
     pub gets : Gets o.err (room_text place)
@@ -153,6 +159,6 @@ module _ (options : ResumeOptions) (plan : List ℕ) (o : Outside) where
   -- The rows of `resume` with such options and such a plan: what each status says; and where all goes well, something is judged, and the
   -- answer that the text has is written.
   pub record ResumeRows (status : Status) : Type 0 where
-    pub rows : TextRows text_limit Has ResumeSays (ports_of o) status
+    pub rows : TextRows saved_limit Has ResumeSays (ports_of o) status
     pub meant : AreAsPrograms
     pub completes : Completes status

@@ -1,5 +1,5 @@
 -- What `resume` answers, and when it may.
-use Rattle.std.specs.Prelude.{◌≡◌, ◌≢◌, ◌⊎◌, ◌≤◌, ◌<◌, ℕ, ◌+◌, ◌^◌, List, [], ◌∷◌, None, length, map, ⊤}
+use Rattle.std.specs.Prelude.{◌≡◌, ◌≢◌, ◌⊎◌, ◌≤◌, ◌<◌, ℕ, ◌+◌, ◌^◌, List, [], ◌∷◌, None, length, map}
 use Rattle.std.specs.List.{AllByRecursion}
 use Rattle.ppm_words.specs.Limits.{turn_limit}
 use Rattle.ppm_words.specs.declared.idle.Idle.TheVariants.{Leave}
@@ -34,24 +34,25 @@ use Rattle.ppm_saved.specs.declared.names.NamedLength.{NamedLength}
 use Rattle.ppm_saved.specs.declared.saved.Saved.{Saved}
 use Rattle.ppm_saved_reader.specs.Correct.{IsRefusal, IsSavedText}
 use Rattle.ppm_saved_reader.specs.ErrorNumbers.{line_of, number_of}
-use Rattle.ppm_saved_reader.specs.Rules.{text_limit}
+use Rattle.ppm_saved_reader.specs.Rules.{saved_limit}
 use Rattle.ppm_saved_reader.specs.declared.saved_error.SavedError.{SavedError}
 use Rattle.ppm_saved_reader.specs.declared.saved_error.SavedError.TheVariants as errors
 use Rattle.ppm_answers.specs.declared.answer.Answer.{Answer}
 use Rattle.ppm_answers.specs.declared.answer.Answer.TheVariants as answers
 use Rattle.ppm_answers.specs.declared.saved.SavedRefusal.{SavedRefusal}
-use Rattle.ppm_answers.specs.Reading.{JudgingMay, FrontsDecide, TellsOfRun}
+use Rattle.ppm_answers.specs.Reading.{JudgingMay, FrontsDecide, Reads}
 use Rattle.ppm_cli.specs.declared.resume.ResumeOptions.{ResumeOptions}
 use Rattle.ppm_cli.specs.declared.stop.StopOptions.{StopOptions}
 use Rattle.ppm_cli.specs.Words.{AreStopped}
 use Rattle.ppm_stop.specs.Stops.{names_of, ProgramReads as StoppedReads}
-use Rattle.ppm_loading.specs.Loading.{Opens}
+use Rattle.ppm_loading.specs.Loading.{OpensRun}
 use Rattle.ppm_loading.specs.Planned.{IsRefusedBy}
 use Rattle.ppm_loading.specs.declared.loading.Sizes.{Sizes}
-use Rattle.ppm_driver.specs.Legs.{words_at_last, worked_in_all}
+use Rattle.ppm_driver.specs.Legs.{words_at_last, worked_in_all, struck_in_all}
 use Rattle.ppm_driver.specs.RunOf.{RunOf, words_behind}
-use Rattle.ppm_driver.specs.Runs.{IsSaid}
-use Rattle.ppm_driver.specs.Watchers.{AreTold}
+use Rattle.ppm_driver.specs.Runs.{IsSaid, TellsOfTurns}
+use Rattle.ppm_driver.specs.Strikes.{scheduled_faults}
+use Rattle.ppm_driver.specs.Watchers.{AreTold, OthersKeep}
 
 -- what a saved text tells: sizes, arrays without their values, code and words
 pub record SavedState : Type 0 where
@@ -70,7 +71,7 @@ saved_finish z = read z.shape z.words FinishWord
 
 -- the text of a state
 pub record IsTextOf (text : List ℕ) (z : SavedState) : Type 0 where
-  pub short : length text ≤ text_limit
+  pub short : length text ≤ saved_limit
   pub saved : IsSavedText text z.shape z.arrays z.code z.words
 
 -- a text is that of no state, for this fault: of the first line that is wrong the rule of the least number
@@ -157,16 +158,29 @@ TextHas options plan before now text answer = OfState (λ z. StateHas options pl
 
 -- the answers of `resume` with such options and such a plan, where watchers were told such lists
 abbrev pub ResumeMay : ResumeOptions → (plan : List ℕ) → (before now : ToldLists) → Port → Answer → Type 0
-ResumeMay options plan before now source answer = JudgingMay text_limit (TextHas options plan before now) source answer
+ResumeMay options plan before now source answer = JudgingMay saved_limit (TextHas options plan before now) source answer
 
--- what watchers were told where an answer comes: nothing where the text or the plan is refused; the causes of an answer of a run say which turns
-abbrev pub ResumeTells : Answer → ToldLists → ToldLists → Type 0
-ResumeTells answer before now = TellsOfRun (λ answer before now. ⊤) answer before now
+-- a text is that of a state, and watchers of none of its processors were told nothing; or nobody was told anything
+abbrev pub OthersOfTextKeep : (before now : ToldLists) → (text : List ℕ) → Type 0
+OthersOfTextKeep before now text = (now ≡ before) ⊎ OfState (λ z. OthersKeep z.shape.processors before now) text
+
+abbrev pub OthersOfSourceKeep : (before now : ToldLists) → Port → Type 0
+OthersOfSourceKeep before now source =
+    (now ≡ before) ⊎ ((text : List ℕ) × Reads saved_limit source text × OfState (λ z. OthersKeep z.shape.processors before now) text)
+
+-- what watchers were told where an answer of a text comes: nothing where it or the plan is refused; the causes of an answer of a run say which
+-- turns; those of none of the state's processors nothing
+abbrev pub TextTells : (text : List ℕ) → Answer → ToldLists → ToldLists → Type 0
+TextTells text answer before now = TellsOfTurns answer before now × OthersOfTextKeep before now text
+
+-- and where one comes of what was read, also where memory is wanting, or a watcher refused
+abbrev pub ResumeTells : (source : Port) → Answer → ToldLists → ToldLists → Type 0
+ResumeTells source answer before now = TellsOfTurns answer before now × OthersOfSourceKeep before now source
 
 -- what stands behind more bytes than a saved text may have changes no answer, with all options and all plans
 abbrev pub FrontsDecideResumed : Type 0
 FrontsDecideResumed = (options : ResumeOptions) (plan : List ℕ) (before now : ToldLists)
-    → FrontsDecide text_limit (TextHas options plan before now)
+    → FrontsDecide saved_limit (TextHas options plan before now)
 
 -- A state is that of a run of a source's program, with takeover by places, from its opening words, whatever turns its processors made, and
 -- however often its words came back, but fewer than 2^50 times: a tag of a holder rises with each.
@@ -177,7 +191,7 @@ pub record IsLeftBy (source : List ℕ) (z : SavedState) : Type 0 where
   pub places : sizes.takeover ≡ ByPlaces
   pub keeper : ℕ
   pub start : Situation
-  pub opens : Opens sizes (code_of tree) (initial_arrays tree) keeper start
+  pub opens : OpensRun sizes (code_of tree) (initial_arrays tree) keeper start
   pub legs : List Leg
   pub are : AreLegs start.shape start.code start.state.words legs
   pub turns : List Turn
@@ -204,7 +218,7 @@ state_behind m arrays turns = record { shape = m.shape; arrays = names_of arrays
 -- that text.
 abbrev pub RunsLeaveStates : Type 0
 RunsLeaveStates = (text : List ℕ) (t : ProgramTree) → HasProgram text t → (sizes : Sizes) → sizes.takeover ≡ ByPlaces
-    → (keeper : ℕ) (m : Situation) → Opens sizes (code_of t) (initial_arrays t) keeper m
+    → (keeper : ℕ) (m : Situation) → OpensRun sizes (code_of t) (initial_arrays t) keeper m
     → (turns : List Turn) → AllByRecursion (IsTurnAmong m.shape.processors) turns → IsLeftBy text (state_behind m (initial_arrays t) turns)
 
 -- The state behind turns of fresh processors that went on from one that a program left is left by that program too, unless words came back so
@@ -215,22 +229,22 @@ ResumesLeaveStates = (source : List ℕ) (z : SavedState) (left : IsLeftBy sourc
     → IsLeftBy source (record { shape = z.shape; arrays = z.arrays; code = z.code; words = words_behind start turns })
 
 -- A text is that of a state which a source left: it is never refused, one state is read from it, and that one is left by the source, by turns of
--- one machine alone: at most 16 processors made no more work turns than one may be told to make.
-pub record IsTextLeftBy (source text : List ℕ) : Type 0 where
+-- one machine alone: at most 16 processors made no more work turns than one may be told to make, and at most so many faults struck a row of work.
+pub record IsTextLeftBy (source : List ℕ) (faults : ℕ) (text : List ℕ) : Type 0 where
   pub state : SavedState
   pub is : IsTextOf text state
   pub taken : (r : SavedRefusal) → ¬ IsNoText text r
   pub one : (z : SavedState) → IsTextOf text z → z ≡ state
-  pub left : (z : SavedState) → IsTextOf text z → IsLeftBy source z
   pub by : IsLeftBy source state
   pub alone : by.legs ≡ []
   pub work : worked_in_all by.start by.legs by.turns ≤ turn_limit
+  pub struck : struck_in_all by.start by.legs by.turns ≤ faults
   pub few : state.shape.processors ≤ 16
 
 -- What `stop` writes of a text's program, by the items of a schedule that is accepted, with options in their ranges: the text of a state which that
--- text left.
+-- text left, by no more faults than the schedule has.
 abbrev pub StopsLeaveStates : Type 0
 StopsLeaveStates = (options : StopOptions) → AreStopped options
     → (schedule : List ℕ) (items : List ScheduleItem) → IsAccepted schedule_form schedule options.processors items
     → (text : List ℕ) (t : ProgramTree) → HasProgram text t → (answer : Answer) → StoppedReads options items t answer
-    → (saved : List ℕ) × (answer ≡ answers.Saved saved) × IsTextLeftBy text saved
+    → (saved : List ℕ) × (answer ≡ answers.Saved saved) × IsTextLeftBy text (scheduled_faults items) saved

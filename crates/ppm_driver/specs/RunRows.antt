@@ -1,5 +1,5 @@
 -- What follows from each status of `run`.
-use Rattle.std.specs.Prelude.{◌≡◌, ℕ, ◌<◌, ◌≤◌, List, [], ◌∷◌, Some}
+use Rattle.std.specs.Prelude.{◌≡◌, ◌≢◌, ℕ, ◌<◌, ◌≤◌, List, [], ◌∷◌, Some}
 use Rattle.ppm_words.specs.declared.named_array.NamedArray.{NamedArray}
 use Rattle.ppm_words.specs.declared.outcome.Outcome.TheVariants as outcome
 use Rattle.ppm_words.specs.declared.trap.Trap.{Trap}
@@ -29,6 +29,7 @@ use Rattle.ppm_loading.specs.Planned.{IsRefusedBy, HasByItems}
 use Rattle.ppm_driver.specs.Runs.{ProgramHas, RunHas, TextHas}
 use Rattle.ppm_driver.specs.Strikes.{fault_count}
 use Rattle.ppm_driver.specs.Completeness.{IsEnough}
+use Rattle.ppm_driver.specs.Headline.{Headline}
 
 module _ (options : RunOptions) (watching : ℕ) (plan : List ℕ) (o : Outside) where
   -- the answers of texts by items of a plan, with what the watchers were told
@@ -116,10 +117,18 @@ module _ (options : RunOptions) (watching : ℕ) (plan : List ℕ) (o : Outside)
   RunSays statuses.OutOfRoom = WritesOutOfRoom
   RunSays status = PortsSay (ports_of o) status
 
-  -- each run that an answer is of is as its program, at each status: also where the answer's text failed
+  -- A run that an answer is of, at each status, also where the answer's text failed: it is as its program, no more faults undid work than the plan
+  -- has, and the answer is not that words are broken.
+  pub record IsAsPlanned (items : List PlanItem) (t : ProgramTree) (answer : Answer)
+      (h : ProgramHas options watching o.told_before o.told_now items t answer) : Type 0 where
+    pub as_program : IsAsProgram h.start h.run.turns t
+    pub undone : undone_in h.start h.run.turns ≤ fault_count items
+    pub unbroken : (place : ℕ) → answer ≢ answers.Broken place
+
+  -- so is each
   abbrev pub AreAsPrograms : Type 0
   AreAsPrograms = (items : List PlanItem) (text : List ℕ) (t : ProgramTree) → HasProgram text t → (answer : Answer)
-      (h : ProgramHas options watching o.told_before o.told_now items t answer) → IsAsProgram h.start h.run.turns t
+      (h : ProgramHas options watching o.told_before o.told_now items t answer) → IsAsPlanned items t answer h
 
   -- completeness: with a plan that is accepted, and turns and room enough for its faults and for the program of the source's bytes, which are
   -- known, the run ends with arrays or in a trap, where the ports hold and memory is there
@@ -130,8 +139,10 @@ module _ (options : RunOptions) (watching : ℕ) (plan : List ℕ) (o : Outside)
       → IsOneOf status (statuses.Ended ∷ statuses.Trapped ∷ [])
 
   -- The rows of `run` with such options, in their ranges, and such a plan, where so many watchers are told what their processors do. Where
-  -- there is one processor, the answer that a text has is written, whichever it is and whatever watchers were told.
+  -- there is one processor, the answer that a text has is written, whichever it is and whatever watchers were told. The theorem in one sentence is
+  -- the first.
   pub record RunRows (status : Status) : Type 0 where
+    pub headline : Headline options watching plan o status
     pub rows : PlannedRows (IsRefusedBy plan_form plan options.processors) (HasByItems plan_form plan options.processors Has) text_limit RunSays
         (ports_of o) status
     pub shown : options.processors ≡ 1 → IsShown (RunHas options plan) (ports_of o) status

@@ -1,8 +1,13 @@
 -- What `run` answers, and when it may.
-use Rattle.std.specs.Prelude.{◌≡◌, ℕ, List, [], ⊤}
+use Rattle.std.specs.Prelude.{◌≡◌, ℕ, List, [], Option, Some, None, ⊤}
 use Rattle.ppm_ports.specs.Ports.{Port}
 use Rattle.ppm_ports.specs.Outside.{ToldLists}
 use Rattle.ppm_text.specs.Limits.{text_limit}
+use Rattle.ppm_cells.specs.Ending.{ending_of}
+use Rattle.ppm_cells.specs.Memory.{read}
+use Rattle.ppm_cells.specs.declared.cell.Cell.TheVariants.{FinishWord}
+use Rattle.ppm_cells.specs.declared.ending.Ending.TheVariants.{With}
+use Rattle.ppm_cells.specs.declared.finish.Finish.TheVariants as finishes
 use Rattle.ppm_cells.specs.declared.shape.Shape.{Shape}
 use Rattle.ppm_core.specs.Situation.{Situation}
 use Rattle.ppm_choice.specs.declared.limits.Limits.{Limits}
@@ -19,11 +24,11 @@ use Rattle.ppm_answers.specs.declared.answer.Answer.TheVariants as answers
 use Rattle.ppm_answers.specs.Reading.{AreOne, FrontsDecide, TellsOfRun}
 use Rattle.ppm_cli.specs.declared.run.RunOptions.{RunOptions}
 use Rattle.ppm_loading.specs.declared.loading.Sizes.{Sizes}
-use Rattle.ppm_loading.specs.Loading.{Opens}
+use Rattle.ppm_loading.specs.Loading.{OpensRun}
 use Rattle.ppm_loading.specs.Planned.{PlannedHas, PlannedMay}
 use Rattle.ppm_loading.specs.Programs as programs
 use Rattle.ppm_driver.specs.RunOf.{RunOf}
-use Rattle.ppm_loading.specs.Says.{IsOfWords}
+use Rattle.ppm_loading.specs.Says.{IsOfWords, IsTheOne}
 use Rattle.ppm_driver.specs.Watchers.{AreTold, OthersKeep}
 
 -- the machine's sizes and the limits, as the options say them
@@ -42,6 +47,11 @@ abbrev pub IsSaid : Shape → (lengths : List ℕ) → List NamedArray → (word
 IsSaid s lengths arrays words answer =
     IsOfWords s lengths words answers.Ended answers.Trapped (λ processor a. a ≡ answers.OutOfTurns processor) (λ a. ⊥) arrays answer
 
+-- why a run has no arrays, whichever these would be: the one answer that its words say, unless they say that it ended
+abbrev pub SaysWhyNone : Shape → (lengths words : List ℕ) → Option Answer → Type 0
+SaysWhyNone s lengths words None = ending_of (read s words FinishWord) ≡ With finishes.Ended
+SaysWhyNone s lengths words (Some answer) = (arrays : List NamedArray) → IsTheOne (IsSaid s lengths arrays words) answer
+
 -- the answer of a program by the items of a plan, where the first so many watchers are told what their processors do, with such lists before
 -- the run and after it: that of a run from the machine with which a run of the program's code on its arrays begins, with the plan's keeper
 pub record ProgramHas (options : RunOptions) (watching : ℕ) (before now : ToldLists) (items : List PlanItem) (t : ProgramTree) (answer : Answer)
@@ -49,7 +59,7 @@ pub record ProgramHas (options : RunOptions) (watching : ℕ) (before now : Told
   pub keeper : ℕ
   pub spared : IsKeeper plan_form items keeper
   pub start : Situation
-  pub opens : Opens (sizes_of options) (code_of t) (initial_arrays t) keeper start
+  pub opens : OpensRun (sizes_of options) (code_of t) (initial_arrays t) keeper start
   pub run : RunOf (plan_of options items) (limits_of options) start
       (AreTold watching (plan_of options items) (limits_of options) before now start)
       (IsSaid start.shape start.array_lengths (initial_arrays t)) answer
@@ -67,9 +77,13 @@ abbrev pub RunMay : RunOptions → (watching : ℕ) → (plan : List ℕ) → (b
 RunMay options watching plan before now source answer =
     PlannedMay plan_form plan options.processors (TextHas options watching before now) text_limit source answer
 
--- what watchers were told where an answer comes: the causes of an answer of a run say which turns; those behind the first so many nothing
+-- what watchers were told where an answer comes: the causes of an answer of a run say which turns; and so it is with those behind the first
+-- so many, who were told nothing
+abbrev pub TellsOfTurns : Answer → ToldLists → ToldLists → Type 0
+TellsOfTurns answer before now = TellsOfRun (λ answer before now. ⊤) answer before now
+
 abbrev pub RunTells : (watching : ℕ) → Answer → ToldLists → ToldLists → Type 0
-RunTells watching answer before now = TellsOfRun (λ answer before now. ⊤) answer before now × OthersKeep watching before now
+RunTells watching answer before now = TellsOfTurns answer before now × OthersKeep watching before now
 
 -- two answers of a text are one where there is one processor, with such options and all plans
 abbrev pub AnswersAreOne : Type 0

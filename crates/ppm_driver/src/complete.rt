@@ -3,10 +3,8 @@ ghost use Rattle.ppm_driver.specs.Completeness.{RunsComplete};
 ghost use Rattle.ppm_driver.specs.Strikes.{StrikesArePlanned, UndoneArePlanned};
 
 use crate::meant::runs_are_as_programs;
-use ppm_cut_correct::{end_as_meant, start_with_input};
 use ppm_plan::have_one_answer as plans_have_one_answer;
 use ppm_program::have_one_answer as texts_have_one_program;
-use ppm_rows::trees_are_within;
 
 /// Where each processor obeys a plan, no more faults strike a row of work, or undo work, than the plan
 /// has. So with options in their ranges: where the turns of a processor are at least 256 for each
@@ -19,9 +17,6 @@ pub fn runs_complete()
 {
     // The law rests on these; the calls do nothing.
     runs_are_as_programs();
-    trees_are_within();
-    start_with_input();
-    end_as_meant();
     plans_have_one_answer();
     texts_have_one_program();
 }

@@ -2,9 +2,7 @@
 ghost use Rattle.ppm_driver.specs.ResumeCompleteness.{ResumesComplete};
 
 use crate::legs::{left_words_come_back, runs_in_legs_are_as_programs};
-use ppm_cut_correct::{end_as_meant, start_with_input};
 use ppm_plan::have_one_answer as plans_have_one_answer;
-use ppm_rows::trees_are_within;
 use ppm_saved::saved_texts_tell_states;
 use ppm_saved_reader::faults_tell_saved_texts;
 
@@ -19,9 +17,6 @@ pub fn resumes_complete()
     // The law rests on these; the calls do nothing.
     runs_in_legs_are_as_programs();
     left_words_come_back();
-    trees_are_within();
-    start_with_input();
-    end_as_meant();
     plans_have_one_answer();
     saved_texts_tell_states();
     faults_tell_saved_texts();

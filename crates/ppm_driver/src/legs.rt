@@ -1,6 +1,7 @@
 //! That runs in legs end as their programs do, shown by a call that does nothing.
 ghost use Rattle.ppm_driver.specs.Legs.{RunsInLegsAreAsPrograms, TagsMayRiseInLegs};
 ghost use Rattle.ppm_driver.specs.Resumes.{LeftWordsComeBack, ResumesLeaveStates, RunsLeaveStates, StopsLeaveStates};
+ghost use Rattle.ppm_driver.specs.Strikes.{FaultsAreScheduled};
 
 use ppm_cut_code::keeps_the_rules;
 use ppm_cut_correct::{end_as_meant, ends_serially, name_arrays, start_with_input};
@@ -55,9 +56,11 @@ pub fn runs_leave_states()
 {}
 
 /// What `stop` writes is the saved text of a state that is left by the text that it read. `resume`
-/// never refuses it, and reads that state from it, and no other.
+/// never refuses it, and reads that state from it, and no other. No more faults struck a row of work
+/// before it than the schedule has, since no more turns of a schedule's run are faults.
 pub fn stops_leave_states()
     ensures law { StopsLeaveStates }
+    ensures faults { FaultsAreScheduled }
 {
     // The law rests on this one; the call does nothing.
     faults_tell_saved_texts();

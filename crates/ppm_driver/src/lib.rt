@@ -17,6 +17,7 @@
 mod complete;
 mod complete_resume;
 mod example;
+mod fronts;
 mod legs;
 mod meant;
 mod names;
@@ -32,6 +33,7 @@ mod sums;
 pub use complete::runs_complete;
 pub use complete_resume::resumes_complete;
 pub use example::self_command;
+pub use fronts::fronts_decide_resumed;
 pub use legs::{
     left_words_come_back, resumes_leave_states, runs_in_legs_are_as_programs, runs_leave_states,
     stops_leave_states,

@@ -5,27 +5,25 @@ ghost use Rattle.ppm_ports.specs.Outside.{KeepFronts, outside};
 ghost use Rattle.ppm_answers.specs.Reading.{Answers, TextMay};
 ghost use Rattle.ppm_cells.specs.Finish.{finish_of};
 ghost use Rattle.ppm_loading.specs.Programs.{ProgramMay};
-ghost use Rattle.ppm_loading.specs.Says.{IsTheOne};
-ghost use Rattle.ppm_saved.specs.Names.{lengths_of};
 ghost use Rattle.ppm_driver.specs.Resumes.{ItemsHave, ResumeMay, ResumeTells, ResumedHas, StateHas};
-ghost use Rattle.ppm_driver.specs.Resumes.{TextHas, limits_of as limits_in, named, refusal_of, saved_finish, state_of};
+ghost use Rattle.ppm_driver.specs.Resumes.{TextHas, TextTells, limits_of as limits_in, refusal_of, saved_finish, state_of};
 ghost use Rattle.ppm_driver.specs.ResumeRows.{ResumeRows};
-ghost use Rattle.ppm_driver.specs.Runs.{IsSaid};
-ghost use Rattle.ppm_driver.specs.Watchers.{watcher_count};
+ghost use Rattle.ppm_driver.specs.Runs.{RunTells};
+ghost use Rattle.ppm_driver.specs.Watchers.{OthersKeep, watcher_count};
 
 use crate::complete_resume::resumes_complete;
 use crate::legs::{left_words_come_back, runs_in_legs_are_as_programs};
-use crate::names::arrays_of_names;
+use crate::saying::resumed_answer;
 use ppm_answers::{Answer, SavedRefusal, Status, answer_of_read, deliver};
-use ppm_cells::{Ending, Finish, UNKNOWN_PLACE};
+use ppm_cells::UNKNOWN_PLACE;
 use ppm_choice::Limits;
 use ppm_cli::ResumeOptions;
 use ppm_loading::refusal_answer;
 use ppm_plan::{Plan, read_plan};
 use ppm_ports::{Sink, Source, Watch, read_whole};
-use ppm_saved::{Names, Renewed, Saved, renew};
-use ppm_saved_reader::{SavedError, TEXT_LIMIT, read_saved};
-use ppm_table::{Closed, Shared};
+use ppm_saved::{Renewed, Saved, renew};
+use ppm_saved_reader::{SAVED_LIMIT, SavedError, read_saved};
+use ppm_table::Shared;
 use ppm_threads::drive;
 use ppm_words::{Idle, NoMemory};
 use std::alloc::Global;
@@ -51,11 +49,12 @@ pub fn resume_command<R: Threads + Wait + Sync, S: Source, K: Sink, E: Sink, W: 
 
     // An answer that the command's causes allow, and its texts. Behind a run each processor's
     // watcher was told its turns; where the text or the plan is refused nobody was told anything;
-    // where memory is wanting, or a watcher refused, each list keeps what it had in front.
+    // where memory is wanting, or a watcher refused, each list keeps what it had in front. The other
+    // watchers are told nothing.
     ensures answers { let o = outside (port S.left S.fault_count source.old source.new)
         (port K.written K.fault_count out.old out.new) (port E.written E.fault_count err.old err.new)
         (map W.told watch.old.items) (map W.told watch.new.items)
-        in Answers (ResumeMay options faults.now o.told_before o.told_now o.source) ResumeTells o result }
+        in Answers (ResumeMay options faults.now o.told_before o.told_now o.source) (ResumeTells o.source) o result }
 
     // What follows from each status.
     ensures rows { ResumeRows options faults.now (outside (port S.left S.fault_count source.old source.new)
@@ -85,11 +84,11 @@ fn read_answer<R: Threads + Wait + Sync, S: Source, W: Watch>(
     requires watchers { length watch.old.items ≡ watcher_count }
     ensures may { ResumeMay options faults.now (map W.told watch.old.items) (map W.told watch.new.items)
         (port S.left S.fault_count source.old source.new) result }
-    ensures told { ResumeTells result (map W.told watch.old.items) (map W.told watch.new.items) }
+    ensures told { ResumeTells (port S.left S.fault_count source.old source.new) result (map W.told watch.old.items) (map W.told watch.new.items) }
     ensures kept { KeepFronts (map W.told watch.old.items) (map W.told watch.new.items) }
     ensures watchers { length watch.new.items ≡ watcher_count }
 {
-    match read_whole(alloc, source, TEXT_LIMIT) {
+    match read_whole(alloc, source, SAVED_LIMIT) {
         Ok(text) => text_answer(rt, alloc, options, faults, text, watch),
         Err(error) => answer_of_read(error),
     }
@@ -106,11 +105,11 @@ fn text_answer<R: Threads + Wait + Sync, W: Watch>(
 ) -> Answer
     requires watchers { length watch.old.items ≡ watcher_count }
     ensures may { TextMay (TextHas options faults.now (map W.told watch.old.items) (map W.told watch.new.items)) text.items result }
-    ensures told { ResumeTells result (map W.told watch.old.items) (map W.told watch.new.items) }
+    ensures told { TextTells text.items result (map W.told watch.old.items) (map W.told watch.new.items) }
     ensures kept { KeepFronts (map W.told watch.old.items) (map W.told watch.new.items) }
     ensures watchers { length watch.new.items ≡ watcher_count }
 {
-    if text.len() > TEXT_LIMIT {
+    if text.len() > SAVED_LIMIT {
         return Answer::SavedRefused(SavedRefusal { number: 1, line: 1 });
     }
     match read_saved(alloc, &text) {
@@ -150,7 +149,7 @@ fn state_answer<R: Threads + Wait + Sync, W: Watch>(
 ) -> Answer
     requires watchers { length watch.old.items ≡ watcher_count }
     ensures may { ProgramMay (StateHas options faults.now (map W.told watch.old.items) (map W.told watch.new.items) (state_of saved)) result }
-    ensures told { ResumeTells result (map W.told watch.old.items) (map W.told watch.new.items) }
+    ensures told { RunTells saved.shape.processors result (map W.told watch.old.items) (map W.told watch.new.items) }
     ensures kept { KeepFronts (map W.told watch.old.items) (map W.told watch.new.items) }
     ensures watchers { length watch.new.items ≡ watcher_count }
 {
@@ -174,7 +173,7 @@ fn planned_answer<R: Threads + Wait + Sync, W: Watch>(
     requires watchers { length watch.old.items ≡ watcher_count }
     ensures may { ProgramMay (ItemsHave options (map W.told watch.old.items) (map W.told watch.new.items) plan.now.items (state_of saved))
         result }
-    ensures told { ResumeTells result (map W.told watch.old.items) (map W.told watch.new.items) }
+    ensures told { RunTells saved.shape.processors result (map W.told watch.old.items) (map W.told watch.new.items) }
     ensures kept { KeepFronts (map W.told watch.old.items) (map W.told watch.new.items) }
     ensures watchers { length watch.new.items ≡ watcher_count }
 {
@@ -200,6 +199,7 @@ fn resumed<R: Threads + Wait + Sync, W: Watch>(
     requires processors { plan.now.processors ≡ saved.shape.processors }
     requires watchers { length watch.old.items ≡ watcher_count }
     ensures has { IfOk result (ResumedHas options (map W.told watch.old.items) (map W.told watch.new.items) plan.now.items (state_of saved)) }
+    ensures others { OthersKeep saved.shape.processors (map W.told watch.old.items) (map W.told watch.new.items) }
     ensures kept { KeepFronts (map W.told watch.old.items) (map W.told watch.new.items) }
     ensures watchers { length watch.new.items ≡ watcher_count }
 {
@@ -219,26 +219,6 @@ fn resumed<R: Threads + Wait + Sync, W: Watch>(
     )?;
     let answer = resumed_answer(alloc, &closed, &names)?;
     Ok(answer)
-}
-
-/// What is answered behind a run from a state: the arrays of these names with the values that the
-/// words have, the trap, or why there are none.
-fn resumed_answer(alloc: Global, closed: &Closed, names: &Names) -> Result<Answer, NoMemory>
-    requires lengths { closed.now.array_lengths ≡ lengths_of names.now }
-    ensures { IfOk result (IsTheOne (IsSaid closed.now.shape closed.now.array_lengths (named names.now) closed.now.words)) }
-{
-    match closed.outcome() {
-        Ending::With(finish) => match finish {
-            Finish::Ended => Ok(Answer::Ended(arrays_of_names(alloc, closed, names.as_slice())?)),
-            Finish::Trapped { trap, line } => Ok(Answer::Trapped(trap, line)),
-            Finish::OutOfRoom { place } => Ok(Answer::OutOfRoom(place)),
-            Finish::OutOfTurns { processor } => Ok(Answer::OutOfTurns(processor)),
-            Finish::Broken { place } => Ok(Answer::Broken(place)),
-            // Of no run, as what follows.
-            Finish::Stopped | Finish::Unset => Ok(Answer::Broken(UNKNOWN_PLACE)),
-        },
-        Ending::NotYet | Ending::Unknown => Ok(Answer::Broken(UNKNOWN_PLACE)),
-    }
 }
 
 /// The limits, as the options say them; who finds nothing to do leaves.

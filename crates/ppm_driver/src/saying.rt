@@ -3,13 +3,17 @@
 ghost use Rattle.std.specs.Prelude.{◌≡◌, IfOk, length, map};
 ghost use Rattle.ppm_core.specs.Machine.{seen};
 ghost use Rattle.ppm_loading.specs.Says.{IsTheOne};
+ghost use Rattle.ppm_saved.specs.Names.{lengths_of};
 ghost use Rattle.ppm_driver.specs.Replays.{IsSaid as IsSaidOfReplay};
-ghost use Rattle.ppm_driver.specs.Runs.{IsSaid as IsSaidOfRun};
+ghost use Rattle.ppm_driver.specs.Resumes.{named};
+ghost use Rattle.ppm_driver.specs.Runs.{IsSaid as IsSaidOfRun, SaysWhyNone};
 
+use crate::names::arrays_of_names;
 use ppm_answers::{Answer, Tally};
 use ppm_cells::{Ending, Finish, UNKNOWN_PLACE};
 use ppm_core::Machine;
 use ppm_loading::{arrays_of, arrays_of_closed};
+use ppm_saved::Names;
 use ppm_table::Closed;
 use ppm_words::{NamedArray, NoMemory};
 use std::alloc::Global;
@@ -23,17 +27,42 @@ pub(crate) fn run_answer(
     requires lengths { closed.now.array_lengths ≡ map (λ a. length a.values) arrays.now }
     ensures { IfOk result (IsTheOne (IsSaidOfRun closed.now.shape closed.now.array_lengths arrays.now closed.now.words)) }
 {
+    if let Some(answer) = unended_answer(closed) {
+        return Ok(answer);
+    }
+    Ok(Answer::Ended(arrays_of_closed(alloc, closed, arrays)?))
+}
+
+/// The same behind a run from a saved state, with the arrays of its names.
+pub(crate) fn resumed_answer(
+    alloc: Global,
+    closed: &Closed,
+    names: &Names,
+) -> Result<Answer, NoMemory>
+    requires lengths { closed.now.array_lengths ≡ lengths_of names.now }
+    ensures { IfOk result (IsTheOne (IsSaidOfRun closed.now.shape closed.now.array_lengths (named names.now) closed.now.words)) }
+{
+    if let Some(answer) = unended_answer(closed) {
+        return Ok(answer);
+    }
+    Ok(Answer::Ended(arrays_of_names(alloc, closed, names.as_slice())?))
+}
+
+/// Why a run in which processors obey has no arrays, by the finish word; `None` where it has them.
+fn unended_answer(closed: &Closed) -> Option<Answer>
+    ensures { SaysWhyNone closed.now.shape closed.now.array_lengths closed.now.words result }
+{
     match closed.outcome() {
         Ending::With(finish) => match finish {
-            Finish::Ended => Ok(Answer::Ended(arrays_of_closed(alloc, closed, arrays)?)),
-            Finish::Trapped { trap, line } => Ok(Answer::Trapped(trap, line)),
-            Finish::OutOfRoom { place } => Ok(Answer::OutOfRoom(place)),
-            Finish::OutOfTurns { processor } => Ok(Answer::OutOfTurns(processor)),
-            Finish::Broken { place } => Ok(Answer::Broken(place)),
+            Finish::Ended => None,
+            Finish::Trapped { trap, line } => Some(Answer::Trapped(trap, line)),
+            Finish::OutOfRoom { place } => Some(Answer::OutOfRoom(place)),
+            Finish::OutOfTurns { processor } => Some(Answer::OutOfTurns(processor)),
+            Finish::Broken { place } => Some(Answer::Broken(place)),
             // Of no run, as what follows.
-            Finish::Stopped | Finish::Unset => Ok(Answer::Broken(UNKNOWN_PLACE)),
+            Finish::Stopped | Finish::Unset => Some(Answer::Broken(UNKNOWN_PLACE)),
         },
-        Ending::NotYet | Ending::Unknown => Ok(Answer::Broken(UNKNOWN_PLACE)),
+        Ending::NotYet | Ending::Unknown => Some(Answer::Broken(UNKNOWN_PLACE)),
     }
 }
 

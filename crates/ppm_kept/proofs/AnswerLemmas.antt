@@ -20,7 +20,7 @@ use Rattle.ppm_frames.specs.Seen.{arrays_at}
 use Rattle.ppm_frames.specs.Skeletons.{Skeleton, result_by, result_at, tree_of}
 use Rattle.ppm_frames.proofs.ViewLemmas.{view_is}
 use Rattle.ppm_kept.specs.Running.{strands}
-use Rattle.ppm_kept.specs.Kept.{Image, Ended, IsKept}
+use Rattle.ppm_kept.specs.Kept.{Setting, Ended, IsKept}
 use Rattle.ppm_kept.specs.Left.{Followed, left_words, left}
 use Rattle.ppm_kept.specs.Places.{places_of}
 use Rattle.ppm_kept.specs.Answers.{finish_by, AnswersSo, EndsAsMeant}
@@ -32,7 +32,7 @@ outcome_is value EndedSo out = refl
 outcome_is value (TrappedBy trap line) out = refl
 outcome_is value _ out = absurd out
 
-module _ (i : Image) (root : Tree (Frame FrameWord Point) Result) (input : Words) (state : Machine) (l : List Followed) (t : Skeleton) (law : IsKept i root input (left i l (places_of i.shape state)) t) (v : Finish)
+module _ (i : Setting) (root : Tree (Frame FrameWord Point) Result) (input : Words) (state : Machine) (l : List Followed) (t : Skeleton) (law : IsKept i root input (left i l (places_of i.shape state)) t) (v : Finish)
     (said : finish_of (read i.shape state.words FinishWord) ≡ Some v) (out : IsOutcome v) where
   abbrev m : Cell → ℕ
   m = left_words i l (view i.shape state.words)
@@ -73,6 +73,6 @@ pub ends_as_meant : EndsAsMeant
 ends_as_meant i root input state t law v said out = ends_so i root input state [] t law v said out
 
 -- so it is with those places left out that were followed
-pub left_ends_as_meant : (i : Image) (root : Tree (Frame FrameWord Point) Result) (input : Words) (state : Machine) (l : List Followed) (t : Skeleton) → IsKept i root input (left i l (places_of i.shape state)) t
+pub left_ends_as_meant : (i : Setting) (root : Tree (Frame FrameWord Point) Result) (input : Words) (state : Machine) (l : List Followed) (t : Skeleton) → IsKept i root input (left i l (places_of i.shape state)) t
     → (v : Finish) → finish_of (read i.shape state.words FinishWord) ≡ Some v → IsOutcome v → AnswersSo i root input state t v
 left_ends_as_meant i root input state l t law v said out = ends_so i root input state l t law v said out

@@ -34,7 +34,7 @@ use Rattle.ppm_frames.proofs.SkeletonLemmas.{grow_plug, branch_from}
 use Rattle.ppm_frames.proofs.SwapLemmas.{swap_same, good_same, good_here}
 use Rattle.ppm_kept.specs.Running.{IsFair}
 use Rattle.ppm_kept.specs.Branches.{is_taker}
-use Rattle.ppm_kept.specs.Kept.{Image, seat_at, side_code, Doing, Resting, InRow, State, put, Blank, ceiling, Free, Reach, Does, Under, Head, Ordered, carried, IsKept}
+use Rattle.ppm_kept.specs.Kept.{Setting, seat_at, side_code, Doing, Resting, InRow, State, put, Blank, ceiling, Free, Reach, Does, Under, Head, Ordered, carried, IsKept}
 use Rattle.ppm_kept.specs.Moves.{doing_of, installs}
 use Rattle.ppm_kept.specs.Laws.{Ends, kind_then}
 use Rattle.ppm_kept.specs.Others.{KeptAt, Claims, Keeps}
@@ -51,7 +51,7 @@ use Rattle.ppm_kept.proofs.PlaceLemmas.{leaf, going, kept_same, is_at_own, is_at
 use Rattle.ppm_kept.proofs.ClaimLemmas.{soft_same, soft_leaf, claim_law}
 
 -- the leaf of a place that arrives
-pub record Comers (i : Image) (s : State) (t : Skeleton) (p r : ℕ) (d : Side) : Type 0 where
+pub record Comers (i : Setting) (s : State) (t : Skeleton) (p r : ℕ) (d : Side) : Type 0 where
   pub around : Around
   pub frame : ℕ
   pub slots : ℕ
@@ -60,7 +60,7 @@ pub record Comers (i : Image) (s : State) (t : Skeleton) (p r : ℕ) (d : Side) 
   pub framed : Framed i.code s.words (hook_at Root around) frame slots
   pub hook : hook_at Root around ≡ Branch d r
 
-comer_at : (i : Image) (s : State) (t : Skeleton) (p r : ℕ) (d : Side) (c : Around) (st : Stand) (g n : ℕ) → t ≡ plug c (Leaf (InPlace p) st g n) → at_rim p c ≡ 0
+comer_at : (i : Setting) (s : State) (t : Skeleton) (p r : ℕ) (d : Side) (c : Around) (st : Stand) (g n : ℕ) → t ≡ plug c (Leaf (InPlace p) st g n) → at_rim p c ≡ 0
     → Framed i.code s.words (hook_at Root c) g n → Match i.code s.words (Arrive r d) (hook_at Root c) st g → Comers i s t p r d
 comer_at i s t p r d c Arrives g n is alone framed match = record { around = c; frame = g; slots = n; is = is; alone = alone; framed = framed; hook = match }
 comer_at i s t p r d c (Begins z) g n is alone framed match = absurd match
@@ -88,7 +88,7 @@ right_order IsHeld k = refl
 right_order IsFirst k = absurd (omega (arith, k))
 right_order IsInlined k = absurd (omega (arith, k))
 
-module _ (i : Image) (fair : IsFair i.code) (root : Tree (Frame FrameWord Point) Result) (input : Words) (s : State) (t : Skeleton) (law : IsKept i root input s t) (p : ℕ)
+module _ (i : Setting) (fair : IsFair i.code) (root : Tree (Frame FrameWord Point) Result) (input : Words) (s : State) (t : Skeleton) (law : IsKept i root input s t) (p : ℕ)
     (there : p < i.shape.processors) (keeps : Keeps i s t p) (r : ℕ) (d : Side) (ke : s.kind p ≡ Arrive r d) where
   abbrev m : Cell → ℕ
   m = s.words

@@ -34,7 +34,7 @@ use Rattle.ppm_frames.specs.Views.{written as store, is_cell, view}
 use Rattle.ppm_frames.specs.Skeletons.{Skeleton}
 use Rattle.ppm_frames.proofs.ViewLemmas.{cells_are_viewed, others_are_unseen}
 use Rattle.ppm_kept.specs.Running.{IsFair}
-use Rattle.ppm_kept.specs.Kept.{Image, owner, Doing, InRow, InRest, State, Under, Does, IsKept}
+use Rattle.ppm_kept.specs.Kept.{Setting, owner, Doing, InRow, InRest, State, Under, Does, IsKept}
 use Rattle.ppm_kept.specs.Moves.{doing_of, goes, stores, installs}
 use Rattle.ppm_kept.specs.Laws.{Ends, kind_then}
 use Rattle.ppm_kept.specs.Others.{IsIdle}
@@ -60,7 +60,7 @@ use Rattle.ppm_kept.proofs.BirthLemmas.{same_floor, counter_same, births_stay}
 use Rattle.ppm_kept.proofs.CounterLemmas.{steady_reached, store_reached, idle_steady, may_steady}
 use Rattle.ppm_kept.proofs.SteadyLemmas.{rows_are_steady}
 
-module _ (i : Image) (fair : IsFair i.code) (root : Tree (Frame FrameWord Point) Result) (input : Words) (state : Machine) (l : List Followed) (apart : AreApart l) (t : Skeleton)
+module _ (i : Setting) (fair : IsFair i.code) (root : Tree (Frame FrameWord Point) Result) (input : Words) (state : Machine) (l : List Followed) (apart : AreApart l) (t : Skeleton)
     (law : IsKept i root input (left i l (places_of i.shape state)) t) (born : ℕ → Bool) (births : Births i (left i l (places_of i.shape state)) born) (c : ℕ) where
   -- the places, and the same with those that were followed left out
   abbrev P : State

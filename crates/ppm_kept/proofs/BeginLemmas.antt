@@ -19,7 +19,7 @@ use Rattle.ppm_code.specs.declared.code.CodeParts.{CodeParts}
 use Rattle.ppm_code.specs.declared.location.FrameWord.{FrameWord}
 use Rattle.ppm_layout.specs.Correct.{Opens}
 use Rattle.ppm_layout.specs.Root.{root_strand}
-use Rattle.ppm_layout.specs.declared.images.Image.{Image as RealImage}
+use Rattle.ppm_layout.specs.declared.images.Image.{Image}
 use Rattle.ppm_layout.proofs.ValueLemmas.{stands_for}
 use Rattle.ppm_step.specs.Standings.{Standing, IsLost}
 use Rattle.ppm_step.specs.State.{stand_in, stand_of, opening}
@@ -27,7 +27,7 @@ use Rattle.ppm_frames.specs.Views.{view}
 use Rattle.ppm_frames.specs.Seen.{arrays_at}
 use Rattle.ppm_frames.specs.Skeletons.{Begins, InPlace, Leaf, Skeleton}
 use Rattle.ppm_frames.proofs.SeenLemmas.{if_true, if_false}
-use Rattle.ppm_kept.specs.Kept.{Image, Resting, State, put, IsKept}
+use Rattle.ppm_kept.specs.Kept.{Setting, Resting, State, put, IsKept}
 use Rattle.ppm_kept.specs.Openings.{opening_of}
 use Rattle.ppm_kept.specs.Places.{kind_or, kinds_of, is_in, doing_in, places_of, MachinesOpen}
 use Rattle.ppm_kept.proofs.PutLemmas.{put_here, put_else}
@@ -44,7 +44,7 @@ none_in : (f : ℕ → Standing) (q : ℕ) → ((d : ℕ) → is_in q (f d) ≡ 
 none_in f q out zero = refl
 none_in f q out (suc n) = if_false (is_in q (f n)) _ _ (out n) ∙ none_in f q out n
 
-module _ (code : CodeParts) (input : List NamedArray) (s : Shape) (keeper : ℕ) (image : RealImage) (o : Opens code input s keeper image) where
+module _ (code : CodeParts) (input : List NamedArray) (s : Shape) (keeper : ℕ) (image : Image) (o : Opens code input s keeper image) where
   abbrev opened : State
   opened = opening_of (view s image.words) keeper (pool_at s keeper)
 
@@ -79,7 +79,7 @@ machines_open code input s keeper image o calm =
     let t : Skeleton = Leaf (InPlace keeper) (Begins 0) (pool_at s keeper) (slots_of code code.root) in
     let e = opens_so code input s keeper image o in (
       e,
-      λ asked so. let i : Image = record { shape = s; code = code; counted = asked } in
+      λ asked so. let i : Setting = record { shape = s; code = code; counted = asked } in
           subst (λ (z : State). IsKept i (root_strand code input) (arrays_at (view s image.words)) z t) (sym e)
           (subst (λ (w : Tree (Frame FrameWord Point) Result). IsKept i w (arrays_at (view s image.words)) (opening_of (view s image.words) keeper (pool_at s keeper)) t) open_.1 (openings i (view s image.words) keeper (pool_at s keeper) (slots_of code code.root) (open_.0 asked so))),
     )

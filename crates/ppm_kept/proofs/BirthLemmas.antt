@@ -32,7 +32,7 @@ use Rattle.ppm_frames.specs.Good.{link_at, BumpsAt, Match}
 use Rattle.ppm_frames.proofs.WriteLemmas.{write_else, address}
 use Rattle.ppm_frames.proofs.SkeletonLemmas.{inside_at, branch_from}
 use Rattle.ppm_kept.specs.Running.{room_or, HasCome, IsFair, IsClean, Opens, home_at, number_at}
-use Rattle.ppm_kept.specs.Kept.{Image, start, end_of, owner, Doing, Resting, InRow, InRest, State, put, ceiling, carried, Free, Does, IsKept}
+use Rattle.ppm_kept.specs.Kept.{Setting, start, end_of, owner, Doing, Resting, InRow, InRest, State, put, ceiling, carried, Free, Does, IsKept}
 use Rattle.ppm_kept.specs.Moves.{doing_of, installs}
 use Rattle.ppm_kept.specs.Laws.{Ends, kind_then}
 use Rattle.ppm_kept.specs.Births.{floor, Births, with_block, IsNoCounter, IsSteady, AllBirthsStay, OpeningsHaveNone}
@@ -83,7 +83,7 @@ abbrev block_told : RestartKind → ℕ
 block_told (Bump r) = r
 block_told _ = 0
 
-module _ (i : Image) (fair : IsFair i.code) (root : Tree (Frame FrameWord Point) Result) (input : Words) (s : State) (t : Skeleton) (law : IsKept i root input s t)
+module _ (i : Setting) (fair : IsFair i.code) (root : Tree (Frame FrameWord Point) Result) (input : Words) (s : State) (t : Skeleton) (law : IsKept i root input s t)
     (born : ℕ → Bool) (births : Births i s born) (p : ℕ) where
   abbrev m : Cell → ℕ
   m = s.words

@@ -27,27 +27,27 @@ use Rattle.ppm_frames.specs.Laws.{Same}
 use Rattle.ppm_frames.proofs.SkeletonLemmas.{step_in, tree_in, count_plug, plain_plug, at_plug}
 use Rattle.ppm_frames.proofs.SwapLemmas.{Swap, good_swap}
 use Rattle.ppm_kept.specs.Running.{IsFair, strands}
-use Rattle.ppm_kept.specs.Kept.{Image, Allows, start, end_of, owner, State, Doing, InRow, IsFinished, carried, ceiling, Free, Does, Head, Ordered, IsKept}
+use Rattle.ppm_kept.specs.Kept.{Setting, Allows, start, end_of, owner, State, Doing, InRow, IsFinished, carried, ceiling, Free, Does, Head, Ordered, IsKept}
 use Rattle.ppm_kept.specs.Branches.{Unpushed, Waits, is_taker, HasCopy}
 use Rattle.ppm_kept.specs.Others.{KeptAt}
 use Rattle.ppm_kept.proofs.OwnerLemmas.{owned}
 use Rattle.ppm_kept.proofs.BranchLemmas.{Unrun, unpushed_less, waits_swap}
 
 -- where nothing is counted all is as it was asked
-pub allows_none : (i : Image) → Allows i none
+pub allows_none : (i : Setting) → Allows i none
 allows_none i j e = ap i.counted (plus_comm j none ∙ plus_none j) ∙ e
 
 -- a step of the part, which may be counted, or none
-abbrev pub Moved : Image → (s z : State) → Around → (u v : Skeleton) → Type 0
+abbrev pub Moved : Setting → (s z : State) → Around → (u v : Skeleton) → Type 0
 Moved i s z c u v = ((k : Counts) × Step (strands i.shape i.code) k (tree_at s.words (hook_at Root c) u) (arrays_at s.words) (tree_at z.words (hook_at Root c) v) (arrays_at z.words) × Allows i k)
     ⊎ ((tree_at z.words (hook_at Root c) v ≡ tree_at s.words (hook_at Root c) u) × (arrays_at z.words ≡ arrays_at s.words))
 
 -- the block words that it counts
-abbrev pub words_of : (i : Image) (s z : State) (c : Around) (u v : Skeleton) → Moved i s z c u v → ℕ
+abbrev pub words_of : (i : Setting) (s z : State) (c : Around) (u v : Skeleton) → Moved i s z c u v → ℕ
 words_of i s z c u v (inl step) = step.0.block_words
 words_of i s z c u v (inr same) = 0
 
-pub record Turn (i : Image) (s : State) (t : Skeleton) (p : ℕ) (z : State) (c : Around) (u v : Skeleton) (k : RestartKind) (d : Doing) : Type 0 where
+pub record Turn (i : Setting) (s : State) (t : Skeleton) (p : ℕ) (z : State) (c : Around) (u v : Skeleton) (k : RestartKind) (d : Doing) : Type 0 where
   pub is : t ≡ plug c u
   pub alone : at_rim p c ≡ 0
   pub there : p < i.shape.processors
@@ -74,7 +74,7 @@ pub record Turn (i : Image) (s : State) (t : Skeleton) (p : ℕ) (z : State) (c 
   pub others : (q : ℕ) → q ≢ p → KeptAt i s t z.words q
   pub unrun : Unrun s p c u v k d
 
-module _ (i : Image) (fair : IsFair i.code) (root : Tree (Frame FrameWord Point) Result) (input : Words) (s : State) (t : Skeleton) (law : IsKept i root input s t) (p : ℕ) where
+module _ (i : Setting) (fair : IsFair i.code) (root : Tree (Frame FrameWord Point) Result) (input : Words) (s : State) (t : Skeleton) (law : IsKept i root input s t) (p : ℕ) where
   pub each : (P : ℕ → Type 0) → P p → ((q : ℕ) → q ≢ p → P q) → (q : ℕ) → P q
   each P here there q = elim (cases_eq q p) [ inl e ↦ subst P (sym e) here | inr ne ↦ there q ne ]
 

@@ -22,18 +22,18 @@ use Rattle.ppm_step.specs.declared.row.Then.{Then}
 use Rattle.ppm_step.specs.declared.row.Then.TheVariants.{Fork}
 use Rattle.ppm_frames.specs.Skeletons.{Skeleton}
 use Rattle.ppm_frames.specs.Good.{link_or, link_at}
-use Rattle.ppm_kept.specs.Kept.{Image, seat_at, Doing, InRow, State, Reach, Under, Does, IsKept}
+use Rattle.ppm_kept.specs.Kept.{Setting, seat_at, Doing, InRow, State, Reach, Under, Does, IsKept}
 use Rattle.ppm_kept.specs.Laws.{Ends, kind_then}
 use Rattle.ppm_kept.specs.Births.{IsSteady}
 
 -- the counter is past the block, and what is installed opens none; a fork is the block's
-pub record BumpEnd (i : Image) (s : State) (p q : ℕ) (next : Then) : Type 0 where
+pub record BumpEnd (i : Setting) (s : State) (p q : ℕ) (next : Then) : Type 0 where
   pub size : ℕ
   pub counter : s.words (RoomCounter p) ≡ q + size
   pub steady : IsSteady (kind_then next)
   pub link : (x : ℕ) → next ≡ Fork x → (q ≡ x) × ((link_at (s.words (BlockWord q))).size ≡ size) × ((g : ℕ) × (y : ℕ) × ((link_at (s.words (BlockWord q))).kind ≡ Forked g y))
 
-module _ (i : Image) (root : Tree (Frame FrameWord Point) Result) (input : Words) (s : State) (t : Skeleton) (law : IsKept i root input s t) (p q : ℕ) (ke : s.kind p ≡ Bump q) where
+module _ (i : Setting) (root : Tree (Frame FrameWord Point) Result) (input : Words) (s : State) (t : Skeleton) (law : IsKept i root input s t) (p q : ℕ) (ke : s.kind p ≡ Bump q) where
   abbrev m : Cell → ℕ
   m = s.words
 

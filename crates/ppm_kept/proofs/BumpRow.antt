@@ -34,7 +34,7 @@ use Rattle.ppm_frames.proofs.SkeletonLemmas.{tree_same, branch_from}
 use Rattle.ppm_frames.proofs.SwapLemmas.{swap_same, good_same, good_here}
 use Rattle.ppm_kept.specs.Running.{IsFair}
 use Rattle.ppm_kept.specs.Branches.{Untaken, Unpushed, is_taker, HasCopy}
-use Rattle.ppm_kept.specs.Kept.{Image, end_of, seat_at, Doing, Resting, InRow, State, put, Blank, ceiling, Free, Reach, Does, Under, Ordered, carried, IsKept}
+use Rattle.ppm_kept.specs.Kept.{Setting, end_of, seat_at, Doing, Resting, InRow, State, put, Blank, ceiling, Free, Reach, Does, Under, Ordered, carried, IsKept}
 use Rattle.ppm_kept.specs.Moves.{doing_of, goes, stores, installs}
 use Rattle.ppm_kept.specs.Laws.{Ends, BumpKeeps, kind_then}
 use Rattle.ppm_kept.specs.Others.{Keeps}
@@ -45,7 +45,7 @@ use Rattle.ppm_kept.proofs.BuildLemmas.{Turn, build}
 use Rattle.ppm_kept.proofs.PlaceLemmas.{leaf, going, kept_same, is_at_own, is_at_other}
 
 -- the leaf of a place that opens a block
-pub record Bumps (i : Image) (s : State) (t : Skeleton) (p r : ℕ) : Type 0 where
+pub record Bumps (i : Setting) (s : State) (t : Skeleton) (p r : ℕ) : Type 0 where
   pub around : Around
   pub frame : ℕ
   pub slots : ℕ
@@ -56,7 +56,7 @@ pub record Bumps (i : Image) (s : State) (t : Skeleton) (p r : ℕ) : Type 0 whe
   pub at_ : BumpsAt i.code s.words (hook_at Root around) r frame
   pub open_ : s.words (BlockWord (frame + 1)) ≡ ended
 
-pub bump_at : (i : Image) (s : State) (t : Skeleton) (p r : ℕ) (c : Around) (st : Stand) (g n : ℕ) → t ≡ plug c (Leaf (InPlace p) st g n) → at_rim p c ≡ 0
+pub bump_at : (i : Setting) (s : State) (t : Skeleton) (p r : ℕ) (c : Around) (st : Stand) (g n : ℕ) → t ≡ plug c (Leaf (InPlace p) st g n) → at_rim p c ≡ 0
     → Framed i.code s.words (hook_at Root c) g n → IsSized i.code s.words st g n → Match i.code s.words (Bump r) (hook_at Root c) st g → Bumps i s t p r
 bump_at i s t p r c (Begins z) g n is alone framed sized match = record {
   around = c;
@@ -72,7 +72,7 @@ bump_at i s t p r c (Begins z) g n is alone framed sized match = record {
 bump_at i s t p r c Over g n is alone framed sized match = absurd match
 bump_at i s t p r c Arrives g n is alone framed sized match = absurd match
 
-module _ (i : Image) (fair : IsFair i.code) (root : Tree (Frame FrameWord Point) Result) (input : Words) (s : State) (t : Skeleton) (law : IsKept i root input s t) (p : ℕ)
+module _ (i : Setting) (fair : IsFair i.code) (root : Tree (Frame FrameWord Point) Result) (input : Words) (s : State) (t : Skeleton) (law : IsKept i root input s t) (p : ℕ)
     (there : p < i.shape.processors) (keeps : Keeps i s t p) (r : ℕ) (ke : s.kind p ≡ Bump r) where
   abbrev m : Cell → ℕ
   m = s.words

@@ -23,7 +23,7 @@ use Rattle.ppm_frames.proofs.SkeletonLemmas.{SameFrame, same_frame, frame_same, 
 use Rattle.ppm_frames.proofs.SwapLemmas.{swap_same, given_same, good_same, good_here}
 use Rattle.ppm_kept.specs.Running.{IsFair}
 use Rattle.ppm_kept.specs.Branches.{IsUntaken, Untaken, Unpushed, IsWaitingAt, Waits, is_taker, HasCopy}
-use Rattle.ppm_kept.specs.Kept.{Image, end_of, owner, Doing, State, put, Blank, ceiling, Free, Does, Head, Ordered, carried, IsKept}
+use Rattle.ppm_kept.specs.Kept.{Setting, end_of, owner, Doing, State, put, Blank, ceiling, Free, Does, Head, Ordered, carried, IsKept}
 use Rattle.ppm_kept.specs.Others.{KeptAt}
 use Rattle.ppm_kept.proofs.PutLemmas.{put_here, put_else}
 use Rattle.ppm_kept.proofs.OwnerLemmas.{owned}
@@ -101,7 +101,7 @@ soft_ready i p w to nobody (Calling f n y t) = soft_same i p (Calling f n y t)
 soft_ready i p w to nobody (Forking f n y r a b) = soft_same i p (Forking f n y r a b)
 
 -- w is stored in the order word
-module _ (i : Image) (fair : IsFair i.code) (root : Tree (Frame FrameWord Point) Result) (input : Words) (s : State) (t : Skeleton) (law : IsKept i root input s t) (p : ℕ)
+module _ (i : Setting) (fair : IsFair i.code) (root : Tree (Frame FrameWord Point) Result) (input : Words) (s : State) (t : Skeleton) (law : IsKept i root input s t) (p : ℕ)
     (there : p < i.shape.processors) (r w : ℕ) (k : RestartKind) (ke : s.kind p ≡ k) (head : Head i s t (r + 1))
     (roofs : (n : Cell → ℕ) → ceiling i n p k ≡ n (RoomCounter p)) (blank : Blank i s.words p (s.words (RoomCounter p))) (d : Doing) where
   abbrev m : Cell → ℕ

@@ -41,7 +41,7 @@ use Rattle.ppm_frames.specs.Skeletons.{Skeleton}
 use Rattle.ppm_frames.specs.Good.{link_or, link_at}
 use Rattle.ppm_kept.specs.Running.{IsFair, HasCome, IsClean, home_at, Opens}
 use Rattle.ppm_kept.specs.Branches.{HasCopy}
-use Rattle.ppm_kept.specs.Kept.{Image, seat_at, put, Doing, InRest, State, Free, Reach, Under, Does, IsKept}
+use Rattle.ppm_kept.specs.Kept.{Setting, seat_at, put, Doing, InRest, State, Free, Reach, Under, Does, IsKept}
 use Rattle.ppm_kept.specs.Laws.{Ends, kind_then}
 use Rattle.ppm_kept.specs.Copies.{IsKnown, CopiesStay, AllCopiesStay, OpeningsHaveCopies}
 use Rattle.ppm_kept.proofs.PutLemmas.{put_here, put_else}
@@ -215,7 +215,7 @@ module _ (s : Shape) (seat : Seat) where
   low_found (Offset r b) h w = low_if (r + w) (Now (Begin r (r + w) b)) tt
   low_found _ h w = absurd h
 
-module _ (i : Image) (fair : IsFair i.code) (root : Tree (Frame FrameWord CodePoint) Result) (input : Words) (s : State) (t : Skeleton) (law : IsKept i root input s t) (p : ℕ) where
+module _ (i : Setting) (fair : IsFair i.code) (root : Tree (Frame FrameWord CodePoint) Result) (input : Words) (s : State) (t : Skeleton) (law : IsKept i root input s t) (p : ℕ) where
   abbrev m : Cell → ℕ
   m = s.words
 

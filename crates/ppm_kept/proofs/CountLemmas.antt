@@ -32,7 +32,7 @@ use Rattle.ppm_frames.specs.Skeletons.{Stand, Skeleton, grow}
 use Rattle.ppm_frames.specs.Good.{link_at}
 use Rattle.ppm_kept.specs.Running.{IsFair}
 use Rattle.ppm_kept.specs.Branches.{HasCopy}
-use Rattle.ppm_kept.specs.Kept.{Image, AllowsAll, start, end_of, Doing, Resting, InRow, InRest, State, ceiling, Free, Reach, Under, Does, Head, Ordered, IsKept}
+use Rattle.ppm_kept.specs.Kept.{Setting, AllowsAll, start, end_of, Doing, Resting, InRow, InRest, State, ceiling, Free, Reach, Under, Does, Head, Ordered, IsKept}
 use Rattle.ppm_kept.specs.Moves.{installs, opened, by_install}
 use Rattle.ppm_kept.specs.Laws.{kind_then}
 use Rattle.ppm_kept.specs.Heirs.{settled, handed, GoesOnAs}
@@ -50,12 +50,12 @@ use Rattle.ppm_kept.proofs.HeirTurns.{heir_turns_keep}
 use Rattle.ppm_kept.proofs.StepRows.{turns_keep_left, act_away}
 
 -- with another question
-abbrev counting : (Counts → Bool) → Image → Image
+abbrev counting : (Counts → Bool) → Setting → Setting
 counting q i = record { shape = i.shape; code = i.code; counted = q }
 
 -- no definition but that of `IsKept` looks at it
-module _ (i : Image) (q : Counts → Bool) where
-  abbrev j : Image
+module _ (i : Setting) (q : Counts → Bool) where
+  abbrev j : Setting
   j = counting q i
 
   roof : (m : Cell → ℕ) (p : ℕ) (k : RestartKind) → ceiling j m p k ≡ ceiling i m p k
@@ -303,12 +303,12 @@ exactly_says k j e =
     counts_path (eqb-true j.capsules k.capsules two.0) (eqb-true j.forks k.forks more.0) (eqb-true j.block_words k.block_words more.1)
 
 -- kept, with so many counted
-abbrev pub Counted : (i : Image) (root : Tree (Frame FrameWord Point) Result) (input : Words) → State → Skeleton → (capsules forks : ℕ) → Type 0
+abbrev pub Counted : (i : Setting) (root : Tree (Frame FrameWord Point) Result) (input : Words) → State → Skeleton → (capsules forks : ℕ) → Type 0
 Counted i root input s t n m = (kept : IsKept i root input s t) × (kept.ahead.0.capsules ≡ n) × (kept.ahead.0.forks ≡ m)
 
 -- what is kept whatever is asked of the counts has the counts that there were
-module _ (i : Image) (root : Tree (Frame FrameWord Point) Result) (input : Words) (s : State) (t : Skeleton) (law : IsKept i root input s t) where
-  abbrev pub asked : Image
+module _ (i : Setting) (root : Tree (Frame FrameWord Point) Result) (input : Words) (s : State) (t : Skeleton) (law : IsKept i root input s t) where
+  abbrev pub asked : Setting
   asked = counting (exactly law.ahead.0) i
 
   pub as_asked : IsKept asked root input s t
@@ -321,7 +321,7 @@ module _ (i : Image) (root : Tree (Frame FrameWord Point) Result) (input : Words
       let all = back.1 ∙ same in
       (back.0, ap (λ (k : Counts). k.capsules) all, ap (λ (k : Counts). k.forks) all)
 
-module _ (i : Image) (fair : IsFair i.code) (root : Tree (Frame FrameWord Point) Result) (input : Words) (state : Machine) (l : List Followed) (apart : AreApart l) (t : Skeleton)
+module _ (i : Setting) (fair : IsFair i.code) (root : Tree (Frame FrameWord Point) Result) (input : Words) (state : Machine) (l : List Followed) (apart : AreApart l) (t : Skeleton)
     (law : IsKept i root input (left i l (places_of i.shape state)) t) where
   abbrev S : State
   S = left i l (places_of i.shape state)
@@ -329,7 +329,7 @@ module _ (i : Image) (fair : IsFair i.code) (root : Tree (Frame FrameWord Point)
   abbrev k : Counts
   k = law.ahead.0
 
-  abbrev other : Image
+  abbrev other : Setting
   other = asked i root input S t law
 
   -- the same with the other question

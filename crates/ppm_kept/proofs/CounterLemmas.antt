@@ -17,7 +17,7 @@ use Rattle.ppm_step.specs.declared.row.Row.TheVariants.{Now, Store, Exchange}
 use Rattle.ppm_step.specs.declared.row.Seat.{Seat}
 use Rattle.ppm_step.specs.declared.row.Then.TheVariants.{Load, Install, Fork, Begin, Move, Enter, Again, Broken}
 use Rattle.ppm_kept.specs.Running.{MayStore}
-use Rattle.ppm_kept.specs.Kept.{Image, seat_at, Reach, Reached}
+use Rattle.ppm_kept.specs.Kept.{Setting, seat_at, Reach, Reached}
 use Rattle.ppm_kept.specs.Others.{IsIdle}
 use Rattle.ppm_kept.specs.Pushing.{Comes}
 use Rattle.ppm_kept.specs.Takes.{IsCheck}
@@ -25,7 +25,7 @@ use Rattle.ppm_kept.specs.Births.{IsNoCounter, IsSteady, SteadyRow}
 use Rattle.ppm_kept.proofs.SteadyLemmas.{rows_are_steady}
 
 -- a row that was reached is one that it comes to
-reach_comes : (i : Image) (m : Cell → ℕ) (seat : Seat) (n : ℕ) (row rest : Row) → Reach i m seat n row rest → Comes i.shape seat n row rest
+reach_comes : (i : Setting) (m : Cell → ℕ) (seat : Seat) (n : ℕ) (row rest : Row) → Reach i m seat n row rest → Comes i.shape seat n row rest
 reach_comes i m seat zero row rest q = q
 reach_comes i m seat (suc n) (Now (Load point)) rest q = (0, content_of (reading_at point) (m (cell_at seat 0 point)), reach_comes i m seat n _ rest q)
 reach_comes i m seat (suc n) (Store c w next) rest q = reach_comes i m seat n (Now next) rest q.1
@@ -38,7 +38,7 @@ reach_comes i m seat (suc n) (Now (Enter x)) rest q = absurd q
 reach_comes i m seat (suc n) (Now Again) rest q = absurd q
 reach_comes i m seat (suc n) (Now Broken) rest q = absurd q
 
-pub steady_reached : (i : Image) (m : Cell → ℕ) (p : ℕ) (k : RestartKind) (row : Row) → IsSteady k → Reached i m p k row → SteadyRow (IsCheck k) row
+pub steady_reached : (i : Setting) (m : Cell → ℕ) (p : ℕ) (k : RestartKind) (row : Row) → IsSteady k → Reached i m p k row → SteadyRow (IsCheck k) row
 steady_reached i m p k row steady q = let seat = seat_at p k q.0 in rows_are_steady i.shape seat q.1 k row steady (reach_comes i m seat q.1 (row_of i.shape seat k) row q.2)
 
 -- the row of Bump stores into the counter alone
@@ -46,7 +46,7 @@ abbrev Counts : ℕ → Row → Type 0
 Counts p (Store cell content next) = cell ≡ RoomCounter p
 Counts p row = Unit {0}
 
-module _ (i : Image) (m : Cell → ℕ) (p q b : ℕ) where
+module _ (i : Setting) (m : Cell → ℕ) (p q b : ℕ) where
   abbrev bump_seat : Seat
   bump_seat = seat_at p (Bump q) b
 
@@ -82,7 +82,7 @@ idle_steady (Take2 v) h = tt
 idle_steady _ h = absurd h
 
 -- what a capsule stores into is no counter
-pub may_steady : (i : Image) (m : Cell → ℕ) (p f y : ℕ) (cell : Cell) → MayStore i.shape i.code m p f y cell → IsNoCounter cell
+pub may_steady : (i : Setting) (m : Cell → ℕ) (p f y : ℕ) (cell : Cell) → MayStore i.shape i.code m p f y cell → IsNoCounter cell
 may_steady i m p f y cell (inl a) = subst IsNoCounter (sym a.1) tt
 may_steady i m p f y cell (inr (inl a)) = subst IsNoCounter (sym a.1) tt
 may_steady i m p f y cell (inr (inr a)) = subst IsNoCounter (sym a.1) tt

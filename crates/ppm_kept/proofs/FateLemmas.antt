@@ -22,7 +22,7 @@ use Rattle.ppm_frames.specs.Good.{mark, link_at, BumpsAt, Match}
 use Rattle.ppm_frames.proofs.SkeletonLemmas.{inside_at, branch_from}
 use Rattle.ppm_kept.specs.Running.{IsFair}
 use Rattle.ppm_kept.specs.Branches.{IsUntaken, Untaken, Unpushed, IsWaitingAt, Waits}
-use Rattle.ppm_kept.specs.Kept.{Image, InRow, State, put, carried, IsKept}
+use Rattle.ppm_kept.specs.Kept.{Setting, InRow, State, put, carried, IsKept}
 use Rattle.ppm_kept.specs.Unruns.{IsUnrun, IsLeafOf, HasUnrun, SameUnruns, OneChanges, IsNone, Is}
 use Rattle.ppm_kept.specs.Fates.{Fate, Unborn, ToPush, Offered, Inline, Begun, Agrees, AllFatesStay, NoneIsLeft, AllFatesShow}
 use Rattle.ppm_kept.proofs.PutLemmas.{put_here, put_else}
@@ -229,7 +229,7 @@ abbrev place_of_leaf : Skeleton → ℕ
 place_of_leaf (Leaf (InPlace q) st f n) = q
 place_of_leaf _ = 0
 
-module _ (i : Image) (fair : IsFair i.code) (root : Tree (Frame FrameWord Point) Result) (input : Words) (s : State) (t : Skeleton) (law : IsKept i root input s t) where
+module _ (i : Setting) (fair : IsFair i.code) (root : Tree (Frame FrameWord Point) Result) (input : Words) (s : State) (t : Skeleton) (law : IsKept i root input s t) where
   abbrev m : Cell → ℕ
   m = s.words
 

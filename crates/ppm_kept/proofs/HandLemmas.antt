@@ -23,7 +23,7 @@ use Rattle.ppm_frames.proofs.SkeletonLemmas.{tree_in, count_plug, plain_plug, at
 use Rattle.ppm_frames.proofs.SwapLemmas.{Swap, swap_same, good_same, good_swap}
 use Rattle.ppm_kept.specs.Running.{strands}
 use Rattle.ppm_kept.specs.Branches.{Untaken, Unpushed, IsWaitingAt, Waits, is_taker, HasCopy}
-use Rattle.ppm_kept.specs.Kept.{Image, start, end_of, owner, Doing, Resting, InRow, State, put, Blank, Ended, IsFinished, carried, ceiling, Free, Does, Head, Ordered, IsKept}
+use Rattle.ppm_kept.specs.Kept.{Setting, start, end_of, owner, Doing, Resting, InRow, State, put, Blank, Ended, IsFinished, carried, ceiling, Free, Does, Head, Ordered, IsKept}
 use Rattle.ppm_kept.specs.Others.{IsIdle}
 use Rattle.ppm_kept.specs.Heirs.{handed}
 use Rattle.ppm_kept.proofs.BranchLemmas.{unpushed_less, waits_swap}
@@ -32,7 +32,7 @@ use Rattle.ppm_kept.proofs.PlaceLemmas.{Leafed, is_at_own, is_at_other}
 use Rattle.ppm_kept.proofs.PutLemmas.{put_here, put_else}
 
 -- a part that was one place's, and is another's
-pub record Hand (i : Image) (s : State) (t : Skeleton) (v p : ℕ) (kind : ℕ → RestartKind) : Type 0 where
+pub record Hand (i : Setting) (s : State) (t : Skeleton) (v p : ℕ) (kind : ℕ → RestartKind) : Type 0 where
   pub around : Around
   pub was : Skeleton
   pub now : Skeleton
@@ -52,7 +52,7 @@ pub record Hand (i : Image) (s : State) (t : Skeleton) (v p : ℕ) (kind : ℕ �
   pub waits : (r f : ℕ) → Waits r f was → Waits r f now
   pub ends : Ended s.words t → Ended s.words (plug around now)
 
-module _ (i : Image) (root : Tree (Frame FrameWord Point) Result) (input : Words) (s : State) (t : Skeleton) (law : IsKept i root input s t) (v p : ℕ) (ne : p ≢ v) (idle : IsIdle (s.kind p))
+module _ (i : Setting) (root : Tree (Frame FrameWord Point) Result) (input : Words) (s : State) (t : Skeleton) (law : IsKept i root input s t) (v p : ℕ) (ne : p ≢ v) (idle : IsIdle (s.kind p))
     (k : RestartKind) (kv : s.kind v ≡ k) (rests : s.doing v ≡ Resting) where
   abbrev m : Cell → ℕ
   m = s.words
@@ -237,7 +237,7 @@ leaf_ends m t v p c st f n is e = by c (sym is ∙ e.is)
     by (AtLeft g l y r c b) q = absurd (cc)
     by (AtRight g l y r a c) q = absurd (cc)
 
-module _ (i : Image) (root : Tree (Frame FrameWord Point) Result) (input : Words) (s : State) (t : Skeleton) (law : IsKept i root input s t) (v p : ℕ) (ne : p ≢ v) (kind : ℕ → RestartKind)
+module _ (i : Setting) (root : Tree (Frame FrameWord Point) Result) (input : Words) (s : State) (t : Skeleton) (law : IsKept i root input s t) (v p : ℕ) (ne : p ≢ v) (kind : ℕ → RestartKind)
     (kinds : (q : ℕ) → q ≢ p → q ≢ v → kind q ≡ s.kind q) (away : at p t ≡ 0) where
   -- a place with a leaf
   abbrev pub leaf_hand : Leafed i s t v → kind p ≡ s.kind v → Hand i s t v p kind

@@ -14,7 +14,7 @@ use Rattle.ppm_code.specs.declared.location.FrameWord.{FrameWord}
 use Rattle.ppm_frames.specs.Skeletons.{Skeleton}
 use Rattle.ppm_frames.specs.Good.{link_at}
 use Rattle.ppm_kept.specs.Running.{IsFair}
-use Rattle.ppm_kept.specs.Kept.{Image, start, end_of, owner, State, put, ceiling, IsKept}
+use Rattle.ppm_kept.specs.Kept.{Setting, start, end_of, owner, State, put, ceiling, IsKept}
 use Rattle.ppm_kept.specs.Others.{IsIdle}
 use Rattle.ppm_kept.specs.Births.{floor, Births, IsSteady, with_block}
 use Rattle.ppm_kept.specs.Bearing.{HeirsBear}
@@ -24,7 +24,7 @@ use Rattle.ppm_kept.proofs.HeirLemmas.{not_idle}
 use Rattle.ppm_kept.proofs.PutLemmas.{put_here, put_else}
 
 -- a floor is no higher than the ceiling
-floor_roof : (i : Image) (m : Cell → ℕ) (q : ℕ) (k : RestartKind) → floor m q k ≤ ceiling i m q k
+floor_roof : (i : Setting) (m : Cell → ℕ) (q : ℕ) (k : RestartKind) → floor m q k ≤ ceiling i m q k
 floor_roof i m q (Bump r) = omega arith
 floor_roof i m q (Run f y) = omega arith
 floor_roof i m q (Push1 r) = omega arith
@@ -85,7 +85,7 @@ idle_steady (Take v x) h = tt
 idle_steady (Take2 v) h = tt
 idle_steady _ h = absurd h
 
-module _ (i : Image) (fair : IsFair i.code) (root : Tree (Frame FrameWord Point) Result) (input : Words) (s : State) (t : Skeleton) (law : IsKept i root input s t) (born : ℕ → Bool) (births : Births i s born)
+module _ (i : Setting) (fair : IsFair i.code) (root : Tree (Frame FrameWord Point) Result) (input : Words) (s : State) (t : Skeleton) (law : IsKept i root input s t) (born : ℕ → Bool) (births : Births i s born)
     (v p : ℕ) (idle : IsIdle (s.kind p)) (k : RestartKind) (goes : GoesOnAs s t v (s.kind v) k) where
   abbrev m : Cell → ℕ
   m = s.words

@@ -22,7 +22,7 @@ use Rattle.ppm_frames.specs.Good.{link_at}
 use Rattle.ppm_frames.proofs.WriteLemmas.{write_here, write_else}
 use Rattle.ppm_kept.specs.Running.{IsFair}
 use Rattle.ppm_kept.specs.Branches.{Untaken, Unpushed, is_taker, HasCopy}
-use Rattle.ppm_kept.specs.Kept.{Image, end_of, Doing, Resting, State, put, side_code, Blank, carried, ceiling, Free, IsKept}
+use Rattle.ppm_kept.specs.Kept.{Setting, end_of, Doing, Resting, State, put, side_code, Blank, carried, ceiling, Free, IsKept}
 use Rattle.ppm_kept.specs.Moves.{installs}
 use Rattle.ppm_kept.specs.Others.{IsIdle}
 use Rattle.ppm_kept.specs.Heirs.{handed, settled, OpensAs, GoesOnAs, inherits, HeirsKeep}
@@ -68,7 +68,7 @@ both_are true b e = (refl, e)
 both_are false b e = absurd (cc)
 
 -- words that are settled, by what each sort of cell has
-settle_is : (i : Image) (m n : Cell → ℕ) (v c : ℕ) → n (RoomCounter v) ≡ c → ((x : ℕ) → c ≤ x → x < end_of i v → n (BlockWord x) ≡ 0)
+settle_is : (i : Setting) (m n : Cell → ℕ) (v c : ℕ) → n (RoomCounter v) ≡ c → ((x : ℕ) → c ≤ x → x < end_of i v → n (BlockWord x) ≡ 0)
     → ((x : ℕ) → (c ≤ x → x < end_of i v → ⊥) → n (BlockWord x) ≡ m (BlockWord x))
     → ((cell : Cell) → ((x : ℕ) → BlockWord x ≢ cell) → RoomCounter v ≢ cell → n cell ≡ m cell)
     → n ≡ settled i m v c
@@ -101,20 +101,20 @@ settle_is i m n v c counter above else_ others = fun_ext by
     by (ArrayWord x) = others (ArrayWord x) (λ x z. cc) (λ z. cc)
 
 -- where nothing was stored above
-blank_settled : (i : Image) (m : Cell → ℕ) (v : ℕ) → Blank i m v (m (RoomCounter v)) → m ≡ settled i m v (m (RoomCounter v))
+blank_settled : (i : Setting) (m : Cell → ℕ) (v : ℕ) → Blank i m v (m (RoomCounter v)) → m ≡ settled i m v (m (RoomCounter v))
 blank_settled i m v blank = settle_is i m m v (m (RoomCounter v)) refl
     (λ x low high. subst (λ (b : ℕ). m (BlockWord b) ≡ 0) {x = m (RoomCounter v) + (x - m (RoomCounter v))} (omega (arith, low)) (blank (x - m (RoomCounter v)) (omega (arith, low, high))))
     (λ x out. refl) (λ cell a b. refl)
 
 -- the counter raised before
-raised_settled : (i : Image) (m : Cell → ℕ) (v c : ℕ) → Blank i m v c → write m (RoomCounter v) c ≡ settled i m v c
+raised_settled : (i : Setting) (m : Cell → ℕ) (v c : ℕ) → Blank i m v c → write m (RoomCounter v) c ≡ settled i m v c
 raised_settled i m v c blank = settle_is i m (write m (RoomCounter v) c) v c (write_here m (RoomCounter v) c)
     (λ x low high. write_else m (RoomCounter v) c (BlockWord x) (λ e. cc) ∙ subst (λ (b : ℕ). m (BlockWord b) ≡ 0) {x = c + (x - c)} (omega (arith, low)) (blank (x - c) (omega (arith, low, high))))
     (λ x out. write_else m (RoomCounter v) c (BlockWord x) (λ e. cc))
     (λ cell a b. write_else m (RoomCounter v) c cell (λ e. b (sym e)))
 
 -- and where a capsule's words are 0 again
-zeros_settled : (i : Image) (m : Cell → ℕ) (v : ℕ) → m (RoomCounter v) ≤ end_of i v → zeros m (m (RoomCounter v)) (end_of i v - m (RoomCounter v)) ≡ settled i m v (m (RoomCounter v))
+zeros_settled : (i : Setting) (m : Cell → ℕ) (v : ℕ) → m (RoomCounter v) ≤ end_of i v → zeros m (m (RoomCounter v)) (end_of i v - m (RoomCounter v)) ≡ settled i m v (m (RoomCounter v))
 zeros_settled i m v fit = settle_is i m (zeros m (m (RoomCounter v)) (end_of i v - m (RoomCounter v))) v (m (RoomCounter v))
     (zero_else m (m (RoomCounter v)) (end_of i v - m (RoomCounter v)) (RoomCounter v) (λ x e. cc))
     (λ x low high. zero_in m (m (RoomCounter v)) (end_of i v - m (RoomCounter v)) x low (omega (arith, high, fit)))
@@ -157,7 +157,7 @@ none_unpushed p (Check w x) t e = tt
 none_unpushed p (Take w x) t e = tt
 none_unpushed p (Take2 w) t e = tt
 
-module _ (i : Image) (fair : IsFair i.code) (root : Tree (Frame FrameWord Point) Result) (input : Words) (v p : ℕ) (ne : p ≢ v) (t : Skeleton) where
+module _ (i : Setting) (fair : IsFair i.code) (root : Tree (Frame FrameWord Point) Result) (input : Words) (v p : ℕ) (ne : p ≢ v) (t : Skeleton) where
   -- from a closed place at the very kind that the heir is to have
   hand_over : (w : State) → IsKept i root input w t → (k : RestartKind) → w.kind v ≡ k → w.doing v ≡ Resting → IsIdle (w.kind p) → ((q : ℕ) → ceiling i w.words q k ≡ w.words (RoomCounter q))
       → Blank i w.words v (w.words (RoomCounter v)) → Free i w.words p k → is_taker k ≡ false → (carried w.words k ≡ 1) ⊎ (carried w.words k ≡ 0)
@@ -196,7 +196,7 @@ not_idle s t v (Take w x) k h g = g
 not_idle s t v (Take2 w) k h g = g
 not_idle s t v _ k h g = h
 
-module _ (i : Image) (fair : IsFair i.code) (root : Tree (Frame FrameWord Point) Result) (input : Words) (s : State) (t : Skeleton) (law : IsKept i root input s t) (v p : ℕ) (there : v < i.shape.processors)
+module _ (i : Setting) (fair : IsFair i.code) (root : Tree (Frame FrameWord Point) Result) (input : Words) (s : State) (t : Skeleton) (law : IsKept i root input s t) (v p : ℕ) (there : v < i.shape.processors)
     (idle : IsIdle (s.kind p)) (rests : s.doing v ≡ Resting) where
   abbrev m : Cell → ℕ
   m = s.words

@@ -16,7 +16,7 @@ use Rattle.ppm_step.specs.declared.row.Then.TheVariants.{Install, Fork}
 use Rattle.ppm_step.specs.declared.turn.Act.TheVariants.{Step}
 use Rattle.ppm_frames.specs.Skeletons.{Skeleton}
 use Rattle.ppm_kept.specs.Running.{IsFair}
-use Rattle.ppm_kept.specs.Kept.{Image, Resting, State, put, ceiling, IsKept}
+use Rattle.ppm_kept.specs.Kept.{Setting, Resting, State, put, ceiling, IsKept}
 use Rattle.ppm_kept.specs.Laws.{Ends, kind_then}
 use Rattle.ppm_kept.specs.Moves.{installs}
 use Rattle.ppm_kept.specs.Others.{IsIdle}
@@ -36,7 +36,7 @@ ends_so (Install restart) k h = tt
 ends_so (Fork block) k h = tt
 ends_so _ k h = absurd h
 
-module _ (i : Image) (fair : IsFair i.code) (root : Tree (Frame FrameWord Point) Result) (input : Words) (state : Machine) (l : List Followed) (apart : AreApart l) (t : Skeleton)
+module _ (i : Setting) (fair : IsFair i.code) (root : Tree (Frame FrameWord Point) Result) (input : Words) (state : Machine) (l : List Followed) (apart : AreApart l) (t : Skeleton)
     (law : IsKept i root input (left i l (places_of i.shape state)) t)
     (c victim : ℕ) (seat : Seat) (next : Then) (v : ℕ) (at : stand_of state c ≡ IsWithin seat (Now next)) (heir : Heired i state l t c seat next v) where
   abbrev P : State
@@ -97,7 +97,7 @@ module _ (i : Image) (fair : IsFair i.code) (root : Tree (Frame FrameWord Point)
   new : (born : ℕ → Bool) → Births i S born → (r : ℕ) → P.kind v ≡ Bump r → born r ≡ false
   new born births r is = ((heirs_bear i fair root input S t law born births v p idle k goes).1 r (kind_away l P.kind v heir.still ∙ is)).0
 
-pub heir_turns_new : (i : Image) (fair : IsFair i.code) (root : Tree (Frame FrameWord Point) Result) (input : Words) (state : Machine) (l : List Followed) (apart : AreApart l) (t : Skeleton)
+pub heir_turns_new : (i : Setting) (fair : IsFair i.code) (root : Tree (Frame FrameWord Point) Result) (input : Words) (state : Machine) (l : List Followed) (apart : AreApart l) (t : Skeleton)
     (law : IsKept i root input (left i l (places_of i.shape state)) t)
     (c victim : ℕ) (seat : Seat) (next : Then) (v : ℕ) (at : stand_of state c ≡ IsWithin seat (Now next)) (heir : Heired i state l t c seat next v)
     (born : ℕ → Bool) → Births i (left i l (places_of i.shape state)) born → (r : ℕ) → (places_of i.shape state).kind v ≡ Bump r → born r ≡ false

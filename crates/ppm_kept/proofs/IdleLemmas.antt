@@ -15,13 +15,13 @@ use Rattle.ppm_frames.specs.Skeletons.{Skeleton, count, plain, Around, plug, hoo
 use Rattle.ppm_frames.proofs.WriteLemmas.{write_else}
 use Rattle.ppm_frames.proofs.SkeletonLemmas.{count_plug, plain_count}
 use Rattle.ppm_kept.specs.Running.{IsFair}
-use Rattle.ppm_kept.specs.Kept.{Image, start, end_of, owner, State, Doing, Resting, InRow, InRest, Blank, ceiling, Free, Does, Ordered, carried, IsKept}
+use Rattle.ppm_kept.specs.Kept.{Setting, start, end_of, owner, State, Doing, Resting, InRow, InRest, Blank, ceiling, Free, Does, Ordered, carried, IsKept}
 use Rattle.ppm_kept.specs.Others.{KeptAt, Mine, Claims, IsIdle}
 use Rattle.ppm_kept.proofs.OwnerLemmas.{owned}
 use Rattle.ppm_kept.proofs.PlaceLemmas.{head_on}
 
 -- what an idle place has, whatever the words are but for its counter and its free words
-pub idle_roof : (i : Image) (n : Cell → ℕ) (q : ℕ) (k : RestartKind) → IsIdle k → ceiling i n q k ≡ n (RoomCounter q)
+pub idle_roof : (i : Setting) (n : Cell → ℕ) (q : ℕ) (k : RestartKind) → IsIdle k → ceiling i n q k ≡ n (RoomCounter q)
 idle_roof i n q Pop1 h = refl
 idle_roof i n q (Pop2 r) h = refl
 idle_roof i n q Seek h = refl
@@ -41,7 +41,7 @@ idle_carried m n (Take v x) h = refl
 idle_carried m n (Take2 v) h = refl
 idle_carried m n _ h = absurd h
 
-pub idle_free : (i : Image) (n : Cell → ℕ) (q : ℕ) (k : RestartKind) → IsIdle k → Blank i n q (n (RoomCounter q)) → Free i n q k
+pub idle_free : (i : Setting) (n : Cell → ℕ) (q : ℕ) (k : RestartKind) → IsIdle k → Blank i n q (n (RoomCounter q)) → Free i n q k
 idle_free i n q Pop1 h b = b
 idle_free i n q (Pop2 r) h b = b
 idle_free i n q Seek h b = b
@@ -51,7 +51,7 @@ idle_free i n q (Take v x) h b = b
 idle_free i n q (Take2 v) h b = b
 idle_free i n q _ h b = absurd h
 
-pub idle_blank : (i : Image) (n : Cell → ℕ) (q : ℕ) (k : RestartKind) → IsIdle k → Free i n q k → Blank i n q (n (RoomCounter q))
+pub idle_blank : (i : Setting) (n : Cell → ℕ) (q : ℕ) (k : RestartKind) → IsIdle k → Free i n q k → Blank i n q (n (RoomCounter q))
 idle_blank i n q Pop1 h b = b
 idle_blank i n q (Pop2 r) h b = b
 idle_blank i n q Seek h b = b
@@ -61,7 +61,7 @@ idle_blank i n q (Take v x) h b = b
 idle_blank i n q (Take2 v) h b = b
 idle_blank i n q _ h b = absurd h
 
-idle_does : (i : Image) (m n : Cell → ℕ) (q : ℕ) (k : RestartKind) (d : Doing) → IsIdle k → Does i m q k d → Does i n q k d
+idle_does : (i : Setting) (m n : Cell → ℕ) (q : ℕ) (k : RestartKind) (d : Doing) → IsIdle k → Does i m q k d → Does i n q k d
 idle_does i m n q k Resting h e = tt
 idle_does i m n q Pop1 (InRow row) h e = tt
 idle_does i m n q (Pop2 r) (InRow row) h e = tt
@@ -79,7 +79,7 @@ idle_does i m n q (Take v x) (InRest rest) h e = e
 idle_does i m n q (Take2 v) (InRest rest) h e = e
 idle_does i m n q _ d h e = absurd h
 
-pub idle_order : (i : Image) (s : State) (t : Skeleton) (n : Cell → ℕ) (k : RestartKind) → IsIdle k → Ordered i s t n k
+pub idle_order : (i : Setting) (s : State) (t : Skeleton) (n : Cell → ℕ) (k : RestartKind) → IsIdle k → Ordered i s t n k
 idle_order i s t n Pop1 h = tt
 idle_order i s t n (Pop2 r) h = tt
 idle_order i s t n Seek h = tt
@@ -89,7 +89,7 @@ idle_order i s t n (Take v x) h = tt
 idle_order i s t n (Take2 v) h = tt
 idle_order i s t n _ h = absurd h
 
-module _ (i : Image) (fair : IsFair i.code) (root : Tree (Frame FrameWord Point) Result) (input : Words) (s : State) (t : Skeleton) (law : IsKept i root input s t) (p : ℕ)
+module _ (i : Setting) (fair : IsFair i.code) (root : Tree (Frame FrameWord Point) Result) (input : Words) (s : State) (t : Skeleton) (law : IsKept i root input s t) (p : ℕ)
     (c : Around) (u : Skeleton) (cell : Cell) (w : ℕ) (is : t ≡ plug c u) (mine : Mine i s p (hook_at Root c) u cell ⊎ Claims s.words (hook_at Root c) cell w) (q : ℕ) (ne : q ≢ p)
     (idle : IsIdle (s.kind q)) where
   abbrev m : Cell → ℕ

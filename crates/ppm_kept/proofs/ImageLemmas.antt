@@ -32,7 +32,7 @@ use Rattle.ppm_cells.specs.Region.{region_word}
 use Rattle.ppm_layout.specs.Opening.{whole_array, root_frame, first_room, first_block}
 use Rattle.ppm_layout.specs.Root as layout
 use Rattle.ppm_layout.specs.Root.{strand_at, root_strand}
-use Rattle.ppm_layout.specs.declared.images.Image.{Image as RealImage}
+use Rattle.ppm_layout.specs.declared.images.Image.{Image}
 use Rattle.ppm_layout.proofs.RootLemmas.{begins}
 use Rattle.ppm_layout.proofs.ValueLemmas.{stands_for}
 use Rattle.ppm_frames.specs.Views.{is_cell, view}
@@ -42,13 +42,13 @@ use Rattle.ppm_frames.specs.Good.{link_or}
 use Rattle.ppm_frames.proofs.SeenLemmas.{if_true, if_false, choice}
 use Rattle.ppm_frames.proofs.ViewLemmas.{view_is, view_not, is_one}
 use Rattle.ppm_kept.specs.Running.{strands}
-use Rattle.ppm_kept.specs.Kept.{Image, start, end_of, NoOutcome}
+use Rattle.ppm_kept.specs.Kept.{Setting, start, end_of, NoOutcome}
 use Rattle.ppm_kept.specs.Openings.{Opening, ImagesOpen}
 use Rattle.ppm_kept.proofs.OwnerLemmas.{owned}
 use Rattle.ppm_kept.proofs.TurnLemmas.{pool_cell}
 
-module _ (code : CodeParts) (input : List NamedArray) (s : Shape) (keeper : ℕ) (image : RealImage) (o : Opens code input s keeper image) (asked : Counts → Bool) (so : asked none ≡ true) where
-  abbrev i : Image
+module _ (code : CodeParts) (input : List NamedArray) (s : Shape) (keeper : ℕ) (image : Image) (o : Opens code input s keeper image) (asked : Counts → Bool) (so : asked none ≡ true) where
+  abbrev i : Setting
   i = record { shape = s; code = code; counted = asked }
 
   abbrev m : Cell → ℕ

@@ -39,7 +39,7 @@ use Rattle.ppm_frames.proofs.SkeletonLemmas.{SameFrame, same_frame, same_at, res
 use Rattle.ppm_frames.proofs.SwapLemmas.{sub, good_same, good_here}
 use Rattle.ppm_kept.specs.Running.{IsFair, strands}
 use Rattle.ppm_kept.specs.Branches.{HasCopy, Unpushed, is_taker}
-use Rattle.ppm_kept.specs.Kept.{Image, owner, side_code, Doing, Resting, State, put, Blank, HasTaken, ceiling, Free, Does, Ordered, carried, IsKept}
+use Rattle.ppm_kept.specs.Kept.{Setting, owner, side_code, Doing, Resting, State, put, Blank, HasTaken, ceiling, Free, Does, Ordered, carried, IsKept}
 use Rattle.ppm_kept.specs.Moves.{installs}
 use Rattle.ppm_kept.specs.Others.{Mine, Keeps}
 use Rattle.ppm_kept.specs.JoinValues.{BranchesStay, BranchValuesPass}
@@ -105,7 +105,7 @@ Traps m r trap line = (finish_of (m (BlockWord (r + 2))) ≡ Some (TrappedBy tra
 word_is : (x : ℕ) (v : Finish) → finish_of x ≡ Some v → finish_word v ≡ x
 word_is x v e = pack-unpack finish_word IsFinish finish_of finishes_exact x v e
 
-module _ (i : Image) (fair : IsFair i.code) (root : Tree (Frame FrameWord Point) Result) (input : Words) (s : State) (t : Skeleton) (law : IsKept i root input s t) (p : ℕ)
+module _ (i : Setting) (fair : IsFair i.code) (root : Tree (Frame FrameWord Point) Result) (input : Words) (s : State) (t : Skeleton) (law : IsKept i root input s t) (p : ℕ)
     (there : p < i.shape.processors) (keeps : Keeps i s t p) (r : ℕ) (d : Side) (ke : s.kind p ≡ Join r d)
     (late : (s.words (BlockWord (r + 1)) == side_code d) ≡ false) (beyond : is_inline (s.words (BlockWord (r + 1))) d ≡ false) where
   abbrev m : Cell → ℕ

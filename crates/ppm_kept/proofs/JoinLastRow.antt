@@ -44,7 +44,7 @@ use Rattle.ppm_frames.proofs.WriteLemmas.{write_here}
 use Rattle.ppm_frames.proofs.SeenLemmas.{if_true}
 use Rattle.ppm_kept.specs.Running.{IsFair}
 use Rattle.ppm_kept.specs.Branches.{is_taker}
-use Rattle.ppm_kept.specs.Kept.{Image, seat_at, side_code, InRow, Resting, Doing, State, HasTaken, Collected, Reach, Does, Under, IsKept}
+use Rattle.ppm_kept.specs.Kept.{Setting, seat_at, side_code, InRow, Resting, Doing, State, HasTaken, Collected, Reach, Does, Under, IsKept}
 use Rattle.ppm_kept.specs.Moves.{doing_of, goes, stores, installs}
 use Rattle.ppm_kept.specs.Laws.{Ends, kind_then}
 use Rattle.ppm_kept.specs.Others.{Keeps}
@@ -64,7 +64,7 @@ abbrev copy_of : LinkKind → ℕ
 copy_of (Forked f y) = y
 copy_of _ = 0
 
-module _ (i : Image) (fair : IsFair i.code) (root : Tree (Frame FrameWord Point) Result) (input : Words) (s : State) (t : Skeleton) (law : IsKept i root input s t) (p : ℕ)
+module _ (i : Setting) (fair : IsFair i.code) (root : Tree (Frame FrameWord Point) Result) (input : Words) (s : State) (t : Skeleton) (law : IsKept i root input s t) (p : ℕ)
     (there : p < i.shape.processors) (keeps : Keeps i s t p) (r : ℕ) (d : Side) (ke : s.kind p ≡ Join r d)
     (late : (s.words (BlockWord (r + 1)) == side_code d) ≡ false) (beyond : is_inline (s.words (BlockWord (r + 1))) d ≡ false) where
   abbrev m : Cell → ℕ
@@ -579,7 +579,7 @@ pub last_join_row_keeps : LastJoinRowKeeps
 last_join_row_keeps i fair root input s t law p there r d ke late beyond =
     last_join_keeps i fair root input s t law p there (others_keep i fair root input s t law p) r d ke late beyond
 
-early_keeps : (i : Image) (root : Tree (Frame FrameWord Point) Result) (input : Words) (s : State) (t : Skeleton) (p r : ℕ) (d : Side) → EarlyJoinKeeps i root input s t p r d → JoinKeeps i root input s t p r d
+early_keeps : (i : Setting) (root : Tree (Frame FrameWord Point) Result) (input : Words) (s : State) (t : Skeleton) (p r : ℕ) (d : Side) → EarlyJoinKeeps i root input s t p r d → JoinKeeps i root input s t p r d
 early_keeps i root input s t p r d early = record {
   begins = early.begins;
   loads = early.loads;

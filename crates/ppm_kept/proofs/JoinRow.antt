@@ -34,7 +34,7 @@ use Rattle.ppm_frames.proofs.SkeletonLemmas.{branch_from, over_plug}
 use Rattle.ppm_frames.proofs.SwapLemmas.{swap_same, good_same, good_here}
 use Rattle.ppm_kept.specs.Running.{IsFair}
 use Rattle.ppm_kept.specs.Branches.{is_taker}
-use Rattle.ppm_kept.specs.Kept.{Image, seat_at, side_code, Doing, Resting, InRow, State, put, Blank, ceiling, Free, Reach, Does, Under, carried, IsKept}
+use Rattle.ppm_kept.specs.Kept.{Setting, seat_at, side_code, Doing, Resting, InRow, State, put, Blank, ceiling, Free, Reach, Does, Under, carried, IsKept}
 use Rattle.ppm_kept.specs.Moves.{doing_of, goes, installs}
 use Rattle.ppm_kept.specs.Laws.{Ends, kind_then}
 use Rattle.ppm_kept.specs.Pushing.{kind_seat}
@@ -55,7 +55,7 @@ pub record IsRight (b : Skeleton) : Type 0 where
   pub slots : ℕ
   pub is : b ≡ Leaf Held (Begins 0) frame slots
 
-pub held : (i : Image) (m : Cell → ℕ) (k : ℕ → RestartKind) (h : LinkKind) (b : Skeleton) → Good i.code m k h b → order_of IsPlain (mark b) ≡ 3 → IsRight b
+pub held : (i : Setting) (m : Cell → ℕ) (k : ℕ → RestartKind) (h : LinkKind) (b : Skeleton) → Good i.code m k h b → order_of IsPlain (mark b) ≡ 3 → IsRight b
 held i m k h (Leaf Held st f n) good e = record { frame = f; slots = n; is = ap (λ a. Leaf Held a f n) good.2.0 }
 held i m k h (Leaf Came st f n) good e = absurd (omega (arith, e))
 held i m k h (Leaf Inlined st f n) good e = absurd (omega (arith, e))
@@ -65,7 +65,7 @@ held i m k h (Leaf Waiting st f n) good e = absurd (omega (arith, e))
 held i m k h (Calling f n y u) good e = absurd (omega (arith, e))
 held i m k h (Forking f n y q u v) good e = absurd (omega (arith, e))
 
-module _ (i : Image) (fair : IsFair i.code) (root : Tree (Frame FrameWord Point) Result) (input : Words) (s : State) (t : Skeleton) (law : IsKept i root input s t) (p : ℕ)
+module _ (i : Setting) (fair : IsFair i.code) (root : Tree (Frame FrameWord Point) Result) (input : Words) (s : State) (t : Skeleton) (law : IsKept i root input s t) (p : ℕ)
     (there : p < i.shape.processors) (r : ℕ) (d : Side) (ke : s.kind p ≡ Join r d) where
   abbrev m : Cell → ℕ
   m = s.words

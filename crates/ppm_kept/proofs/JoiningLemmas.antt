@@ -20,7 +20,7 @@ use Rattle.ppm_frames.specs.Good.{Mark, IsPlain, IsFirst, IsFresh, IsHeld, IsInl
 use Rattle.ppm_frames.proofs.SkeletonLemmas.{branch_from}
 use Rattle.ppm_frames.proofs.SwapLemmas.{good_here}
 use Rattle.ppm_kept.specs.Running.{IsFair}
-use Rattle.ppm_kept.specs.Kept.{Image, State, side_code, Ordered, carried, IsKept}
+use Rattle.ppm_kept.specs.Kept.{Setting, State, side_code, Ordered, carried, IsKept}
 use Rattle.ppm_kept.proofs.PlaceLemmas.{leaf, is_at_own}
 
 -- whose leaf is the left branch, and whose the right one, where a place is in Join on a side
@@ -48,7 +48,7 @@ pub record Joining (s : State) (t : Skeleton) (p r : ℕ) (d : Side) : Type 0 wh
   pub alone : at_rim p around ≡ 0
 
 -- a branch at Arrive or Join that is not the first has a leaf
-pub record Comes (i : Image) (s : State) (t : Skeleton) (p r : ℕ) (d : Side) : Type 0 where
+pub record Comes (i : Setting) (s : State) (t : Skeleton) (p r : ℕ) (d : Side) : Type 0 where
   pub around : Around
   pub frame : ℕ
   pub slots : ℕ
@@ -57,7 +57,7 @@ pub record Comes (i : Image) (s : State) (t : Skeleton) (p r : ℕ) (d : Side) :
   pub hook : hook_at Root around ≡ Branch d r
   pub framed : Framed i.code s.words (hook_at Root around) frame slots
 
-came_at : (i : Image) (s : State) (t : Skeleton) (p r : ℕ) (d : Side) (k : RestartKind) (c : Around) (st : Stand) (g n : ℕ) → ((st : Stand) → Match i.code s.words k (hook_at Root c) st g → (st ≡ Arrives) × (hook_at Root c ≡ Branch d r))
+came_at : (i : Setting) (s : State) (t : Skeleton) (p r : ℕ) (d : Side) (k : RestartKind) (c : Around) (st : Stand) (g n : ℕ) → ((st : Stand) → Match i.code s.words k (hook_at Root c) st g → (st ≡ Arrives) × (hook_at Root c ≡ Branch d r))
     → t ≡ plug c (Leaf (InPlace p) st g n) → at_rim p c ≡ 0
     → Framed i.code s.words (hook_at Root c) g n → Match i.code s.words k (hook_at Root c) st g → Comes i s t p r d
 came_at i s t p r d k c st g n view is alone framed match = record {
@@ -70,17 +70,17 @@ came_at i s t p r d k c st g n view is alone framed match = record {
   framed = framed;
 }
 
-pub arrive_view : (i : Image) (m : Cell → ℕ) (r : ℕ) (d : Side) (h : LinkKind) (f : ℕ) (st : Stand) → Match i.code m (Arrive r d) h st f → (st ≡ Arrives) × (h ≡ Branch d r)
+pub arrive_view : (i : Setting) (m : Cell → ℕ) (r : ℕ) (d : Side) (h : LinkKind) (f : ℕ) (st : Stand) → Match i.code m (Arrive r d) h st f → (st ≡ Arrives) × (h ≡ Branch d r)
 arrive_view i m r d h f Arrives match = (refl, match)
 arrive_view i m r d h f (Begins y) match = absurd match
 arrive_view i m r d h f Over match = absurd match
 
-pub join_view : (i : Image) (m : Cell → ℕ) (r : ℕ) (d : Side) (h : LinkKind) (f : ℕ) (st : Stand) → Match i.code m (Join r d) h st f → (st ≡ Arrives) × (h ≡ Branch d r)
+pub join_view : (i : Setting) (m : Cell → ℕ) (r : ℕ) (d : Side) (h : LinkKind) (f : ℕ) (st : Stand) → Match i.code m (Join r d) h st f → (st ≡ Arrives) × (h ≡ Branch d r)
 join_view i m r d h f Arrives match = (refl, match)
 join_view i m r d h f (Begins y) match = absurd match
 join_view i m r d h f Over match = absurd match
 
-module _ (i : Image) (fair : IsFair i.code) (root : Tree (Frame FrameWord Point) Result) (input : Words) (s : State) (t : Skeleton) (law : IsKept i root input s t) (p r : ℕ) (d : Side) where
+module _ (i : Setting) (fair : IsFair i.code) (root : Tree (Frame FrameWord Point) Result) (input : Words) (s : State) (t : Skeleton) (law : IsKept i root input s t) (p r : ℕ) (d : Side) where
   abbrev m : Cell → ℕ
   m = s.words
 

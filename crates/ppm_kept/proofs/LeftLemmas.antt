@@ -18,7 +18,7 @@ use Rattle.ppm_step.specs.Standings.{Standing}
 use Rattle.ppm_frames.specs.Views.{same_cell, written as write}
 use Rattle.ppm_frames.specs.Skeletons.{Skeleton}
 use Rattle.ppm_frames.proofs.WriteLemmas.{same_self, same_is, write_here, write_else}
-use Rattle.ppm_kept.specs.Kept.{Image, start, end_of, owner, State, put, Blank, ceiling, Free, IsKept}
+use Rattle.ppm_kept.specs.Kept.{Setting, start, end_of, owner, State, put, Blank, ceiling, Free, IsKept}
 use Rattle.ppm_kept.specs.Births.{IsNoCounter}
 use Rattle.ppm_kept.specs.Heirs.{settled}
 use Rattle.ppm_kept.specs.Left.{Followed, left_words, left_kinds, left, IsAway, AreApart}
@@ -38,7 +38,7 @@ away_in (w ∷ l) p a v (inl e) = λ q. a.0 (q ∙ ap (λ (x : Followed). x.plac
 away_in (w ∷ l) p a v (inr h) = away_in l p a.1 v h
 
 -- a cell that is as it is, though the place is left out
-abbrev pub NotSettled : Image → Followed → Cell → Type 0
+abbrev pub NotSettled : Setting → Followed → Cell → Type 0
 NotSettled i v (RoomCounter q) = q ≢ v.place
 NotSettled i v (BlockWord x) = v.top ≤ x → x < end_of i v.place → ⊥
 NotSettled i v cell = Unit {0}
@@ -47,7 +47,7 @@ both_are : (a b : Bool) → (a && b) ≡ true → (a ≡ true) × (b ≡ true)
 both_are true b e = (refl, e)
 both_are false b e = absurd (cc)
 
-settled_same : (i : Image) (m : Cell → ℕ) (v : Followed) (cell : Cell) → NotSettled i v cell → settled i m v.place v.top cell ≡ m cell
+settled_same : (i : Setting) (m : Cell → ℕ) (v : Followed) (cell : Cell) → NotSettled i v cell → settled i m v.place v.top cell ≡ m cell
 settled_same i m v (RoomCounter q) out = cond-false (q == v.place) v.top (m (RoomCounter q)) (ne_eqb q v.place out)
 settled_same i m v (BlockWord x) out = elim (cases_Bool (nat_le v.top x && nat_lt x (end_of i v.place))) [
   | inl e ↦ let two = both_are (nat_le v.top x) (nat_lt x (end_of i v.place)) e in absurd (out (leb-true v.top x two.0) (ltb-true x (end_of i v.place) two.1))
@@ -63,12 +63,12 @@ settled_same i m v (Top q) out = refl
 settled_same i m v (EntryWord q j) out = refl
 settled_same i m v (ArrayWord x) out = refl
 
-pub left_same : (i : Image) (l : List Followed) (m : Cell → ℕ) (cell : Cell) → ((v : Followed) → IsIn v l → NotSettled i v cell) → left_words i l m cell ≡ m cell
+pub left_same : (i : Setting) (l : List Followed) (m : Cell → ℕ) (cell : Cell) → ((v : Followed) → IsIn v l → NotSettled i v cell) → left_words i l m cell ≡ m cell
 left_same i [] m cell out = refl
 left_same i (v ∷ l) m cell out = settled_same i (left_words i l m) v cell (out v (inl refl)) ∙ left_same i l m cell (λ u h. out u (inr h))
 
 -- words that are the same in a cell are so where the place is left out
-settled_at : (i : Image) (m n : Cell → ℕ) (p c : ℕ) (cell : Cell) → n cell ≡ m cell → settled i n p c cell ≡ settled i m p c cell
+settled_at : (i : Setting) (m n : Cell → ℕ) (p c : ℕ) (cell : Cell) → n cell ≡ m cell → settled i n p c cell ≡ settled i m p c cell
 settled_at i m n p c (RoomCounter q) e = ap (λ (x : ℕ). cond (q == p) c x) e
 settled_at i m n p c (BlockWord x) e = ap (λ (y : ℕ). cond (nat_le c x && nat_lt x (end_of i p)) 0 y) e
 settled_at i m n p c FinishWord e = e
@@ -82,12 +82,12 @@ settled_at i m n p c (EntryWord q j) e = e
 settled_at i m n p c (ArrayWord x) e = e
 
 -- a store into it shows, or is of what it shows there already
-abbrev pub IsClear : Image → Followed → Cell → (w : ℕ) → Type 0
+abbrev pub IsClear : Setting → Followed → Cell → (w : ℕ) → Type 0
 IsClear i v (RoomCounter q) w = q ≢ v.place
 IsClear i v (BlockWord x) w = v.top ≤ x → x < end_of i v.place → w ≡ 0
 IsClear i v cell w = Unit {0}
 
-settled_here : (i : Image) (m : Cell → ℕ) (v : Followed) (cell : Cell) (w : ℕ) → m cell ≡ w → IsClear i v cell w → settled i m v.place v.top cell ≡ w
+settled_here : (i : Setting) (m : Cell → ℕ) (v : Followed) (cell : Cell) (w : ℕ) → m cell ≡ w → IsClear i v cell w → settled i m v.place v.top cell ≡ w
 settled_here i m v (RoomCounter q) w e clear = settled_same i m v (RoomCounter q) clear ∙ e
 settled_here i m v (BlockWord x) w e clear = elim (cases_Bool (nat_le v.top x && nat_lt x (end_of i v.place))) [
   | inl is ↦ let two = both_are (nat_le v.top x) (nat_lt x (end_of i v.place)) is in
@@ -104,7 +104,7 @@ settled_here i m v (Top q) w e clear = e
 settled_here i m v (EntryWord q j) w e clear = e
 settled_here i m v (ArrayWord x) w e clear = e
 
-settled_write : (i : Image) (m : Cell → ℕ) (v : Followed) (cell : Cell) (w : ℕ) → IsClear i v cell w → settled i (write m cell w) v.place v.top ≡ write (settled i m v.place v.top) cell w
+settled_write : (i : Setting) (m : Cell → ℕ) (v : Followed) (cell : Cell) (w : ℕ) → IsClear i v cell w → settled i (write m cell w) v.place v.top ≡ write (settled i m v.place v.top) cell w
 settled_write i m v cell w clear = fun_ext (λ d. elim (cases_Bool (same_cell d cell)) [
   | inl e ↦ let is = same_is d cell e in
       ap (settled i (write m cell w) v.place v.top) is ∙ settled_here i (write m cell w) v cell w (write_here m cell w) clear
@@ -116,7 +116,7 @@ settled_write i m v cell w clear = fun_ext (λ d. elim (cases_Bool (same_cell d 
     self : (d c : Cell) → d ≡ c → same_cell d c ≡ true
     self d c is = subst (λ (x : Cell). same_cell d x ≡ true) is (same_self d)
 
-pub left_write : (i : Image) (l : List Followed) (m : Cell → ℕ) (cell : Cell) (w : ℕ) → ((v : Followed) → IsIn v l → IsClear i v cell w) → left_words i l (write m cell w) ≡ write (left_words i l m) cell w
+pub left_write : (i : Setting) (l : List Followed) (m : Cell → ℕ) (cell : Cell) (w : ℕ) → ((v : Followed) → IsIn v l → IsClear i v cell w) → left_words i l (write m cell w) ≡ write (left_words i l m) cell w
 left_write i [] m cell w clear = refl
 left_write i (v ∷ l) m cell w clear = ap (λ (n : Cell → ℕ). settled i n v.place v.top) (left_write i l m cell w (λ u h. clear u (inr h))) ∙ settled_write i (left_words i l m) v cell w (clear v (inl refl))
 
@@ -157,10 +157,10 @@ kinds_install [] k p a away = refl
 kinds_install (v ∷ l) k p a away = ap (λ (f : ℕ → RestartKind). put f v.place Seek) (kinds_install l k p a away.1) ∙ put_swap (left_kinds l k) p v.place a Seek away.0
 
 -- the counter of a followed place
-counter_out : (i : Image) (l : List Followed) (m : Cell → ℕ) (p : ℕ) → IsAway l p → left_words i l m (RoomCounter p) ≡ m (RoomCounter p)
+counter_out : (i : Setting) (l : List Followed) (m : Cell → ℕ) (p : ℕ) → IsAway l p → left_words i l m (RoomCounter p) ≡ m (RoomCounter p)
 counter_out i l m p away = left_same i l m (RoomCounter p) (away_in l p away)
 
-counter_in : (i : Image) (l : List Followed) (m : Cell → ℕ) → AreApart l → (v : Followed) → IsIn v l → left_words i l m (RoomCounter v.place) ≡ v.top
+counter_in : (i : Setting) (l : List Followed) (m : Cell → ℕ) → AreApart l → (v : Followed) → IsIn v l → left_words i l m (RoomCounter v.place) ≡ v.top
 counter_in i [] m apart v h = absurd h
 counter_in i (w ∷ l) m apart v (inl e) = subst (λ (x : Followed). settled i (left_words i l m) w.place w.top (RoomCounter x.place) ≡ x.top) (sym e)
     (cond-true (w.place == w.place) w.top (left_words i l m (RoomCounter w.place)) (eq-eqb w.place w.place refl))
@@ -168,12 +168,12 @@ counter_in i (w ∷ l) m apart v (inr h) =
     settled_same i (left_words i l m) w (RoomCounter v.place) (λ e. away_in l w.place apart.0 v h (sym e)) ∙ counter_in i l m apart.1 v h
 
 -- counters that are the same
-pub counters_left : (i : Image) (l : List Followed) (m n : Cell → ℕ) (q : ℕ) → n (RoomCounter q) ≡ m (RoomCounter q) → left_words i l n (RoomCounter q) ≡ left_words i l m (RoomCounter q)
+pub counters_left : (i : Setting) (l : List Followed) (m n : Cell → ℕ) (q : ℕ) → n (RoomCounter q) ≡ m (RoomCounter q) → left_words i l n (RoomCounter q) ≡ left_words i l m (RoomCounter q)
 counters_left i [] m n q e = e
 counters_left i (v ∷ l) m n q e = settled_at i (left_words i l m) (left_words i l n) v.place v.top (RoomCounter q) (counters_left i l m n q e)
 
 -- of a state that is kept so
-module _ (i : Image) (root : Tree (Frame FrameWord Point) Result) (input : Words) (s : State) (l : List Followed) (apart : AreApart l) where
+module _ (i : Setting) (root : Tree (Frame FrameWord Point) Result) (input : Words) (s : State) (l : List Followed) (apart : AreApart l) where
   abbrev S : State
   S = left i l s
 

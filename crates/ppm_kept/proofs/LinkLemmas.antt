@@ -18,7 +18,7 @@ use Rattle.ppm_frames.specs.Good.{link_at, Good, BumpsAt, Match}
 use Rattle.ppm_frames.proofs.SkeletonLemmas.{inside_at, branch_from}
 use Rattle.ppm_frames.proofs.SwapLemmas.{good_here}
 use Rattle.ppm_kept.specs.Running.{IsFair}
-use Rattle.ppm_kept.specs.Kept.{Image, State, carried, IsKept}
+use Rattle.ppm_kept.specs.Kept.{Setting, State, carried, IsKept}
 use Rattle.ppm_kept.specs.Loads.{IsLoadable}
 use Rattle.ppm_kept.specs.Unruns.{HasUnrun}
 use Rattle.ppm_kept.proofs.BumpRow.{Bumps, bump_at}
@@ -36,17 +36,17 @@ is_leaf (Leaf w st f n) = 1
 is_leaf _ = 0
 
 -- where a place begins a frame
-start_run : (i : Image) (m : Cell → ℕ) (r y : ℕ) (h : LinkKind) (st : Stand) (f : ℕ) → Match i.code m (Run r y) h st f → f ≡ r
+start_run : (i : Setting) (m : Cell → ℕ) (r y : ℕ) (h : LinkKind) (st : Stand) (f : ℕ) → Match i.code m (Run r y) h st f → f ≡ r
 start_run i m r y h (Begins z) f a = sym a.0
 start_run i m r y h Over f a = absurd a
 start_run i m r y h Arrives f a = absurd a
 
-start_push2 : (i : Image) (m : Cell → ℕ) (r : ℕ) (h : LinkKind) (st : Stand) (f : ℕ) → Match i.code m (Push2 r) h st f → f ≡ r + 5
+start_push2 : (i : Setting) (m : Cell → ℕ) (r : ℕ) (h : LinkKind) (st : Stand) (f : ℕ) → Match i.code m (Push2 r) h st f → f ≡ r + 5
 start_push2 i m r h (Begins z) f a = a.2
 start_push2 i m r h Over f a = absurd a
 start_push2 i m r h Arrives f a = absurd a
 
-module _ (i : Image) (fair : IsFair i.code) (root : Tree (Frame FrameWord Point) Result) (input : Words) (s : State) (t : Skeleton) (law : IsKept i root input s t) where
+module _ (i : Setting) (fair : IsFair i.code) (root : Tree (Frame FrameWord Point) Result) (input : Words) (s : State) (t : Skeleton) (law : IsKept i root input s t) where
   abbrev m : Cell → ℕ
   m = s.words
 

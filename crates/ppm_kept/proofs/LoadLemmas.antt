@@ -50,7 +50,7 @@ use Rattle.ppm_frames.specs.Good.{Match, BumpsAt}
 use Rattle.ppm_frames.proofs.SkeletonLemmas.{inside_at, branch_from}
 use Rattle.ppm_kept.specs.Running.{asked_of, IsFair, IsOf, last_of, home_at, number_at, now, all_of, limit, HasRoom, IsRoomy, HasCome}
 use Rattle.ppm_kept.specs.Branches.{HasCopy}
-use Rattle.ppm_kept.specs.Kept.{Image, start, end_of, owner, seat_at, side_code, Doing, InRow, InRest, State, ceiling, Reach, Under, Does, carried, Ordered, IsKept}
+use Rattle.ppm_kept.specs.Kept.{Setting, start, end_of, owner, seat_at, side_code, Doing, InRow, InRest, State, ceiling, Reach, Under, Does, carried, Ordered, IsKept}
 use Rattle.ppm_kept.specs.Copies.{IsKnown}
 use Rattle.ppm_kept.specs.Loads.{IsLoadable, LoadsShow, AllLoadsShow}
 use Rattle.ppm_kept.specs.Pushing.{kind_seat}
@@ -68,15 +68,15 @@ first_is Left = refl
 first_is Right = refl
 
 -- what kind of rest it is, and the cell that it loads
-abbrev told : Rest → ℕ
-told (Loads c go) = 0
-told _ = 1
+abbrev kind_of_rest : Rest → ℕ
+kind_of_rest (Loads c go) = 0
+kind_of_rest _ = 1
 
 abbrev cell_told : Rest → Cell → Cell
 cell_told (Loads c go) d = c
 cell_told _ d = d
 
-module _ (i : Image) (fair : IsFair i.code) (root : Tree (Frame FrameWord Point) Result) (input : Words) (s : State) (t : Skeleton) (law : IsKept i root input s t) (p : ℕ) (there : p < i.shape.processors) where
+module _ (i : Setting) (fair : IsFair i.code) (root : Tree (Frame FrameWord Point) Result) (input : Words) (s : State) (t : Skeleton) (law : IsKept i root input s t) (p : ℕ) (there : p < i.shape.processors) where
   abbrev m : Cell → ℕ
   m = s.words
 
@@ -138,20 +138,20 @@ module _ (i : Image) (fair : IsFair i.code) (root : Tree (Frame FrameWord Point)
           subst (λ (c : Cell). IsLoadable i s p c) (sym c_is)
           (location_cell l (fits i.shape i.code fair m p f y (Reads l go) stands).0 room (subst (λ (c : Cell). is_there i.shape c ≡ true) c_is is))
       under_cell (Asks w go) of stands room = subst (λ (c : Cell). IsLoadable i s p c) (sym (ap (λ (z : Rest). cell_told z cell) of.2)) (record { cell_is = lt-ltb p i.shape.processors there; in_use = refl })
-      under_cell (Writes l v go) of stands room = absurd (let e = ap told of.2 in omega (arith, e))
+      under_cell (Writes l v go) of stands room = absurd (let e = ap kind_of_rest of.2 in omega (arith, e))
       under_cell (Ends e) of stands room = absurd (ends_load e of)
         where
           ends_load : (e : End) → Loads cell next ≡ last_of i.shape i.code home e → ⊥
-          ends_load (Next c) q = let z = ap told q in omega (arith, z)
-          ends_load Finishes q = let z = ap told q in omega (arith, z)
-          ends_load (Trap trap line) q = let z = ap told q in omega (arith, z)
-          ends_load (Call g c to) q = let z = ap told q in omega (arith, z)
-          ends_load (Fork b d c lt rt) q = let z = ap told q in omega (arith, z)
+          ends_load (Next c) q = let z = ap kind_of_rest q in omega (arith, z)
+          ends_load Finishes q = let z = ap kind_of_rest q in omega (arith, z)
+          ends_load (Trap trap line) q = let z = ap kind_of_rest q in omega (arith, z)
+          ends_load (Call g c to) q = let z = ap kind_of_rest q in omega (arith, z)
+          ends_load (Fork b d c lt rt) q = let z = ap kind_of_rest q in omega (arith, z)
 
       come_cell : HasCome i.shape i.code m p f y (Loads cell next) → IsLoadable i s p cell
       come_cell (inl u) = under_cell u.left u.is_of u.stands u.roomy
-      come_cell (inr (inl d)) = absurd (let z = ap told d.is in omega (arith, z))
-      come_cell (inr (inr e)) = absurd (let z = ap told e in omega (arith, z))
+      come_cell (inr (inl d)) = absurd (let z = ap kind_of_rest d.is in omega (arith, z))
+      come_cell (inr (inr e)) = absurd (let z = ap kind_of_rest e in omega (arith, z))
 
     capsule_cell : (cell : Cell) (next : ℕ → Rest) → s.doing p ≡ InRest (Loads cell next) → is_there i.shape cell ≡ true → IsLoadable i s p cell
     capsule_cell cell next de is = come_cell cell next is (subst₂ (λ (k : RestartKind) (d : Doing). Does i m p k d) ke de (law.does p))

@@ -13,7 +13,7 @@ use Rattle.ppm_frames.proofs.SkeletonLemmas.{inside_at}
 use Rattle.ppm_frames.proofs.SwapLemmas.{good_here}
 use Rattle.ppm_kept.specs.Running.{IsFair}
 use Rattle.ppm_kept.specs.Branches.{IsUntaken, Untaken, Unpushed}
-use Rattle.ppm_kept.specs.Kept.{Image, State, IsKept}
+use Rattle.ppm_kept.specs.Kept.{Setting, State, IsKept}
 use Rattle.ppm_kept.specs.Loads.{IsLoadable}
 use Rattle.ppm_kept.specs.Unruns.{HasUnrun, IsLeafOf}
 use Rattle.ppm_kept.proofs.LoadLemmas.{in_part}
@@ -32,7 +32,7 @@ beside_strand (Leaf Inlined st f n) way = absurd way
 beside_strand (Calling f n y t) way = absurd way
 beside_strand (Forking f n y q a b) way = absurd way
 
-module _ (i : Image) (fair : IsFair i.code) (root : Tree (Frame FrameWord Point) Result) (input : Words) (s : State) (t : Skeleton) (law : IsKept i root input s t) (p r : ℕ) (ke : s.kind p ≡ Push1 r) where
+module _ (i : Setting) (fair : IsFair i.code) (root : Tree (Frame FrameWord Point) Result) (input : Words) (s : State) (t : Skeleton) (law : IsKept i root input s t) (p r : ℕ) (ke : s.kind p ≡ Push1 r) where
   sh : PushShape t p r
   sh = shape i fair root input s t law p r (inl ke)
 

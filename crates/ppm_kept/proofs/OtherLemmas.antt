@@ -40,7 +40,7 @@ use Rattle.ppm_frames.proofs.WriteLemmas.{write_else, address}
 use Rattle.ppm_frames.proofs.SkeletonLemmas.{SameFrame, same_frame, same_at, inside_at, CalledFrom, called_from, branch_from}
 use Rattle.ppm_frames.proofs.SwapLemmas.{good_here}
 use Rattle.ppm_kept.specs.Running.{IsFair, number_at, limit, strands, frame_of}
-use Rattle.ppm_kept.specs.Kept.{Image, end_of, seat_at, side_code, State, Doing, Resting, InRow, InRest, Blank, ceiling, Free, Under, Going, Does, Head, Ordered, carried, IsKept}
+use Rattle.ppm_kept.specs.Kept.{Setting, end_of, seat_at, side_code, State, Doing, Resting, InRow, InRest, Blank, ceiling, Free, Under, Going, Does, Head, Ordered, carried, IsKept}
 use Rattle.ppm_kept.specs.Branches.{HasCopy}
 use Rattle.ppm_kept.specs.Others.{KeptAt, Mine, Claims, Wrote, IsIdle, OthersKeep}
 use Rattle.ppm_kept.proofs.BlockLemmas.{header_is}
@@ -57,13 +57,13 @@ use Rattle.ppm_kept.proofs.WroteLemmas as wrote
 use Rattle.ppm_kept.proofs.WroteLemmas.{Claimed, What, OfPart, OfFree, OfRoom, OfArray, OfFinish, OfOrder}
 
 -- the leaf of a place that is over
-record Overs (i : Image) (s : State) (t : Skeleton) (p f : ℕ) : Type 0 where
+record Overs (i : Setting) (s : State) (t : Skeleton) (p f : ℕ) : Type 0 where
   pub around : Around
   pub slots : ℕ
   pub is : t ≡ plug around (Leaf (InPlace p) Over f slots)
   pub framed : Framed i.code s.words (hook_at Root around) f slots
 
-over_at : (i : Image) (s : State) (t : Skeleton) (p f : ℕ) (c : Around) (st : Stand) (g n : ℕ) → t ≡ plug c (Leaf (InPlace p) st g n)
+over_at : (i : Setting) (s : State) (t : Skeleton) (p f : ℕ) (c : Around) (st : Stand) (g n : ℕ) → t ≡ plug c (Leaf (InPlace p) st g n)
     → Framed i.code s.words (hook_at Root c) g n → Match i.code s.words (Unwind f) (hook_at Root c) st g → Overs i s t p f
 over_at i s t p f c Over g n is framed match = record {
   around = c;
@@ -78,7 +78,7 @@ first_is : (d : Side) → first d ≡ side_code d
 first_is Left = refl
 first_is Right = refl
 
-module _ (i : Image) (fair : IsFair i.code) (root : Tree (Frame FrameWord Point) Result) (input : Words) (s : State) (t : Skeleton) (law : IsKept i root input s t) (p : ℕ)
+module _ (i : Setting) (fair : IsFair i.code) (root : Tree (Frame FrameWord Point) Result) (input : Words) (s : State) (t : Skeleton) (law : IsKept i root input s t) (p : ℕ)
     (c : Around) (u : Skeleton) (cell : Cell) (w : ℕ) (is : t ≡ plug c u) (only : (q : ℕ) → q ≢ p → at q u ≡ 0) (some : 1 ≤ at p u)
     (mine : Mine i s p (hook_at Root c) u cell ⊎ Claims s.words (hook_at Root c) cell w) (q : ℕ) (ne : q ≢ p) where
   abbrev m : Cell → ℕ

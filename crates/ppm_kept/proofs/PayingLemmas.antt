@@ -44,7 +44,7 @@ use Rattle.ppm_frames.specs.Skeletons.{Stand, Begins, Over, Arrives, InPlace, Wa
 use Rattle.ppm_frames.specs.Good.{link_or, link_at, Match}
 use Rattle.ppm_frames.proofs.SkeletonLemmas.{grow_plug, called_from, fork_with, branch_from}
 use Rattle.ppm_kept.specs.Running.{IsFair}
-use Rattle.ppm_kept.specs.Kept.{Image, Doing, InRow, State, side_code, carried, seat_at, Reach, Under, Does, IsKept}
+use Rattle.ppm_kept.specs.Kept.{Setting, Doing, InRow, State, side_code, carried, seat_at, Reach, Under, Does, IsKept}
 use Rattle.ppm_kept.specs.Moves.{doing_of, opened, by_install}
 use Rattle.ppm_kept.specs.Laws.{kind_then}
 use Rattle.ppm_kept.specs.Returns.{by_unwind}
@@ -178,7 +178,7 @@ module _ (s : Shape) (seat : Seat) (f : ℕ) where
   unwind_says (Branch d r) (suc n) = λ v w. outcome s seat (Branch d r) n (unwound seat f (Branch d r)) (unwound_says (Branch d r) n) w
   unwind_says (Forked to copy) n = broken s seat (Forked to copy) n
 
-module _ (i : Image) (m : Cell → ℕ) (p : ℕ) where
+module _ (i : Setting) (m : Cell → ℕ) (p : ℕ) where
   -- what a row has come to by the words
   reach_says : (seat : Seat) (k : LinkKind) (n : ℕ) (r rest : Row) → Reach i m seat n r rest → Up i.shape seat k n r → SaysRow k rest
   reach_says seat k zero r rest q up = subst (SaysRow k) q up
@@ -221,7 +221,7 @@ module _ (i : Image) (m : Cell → ℕ) (p : ℕ) where
   join_first r b zero d re e q = absurd (cc)
   join_first r b (suc n) d re e q = first_pops (seat_at p (Join r d) b) r n re _ _ _ (ap (λ (x : ℕ). m (BlockWord (r + 1)) == x) (side_first d) ∙ e) q
 
-module _ (i : Image) (fair : IsFair i.code) (root : Tree (Frame FrameWord Point) Result) (input : Words) (state : Machine) (l : List Followed) (t : Skeleton)
+module _ (i : Setting) (fair : IsFair i.code) (root : Tree (Frame FrameWord Point) Result) (input : Words) (state : Machine) (l : List Followed) (t : Skeleton)
     (law : IsKept i root input (left i l (places_of i.shape state)) t) (c : ℕ) where
   abbrev P : State
   P = places_of i.shape state

@@ -24,7 +24,7 @@ use Rattle.ppm_frames.proofs.SkeletonLemmas.{find, at_plug, count_plug, plain_co
 use Rattle.ppm_frames.proofs.SwapLemmas.{good_here}
 use Rattle.ppm_kept.specs.Running.{IsFair}
 use Rattle.ppm_kept.specs.Branches.{Waits, is_taker}
-use Rattle.ppm_kept.specs.Kept.{Image, end_of, owner, State, Doing, InRow, put, ceiling, Does, Head, Ordered, carried, IsKept}
+use Rattle.ppm_kept.specs.Kept.{Setting, end_of, owner, State, Doing, InRow, put, ceiling, Does, Head, Ordered, carried, IsKept}
 use Rattle.ppm_kept.specs.Others.{KeptAt, Mine}
 use Rattle.ppm_kept.proofs.PutLemmas.{put_here, put_else}
 use Rattle.ppm_kept.proofs.OwnerLemmas.{owned}
@@ -36,7 +36,7 @@ pub is_at_other : (p q : ℕ) → q ≢ p → is_at q (InPlace p) ≡ 0
 is_at_other p q ne = cond-false {A = ℕ} (p == q) 1 0 (ne_eqb p q (λ e. ne (sym e)))
 
 -- a place's leaf and what is around it
-pub record Leafed (i : Image) (s : State) (t : Skeleton) (p : ℕ) : Type 0 where
+pub record Leafed (i : Setting) (s : State) (t : Skeleton) (p : ℕ) : Type 0 where
   pub around : Around
   pub stand : Stand
   pub frame : ℕ
@@ -47,7 +47,7 @@ pub record Leafed (i : Image) (s : State) (t : Skeleton) (p : ℕ) : Type 0 wher
   pub sized : IsSized i.code s.words stand frame slots
   pub match : Match i.code s.words (s.kind p) (hook_at Root around) stand frame
 
-module _ (i : Image) (fair : IsFair i.code) (root : Tree (Frame FrameWord Point) Result) (input : Words) (s : State) (t : Skeleton) (law : IsKept i root input s t) (p : ℕ) where
+module _ (i : Setting) (fair : IsFair i.code) (root : Tree (Frame FrameWord Point) Result) (input : Words) (s : State) (t : Skeleton) (law : IsKept i root input s t) (p : ℕ) where
   pub leaf : carried s.words (s.kind p) ≡ 1 → Leafed i s t p
   leaf one =
       let at_one : at p t ≡ 1 = law.places p ∙ one in
@@ -165,13 +165,13 @@ module _ (i : Image) (fair : IsFair i.code) (root : Tree (Frame FrameWord Point)
   ]
 
 -- the leaf of a place that runs
-pub record Runs (i : Image) (s : State) (t : Skeleton) (p f y : ℕ) : Type 0 where
+pub record Runs (i : Setting) (s : State) (t : Skeleton) (p f y : ℕ) : Type 0 where
   pub around : Around
   pub is : t ≡ plug around (Leaf (InPlace p) (Begins y) f (slots_at i.code (s.words (BlockWord (header f y)))))
   pub alone : at_rim p around ≡ 0
   pub framed : Framed i.code s.words (hook_at Root around) f (slots_at i.code (s.words (BlockWord (header f y))))
 
-run_at : (i : Image) (s : State) (t : Skeleton) (p f y : ℕ) (c : Around) (st : Stand) (g n : ℕ) → t ≡ plug c (Leaf (InPlace p) st g n) → at_rim p c ≡ 0
+run_at : (i : Setting) (s : State) (t : Skeleton) (p f y : ℕ) (c : Around) (st : Stand) (g n : ℕ) → t ≡ plug c (Leaf (InPlace p) st g n) → at_rim p c ≡ 0
     → Framed i.code s.words (hook_at Root c) g n → IsSized i.code s.words st g n → Match i.code s.words (Run f y) (hook_at Root c) st g → Runs i s t p f y
 run_at i s t p f y c (Begins z) g n is alone framed sized match =
     let size : n ≡ slots_at i.code (s.words (BlockWord (header f y))) = sym sized ∙ sym (ap₂ (λ (a b : ℕ). slots_at i.code (s.words (BlockWord (header a b)))) match.0 match.1) in
@@ -184,12 +184,12 @@ run_at i s t p f y c (Begins z) g n is alone framed sized match =
 run_at i s t p f y c Over g n is alone framed sized match = absurd match
 run_at i s t p f y c Arrives g n is alone framed sized match = absurd match
 
-pub run_leaf : (i : Image) (s : State) (t : Skeleton) (p f y : ℕ) → s.kind p ≡ Run f y → Leafed i s t p → Runs i s t p f y
+pub run_leaf : (i : Setting) (s : State) (t : Skeleton) (p f y : ℕ) → s.kind p ≡ Run f y → Leafed i s t p → Runs i s t p f y
 run_leaf i s t p f y ke g = run_at i s t p f y g.around g.stand g.frame g.slots g.is g.alone g.framed g.sized
     (subst (λ (k : RestartKind). Match i.code s.words k (hook_at Root g.around) g.stand g.frame) ke g.match)
 
 -- a step of a place changes no word around its part
-pub mine_around : (i : Image) (fair : IsFair i.code) (root : Tree (Frame FrameWord Point) Result) (input : Words) (s : State) (t : Skeleton) (law : IsKept i root input s t) (p : ℕ) (c : Around) (u : Skeleton) (cell : Cell) (w : ℕ)
+pub mine_around : (i : Setting) (fair : IsFair i.code) (root : Tree (Frame FrameWord Point) Result) (input : Words) (s : State) (t : Skeleton) (law : IsKept i root input s t) (p : ℕ) (c : Around) (u : Skeleton) (cell : Cell) (w : ℕ)
     → t ≡ plug c u → Mine i s p (hook_at Root c) u cell → Same (rim Root c) s.words (write s.words cell w)
 mine_around i fair root input s t law p c u (BlockWord x) w is mine = rim_same i fair root input s t law p c u (write s.words (BlockWord x) w) x w is
     (λ y ne. write_else s.words (BlockWord x) w (BlockWord y) (pool_apart y x ne))
@@ -206,7 +206,7 @@ mine_around i fair root input s t law p c u (Top q) w is mine = absurd mine
 mine_around i fair root input s t law p c u (EntryWord q j) w is mine = absurd mine
 
 -- the order word of a branch of the tree is a head
-pub head_on : (i : Image) (fair : IsFair i.code) (root : Tree (Frame FrameWord Point) Result) (input : Words) (s : State) (t : Skeleton) (law : IsKept i root input s t) (p : ℕ) (c : Around) (u : Skeleton) (r : ℕ) (d : Side)
+pub head_on : (i : Setting) (fair : IsFair i.code) (root : Tree (Frame FrameWord Point) Result) (input : Words) (s : State) (t : Skeleton) (law : IsKept i root input s t) (p : ℕ) (c : Around) (u : Skeleton) (r : ℕ) (d : Side)
     → t ≡ plug c u → hook_at Root c ≡ Branch d r → Head i s t (r + 1)
 head_on i fair root input s t law p c u r Left is e = elim (branch_from Root c r Left e) [
   | inl k ↦ absurd (let b = k.0 in cc)

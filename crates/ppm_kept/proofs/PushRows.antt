@@ -40,7 +40,7 @@ use Rattle.ppm_frames.proofs.SkeletonLemmas.{branch_from, over_plug}
 use Rattle.ppm_frames.proofs.SwapLemmas.{swap_same, good_here}
 use Rattle.ppm_kept.specs.Running.{IsFair}
 use Rattle.ppm_kept.specs.Branches.{IsUntaken, Untaken, Unpushed, is_taker, HasCopy}
-use Rattle.ppm_kept.specs.Kept.{Image, Doing, Resting, State, put, Blank, ceiling, Free, Does, Head, Ordered, carried, IsKept}
+use Rattle.ppm_kept.specs.Kept.{Setting, Doing, Resting, State, put, Blank, ceiling, Free, Does, Head, Ordered, carried, IsKept}
 use Rattle.ppm_kept.specs.Moves.{doing_of, goes, stores, installs}
 use Rattle.ppm_kept.specs.Laws.{Ends, kind_then}
 use Rattle.ppm_kept.specs.Others.{KeptAt, Claims, Keeps}
@@ -56,7 +56,7 @@ use Rattle.ppm_kept.proofs.PlaceLemmas.{leaf, going, kept_same, head_on, is_at_o
 use Rattle.ppm_kept.proofs.ClaimLemmas.{Soft, soft_same, soft_ready, claim_law}
 
 -- the leaf of a place that pushes
-pub record Pushes (i : Image) (s : State) (t : Skeleton) (p r : ℕ) : Type 0 where
+pub record Pushes (i : Setting) (s : State) (t : Skeleton) (p r : ℕ) : Type 0 where
   pub around : Around
   pub frame : ℕ
   pub slots : ℕ
@@ -68,7 +68,7 @@ pub record Pushes (i : Image) (s : State) (t : Skeleton) (p r : ℕ) : Type 0 wh
   pub at_ : frame ≡ r + 5
   pub open_ : s.words (BlockWord (frame + 1)) ≡ ended
 
-push_at_leaf : (i : Image) (s : State) (t : Skeleton) (p r : ℕ) (c : Around) (st : Stand) (g n : ℕ) → t ≡ plug c (Leaf (InPlace p) st g n) → at_rim p c ≡ 0
+push_at_leaf : (i : Setting) (s : State) (t : Skeleton) (p r : ℕ) (c : Around) (st : Stand) (g n : ℕ) → t ≡ plug c (Leaf (InPlace p) st g n) → at_rim p c ≡ 0
     → Framed i.code s.words (hook_at Root c) g n → IsSized i.code s.words st g n → Match i.code s.words (Push1 r) (hook_at Root c) st g → Pushes i s t p r
 push_at_leaf i s t p r c (Begins z) g n is alone framed sized match = record {
   around = c;
@@ -86,7 +86,7 @@ push_at_leaf i s t p r c Over g n is alone framed sized match = absurd match
 push_at_leaf i s t p r c Arrives g n is alone framed sized match = absurd match
 
 -- Push2 stands as Push1 does
-as_first : (i : Image) (m : Cell → ℕ) (r : ℕ) (h : LinkKind) (st : Stand) (f : ℕ) → Match i.code m (Push2 r) h st f → Match i.code m (Push1 r) h st f
+as_first : (i : Setting) (m : Cell → ℕ) (r : ℕ) (h : LinkKind) (st : Stand) (f : ℕ) → Match i.code m (Push2 r) h st f → Match i.code m (Push1 r) h st f
 as_first i m r h (Begins z) f a = a
 as_first i m r h Over f a = absurd a
 as_first i m r h Arrives f a = absurd a
@@ -197,7 +197,7 @@ number_comes s seat P broken go by (AFinish e) n rest q = broken_comes s seat P 
 number_comes s seat P broken go by Unreadable n rest q = broken_comes s seat P broken n rest q
 
 -- what both kinds have
-pub record Pushing (i : Image) (s : State) (t : Skeleton) (p r : ℕ) (k : RestartKind) : Type 0 where
+pub record Pushing (i : Setting) (s : State) (t : Skeleton) (p r : ℕ) (k : RestartKind) : Type 0 where
   pub roofs : (n : Cell → ℕ) → ceiling i n p k ≡ n (RoomCounter p)
   pub blank : (n : Cell → ℕ) → Free i n p k → Blank i n p (n (RoomCounter p))
   pub free : (n : Cell → ℕ) → Blank i n p (n (RoomCounter p)) → Free i n p k
@@ -207,7 +207,7 @@ pub record Pushing (i : Image) (s : State) (t : Skeleton) (p r : ℕ) (k : Resta
   pub ordered : (n : Cell → ℕ) → Ordered i s t n k
   pub none : is_taker k ≡ false
 
-module _ (i : Image) (fair : IsFair i.code) (root : Tree (Frame FrameWord Point) Result) (input : Words) (s : State) (t : Skeleton) (law : IsKept i root input s t) (p : ℕ)
+module _ (i : Setting) (fair : IsFair i.code) (root : Tree (Frame FrameWord Point) Result) (input : Words) (s : State) (t : Skeleton) (law : IsKept i root input s t) (p : ℕ)
     (there : p < i.shape.processors) (keeps : Keeps i s t p) (r : ℕ) (k : RestartKind) (ke : s.kind p ≡ k) (pushing : Pushing i s t p r k) where
   abbrev m : Cell → ℕ
   m = s.words
@@ -412,15 +412,15 @@ module _ (i : Image) (fair : IsFair i.code) (root : Tree (Frame FrameWord Point)
   ]
 
 -- any row may be under way
-within1 : (i : Image) (p r : ℕ) (seat : Seat) (n : Cell → ℕ) (rest : Row) (b : Bool) → Does i n p (Push1 r) (doing_of (within_if seat rest b))
+within1 : (i : Setting) (p r : ℕ) (seat : Seat) (n : Cell → ℕ) (rest : Row) (b : Bool) → Does i n p (Push1 r) (doing_of (within_if seat rest b))
 within1 i p r seat n rest true = tt
 within1 i p r seat n rest false = tt
 
-within2 : (i : Image) (p r : ℕ) (seat : Seat) (n : Cell → ℕ) (rest : Row) (b : Bool) → Does i n p (Push2 r) (doing_of (within_if seat rest b))
+within2 : (i : Setting) (p r : ℕ) (seat : Seat) (n : Cell → ℕ) (rest : Row) (b : Bool) → Does i n p (Push2 r) (doing_of (within_if seat rest b))
 within2 i p r seat n rest true = tt
 within2 i p r seat n rest false = tt
 
-does1 : (i : Image) (p r own bottom : ℕ) (n : Cell → ℕ) (rest : Row) → Does i n p (Push1 r) (doing_of (stands i.shape i.code (kind_seat own p (Push1 r) bottom) rest))
+does1 : (i : Setting) (p r own bottom : ℕ) (n : Cell → ℕ) (rest : Row) → Does i n p (Push1 r) (doing_of (stands i.shape i.code (kind_seat own p (Push1 r) bottom) rest))
 does1 i p r own bottom n (Now (Load x)) = within1 i p r (kind_seat own p (Push1 r) bottom) n (Now (Load x)) (then_is_there i.shape (kind_seat own p (Push1 r) bottom) (Load x))
 does1 i p r own bottom n (Now (Install x)) = within1 i p r (kind_seat own p (Push1 r) bottom) n (Now (Install x)) (then_is_there i.shape (kind_seat own p (Push1 r) bottom) (Install x))
 does1 i p r own bottom n (Now (Fork x)) = within1 i p r (kind_seat own p (Push1 r) bottom) n (Now (Fork x)) (then_is_there i.shape (kind_seat own p (Push1 r) bottom) (Fork x))
@@ -432,7 +432,7 @@ does1 i p r own bottom n (Now Broken) = tt
 does1 i p r own bottom n (Store c w x) = within1 i p r (kind_seat own p (Push1 r) bottom) n (Store c w x) (row_is_there i.shape (kind_seat own p (Push1 r) bottom) (Store c w x))
 does1 i p r own bottom n (Exchange c v w x) = within1 i p r (kind_seat own p (Push1 r) bottom) n (Exchange c v w x) (row_is_there i.shape (kind_seat own p (Push1 r) bottom) (Exchange c v w x))
 
-does2 : (i : Image) (p r own bottom : ℕ) (n : Cell → ℕ) (rest : Row) → Does i n p (Push2 r) (doing_of (stands i.shape i.code (kind_seat own p (Push2 r) bottom) rest))
+does2 : (i : Setting) (p r own bottom : ℕ) (n : Cell → ℕ) (rest : Row) → Does i n p (Push2 r) (doing_of (stands i.shape i.code (kind_seat own p (Push2 r) bottom) rest))
 does2 i p r own bottom n (Now (Load x)) = within2 i p r (kind_seat own p (Push2 r) bottom) n (Now (Load x)) (then_is_there i.shape (kind_seat own p (Push2 r) bottom) (Load x))
 does2 i p r own bottom n (Now (Install x)) = within2 i p r (kind_seat own p (Push2 r) bottom) n (Now (Install x)) (then_is_there i.shape (kind_seat own p (Push2 r) bottom) (Install x))
 does2 i p r own bottom n (Now (Fork x)) = within2 i p r (kind_seat own p (Push2 r) bottom) n (Now (Fork x)) (then_is_there i.shape (kind_seat own p (Push2 r) bottom) (Fork x))
@@ -444,7 +444,7 @@ does2 i p r own bottom n (Now Broken) = tt
 does2 i p r own bottom n (Store c w x) = within2 i p r (kind_seat own p (Push2 r) bottom) n (Store c w x) (row_is_there i.shape (kind_seat own p (Push2 r) bottom) (Store c w x))
 does2 i p r own bottom n (Exchange c v w x) = within2 i p r (kind_seat own p (Push2 r) bottom) n (Exchange c v w x) (row_is_there i.shape (kind_seat own p (Push2 r) bottom) (Exchange c v w x))
 
-module _ (i : Image) (fair : IsFair i.code) (root : Tree (Frame FrameWord Point) Result) (input : Words) (s : State) (t : Skeleton) (law : IsKept i root input s t) (p : ℕ)
+module _ (i : Setting) (fair : IsFair i.code) (root : Tree (Frame FrameWord Point) Result) (input : Words) (s : State) (t : Skeleton) (law : IsKept i root input s t) (p : ℕ)
     (there : p < i.shape.processors) (keeps : Keeps i s t p) (r : ℕ) (ke : s.kind p ≡ Push1 r) where
   first_pushing : Pushing i s t p r (Push1 r)
   first_pushing = record { roofs = λ n. refl; blank = λ n a. a; free = λ n a. a; does = does1 i p r; one = λ n. refl; match = λ n h st f a. a; ordered = λ n. tt; none = refl }
@@ -514,7 +514,7 @@ module _ (i : Image) (fair : IsFair i.code) (root : Tree (Frame FrameWord Point)
     faults = faults i fair root input s t law p there keeps r (Push1 r) ke first_pushing;
   }
 
-module _ (i : Image) (fair : IsFair i.code) (root : Tree (Frame FrameWord Point) Result) (input : Words) (s : State) (t : Skeleton) (law : IsKept i root input s t) (p : ℕ)
+module _ (i : Setting) (fair : IsFair i.code) (root : Tree (Frame FrameWord Point) Result) (input : Words) (s : State) (t : Skeleton) (law : IsKept i root input s t) (p : ℕ)
     (there : p < i.shape.processors) (keeps : Keeps i s t p) (r : ℕ) (ke : s.kind p ≡ Push2 r) where
   second_pushing : Pushing i s t p r (Push2 r)
   second_pushing = record { roofs = λ n. refl; blank = λ n a. a; free = λ n a. a; does = does2 i p r; one = λ n. refl; match = λ n h st f a. as_first i n r h st f a; ordered = λ n. tt; none = refl }

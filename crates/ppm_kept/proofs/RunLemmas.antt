@@ -52,12 +52,12 @@ use Rattle.ppm_kept.proofs.FitsLemmas.{FitsAll, capsule_fits, long_fits, fits_st
 use Rattle.ppm_kept.proofs.OfLemmas.{roomy_of, begins}
 
 -- what kind of rest it is
-abbrev Told : Rest → ℕ
-Told (Loads c go) = 0
-Told (Stores c x rest) = 1
-Told Full = 2
-Told (Installs k) = 3
-Told Breaks = 4
+abbrev kind_of_rest : Rest → ℕ
+kind_of_rest (Loads c go) = 0
+kind_of_rest (Stores c x rest) = 1
+kind_of_rest Full = 2
+kind_of_rest (Installs k) = 3
+kind_of_rest Breaks = 4
 
 abbrev cell_told : Rest → Cell → Cell
 cell_told (Loads c go) d = c
@@ -154,20 +154,20 @@ module _ (s : Shape) (code : CodeParts) (fair : IsFair code) (m : Cell → ℕ) 
       let n_is : next ≡ of.0 = ap (λ (z : Rest). next_told z next) of.2 in
       subst₂ (λ (c : Cell) (g : ℕ → Rest). Come (g (m c))) (sym c_is) (sym n_is)
       (subst Come (sym of.3) (asked_so w go of.1 low (fits (Asks w go) stands).0 of.4 (more (Asks w go) go stands refl)))
-  loaded cell next (Writes l v go) low of stands room = absurd (let e = ap Told of.2 in omega (arith, e))
+  loaded cell next (Writes l v go) low of stands room = absurd (let e = ap kind_of_rest of.2 in omega (arith, e))
   loaded cell next (Ends e) low of stands room = absurd (ends_load e of)
     where
       ends_load : (e : End) → Loads cell next ≡ last_of s code home e → ⊥
-      ends_load (Next c) q = let z = ap Told q in omega (arith, z)
-      ends_load Finish q = let z = ap Told q in omega (arith, z)
-      ends_load (Trap trap line) q = let z = ap Told q in omega (arith, z)
-      ends_load (Call g c to) q = let z = ap Told q in omega (arith, z)
-      ends_load (Fork b d c lt rt) q = let z = ap Told q in omega (arith, z)
+      ends_load (Next c) q = let z = ap kind_of_rest q in omega (arith, z)
+      ends_load Finish q = let z = ap kind_of_rest q in omega (arith, z)
+      ends_load (Trap trap line) q = let z = ap kind_of_rest q in omega (arith, z)
+      ends_load (Call g c to) q = let z = ap kind_of_rest q in omega (arith, z)
+      ends_load (Fork b d c lt rt) q = let z = ap kind_of_rest q in omega (arith, z)
 
   pub by_loads : (cell : Cell) (next : ℕ → Rest) → Come (Loads cell next) → pool_at s p ≤ r → After cell next
   by_loads cell next (inl u) low = loaded cell next u.left low u.is_of u.stands u.roomy
-  by_loads cell next (inr (inl d)) low = absurd (let z = ap Told d.is in omega (arith, z))
-  by_loads cell next (inr (inr e)) low = absurd (let z = ap Told e in omega (arith, z))
+  by_loads cell next (inr (inl d)) low = absurd (let z = ap kind_of_rest d.is in omega (arith, z))
+  by_loads cell next (inr (inr e)) low = absurd (let z = ap kind_of_rest e in omega (arith, z))
 
   -- the code with the stores of ends is the same
   pub code_is : code_of code_locations table ≡ strands s code
@@ -375,10 +375,10 @@ module _ (s : Shape) (code : CodeParts) (fair : IsFair code) (m : Cell → ℕ) 
         goes_on_by l v go stands room cell content next (ap (λ (z : Rest). cell_told z cell) of.2)
         (ap (λ (z : Rest). word_of (content_told z content)) of.2 ∙ of.3)
         (subst (IsOf s code p home go) (sym (ap (λ (z : Rest). rest_told z next) of.2)) of.4)
-    stored cell content next (Reads l go) of stands room = absurd (let z = ap Told of.1 in omega (arith, z))
-    stored cell content next (Asks w go) of stands room = absurd (let z = ap Told of.2 in omega (arith, z))
+    stored cell content next (Reads l go) of stands room = absurd (let z = ap kind_of_rest of.1 in omega (arith, z))
+    stored cell content next (Asks w go) of stands room = absurd (let z = ap kind_of_rest of.2 in omega (arith, z))
     stored cell content next (Ends (Next c)) of stands room = header_goes (Next c) c cell content next of refl stands room
-    stored cell content next (Ends Finish) of stands room = absurd (let z = ap Told of in omega (arith, z))
+    stored cell content next (Ends Finish) of stands room = absurd (let z = ap kind_of_rest of in omega (arith, z))
     stored cell content next (Ends (Trap trap line)) of stands room =
         goes_on_behind (Trap trap line) (f + 1) (finish_word (Trapped trap line)) 1 refl (omega arith) (omega arith) (λ e. omega (arith, e)) stands room cell content next
         (ap (λ (z : Rest). cell_told z cell) of) (ap (λ (z : Rest). word_of (content_told z content)) of) (ap (λ (z : Rest). rest_told z next) of)
@@ -388,8 +388,8 @@ module _ (s : Shape) (code : CodeParts) (fair : IsFair code) (m : Cell → ℕ) 
 
     pub by_stores : (cell : Cell) (content : Content) (next : Rest) → Come (Stores cell content next) → GoesOn s code m p f y cell content next
     by_stores cell content next (inl u) = stored cell content next u.left u.is_of u.stands u.roomy
-    by_stores cell content next (inr (inl d)) = absurd (let z = ap Told d.is in omega (arith, z))
-    by_stores cell content next (inr (inr e)) = absurd (let z = ap Told e in omega (arith, z))
+    by_stores cell content next (inr (inl d)) = absurd (let z = ap kind_of_rest d.is in omega (arith, z))
+    by_stores cell content next (inr (inr e)) = absurd (let z = ap kind_of_rest e in omega (arith, z))
 
   -- by an install
   module _ (clean : IsClean s code m p f y) where
@@ -413,19 +413,19 @@ module _ (s : Shape) (code : CodeParts) (fair : IsFair code) (m : Cell → ℕ) 
     }
 
     installed_by : (kind : RestartKind) (left : Capsule Where End) → IsOf s code p home left (Installs kind) → Stands code_locations all left mem → IsRoomy s code m p f y left → Opens s code m p f y kind
-    installed_by kind (Reads l go) of stands room = absurd (let z = ap Told of.1 in omega (arith, z))
-    installed_by kind (Writes l v go) of stands room = absurd (let z = ap Told of.2 in omega (arith, z))
-    installed_by kind (Asks w go) of stands room = absurd (let z = ap Told of.2 in omega (arith, z))
+    installed_by kind (Reads l go) of stands room = absurd (let z = ap kind_of_rest of.1 in omega (arith, z))
+    installed_by kind (Writes l v go) of stands room = absurd (let z = ap kind_of_rest of.2 in omega (arith, z))
+    installed_by kind (Asks w go) of stands room = absurd (let z = ap kind_of_rest of.2 in omega (arith, z))
     installed_by kind (Ends Finish) of stands room = opens_by Finish kind (ap (λ (z : Rest). kind_told z kind) of) stands room tt
-    installed_by kind (Ends (Next c)) of stands room = absurd (let z = ap Told of in omega (arith, z))
-    installed_by kind (Ends (Trap trap line)) of stands room = absurd (let z = ap Told of in omega (arith, z))
-    installed_by kind (Ends (Call q c to)) of stands room = absurd (let z = ap Told of in omega (arith, z))
-    installed_by kind (Ends (Fork b d c lt rt)) of stands room = absurd (let z = ap Told of in omega (arith, z))
+    installed_by kind (Ends (Next c)) of stands room = absurd (let z = ap kind_of_rest of in omega (arith, z))
+    installed_by kind (Ends (Trap trap line)) of stands room = absurd (let z = ap kind_of_rest of in omega (arith, z))
+    installed_by kind (Ends (Call q c to)) of stands room = absurd (let z = ap kind_of_rest of in omega (arith, z))
+    installed_by kind (Ends (Fork b d c lt rt)) of stands room = absurd (let z = ap kind_of_rest of in omega (arith, z))
 
     pub by_installs : (kind : RestartKind) → Come (Installs kind) → Opens s code m p f y kind
     by_installs kind (inl u) = installed_by kind u.left u.is_of u.stands u.roomy
     by_installs kind (inr (inl d)) = opens_by d.end kind (ap (λ (z : Rest). kind_told z kind) d.is) d.stands d.room d.own
-    by_installs kind (inr (inr e)) = absurd (let z = ap Told e in omega (arith, z))
+    by_installs kind (inr (inr e)) = absurd (let z = ap kind_of_rest e in omega (arith, z))
 
 pub frames_run : FramesRun
 frames_run s code fair = record {

@@ -57,7 +57,7 @@ use Rattle.ppm_frames.proofs.SeenLemmas.{choice}
 use Rattle.ppm_frames.proofs.SkeletonLemmas.{inside_from, inside_one, inside_at, count_plug, grow_plug, tree_same}
 use Rattle.ppm_kept.specs.Running.{room_or, asked_of, AllStand, outcome_by, IsFair, home_at, number_at, closed, now, all_of, limit, HasRoom, HasCome, IsClean, frame_of, strands, LiesApart, GoesOn}
 use Rattle.ppm_kept.specs.Branches.{Untaken, Unpushed, is_taker, HasCopy}
-use Rattle.ppm_kept.specs.Kept.{Image, AllowsAll, end_of, owner, NoOutcome, Doing, Resting, InRest, State, put, Blank, ceiling, Free, Does, Ordered, carried, IsKept}
+use Rattle.ppm_kept.specs.Kept.{Setting, AllowsAll, end_of, owner, NoOutcome, Doing, Resting, InRest, State, put, Blank, ceiling, Free, Does, Ordered, carried, IsKept}
 use Rattle.ppm_kept.specs.Moves.{doing_of, goes, stores, installs, fills, opened, by_install}
 use Rattle.ppm_kept.specs.Laws.{RunKeeps}
 use Rattle.ppm_kept.specs.Counting.{is_fork, forks_with}
@@ -106,7 +106,7 @@ room_asked words [] w e n = absurd (cc)
 room_asked words (Room x ∷ is) w e n = let same : x ≡ w = cc in omega (arith, same)
 room_asked words (i ∷ is) w e n = absurd (cc)
 
-module _ (i : Image) (fair : IsFair i.code) (root : Tree (Frame FrameWord Point) Result) (input : Words) (s : State) (t : Skeleton) (law : IsKept i root input s t) (p : ℕ)
+module _ (i : Setting) (fair : IsFair i.code) (root : Tree (Frame FrameWord Point) Result) (input : Words) (s : State) (t : Skeleton) (law : IsKept i root input s t) (p : ℕ)
     (there : p < i.shape.processors) (keeps : Keeps i s t p) (f y : ℕ) (low : y < 2) (ke : s.kind p ≡ Run f y) where
   abbrev m : Cell → ℕ
   m = s.words

@@ -31,14 +31,14 @@ use Rattle.ppm_step.specs.declared.row.Then.{Then}
 use Rattle.ppm_step.specs.declared.row.Then.TheVariants.{Load, Fork, Begin, Again, Broken}
 use Rattle.ppm_frames.specs.Skeletons.{named, target_at}
 use Rattle.ppm_frames.specs.Good.{link_or, link_at}
-use Rattle.ppm_kept.specs.Kept.{Image, side_code, HasTaken, Collected, Reach}
+use Rattle.ppm_kept.specs.Kept.{Setting, side_code, HasTaken, Collected, Reach}
 
 -- the frame of a fork's link
 abbrev pub waiting_of : LinkKind → ℕ
 waiting_of (Forked f y) = f
 waiting_of _ = 0
 
-module _ (i : Image) (m n : Cell → ℕ) (seat : Seat) where
+module _ (i : Setting) (m n : Cell → ℕ) (seat : Seat) where
   abbrev pub SameRow : Row → Type 0
   SameRow row = (j : ℕ) (rr : Row) → Reach i m seat j row rr → Reach i n seat j row rr
 

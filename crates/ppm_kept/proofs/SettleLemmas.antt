@@ -33,7 +33,7 @@ use Rattle.ppm_frames.proofs.SkeletonLemmas.{SameFrame, same_frame, own_same, tr
 use Rattle.ppm_frames.proofs.SwapLemmas.{swap_same, good_same}
 use Rattle.ppm_kept.specs.Running.{asked_of, IsFair, home_at, number_at, closed, now, all_of, limit, IsClean, outcome_by}
 use Rattle.ppm_kept.specs.Branches.{HasCopy}
-use Rattle.ppm_kept.specs.Kept.{Image, end_of, Resting, State, carried, ceiling, Free, IsKept}
+use Rattle.ppm_kept.specs.Kept.{Setting, end_of, Resting, State, carried, ceiling, Free, IsKept}
 use Rattle.ppm_kept.proofs.BlockLemmas.{header_is}
 use Rattle.ppm_kept.proofs.BranchLemmas.{same_part}
 use Rattle.ppm_kept.proofs.BuildLemmas.{Turn, build}
@@ -103,7 +103,7 @@ clean_moves s code fair m v p f y low blank clean = record {
     same = record { header = λ y. refl; link = refl; outcome = refl; value = refl; target = refl; slots = λ j lt. refl }
 
 -- a free word of a place that begins a capsule is 0 again
-module _ (i : Image) (fair : IsFair i.code) (root : Tree (Frame FrameWord Point) Result) (input : Words) (s : State) (t : Skeleton) (law : IsKept i root input s t) (v : ℕ) (there : v < i.shape.processors)
+module _ (i : Setting) (fair : IsFair i.code) (root : Tree (Frame FrameWord Point) Result) (input : Words) (s : State) (t : Skeleton) (law : IsKept i root input s t) (v : ℕ) (there : v < i.shape.processors)
     (f y : ℕ) (kv : s.kind v ≡ Run f y) (rests : s.doing v ≡ Resting) (x : ℕ) (low : s.words (RoomCounter v) ≤ x) (high : x < end_of i v) where
   abbrev m : Cell → ℕ
   m = s.words
@@ -245,7 +245,7 @@ zero_in m c (suc j) x low high = elim (cases_eq x (c + j)) [
 ]
 
 -- and all of them, to the end of the pool
-module _ (i : Image) (fair : IsFair i.code) (root : Tree (Frame FrameWord Point) Result) (input : Words) (s : State) (t : Skeleton) (law : IsKept i root input s t) (v : ℕ) (there : v < i.shape.processors)
+module _ (i : Setting) (fair : IsFair i.code) (root : Tree (Frame FrameWord Point) Result) (input : Words) (s : State) (t : Skeleton) (law : IsKept i root input s t) (v : ℕ) (there : v < i.shape.processors)
     (f y : ℕ) (kv : s.kind v ≡ Run f y) (rests : s.doing v ≡ Resting) where
   pub words_settled : (j : ℕ) → s.words (RoomCounter v) + j ≤ end_of i v → IsKept i root input (record { words = zeros s.words (s.words (RoomCounter v)) j; kind = s.kind; doing = s.doing }) t
   words_settled zero le = law

@@ -36,7 +36,7 @@ use Rattle.ppm_frames.specs.Seen.{arrays_at}
 use Rattle.ppm_frames.specs.Skeletons.{Begins, InPlace, Skeleton, Leaf, header, tree_at, tree_of, Around, Top, AtCall, AtLeft, AtRight, plug, hook_at}
 use Rattle.ppm_kept.specs.Running.{IsFair, IsOf, IsUnder, last_of, home_at, number_at, all_of, now, HasCome, strands}
 use Rattle.ppm_kept.specs.Branches.{HasCopy}
-use Rattle.ppm_kept.specs.Kept.{Image, start, InRest, State, Doing, Does, carried, ceiling, IsKept}
+use Rattle.ppm_kept.specs.Kept.{Setting, start, InRest, State, Doing, Does, carried, ceiling, IsKept}
 use Rattle.ppm_kept.specs.Spent.{FullPoolsAreSpent}
 use Rattle.ppm_kept.proofs.BlockLemmas.{header_is}
 use Rattle.ppm_kept.proofs.OfLemmas.{simple_at}
@@ -45,7 +45,7 @@ use Rattle.ppm_kept.proofs.RunRow.{room_asked}
 use Rattle.ppm_kept.proofs.SilentLemmas.{asks_first, asks_room}
 
 -- what a part of the tree asks for is among what all does
-asks_plug : (i : Image) (m : Cell → ℕ) (a : Words) (h : LinkKind) (c : Around) (u : Skeleton)
+asks_plug : (i : Setting) (m : Cell → ℕ) (a : Words) (h : LinkKind) (c : Around) (u : Skeleton)
     → asks_in (strands i.shape i.code) (tree_at m (hook_at h c) u) a ≤ asks_in (strands i.shape i.code) (tree_at m h (plug c u)) a
 asks_plug i m a h Top u = omega arith
 asks_plug i m a h (AtCall f n y c) u = asks_plug i m a (Called f y) c u
@@ -113,7 +113,7 @@ module _ (s : Shape) (code : CodeParts) (p : ℕ) (home : Home) where
       by true e is = absurd (not_full go after of is)
       by false e is = leb-false (home.block + words) (pool_at s p + s.room) e
 
-module _ (i : Image) (fair : IsFair i.code) (root : Tree (Frame FrameWord Point) Result) (input : Words) (s : State) (t : Skeleton) (law : IsKept i root input s t)
+module _ (i : Setting) (fair : IsFair i.code) (root : Tree (Frame FrameWord Point) Result) (input : Words) (s : State) (t : Skeleton) (law : IsKept i root input s t)
     (p f y : ℕ) (ke : s.kind p ≡ Run f y) (next : ℕ → Rest) (de : s.doing p ≡ InRest (Loads (RoomCounter p) next)) (full : next (s.words (RoomCounter p)) ≡ Full) where
   abbrev m : Cell → ℕ
   m = s.words

@@ -45,7 +45,7 @@ use Rattle.ppm_frames.proofs.SkeletonLemmas.{inside_at}
 use Rattle.ppm_frames.proofs.ViewLemmas.{view_is, cells_are_viewed, others_are_unseen}
 use Rattle.ppm_kept.specs.Running.{IsFair}
 use Rattle.ppm_kept.specs.Branches.{is_taker}
-use Rattle.ppm_kept.specs.Kept.{Image, Doing, Resting, InRow, InRest, State, Under, Does, Head, Ordered, IsKept}
+use Rattle.ppm_kept.specs.Kept.{Setting, Doing, Resting, InRow, InRest, State, Under, Does, Head, Ordered, IsKept}
 use Rattle.ppm_kept.specs.Moves.{doing_of, goes, stores, exchanges, installs, fills, loaded}
 use Rattle.ppm_kept.specs.Laws.{Ends, kind_then, RunKeeps}
 use Rattle.ppm_kept.specs.Copies.{IsKnown}
@@ -83,7 +83,7 @@ NoRow Resting = Unit {0}
 NoRow (InRow row) = ⊥
 NoRow (InRest rest) = ⊥
 
-none_does : (i : Image) (m : Cell → ℕ) (p : ℕ) (k : RestartKind) (d : Doing) → NoRow d → Does i m p k d
+none_does : (i : Setting) (m : Cell → ℕ) (p : ℕ) (k : RestartKind) (d : Doing) → NoRow d → Does i m p k d
 none_does i m p k Resting h = tt
 none_does i m p k (InRow row) h = absurd h
 none_does i m p k (InRest rest) h = absurd h
@@ -186,7 +186,7 @@ idle_begin p (Take v x) r f b t h e = absurd (cc)
 idle_begin p (Take2 v) r f b t h e = absurd (cc)
 idle_begin p _ r f b t h e = absurd h
 
-module _ (i : Image) (fair : IsFair i.code) (root : Tree (Frame FrameWord Point) Result) (input : Words) (state : Machine) (l : List Followed) (apart : AreApart l) (t : Skeleton)
+module _ (i : Setting) (fair : IsFair i.code) (root : Tree (Frame FrameWord Point) Result) (input : Words) (state : Machine) (l : List Followed) (apart : AreApart l) (t : Skeleton)
     (law : IsKept i root input (left i l (places_of i.shape state)) t) (c : ℕ) where
   -- the places, and the same with those that were followed left out
   abbrev P : State
@@ -711,7 +711,7 @@ none_away how plain (IsRunning seat rest) = (tt, tt)
 none_away how plain (IsBroken p) = (tt, tt)
 none_away how plain IsDone = (tt, tt)
 
-pub act_away : (i : Image) → i.shape.takeover ≡ ByPlaces → (act : Act) (x : Standing) → StepsAway i [] act x
+pub act_away : (i : Setting) → i.shape.takeover ≡ ByPlaces → (act : Act) (x : Standing) → StepsAway i [] act x
 act_away i plain (Step victim) x = none_away i.shape.takeover plain x
 act_away i plain Soft x = tt
 act_away i plain Hard x = tt

@@ -40,7 +40,7 @@ use Rattle.ppm_frames.proofs.SkeletonLemmas.{SameFrame, tree_same}
 use Rattle.ppm_frames.proofs.SwapLemmas.{good_same}
 use Rattle.ppm_kept.specs.Running.{IsFair, number_at, strands}
 use Rattle.ppm_kept.specs.Branches.{HasCopy}
-use Rattle.ppm_kept.specs.Kept.{Image, start, end_of, owner, seat_at, side_code, State, Doing, Resting, InRow, InRest, Blank, AimsWell, NoOutcome, ceiling, Free, Under, Going, Does, Head, Ordered, carried, IsKept}
+use Rattle.ppm_kept.specs.Kept.{Setting, start, end_of, owner, seat_at, side_code, State, Doing, Resting, InRow, InRest, Blank, AimsWell, NoOutcome, ceiling, Free, Under, Going, Does, Head, Ordered, carried, IsKept}
 use Rattle.ppm_kept.specs.Steps.{IsStop}
 use Rattle.ppm_kept.specs.Stops.{WordsStay}
 use Rattle.ppm_kept.proofs.BlockLemmas.{finish_back}
@@ -64,7 +64,7 @@ finish_in v (Some x) = x
 pub stop_says : (v : Finish) → IsFinish v → IsStop v → NoOutcome (finish_word v)
 stop_says v fit stop o e out = stop_only v stop (subst IsOutcome {x = o} {y = v} (ap (finish_in o) (sym e ∙ finish_back v fit)) out)
 
-module _ (i : Image) (fair : IsFair i.code) (root : Tree (Frame FrameWord Point) Result) (input : Words) (s : State) (t : Skeleton) (law : IsKept i root input s t) (w : ℕ) where
+module _ (i : Setting) (fair : IsFair i.code) (root : Tree (Frame FrameWord Point) Result) (input : Words) (s : State) (t : Skeleton) (law : IsKept i root input s t) (w : ℕ) where
   abbrev m : Cell → ℕ
   m = s.words
 

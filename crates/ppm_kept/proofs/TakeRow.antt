@@ -29,7 +29,7 @@ use Rattle.ppm_frames.proofs.SkeletonLemmas.{inside_at, count_plug, at_plug}
 use Rattle.ppm_frames.proofs.SwapLemmas.{swap_same, good_same, good_here}
 use Rattle.ppm_kept.specs.Running.{IsFair}
 use Rattle.ppm_kept.specs.Branches.{Unpushed, IsWaitingAt, Waits, is_taker, HasCopy}
-use Rattle.ppm_kept.specs.Kept.{Image, Doing, Resting, InRow, InRest, State, put, Blank, ceiling, Free, Does, carried, IsKept}
+use Rattle.ppm_kept.specs.Kept.{Setting, Doing, Resting, InRow, InRest, State, put, Blank, ceiling, Free, Does, carried, IsKept}
 use Rattle.ppm_kept.specs.Moves.{doing_of, goes, installs}
 use Rattle.ppm_kept.specs.Others.{IsIdle}
 use Rattle.ppm_kept.specs.Pushing.{Comes, kind_seat}
@@ -171,7 +171,7 @@ AsRow rest Resting = Unit {0}
 AsRow rest (InRow row) = row ≡ rest
 AsRow rest (InRest left) = ⊥
 
-idle_does : (i : Image) (m : Cell → ℕ) (p : ℕ) (k : RestartKind) → IsIdle k → (rest : Row) (d : Doing) → AsRow rest d → Does i m p k d
+idle_does : (i : Setting) (m : Cell → ℕ) (p : ℕ) (k : RestartKind) → IsIdle k → (rest : Row) (d : Doing) → AsRow rest d → Does i m p k d
 idle_does i m p k h rest Resting a = tt
 idle_does i m p k h rest (InRest left) a = absurd a
 idle_does i m p Pop1 h rest (InRow row) a = tt
@@ -187,7 +187,7 @@ within_as : (seat : Seat) (rest : Row) (b : Bool) → AsRow rest (doing_of (with
 within_as seat rest true = refl
 within_as seat rest false = tt
 
-enters_as : (i : Image) (seat : Seat) (k : RestartKind) → IsIdle k → (rest : Row) (a : Option CodeCapsule) → AsRow rest (doing_of (enters i.shape i.code seat k a))
+enters_as : (i : Setting) (seat : Seat) (k : RestartKind) → IsIdle k → (rest : Row) (a : Option CodeCapsule) → AsRow rest (doing_of (enters i.shape i.code seat k a))
 enters_as i seat Pop1 h rest a = tt
 enters_as i seat (Pop2 r) h rest a = tt
 enters_as i seat Seek h rest a = tt
@@ -197,7 +197,7 @@ enters_as i seat (Take v x) h rest a = tt
 enters_as i seat (Take2 v) h rest a = tt
 enters_as i seat _ h rest a = absurd h
 
-stands_as : (i : Image) (seat : Seat) → IsIdle seat.restart.kind → (rest : Row) → AsRow rest (doing_of (stands i.shape i.code seat rest))
+stands_as : (i : Setting) (seat : Seat) → IsIdle seat.restart.kind → (rest : Row) → AsRow rest (doing_of (stands i.shape i.code seat rest))
 stands_as i seat h (Now (Load x)) = within_as seat (Now (Load x)) (then_is_there i.shape seat (Load x))
 stands_as i seat h (Now (Install x)) = within_as seat (Now (Install x)) (then_is_there i.shape seat (Install x))
 stands_as i seat h (Now (Fork x)) = within_as seat (Now (Fork x)) (then_is_there i.shape seat (Fork x))
@@ -223,7 +223,7 @@ abbrev begin_frame : Row → ℕ
 begin_frame (Now (Begin r f b)) = f
 begin_frame _ = 0
 
-module _ (i : Image) (fair : IsFair i.code) (root : Tree (Frame FrameWord Point) Result) (input : Words) (s : State) (t : Skeleton) (law : IsKept i root input s t) (p : ℕ)
+module _ (i : Setting) (fair : IsFair i.code) (root : Tree (Frame FrameWord Point) Result) (input : Words) (s : State) (t : Skeleton) (law : IsKept i root input s t) (p : ℕ)
     (there : p < i.shape.processors) (k : RestartKind) (ke : s.kind p ≡ k) (idle : IsIdle k) where
   abbrev m : Cell → ℕ
   m = s.words

@@ -26,7 +26,7 @@ use Rattle.ppm_frames.specs.Views.{written, in_pool, is_cell, view}
 use Rattle.ppm_frames.specs.Skeletons.{Skeleton}
 use Rattle.ppm_frames.proofs.ViewLemmas.{view_is, cells_are_viewed, others_are_unseen}
 use Rattle.ppm_kept.specs.Branches.{HasCopy}
-use Rattle.ppm_kept.specs.Kept.{Image, start, end_of, owner, State, Head, IsKept}
+use Rattle.ppm_kept.specs.Kept.{Setting, start, end_of, owner, State, Head, IsKept}
 use Rattle.ppm_kept.specs.Laws.{Ends}
 use Rattle.ppm_kept.specs.Turns.{StepsShow, StepsAreSeen, StoresAreCells}
 use Rattle.ppm_kept.proofs.OtherLemmas.{others_keep}
@@ -71,11 +71,11 @@ both : (a b : Bool) → a ≡ true → b ≡ true → (a && b) ≡ true
 both true b e d = d
 both false b e d = absurd (cc)
 
-pub pool_cell : (i : Image) (x : ℕ) → owner i x < i.shape.processors → start i (owner i x) ≤ x → x < end_of i (owner i x) → in_pool i.shape x ≡ true
+pub pool_cell : (i : Setting) (x : ℕ) → owner i x < i.shape.processors → start i (owner i x) ≤ x → x < end_of i (owner i x) → in_pool i.shape x ≡ true
 pool_cell i x there low high = both _ _ (lt-ltb _ _ there) (both _ _ (le-leb _ _ low) (lt-ltb _ _ high))
 
 -- an order word that a place holds is a cell of the frames
-pub head_cell : (i : Image) (root : Tree (Frame FrameWord Point) Result) (input : Words) (s : State) (t : Skeleton) → IsKept i root input s t → (x : ℕ) → Head i s t x → is_cell i.shape (BlockWord x) ≡ true
+pub head_cell : (i : Setting) (root : Tree (Frame FrameWord Point) Result) (input : Words) (s : State) (t : Skeleton) → IsKept i root input s t → (x : ℕ) → Head i s t x → is_cell i.shape (BlockWord x) ≡ true
 head_cell i root input s t law x a = pool_cell i x a.there a.first (let under = a.under in let top_ = (law.rooms (owner i x)).1 in omega (arith, under, top_))
 
 pub stores_are_cells : StoresAreCells

@@ -41,7 +41,7 @@ use Rattle.ppm_frames.proofs.SkeletonLemmas.{count_plug, inside_at, grow_plug, o
 use Rattle.ppm_frames.proofs.SwapLemmas.{good_here}
 use Rattle.ppm_kept.specs.Running.{IsFair}
 use Rattle.ppm_kept.specs.Branches.{Waits}
-use Rattle.ppm_kept.specs.Kept.{Image, seat_at, side_code, Doing, InRow, State, carried, Reach, Under, Does, IsKept}
+use Rattle.ppm_kept.specs.Kept.{Setting, seat_at, side_code, Doing, InRow, State, carried, Reach, Under, Does, IsKept}
 use Rattle.ppm_kept.specs.Moves.{opened, by_install}
 use Rattle.ppm_kept.specs.Returns.{by_unwind}
 use Rattle.ppm_kept.specs.Arriving.{by_arrive}
@@ -376,7 +376,7 @@ InlineRow r (Now (Install restart)) = ⊥
 InlineRow r (Now (Begin q f b)) = q ≡ r
 InlineRow r _ = Unit {0}
 
-module _ (i : Image) (fair : IsFair i.code) (root : Tree (Frame FrameWord Point) Result) (input : Words) (s : State) (t : Skeleton) (law : IsKept i root input s t) (p : ℕ) where
+module _ (i : Setting) (fair : IsFair i.code) (root : Tree (Frame FrameWord Point) Result) (input : Words) (s : State) (t : Skeleton) (law : IsKept i root input s t) (p : ℕ) where
   abbrev m : Cell → ℕ
   m = s.words
 

@@ -54,7 +54,7 @@ use Rattle.ppm_frames.proofs.SwapLemmas.{swap_same, good_same, good_here}
 use Rattle.ppm_frames.proofs.ValueLemmas.{all_values_pass}
 use Rattle.ppm_kept.specs.Running.{IsFair, strands}
 use Rattle.ppm_kept.specs.Branches.{Unpushed, is_taker, HasCopy}
-use Rattle.ppm_kept.specs.Kept.{Image, owner, seat_at, side_code, Doing, Resting, InRow, State, put, Blank, ceiling, Free, Reach, Does, Under, Ordered, carried, IsKept}
+use Rattle.ppm_kept.specs.Kept.{Setting, owner, seat_at, side_code, Doing, Resting, InRow, State, put, Blank, ceiling, Free, Reach, Does, Under, Ordered, carried, IsKept}
 use Rattle.ppm_kept.specs.Moves.{doing_of, goes, stores, installs}
 use Rattle.ppm_kept.specs.Laws.{Ends, kind_then}
 use Rattle.ppm_kept.specs.Moves.{exchanges}
@@ -70,14 +70,14 @@ use Rattle.ppm_kept.proofs.TurnLemmas.{pool_cell}
 use Rattle.ppm_kept.proofs.PlaceLemmas.{leaf, going, kept_same, counted, not_free, mine_around, head_on, is_at_own, is_at_other}
 
 -- the leaf of a place that is over
-pub record Overs (i : Image) (s : State) (t : Skeleton) (p f : ℕ) : Type 0 where
+pub record Overs (i : Setting) (s : State) (t : Skeleton) (p f : ℕ) : Type 0 where
   pub around : Around
   pub slots : ℕ
   pub is : t ≡ plug around (Leaf (InPlace p) Over f slots)
   pub alone : at_rim p around ≡ 0
   pub framed : Framed i.code s.words (hook_at Root around) f slots
 
-pub over_at : (i : Image) (s : State) (t : Skeleton) (p f : ℕ) (c : Around) (st : Stand) (g n : ℕ) → t ≡ plug c (Leaf (InPlace p) st g n) → at_rim p c ≡ 0
+pub over_at : (i : Setting) (s : State) (t : Skeleton) (p f : ℕ) (c : Around) (st : Stand) (g n : ℕ) → t ≡ plug c (Leaf (InPlace p) st g n) → at_rim p c ≡ 0
     → Framed i.code s.words (hook_at Root c) g n → Match i.code s.words (Unwind f) (hook_at Root c) st g → Overs i s t p f
 over_at i s t p f c Over g n is alone framed match = record {
   around = c;
@@ -107,7 +107,7 @@ abbrev IsUp : LinkKind → Type 0
 IsUp (Forked g y) = ⊥
 IsUp _ = Unit {0}
 
-module _ (i : Image) (fair : IsFair i.code) (root : Tree (Frame FrameWord Point) Result) (input : Words) (s : State) (t : Skeleton) (law : IsKept i root input s t) (p : ℕ)
+module _ (i : Setting) (fair : IsFair i.code) (root : Tree (Frame FrameWord Point) Result) (input : Words) (s : State) (t : Skeleton) (law : IsKept i root input s t) (p : ℕ)
     (there : p < i.shape.processors) (keeps : Keeps i s t p) (f : ℕ) (ke : s.kind p ≡ Unwind f) where
   abbrev m : Cell → ℕ
   m = s.words

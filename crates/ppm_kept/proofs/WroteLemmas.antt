@@ -16,7 +16,7 @@ use Rattle.ppm_frames.specs.Laws.{Same}
 use Rattle.ppm_frames.proofs.WriteLemmas.{write_here, write_else, address}
 use Rattle.ppm_frames.proofs.SkeletonLemmas.{count_plug, plain_plug, plain_count, plain_rim_rim}
 use Rattle.ppm_kept.specs.Running.{IsFair}
-use Rattle.ppm_kept.specs.Kept.{Image, start, end_of, owner, State, ceiling, Head, side_code, IsKept}
+use Rattle.ppm_kept.specs.Kept.{Setting, start, end_of, owner, State, ceiling, Head, side_code, IsKept}
 use Rattle.ppm_kept.specs.Others.{Mine, Claims, Wrote}
 use Rattle.ppm_kept.proofs.OwnerLemmas.{owned}
 use Rattle.ppm_kept.proofs.PlaceLemmas.{head_on, mine_around}
@@ -31,7 +31,7 @@ pub record Claimed (s : State) (c : Around) (cell : Cell) (w : ℕ) : Type 0 whe
   pub was : (s.words cell ≡ 0) ⊎ (s.words cell ≡ w)
   pub gets : (w ≡ side_code side) ⊎ (w ≡ 3)
 
-pub data What (i : Image) (s : State) (p : ℕ) (c : Around) (u : Skeleton) (cell : Cell) (w : ℕ) : Type 0 where
+pub data What (i : Setting) (s : State) (p : ℕ) (c : Around) (u : Skeleton) (cell : Cell) (w : ℕ) : Type 0 where
   OfPart : (x : ℕ) → cell ≡ BlockWord x → 1 ≤ plain (hook_at Root c) u x → What i s p c u cell w
   OfFree : (x : ℕ) → cell ≡ BlockWord x → ceiling i s.words p (s.kind p) ≤ x → x < end_of i p → What i s p c u cell w
   OfRoom : cell ≡ RoomCounter p → What i s p c u cell w
@@ -39,7 +39,7 @@ pub data What (i : Image) (s : State) (p : ℕ) (c : Around) (u : Skeleton) (cel
   OfFinish : cell ≡ FinishWord → s.words FinishWord ≡ 0 → What i s p c u cell w
   OfOrder : Claimed s c cell w → What i s p c u cell w
 
-module _ (i : Image) (fair : IsFair i.code) (root : Tree (Frame FrameWord Point) Result) (input : Words) (s : State) (t : Skeleton) (law : IsKept i root input s t) (p : ℕ)
+module _ (i : Setting) (fair : IsFair i.code) (root : Tree (Frame FrameWord Point) Result) (input : Words) (s : State) (t : Skeleton) (law : IsKept i root input s t) (p : ℕ)
     (c : Around) (u : Skeleton) where
   abbrev m : Cell → ℕ
   m = s.words

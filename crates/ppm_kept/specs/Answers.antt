@@ -14,7 +14,7 @@ use Rattle.ppm_code.specs.declared.location.FrameWord.{FrameWord}
 use Rattle.ppm_step.specs.State.{State as Machine}
 use Rattle.ppm_frames.specs.Skeletons.{Over, InPlace, Skeleton, Leaf}
 use Rattle.ppm_kept.specs.Running.{strands}
-use Rattle.ppm_kept.specs.Kept.{Image, IsKept}
+use Rattle.ppm_kept.specs.Kept.{Setting, IsKept}
 use Rattle.ppm_kept.specs.Places.{places_of}
 
 -- the finish of a root that comes to this
@@ -24,7 +24,7 @@ finish_by (Trapped trap line) = TrappedBy trap line
 
 -- the root's run comes to an end that this finish says; the words of the arrays are those of that end,
 -- also after a trap; and no strand is left but the root's, which is over
-pub record AnswersSo (i : Image) (root : Tree (Frame FrameWord Point) Result) (input : Words) (state : Machine) (t : Skeleton) (finish : Finish) : Type 0 where
+pub record AnswersSo (i : Setting) (root : Tree (Frame FrameWord Point) Result) (input : Words) (state : Machine) (t : Skeleton) (finish : Finish) : Type 0 where
   pub end : End Result
   pub ends : Ends (strands i.shape i.code) root input end
   pub outcome : finish ≡ finish_by end.outcome
@@ -36,7 +36,7 @@ pub record AnswersSo (i : Image) (root : Tree (Frame FrameWord Point) Result) (i
 
 -- of a machine whose state by places is kept
 abbrev pub EndsAsMeant : Type 0
-EndsAsMeant = (i : Image) (root : Tree (Frame FrameWord Point) Result) (input : Words)
+EndsAsMeant = (i : Setting) (root : Tree (Frame FrameWord Point) Result) (input : Words)
     (state : Machine) (t : Skeleton) → IsKept i root input (places_of i.shape state) t
     → (finish : Finish) → finish_of (read i.shape state.words FinishWord) ≡ Some finish
     → IsOutcome finish → AnswersSo i root input state t finish

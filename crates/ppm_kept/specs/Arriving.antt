@@ -15,7 +15,7 @@ use Rattle.ppm_step.specs.declared.row.Then.{Then}
 use Rattle.ppm_frames.specs.Views.{is_cell}
 use Rattle.ppm_frames.specs.Skeletons.{Came, Skeleton, Leaf, grow}
 use Rattle.ppm_kept.specs.Running.{IsFair}
-use Rattle.ppm_kept.specs.Kept.{Image, InRow, State, IsKept}
+use Rattle.ppm_kept.specs.Kept.{Setting, InRow, State, IsKept}
 use Rattle.ppm_kept.specs.Moves.{goes, installs, begun, exchanged}
 use Rattle.ppm_kept.specs.Laws.{Ends, kind_then}
 use Rattle.ppm_kept.specs.Pushing.{kind_seat}
@@ -25,7 +25,7 @@ abbrev pub by_arrive : (Cell → ℕ) → (p r : ℕ) → Skeleton → Skeleton
 by_arrive m p r t = cond (m (BlockWord (r + 1)) == 0) (grow p (λ st f n. Leaf Came st f n) t) t
 
 -- Every step of a place in a row of kind Arrive keeps all
-pub record ArriveKeeps (i : Image) (root : Tree (Frame FrameWord Point) Result) (input : Words) (s : State) (t : Skeleton) (p r : ℕ) (d : Side) : Type 0 where
+pub record ArriveKeeps (i : Setting) (root : Tree (Frame FrameWord Point) Result) (input : Words) (s : State) (t : Skeleton) (p r : ℕ) (d : Side) : Type 0 where
   pub begins : (own bottom : ℕ)
       → IsKept i root input (begun i s p (kind_seat own p (Arrive r d) bottom) (Arrive r d)) t
   pub stores_none : (cell : Cell) (content : Content) (next : Then)
@@ -42,7 +42,7 @@ pub record ArriveKeeps (i : Image) (root : Tree (Frame FrameWord Point) Result) 
 
 -- in each such row, from words that are kept
 abbrev pub ArriveRowKeeps : Type 0
-ArriveRowKeeps = (i : Image) → IsFair i.code
+ArriveRowKeeps = (i : Setting) → IsFair i.code
     → (root : Tree (Frame FrameWord Point) Result) (input : Words) (s : State) (t : Skeleton)
     → IsKept i root input s t
     → (p : ℕ) → p < i.shape.processors → (r : ℕ) (d : Side) → s.kind p ≡ Arrive r d

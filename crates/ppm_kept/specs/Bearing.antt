@@ -12,7 +12,7 @@ use Rattle.ppm_kept.specs.Running.{IsFair}
 use Rattle.ppm_cells.specs.declared.restart.RestartKind.{RestartKind}
 use Rattle.ppm_cells.specs.declared.restart.RestartKind.TheVariants.{Bump}
 use Rattle.ppm_kept.specs.Heirs.{GoesOnAs, inherits}
-use Rattle.ppm_kept.specs.Kept.{Image, State, IsKept}
+use Rattle.ppm_kept.specs.Kept.{Setting, State, IsKept}
 use Rattle.ppm_kept.specs.Left.{Followed, left, AreApart, StepsAway}
 use Rattle.ppm_kept.specs.Others.{IsIdle}
 use Rattle.ppm_kept.specs.Births.{Births, with_block}
@@ -27,7 +27,7 @@ with_blocks (r ∷ l) born = with_block r (with_blocks l born)
 -- With takeover by places: as `turns_keep`, a turn leaves the blocks that were forked, with those that
 -- it forks, below what each place may still open; also where it stops the run
 abbrev pub TurnsBear : Type 0
-TurnsBear = (i : Image) → IsFair i.code → i.shape.takeover ≡ ByPlaces
+TurnsBear = (i : Setting) → IsFair i.code → i.shape.takeover ≡ ByPlaces
     → (root : Tree (Frame FrameWord Point) Result) (input : Words) (state : Machine) (t : Skeleton)
     → IsKept i root input (places_of i.shape state) t
     → (born : ℕ → Bool) → Births i (places_of i.shape state) born → (turn : Turn)
@@ -36,7 +36,7 @@ TurnsBear = (i : Image) → IsFair i.code → i.shape.takeover ≡ ByPlaces
 
 -- With either takeover, as `turns_keep_left` has it, of the state with the followed places left out
 abbrev pub TurnsBearLeft : Type 0
-TurnsBearLeft = (i : Image) → IsFair i.code
+TurnsBearLeft = (i : Setting) → IsFair i.code
     → (root : Tree (Frame FrameWord Point) Result) (input : Words) (state : Machine) (l : List Followed)
     → AreApart l → (t : Skeleton)
     → IsKept i root input (left i l (places_of i.shape state)) t
@@ -48,7 +48,7 @@ TurnsBearLeft = (i : Image) → IsFair i.code
 -- Where a place goes on with a closed one's strand, so they do still. A block that the closed place was about
 -- to open was not forked before, and with it they do too.
 abbrev pub HeirsBear : Type 0
-HeirsBear = (i : Image) → IsFair i.code
+HeirsBear = (i : Setting) → IsFair i.code
     → (root : Tree (Frame FrameWord Point) Result) (input : Words) (s : State) (t : Skeleton)
     → IsKept i root input s t → (born : ℕ → Bool) → Births i s born
     → (v p : ℕ) → IsIdle (s.kind p) → (k : RestartKind) → GoesOnAs s t v (s.kind v) k

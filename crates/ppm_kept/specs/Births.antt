@@ -22,7 +22,7 @@ use Rattle.ppm_step.specs.declared.row.Then.{Then}
 use Rattle.ppm_step.specs.declared.row.Then.TheVariants.{Load, Install, Fork}
 use Rattle.ppm_frames.specs.Skeletons.{Skeleton}
 use Rattle.ppm_kept.specs.Running.{IsFair}
-use Rattle.ppm_kept.specs.Kept.{Image, start, end_of, owner, InRow, InRest, State, IsKept}
+use Rattle.ppm_kept.specs.Kept.{Setting, start, end_of, owner, InRow, InRest, State, IsKept}
 use Rattle.ppm_kept.specs.Moves.{goes, stores, exchanges, installs, fills}
 use Rattle.ppm_kept.specs.Laws.{Ends, kind_then}
 use Rattle.ppm_kept.specs.Openings.{opening_of}
@@ -36,7 +36,7 @@ floor m p (Bump r) = r
 floor m p _ = m (RoomCounter p)
 
 -- the blocks that were forked lie below, and a block that is about to be opened is one of the pool
-pub record Births (i : Image) (s : State) (born : ℕ → Bool) : Type 0 where
+pub record Births (i : Setting) (s : State) (born : ℕ → Bool) : Type 0 where
   pub below : (x : ℕ) → born x ≡ true → x < floor s.words (owner i x) (s.kind (owner i x))
   pub homes : (p r : ℕ) → s.kind p ≡ Bump r → (start i p ≤ r) × (r < end_of i p)
 
@@ -56,7 +56,7 @@ IsSteady _ = Unit {0}
 
 -- Such they are after each step of place p; and a block that it forks is new, is its own, and is
 -- then one of them.
-pub record BirthsStay (i : Image) (s : State) (p : ℕ) (born : ℕ → Bool) : Type 0 where
+pub record BirthsStay (i : Setting) (s : State) (p : ℕ) (born : ℕ → Bool) : Type 0 where
   pub goes_on : (standing : Standing) → Births i (goes s p standing) born
   pub full : Births i (fills s p) born
   -- stores and exchanges, but of counters; the store of the own one, in Bump
@@ -80,7 +80,7 @@ pub record BirthsStay (i : Image) (s : State) (p : ℕ) (born : ℕ → Bool) : 
 
 -- of each place, from words that are kept, whatever blocks were forked
 abbrev pub AllBirthsStay : Type 0
-AllBirthsStay = (i : Image) → IsFair i.code
+AllBirthsStay = (i : Setting) → IsFair i.code
     → (root : Tree (Frame FrameWord Point) Result) (input : Words) (s : State) (t : Skeleton)
     → IsKept i root input s t → (born : ℕ → Bool) → Births i s born
     → (p : ℕ) → BirthsStay i s p born
@@ -113,4 +113,4 @@ RowsAreSteady = (s : Shape) (seat : Seat) (n : ℕ) (k : RestartKind) (rest : Ro
 
 -- where a run opens none was forked
 abbrev pub OpeningsHaveNone : Type 0
-OpeningsHaveNone = (i : Image) (m : Cell → ℕ) (p f : ℕ) → Births i (opening_of m p f) (λ x. false)
+OpeningsHaveNone = (i : Setting) (m : Cell → ℕ) (p f : ℕ) → Births i (opening_of m p f) (λ x. false)

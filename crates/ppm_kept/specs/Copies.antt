@@ -14,7 +14,7 @@ use Rattle.ppm_step.specs.declared.row.Row.TheVariants.{Now}
 use Rattle.ppm_step.specs.declared.row.Then.{Then}
 use Rattle.ppm_frames.specs.Skeletons.{Skeleton}
 use Rattle.ppm_kept.specs.Running.{IsFair}
-use Rattle.ppm_kept.specs.Kept.{Image, InRow, InRest, State, HasCopies, IsKept}
+use Rattle.ppm_kept.specs.Kept.{Setting, InRow, InRest, State, HasCopies, IsKept}
 use Rattle.ppm_kept.specs.Moves.{goes, stores, installs, fills}
 use Rattle.ppm_kept.specs.Laws.{Ends, kind_then}
 use Rattle.ppm_kept.specs.Openings.{opening_of}
@@ -28,7 +28,7 @@ IsKnown (Join r d) = Unit {0}
 IsKnown _ = ⊥
 
 -- so it is after a step of place p: where it goes on, stores, fills its pool or installs
-pub record CopiesStay (i : Image) (s : State) (p : ℕ) : Type 0 where
+pub record CopiesStay (i : Setting) (s : State) (p : ℕ) : Type 0 where
   pub goes_on : (standing : Standing) → HasCopies (goes s p standing)
   pub stored : (cell : Cell) (w : ℕ) (standing : Standing) → HasCopies (stores s p cell w standing)
   pub full : HasCopies (fills s p)
@@ -39,7 +39,7 @@ pub record CopiesStay (i : Image) (s : State) (p : ℕ) : Type 0 where
 
 -- of each place, from words that are kept
 abbrev pub AllCopiesStay : Type 0
-AllCopiesStay = (i : Image) → IsFair i.code
+AllCopiesStay = (i : Setting) → IsFair i.code
     → (root : Tree (Frame FrameWord Point) Result) (input : Words) (s : State) (t : Skeleton)
     → IsKept i root input s t
     → (p : ℕ) → CopiesStay i s p

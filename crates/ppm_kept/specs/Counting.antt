@@ -21,7 +21,7 @@ use Rattle.ppm_step.specs.declared.turn.Turn.{Turn}
 use Rattle.ppm_frames.specs.Good.{link_at}
 use Rattle.ppm_frames.specs.Skeletons.{Skeleton}
 use Rattle.ppm_kept.specs.Running.{IsFair}
-use Rattle.ppm_kept.specs.Kept.{Image, IsKept}
+use Rattle.ppm_kept.specs.Kept.{Setting, IsKept}
 use Rattle.ppm_kept.specs.Credit.{ended_by, by_step}
 use Rattle.ppm_kept.specs.Heirs.{handed}
 use Rattle.ppm_kept.specs.HeirTurns.{Heired, and_followed}
@@ -48,7 +48,7 @@ opened_by m standing = 0
 -- on with what it inherited as many capsules and forks are counted as before, and those of the capsule that
 -- ends by it.
 abbrev pub CountsAreExact : Type 0
-CountsAreExact = (i : Image) → IsFair i.code
+CountsAreExact = (i : Setting) → IsFair i.code
     → (root : Tree (Frame FrameWord Point) Result) (input : Words) (state : Machine) (l : List Followed)
     → AreApart l → (t : Skeleton)
     → (law : IsKept i root input (left i l (places_of i.shape state)) t) → (turn : Turn)
@@ -61,7 +61,7 @@ CountsAreExact = (i : Image) → IsFair i.code
 
 -- and by which one does, as many as before
 abbrev pub HeirsCountNone : Type 0
-HeirsCountNone = (i : Image) → IsFair i.code
+HeirsCountNone = (i : Setting) → IsFair i.code
     → (root : Tree (Frame FrameWord Point) Result) (input : Words) (state : Machine) (l : List Followed)
     → AreApart l → (t : Skeleton)
     → (law : IsKept i root input (left i l (places_of i.shape state)) t)

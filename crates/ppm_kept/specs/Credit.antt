@@ -20,7 +20,7 @@ use Rattle.ppm_paces.specs.Costs.{weight}
 use Rattle.ppm_frames.specs.Skeletons.{Stand, Begins, Over, Arrives, Skeleton, Leaf, Calling, Forking}
 use Rattle.ppm_kept.specs.Running.{IsFair}
 use Rattle.ppm_kept.specs.Heirs.{handed}
-use Rattle.ppm_kept.specs.Kept.{Image, IsKept}
+use Rattle.ppm_kept.specs.Kept.{Setting, IsKept}
 use Rattle.ppm_kept.specs.Laws.{kind_then}
 use Rattle.ppm_kept.specs.Left.{Followed, left, StepsAway}
 use Rattle.ppm_kept.specs.Places.{places_of}
@@ -60,7 +60,7 @@ by_step f act standing = 0
 
 -- With what a turn takes off, the tree then owes no more than before, but for 36 where a capsule ends
 abbrev pub CreditStays : Type 0
-CreditStays = (i : Image) → IsFair i.code → (root : Tree (Frame FrameWord Point) Result) (input : Words) (state : Machine) (t : Skeleton)
+CreditStays = (i : Setting) → IsFair i.code → (root : Tree (Frame FrameWord Point) Result) (input : Words) (state : Machine) (t : Skeleton)
     → IsKept i root input (places_of i.shape state) t → (turn : Turn)
     → ActsSo i state t turn.processor turn.act (stand_of state turn.processor)
     → owed Root (tree_after i state turn t) + by_step paid_by turn.act (stand_of state turn.processor)
@@ -68,7 +68,7 @@ CreditStays = (i : Image) → IsFair i.code → (root : Tree (Frame FrameWord Po
 
 -- With takeover by places, behind a turn no fewer capsules are counted than before, and one more where a capsule ends
 abbrev pub CapsulesAreCounted : Type 0
-CapsulesAreCounted = (i : Image) → IsFair i.code → i.shape.takeover ≡ ByPlaces
+CapsulesAreCounted = (i : Setting) → IsFair i.code → i.shape.takeover ≡ ByPlaces
     → (root : Tree (Frame FrameWord Point) Result) (input : Words) (state : Machine) (t : Skeleton)
     → (law : IsKept i root input (places_of i.shape state) t) → (turn : Turn)
     → ActsSo i state t turn.processor turn.act (stand_of state turn.processor)
@@ -78,7 +78,7 @@ CapsulesAreCounted = (i : Image) → IsFair i.code → i.shape.takeover ≡ ByPl
 -- With either takeover, and the places left out that others have followed: by a turn by which no place goes on with what it inherited the
 -- tree owes no more either
 abbrev pub CreditStaysLeft : Type 0
-CreditStaysLeft = (i : Image) → IsFair i.code → (root : Tree (Frame FrameWord Point) Result) (input : Words) (state : Machine) (l : List Followed)
+CreditStaysLeft = (i : Setting) → IsFair i.code → (root : Tree (Frame FrameWord Point) Result) (input : Words) (state : Machine) (l : List Followed)
     → (t : Skeleton) → IsKept i root input (left i l (places_of i.shape state)) t → (turn : Turn)
     → ActsSo i state t turn.processor turn.act (stand_of state turn.processor)
     → StepsAway i l turn.act (stand_of state turn.processor)

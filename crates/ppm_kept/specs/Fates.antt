@@ -12,7 +12,7 @@ use Rattle.ppm_step.specs.declared.row.Row.TheVariants.{Now}
 use Rattle.ppm_step.specs.declared.row.Then.TheVariants.{Fork, Begin}
 use Rattle.ppm_frames.specs.Skeletons.{Stand, Who, Fresh, Waiting, Held, Skeleton, Leaf, count}
 use Rattle.ppm_kept.specs.Running.{IsFair}
-use Rattle.ppm_kept.specs.Kept.{Image, InRow, State, put, IsKept}
+use Rattle.ppm_kept.specs.Kept.{Setting, InRow, State, put, IsKept}
 use Rattle.ppm_kept.specs.Takes.{IsWaiting}
 use Rattle.ppm_kept.specs.Unruns.{HasUnrun, SameUnruns, OneChanges, IsNone, Is}
 
@@ -60,7 +60,7 @@ NoneIsLeft = (w : Who) (st : Stand) (f n : ℕ) (fate : ℕ → Fate) → Agrees
 
 -- What it says of words that are kept. Of a branch that has still to be pushed the deque's half says
 -- which place is to push it.
-pub record FatesShow (i : Image) (s : State) (t : Skeleton) (fate : ℕ → Fate) : Type 0 where
+pub record FatesShow (i : Setting) (s : State) (t : Skeleton) (fate : ℕ → Fate) : Type 0 where
   pub waits : (r : ℕ) → fate r ≡ Offered → IsWaiting t r
   pub forks : (p q r : ℕ) → s.kind p ≡ Bump q → s.doing p ≡ InRow (Now (Fork r))
       → HasUnrun Fresh r t ⊎ HasUnrun Held r t
@@ -72,6 +72,6 @@ pub record FatesShow (i : Image) (s : State) (t : Skeleton) (fate : ℕ → Fate
 
 -- of all such words
 abbrev pub AllFatesShow : Type 0
-AllFatesShow = (i : Image) → IsFair i.code
+AllFatesShow = (i : Setting) → IsFair i.code
     → (root : Tree (Frame FrameWord Point) Result) (input : Words) (s : State) (t : Skeleton)
     → IsKept i root input s t → (fate : ℕ → Fate) → Agrees t fate → FatesShow i s t fate

@@ -17,7 +17,7 @@ use Rattle.ppm_step.specs.declared.turn.Act.TheVariants.{Step}
 use Rattle.ppm_cells.specs.declared.link.LinkKind.TheVariants.{Root}
 use Rattle.ppm_frames.specs.Skeletons.{Fresh, Held, Skeleton, count}
 use Rattle.ppm_kept.specs.Running.{IsFair}
-use Rattle.ppm_kept.specs.Kept.{Image, Resting, State, ceiling, IsKept}
+use Rattle.ppm_kept.specs.Kept.{Setting, Resting, State, ceiling, IsKept}
 use Rattle.ppm_kept.specs.Laws.{kind_then}
 use Rattle.ppm_kept.specs.Others.{IsIdle}
 use Rattle.ppm_kept.specs.Heirs.{handed, GoesOnAs}
@@ -35,7 +35,7 @@ GoesOnBy (Fork block) k = k ≡ Bump block
 GoesOnBy next k = ⊥
 
 -- what the deque's half says of it: the place v is closed, nobody is in it, and none has followed it
-pub record Heired (i : Image) (state : Machine) (l : List Followed) (t : Skeleton) (c : ℕ) (seat : Seat) (next : Then) (v : ℕ) : Type 0 where
+pub record Heired (i : Setting) (state : Machine) (l : List Followed) (t : Skeleton) (c : ℕ) (seat : Seat) (next : Then) (v : ℕ) : Type 0 where
   pub holds : Holds i.shape state c seat.place
   pub kind : kinds_of i.shape state.words seat.place ≡ seat.restart.kind
   pub there : then_is_there i.shape seat next ≡ true
@@ -48,12 +48,12 @@ pub record Heired (i : Image) (state : Machine) (l : List Followed) (t : Skeleto
   pub goes : GoesOnAs (left i l (places_of i.shape state)) t v (kinds_of i.shape state.words v) (kind_then next)
 
 -- with the place v followed too, from this state on
-abbrev pub and_followed : Image → List Followed → State → (v : ℕ) → List Followed
+abbrev pub and_followed : Setting → List Followed → State → (v : ℕ) → List Followed
 and_followed i l s v = record { place = v; top = ceiling i (left i l s).words v ((left i l s).kind v) } ∷ l
 
 -- it keeps the state with that place left out too, with the closed place's leaf as the heir's
 abbrev pub HeirTurnsKeep : Type 0
-HeirTurnsKeep = (i : Image) → IsFair i.code
+HeirTurnsKeep = (i : Setting) → IsFair i.code
     → (root : Tree (Frame FrameWord Point) Result) (input : Words) (state : Machine) (l : List Followed)
     → AreApart l → (t : Skeleton)
     → IsKept i root input (left i l (places_of i.shape state)) t
@@ -65,7 +65,7 @@ HeirTurnsKeep = (i : Image) → IsFair i.code
 
 -- and the blocks that were forked lie where they should, with the one that it forks
 abbrev pub HeirTurnsBear : Type 0
-HeirTurnsBear = (i : Image) → IsFair i.code
+HeirTurnsBear = (i : Setting) → IsFair i.code
     → (root : Tree (Frame FrameWord Point) Result) (input : Words) (state : Machine) (l : List Followed)
     → AreApart l → (t : Skeleton)
     → IsKept i root input (left i l (places_of i.shape state)) t

@@ -15,7 +15,7 @@ use Rattle.ppm_frames.specs.Skeletons.{InPlace, Skeleton, Leaf, grow}
 use Rattle.ppm_frames.specs.Good.{link_at}
 use Rattle.ppm_kept.specs.Running.{IsFair}
 use Rattle.ppm_kept.specs.Branches.{Untaken}
-use Rattle.ppm_kept.specs.Kept.{Image, end_of, Resting, State, put, ceiling, IsKept}
+use Rattle.ppm_kept.specs.Kept.{Setting, end_of, Resting, State, put, ceiling, IsKept}
 use Rattle.ppm_kept.specs.Others.{IsIdle}
 
 -- the leaf of place v becomes place p's
@@ -24,7 +24,7 @@ handed v p t = grow v (λ st f n. Leaf (InPlace p) st f n) t
 
 -- the words as they would be, had place v given out its pool up to c, and stored nothing above: nobody
 -- looks at its counter any more, nor at its free words
-abbrev pub settled : Image → (Cell → ℕ) → (v c : ℕ) → Cell → ℕ
+abbrev pub settled : Setting → (Cell → ℕ) → (v c : ℕ) → Cell → ℕ
 settled i m v c (RoomCounter q) = cond (q == v) c (m (RoomCounter q))
 settled i m v c (BlockWord x) = cond (nat_le c x && nat_lt x (end_of i v)) 0 (m (BlockWord x))
 settled i m v c cell = m cell
@@ -49,7 +49,7 @@ GoesOnAs s t v (Join r d) k = k ≡ Join r d
 GoesOnAs s t v _ k = ⊥
 
 -- the state behind that: place p is at the kind, and place v at nothing
-abbrev pub inherits : Image → State → (v p : ℕ) → RestartKind → State
+abbrev pub inherits : Setting → State → (v p : ℕ) → RestartKind → State
 inherits i s v p k = record {
   words = settled i s.words v (ceiling i s.words v (s.kind v));
   kind = put (put s.kind v Seek) p k;
@@ -59,7 +59,7 @@ inherits i s v p k = record {
 -- From words that are kept, where nobody is in the closed place v, and p has no strand: they are kept
 -- behind it, with the strand as p's.
 abbrev pub HeirsKeep : Type 0
-HeirsKeep = (i : Image) → IsFair i.code
+HeirsKeep = (i : Setting) → IsFair i.code
     → (root : Tree (Frame FrameWord Point) Result) (input : Words) (s : State) (t : Skeleton)
     → IsKept i root input s t
     → (v p : ℕ) → v < i.shape.processors → p < i.shape.processors → IsIdle (s.kind p)

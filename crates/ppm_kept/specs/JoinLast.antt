@@ -19,7 +19,7 @@ use Rattle.ppm_step.specs.declared.row.Then.TheVariants.{Load}
 use Rattle.ppm_frames.specs.Views.{is_cell}
 use Rattle.ppm_frames.specs.Skeletons.{Skeleton}
 use Rattle.ppm_kept.specs.Running.{IsFair}
-use Rattle.ppm_kept.specs.Kept.{Image, side_code, InRow, State, IsKept}
+use Rattle.ppm_kept.specs.Kept.{Setting, side_code, InRow, State, IsKept}
 use Rattle.ppm_kept.specs.Moves.{goes, installs, begun, loaded, stored}
 use Rattle.ppm_kept.specs.Laws.{Ends, kind_then}
 use Rattle.ppm_kept.specs.Pushing.{kind_seat}
@@ -28,7 +28,7 @@ use Rattle.ppm_kept.specs.Joins.{by_join}
 -- Each step of a place in a row of kind Join keeps all. The tree is the fork with both branches until
 -- the install, whatever is stored before it: the value of the left branch, that of the right one, or
 -- a trap in the outcome of the frame that waits. With the install that frame goes on, or is over.
-pub record JoinKeeps (i : Image) (root : Tree (Frame FrameWord Point) Result) (input : Words) (s : State) (t : Skeleton) (p r : ℕ) (d : Side) : Type 0 where
+pub record JoinKeeps (i : Setting) (root : Tree (Frame FrameWord Point) Result) (input : Words) (s : State) (t : Skeleton) (p r : ℕ) (d : Side) : Type 0 where
   pub begins : (own bottom : ℕ)
       → IsKept i root input (begun i s p (kind_seat own p (Join r d) bottom) (Join r d)) t
   pub loads : (own bottom victim : ℕ) (point : RowPoint) → s.doing p ≡ InRow (Now (Load point))
@@ -49,7 +49,7 @@ pub record JoinKeeps (i : Image) (root : Tree (Frame FrameWord Point) Result) (i
 -- in each row whose branch came last, and is not to run the right one: its two outcomes may be ends
 -- or traps; where they are neither, words are broken
 abbrev pub LastJoinRowKeeps : Type 0
-LastJoinRowKeeps = (i : Image) → IsFair i.code
+LastJoinRowKeeps = (i : Setting) → IsFair i.code
     → (root : Tree (Frame FrameWord Point) Result) (input : Words) (s : State) (t : Skeleton)
     → IsKept i root input s t
     → (p : ℕ) → p < i.shape.processors → (r : ℕ) (d : Side) → s.kind p ≡ Join r d
@@ -59,7 +59,7 @@ LastJoinRowKeeps = (i : Image) → IsFair i.code
 
 -- in every row of kind Join
 abbrev pub JoinRowKeeps : Type 0
-JoinRowKeeps = (i : Image) → IsFair i.code
+JoinRowKeeps = (i : Setting) → IsFair i.code
     → (root : Tree (Frame FrameWord Point) Result) (input : Words) (s : State) (t : Skeleton)
     → IsKept i root input s t
     → (p : ℕ) → p < i.shape.processors → (r : ℕ) (d : Side) → s.kind p ≡ Join r d

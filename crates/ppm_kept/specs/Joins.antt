@@ -18,7 +18,7 @@ use Rattle.ppm_step.specs.declared.row.Then.{Then}
 use Rattle.ppm_step.specs.declared.row.Then.TheVariants.{Load, Install, Begin}
 use Rattle.ppm_frames.specs.Skeletons.{Begins, Over, Skeleton, joined, over_left, inlined}
 use Rattle.ppm_kept.specs.Running.{IsFair}
-use Rattle.ppm_kept.specs.Kept.{Image, side_code, InRow, State, IsKept}
+use Rattle.ppm_kept.specs.Kept.{Setting, side_code, InRow, State, IsKept}
 use Rattle.ppm_kept.specs.Moves.{goes, installs, begun, loaded}
 use Rattle.ppm_kept.specs.Laws.{Ends, kind_then}
 use Rattle.ppm_kept.specs.Pushing.{kind_seat}
@@ -42,7 +42,7 @@ IsEarly m r d = ((m (BlockWord (r + 1)) == side_code d) ≡ true)
     ⊎ (is_inline (m (BlockWord (r + 1))) d ≡ true)
 
 -- Each step of a place in such a row of kind Join keeps all, and it stores nothing
-pub record EarlyJoinKeeps (i : Image) (root : Tree (Frame FrameWord Point) Result) (input : Words) (s : State) (t : Skeleton) (p r : ℕ) (d : Side) : Type 0 where
+pub record EarlyJoinKeeps (i : Setting) (root : Tree (Frame FrameWord Point) Result) (input : Words) (s : State) (t : Skeleton) (p r : ℕ) (d : Side) : Type 0 where
   pub begins : (own bottom : ℕ)
       → IsKept i root input (begun i s p (kind_seat own p (Join r d) bottom) (Join r d)) t
   pub loads : (own bottom victim : ℕ) (point : RowPoint) → s.doing p ≡ InRow (Now (Load point))
@@ -58,7 +58,7 @@ pub record EarlyJoinKeeps (i : Image) (root : Tree (Frame FrameWord Point) Resul
 
 -- in each such row, which stores nothing
 abbrev pub EarlyJoinRowKeeps : Type 0
-EarlyJoinRowKeeps = (i : Image) → IsFair i.code
+EarlyJoinRowKeeps = (i : Setting) → IsFair i.code
     → (root : Tree (Frame FrameWord Point) Result) (input : Words) (s : State) (t : Skeleton)
     → IsKept i root input s t
     → (p : ℕ) → p < i.shape.processors → (r : ℕ) (d : Side) → s.kind p ≡ Join r d

@@ -37,29 +37,29 @@ use Rattle.ppm_kept.specs.Running.{HasCome, IsClean, strands}
 use Rattle.ppm_kept.specs.Branches.{Unpushed, Waits, is_taker, HasCopy}
 
 -- a shape and a code; and what is to be true of the counts so far, nothing but where it is asked what a turn counts
-pub record Image : Type 0 where
+pub record Setting : Type 0 where
   pub shape : Shape
   pub code : CodeParts
   pub counted : Counts → Bool
 
 -- it stays true where so much is counted
-abbrev pub Allows : Image → Counts → Type 0
+abbrev pub Allows : Setting → Counts → Type 0
 Allows i k = (j : Counts) → i.counted j ≡ true → i.counted (plus j k) ≡ true
 
 -- whatever is counted
-abbrev pub AllowsAll : Image → Type 0
+abbrev pub AllowsAll : Setting → Type 0
 AllowsAll i = (k : Counts) → Allows i k
 
 -- where the pool of a place begins
-abbrev pub start : Image → ℕ → ℕ
+abbrev pub start : Setting → ℕ → ℕ
 start i p = pool_at i.shape p
 
 -- where it ends
-abbrev pub end_of : Image → ℕ → ℕ
+abbrev pub end_of : Setting → ℕ → ℕ
 end_of i p = pool_at i.shape p + i.shape.room
 
 -- the place whose pool has an address
-abbrev pub owner : Image → ℕ → ℕ
+abbrev pub owner : Setting → ℕ → ℕ
 owner i x = place_of i.shape x
 
 -- where the processor of a place stands
@@ -144,7 +144,7 @@ pub record Collected (m : Cell → ℕ) (r : ℕ) (d : Side) (row : Row) : Type 
       ⊎ (target_at m (r + 5) ≡ target_at m (r + m (BlockWord (r + 4))))
   pub right : HasTaken m frame (r + m (BlockWord (r + 4))) (target_at m (r + m (BlockWord (r + 4))))
 
-module _ (i : Image) where
+module _ (i : Setting) where
   -- where the free words of a place's pool begin
   abbrev pub ceiling : (Cell → ℕ) → (p : ℕ) → RestartKind → ℕ
   ceiling m p (Bump r) = r + (link_at (m (BlockWord r))).size

@@ -20,7 +20,7 @@ use Rattle.ppm_step.specs.declared.row.Then.{Then}
 use Rattle.ppm_step.specs.declared.row.Then.TheVariants.{Install, Fork, Begin}
 use Rattle.ppm_frames.specs.Views.{is_cell}
 use Rattle.ppm_frames.specs.Skeletons.{Skeleton}
-use Rattle.ppm_kept.specs.Kept.{Image, AllowsAll, InRow, InRest, State, IsKept}
+use Rattle.ppm_kept.specs.Kept.{Setting, AllowsAll, InRow, InRest, State, IsKept}
 use Rattle.ppm_kept.specs.Moves.{goes, stores, installs, fills, by_install, begun, entered, stored}
 use Rattle.ppm_code.specs.declared.code.CodeParts.{CodeParts}
 use Rattle.ppm_kept.specs.Running.{IsFair, MayStore, GoesOnByLoads, GoesOnByStores, OpensByInstalls, BeginsSo}
@@ -43,7 +43,7 @@ FramesRun = (s : Shape) (code : CodeParts) → IsFair code → CapsulesGoOn s co
 
 -- Every step of a place in a row of kind Run keeps all: where it stands after the
 -- step is the machine's own
-pub record RunKeeps (i : Image) (root : Tree (Frame FrameWord Point) Result) (input : Words) (s : State) (t : Skeleton) (p f y : ℕ) : Type 0 where
+pub record RunKeeps (i : Setting) (root : Tree (Frame FrameWord Point) Result) (input : Words) (s : State) (t : Skeleton) (p f y : ℕ) : Type 0 where
   -- the load of the finish word before the row
   pub begins : (own bottom : ℕ)
       → IsKept i root input (begun i s p (run_seat own p f y bottom) (Run f y)) t
@@ -68,7 +68,7 @@ pub record RunKeeps (i : Image) (root : Tree (Frame FrameWord Point) Result) (in
 
 -- in each such row, from words that are kept
 abbrev pub RunRowKeeps : Type 0
-RunRowKeeps = (i : Image) → IsFair i.code
+RunRowKeeps = (i : Setting) → IsFair i.code
     → (root : Tree (Frame FrameWord Point) Result) (input : Words) (s : State) (t : Skeleton)
     → IsKept i root input s t
     → (p : ℕ) → p < i.shape.processors → (f y : ℕ) → s.kind p ≡ Run f y
@@ -93,7 +93,7 @@ kind_then (Begin block frame bottom) = Run frame 0
 kind_then _ = Seek
 
 -- the beginning of a row of kind Bump, and its faults
-pub record BumpKeeps (i : Image) (root : Tree (Frame FrameWord Point) Result) (input : Words) (s : State) (t : Skeleton) (p r : ℕ) : Type 0 where
+pub record BumpKeeps (i : Setting) (root : Tree (Frame FrameWord Point) Result) (input : Words) (s : State) (t : Skeleton) (p r : ℕ) : Type 0 where
   pub begins : (own bottom : ℕ)
       → IsKept i root input (begun i s p (bump_seat own p r bottom) (Bump r)) t
   pub loads : (own bottom victim : ℕ) → IsKept i root input
@@ -110,7 +110,7 @@ pub record BumpKeeps (i : Image) (root : Tree (Frame FrameWord Point) Result) (i
 
 -- in each such row, from words that are kept
 abbrev pub BumpRowKeeps : Type 0
-BumpRowKeeps = (i : Image) → IsFair i.code
+BumpRowKeeps = (i : Setting) → IsFair i.code
     → (root : Tree (Frame FrameWord Point) Result) (input : Words) (s : State) (t : Skeleton)
     → IsKept i root input s t
     → (p : ℕ) → p < i.shape.processors → (r : ℕ) → s.kind p ≡ Bump r

@@ -21,7 +21,7 @@ use Rattle.ppm_step.specs.declared.turn.Act.TheVariants.{Step}
 use Rattle.ppm_step.specs.declared.turn.Turn.{Turn}
 use Rattle.ppm_frames.specs.Skeletons.{Skeleton}
 use Rattle.ppm_kept.specs.Running.{IsFair}
-use Rattle.ppm_kept.specs.Kept.{Image, State, put, IsKept}
+use Rattle.ppm_kept.specs.Kept.{Setting, State, put, IsKept}
 use Rattle.ppm_kept.specs.Others.{IsIdle}
 use Rattle.ppm_kept.specs.Heirs.{settled}
 use Rattle.ppm_kept.specs.Places.{places_of}
@@ -33,7 +33,7 @@ pub record Followed : Type 0 where
   pub top : ℕ
 
 -- the words and the kinds with each of them left out, the newest first
-abbrev pub left_words : Image → List Followed → (Cell → ℕ) → Cell → ℕ
+abbrev pub left_words : Setting → List Followed → (Cell → ℕ) → Cell → ℕ
 left_words i [] m = m
 left_words i (v ∷ l) m = settled i (left_words i l m) v.place v.top
 
@@ -42,7 +42,7 @@ left_kinds [] k = k
 left_kinds (v ∷ l) k = put (left_kinds l k) v.place Seek
 
 -- the state so
-abbrev pub left : Image → List Followed → State → State
+abbrev pub left : Setting → List Followed → State → State
 left i l s = record { words = left_words i l s.words; kind = left_kinds l s.kind; doing = s.doing }
 
 -- a place is none of them
@@ -74,14 +74,14 @@ InheritsNone how (IsWithin seat row) = (how ≡ ByPlaces) ⊎ LooksOn seat.resta
 InheritsNone how standing = Unit {0}
 
 -- what it takes of the deque's half, beside `ActsSo`
-abbrev pub StepsAway : Image → List Followed → Act → Standing → Type 0
+abbrev pub StepsAway : Setting → List Followed → Act → Standing → Type 0
 StepsAway i l (Step victim) standing = StandsAway l standing × InheritsNone i.shape.takeover standing
 StepsAway i l act standing = Unit {0}
 
 -- With either takeover: a turn by which no place goes on with what it inherited keeps the state with the
 -- followed places left out, with the skeleton after it.
 abbrev pub TurnsKeepLeft : Type 0
-TurnsKeepLeft = (i : Image) → IsFair i.code
+TurnsKeepLeft = (i : Setting) → IsFair i.code
     → (root : Tree (Frame FrameWord Point) Result) (input : Words) (state : Machine) (l : List Followed)
     → AreApart l → (t : Skeleton)
     → IsKept i root input (left i l (places_of i.shape state)) t → (turn : Turn)

@@ -18,23 +18,23 @@ use Rattle.ppm_step.specs.declared.row.Then.TheVariants.{Load}
 use Rattle.ppm_frames.specs.Views.{is_cell}
 use Rattle.ppm_frames.specs.Skeletons.{Skeleton}
 use Rattle.ppm_kept.specs.Running.{IsFair}
-use Rattle.ppm_kept.specs.Kept.{Image, owner, InRow, InRest, State, ceiling, IsKept}
+use Rattle.ppm_kept.specs.Kept.{Setting, owner, InRow, InRest, State, ceiling, IsKept}
 use Rattle.ppm_kept.specs.Copies.{IsKnown}
 use Rattle.ppm_kept.specs.Pushing.{kind_seat}
 
 -- a block word that some place has given out, or one of the own pool; of counters the own
-abbrev pub IsInUse : Image → State → (p : ℕ) → Cell → Type 0
+abbrev pub IsInUse : Setting → State → (p : ℕ) → Cell → Type 0
 IsInUse i s p (BlockWord x) = (x < ceiling i s.words (owner i x) (s.kind (owner i x))) ⊎ (owner i x ≡ p)
 IsInUse i s p (RoomCounter q) = q ≡ p
 IsInUse i s p cell = Unit {0}
 
 -- a cell that frames have, and such a one
-pub record IsLoadable (i : Image) (s : State) (p : ℕ) (cell : Cell) : Type 0 where
+pub record IsLoadable (i : Setting) (s : State) (p : ℕ) (cell : Cell) : Type 0 where
   pub cell_is : is_cell i.shape cell ≡ true
   pub in_use : IsInUse i s p cell
 
 -- of a place
-pub record LoadsShow (i : Image) (s : State) (p : ℕ) : Type 0 where
+pub record LoadsShow (i : Setting) (s : State) (p : ℕ) : Type 0 where
   -- the header with which a capsule begins, and what the capsule loads, where it is there
   pub headers : (f y : ℕ) → s.kind p ≡ Run f y → IsLoadable i s p (header_word f y)
   pub capsules : (f y : ℕ) (cell : Cell) (next : ℕ → Rest) → s.kind p ≡ Run f y
@@ -47,7 +47,7 @@ pub record LoadsShow (i : Image) (s : State) (p : ℕ) : Type 0 where
 
 -- of each place, from words that are kept
 abbrev pub AllLoadsShow : Type 0
-AllLoadsShow = (i : Image) → IsFair i.code
+AllLoadsShow = (i : Setting) → IsFair i.code
     → (root : Tree (Frame FrameWord Point) Result) (input : Words) (s : State) (t : Skeleton)
     → IsKept i root input s t
     → (p : ℕ) → p < i.shape.processors → LoadsShow i s p

@@ -23,7 +23,7 @@ use Rattle.ppm_step.specs.declared.row.Then.TheVariants.{Load}
 use Rattle.ppm_frames.specs.Views.{written as write}
 use Rattle.ppm_frames.specs.Skeletons.{Stand, Begins, Over, InPlace, Fresh, Skeleton, Leaf, Calling, Forking, grow}
 use Rattle.ppm_frames.specs.Good.{link_at}
-use Rattle.ppm_kept.specs.Kept.{Image, Doing, Resting, InRow, InRest, State, put}
+use Rattle.ppm_kept.specs.Kept.{Setting, Doing, Resting, InRow, InRest, State, put}
 
 -- of a standing: the row or the capsule under way; at broken words, as before a row, none
 abbrev pub doing_of : Standing → Doing
@@ -59,7 +59,7 @@ fills s p = record {
   doing = put s.doing p Resting;
 }
 
-module _ (i : Image) where
+module _ (i : Setting) where
   -- what the leaf of place p becomes by the block r of this link: a callee above its frame, or two
   -- branches, of which the right one is not pushed yet
   abbrev pub opened : (Cell → ℕ) → (p r : ℕ) → LinkKind → Stand → (f n : ℕ) → Skeleton
@@ -76,7 +76,7 @@ module _ (i : Image) where
   by_install m p _ _ t = t
 
 -- the state after a step of place p in a row, by a seat of it; where it then stands is the machine's
-module _ (i : Image) (s : State) (p : ℕ) (sits : Seat) where
+module _ (i : Setting) (s : State) (p : ℕ) (sits : Seat) where
   -- it begins a row of this kind
   abbrev pub begun : RestartKind → State
   begun kind = goes s p (within_if sits (row_of i.shape sits kind) true)

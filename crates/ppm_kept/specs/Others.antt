@@ -14,10 +14,10 @@ use Rattle.ppm_frames.specs.Views.{written as write}
 use Rattle.ppm_frames.specs.Seen.{arrays_at}
 use Rattle.ppm_frames.specs.Skeletons.{Begins, InPlace, Skeleton, Leaf, frame_at, plain, at, Around, plug, hook_at, at_rim}
 use Rattle.ppm_kept.specs.Running.{IsFair, strands}
-use Rattle.ppm_kept.specs.Kept.{Image, State, side_code, end_of, carried, ceiling, Free, Does, Ordered, IsKept}
+use Rattle.ppm_kept.specs.Kept.{Setting, State, side_code, end_of, carried, ceiling, Free, Does, Ordered, IsKept}
 
 -- what a step of p leaves as it is at another place
-pub record KeptAt (i : Image) (s : State) (t : Skeleton) (n : Cell → ℕ) (q : ℕ) : Type 0 where
+pub record KeptAt (i : Setting) (s : State) (t : Skeleton) (n : Cell → ℕ) (q : ℕ) : Type 0 where
   pub roof : ceiling i n q (s.kind q) ≡ ceiling i s.words q (s.kind q)
   pub strand : carried n (s.kind q) ≡ carried s.words (s.kind q)
   pub free : Free i n q (s.kind q)
@@ -26,12 +26,12 @@ pub record KeptAt (i : Image) (s : State) (t : Skeleton) (n : Cell → ℕ) (q :
 
 -- the cells that a step of a place may write: words of the part that only it works on, free words
 -- of its pool, its counter, and array words of its capsule
-abbrev pub Wrote : Image → (Cell → ℕ) → Skeleton → ℕ → Type 0
+abbrev pub Wrote : Setting → (Cell → ℕ) → Skeleton → ℕ → Type 0
 Wrote i m (Leaf (InPlace q) (Begins y) f n) x = Has x ((strands i.shape i.code).writes (frame_at m f n y None None) (arrays_at m))
 Wrote i m _ x = ⊥
 
 -- with u the part at which place p works, hung on h
-abbrev pub Mine : Image → State → ℕ → LinkKind → Skeleton → Cell → Type 0
+abbrev pub Mine : Setting → State → ℕ → LinkKind → Skeleton → Cell → Type 0
 Mine i s p h u (BlockWord x) = (1 ≤ plain h u x)
     ⊎ ((ceiling i s.words p (s.kind p) ≤ x) × (x < end_of i p))
 Mine i s p h u (RoomCounter q) = q ≡ p
@@ -46,7 +46,7 @@ Claims m (Branch d r) (BlockWord x) w = (x ≡ r + 1)
 Claims m _ _ w = ⊥
 
 -- what the other places keep of a step of p
-abbrev pub Keeps : Image → State → Skeleton → ℕ → Type 0
+abbrev pub Keeps : Setting → State → Skeleton → ℕ → Type 0
 Keeps i s t p = (c : Around) (u : Skeleton) (cell : Cell) (w : ℕ) → t ≡ plug c u → at_rim p c ≡ 0
     → ((q : ℕ) → q ≢ p → at q u ≡ 0) → 1 ≤ at p u
     → Mine i s p (hook_at Root c) u cell ⊎ Claims s.words (hook_at Root c) cell w
@@ -65,7 +65,7 @@ IsIdle _ = ⊥
 
 -- places keep all that they have, whatever another place stores
 abbrev pub OthersKeep : Type 0
-OthersKeep = (i : Image) → IsFair i.code
+OthersKeep = (i : Setting) → IsFair i.code
     → (root : Tree (Frame FrameWord Point) Result) (input : Words) (s : State) (t : Skeleton)
     → IsKept i root input s t
     → (p : ℕ) → Keeps i s t p

@@ -29,7 +29,7 @@ use Rattle.ppm_step.specs.declared.turn.Act.{Act}
 use Rattle.ppm_step.specs.declared.turn.Act.TheVariants.{Step, Soft, Hard}
 use Rattle.ppm_layout.specs.Correct.{Opens}
 use Rattle.ppm_layout.specs.Root.{root_strand}
-use Rattle.ppm_layout.specs.declared.images.Image.{Image as RealImage}
+use Rattle.ppm_layout.specs.declared.images.Image.{Image}
 use Rattle.ppm_words.specs.declared.named_array.NamedArray.{NamedArray}
 use Rattle.ppm_frames.specs.Views.{is_cell, view}
 use Rattle.ppm_frames.specs.Seen.{arrays_at}
@@ -162,7 +162,7 @@ TurnsShow = (s : Shape) (code : CodeParts) (state : Machine) (c : ℕ)
 -- a machine that opens an image of a sound code, with all processors lost, is kept so, whatever is asked of the
 -- counts, if it is true where nothing is counted: the tree is the strand of the root, at the keeper's place
 abbrev pub MachinesOpen : Type 0
-MachinesOpen = (code : CodeParts) (input : List NamedArray) (s : Shape) (keeper : ℕ) (image : RealImage)
+MachinesOpen = (code : CodeParts) (input : List NamedArray) (s : Shape) (keeper : ℕ) (image : Image)
     → Opens code input s keeper image
     → Calm (strands s code) (root_strand code input) (arrays_at (view s image.words))
     → (places_of s (opening image.words s.processors) ≡ opening_of (view s image.words) keeper (pool_at s keeper))

@@ -24,7 +24,7 @@ use Rattle.ppm_frames.specs.Skeletons.{Waiting, Held, Skeleton, Forking, pushed,
 use Rattle.ppm_frames.specs.Good.{mark}
 use Rattle.ppm_kept.specs.Running.{IsFair}
 use Rattle.ppm_kept.specs.Branches.{IsUntaken, Untaken}
-use Rattle.ppm_kept.specs.Kept.{Image, State, IsKept}
+use Rattle.ppm_kept.specs.Kept.{Setting, State, IsKept}
 use Rattle.ppm_kept.specs.Moves.{goes, installs, stored, exchanged_unseen}
 use Rattle.ppm_kept.specs.Laws.{Ends, kind_then}
 
@@ -63,7 +63,7 @@ AllUntakenStays = (p r : ℕ) → UntakenStays p r
 
 -- Each step of a place in a row of kind Push1: at the last slot the strand of the left branch is to
 -- run the right one
-pub record Push1Keeps (i : Image) (root : Tree (Frame FrameWord Point) Result) (input : Words) (s : State) (t : Skeleton) (p r : ℕ) : Type 0 where
+pub record Push1Keeps (i : Setting) (root : Tree (Frame FrameWord Point) Result) (input : Words) (s : State) (t : Skeleton) (p r : ℕ) : Type 0 where
   -- it begins, or goes on by a load
   pub loads : (own bottom : ℕ) (rest : Row)
       → IsKept i root input (goes s p (stands i.shape i.code (kind_seat own p (Push1 r) bottom) rest)) t
@@ -84,7 +84,7 @@ pub record Push1Keeps (i : Image) (root : Tree (Frame FrameWord Point) Result) (
 
 -- likewise of kind Push2: with the entry at the bottom the right branch becomes one that may be
 -- taken
-pub record Push2Keeps (i : Image) (root : Tree (Frame FrameWord Point) Result) (input : Words) (s : State) (t : Skeleton) (p r : ℕ) : Type 0 where
+pub record Push2Keeps (i : Setting) (root : Tree (Frame FrameWord Point) Result) (input : Words) (s : State) (t : Skeleton) (p r : ℕ) : Type 0 where
   pub loads : (own bottom : ℕ) (rest : Row)
       → IsKept i root input (goes s p (stands i.shape i.code (kind_seat own p (Push2 r) bottom) rest)) t
   pub stores_none : (own bottom n : ℕ) (cell : Cell) (content : Content) (next : Then)
@@ -101,7 +101,7 @@ pub record Push2Keeps (i : Image) (root : Tree (Frame FrameWord Point) Result) (
 
 -- in each such row, from words that are kept
 abbrev pub Push1RowKeeps : Type 0
-Push1RowKeeps = (i : Image) → IsFair i.code
+Push1RowKeeps = (i : Setting) → IsFair i.code
     → (root : Tree (Frame FrameWord Point) Result) (input : Words) (s : State) (t : Skeleton)
     → IsKept i root input s t
     → (p : ℕ) → p < i.shape.processors → (r : ℕ) → s.kind p ≡ Push1 r
@@ -109,7 +109,7 @@ Push1RowKeeps = (i : Image) → IsFair i.code
 
 -- in each such row, from words that are kept
 abbrev pub Push2RowKeeps : Type 0
-Push2RowKeeps = (i : Image) → IsFair i.code
+Push2RowKeeps = (i : Setting) → IsFair i.code
     → (root : Tree (Frame FrameWord Point) Result) (input : Words) (s : State) (t : Skeleton)
     → IsKept i root input s t
     → (p : ℕ) → p < i.shape.processors → (r : ℕ) → s.kind p ≡ Push2 r

@@ -22,7 +22,7 @@ use Rattle.ppm_step.specs.State.{words_after}
 use Rattle.ppm_frames.specs.Views.{written as write, is_cell, view}
 use Rattle.ppm_frames.specs.Skeletons.{Begins, Over, Arrives, InPlace, Skeleton, Leaf, grow, back}
 use Rattle.ppm_kept.specs.Running.{IsFair}
-use Rattle.ppm_kept.specs.Kept.{Image, InRow, State, IsKept}
+use Rattle.ppm_kept.specs.Kept.{Setting, InRow, State, IsKept}
 use Rattle.ppm_kept.specs.Moves.{goes, installs, begun, loaded, stored, exchanged}
 use Rattle.ppm_kept.specs.Laws.{Ends, kind_then}
 
@@ -39,7 +39,7 @@ abbrev pub unwind_seat : (own place frame bottom : ℕ) → Seat
 unwind_seat own p f bottom = record { own = own; place = p; restart = record { kind = Unwind f; bottom = bottom } }
 
 -- Every step of a place in a row of kind Unwind keeps all
-pub record UnwindKeeps (i : Image) (root : Tree (Frame FrameWord Point) Result) (input : Words) (s : State) (t : Skeleton) (p f : ℕ) : Type 0 where
+pub record UnwindKeeps (i : Setting) (root : Tree (Frame FrameWord Point) Result) (input : Words) (s : State) (t : Skeleton) (p f : ℕ) : Type 0 where
   pub begins : (own bottom : ℕ)
       → IsKept i root input (begun i s p (unwind_seat own p f bottom) (Unwind f)) t
   pub loads : (own bottom victim : ℕ) (point : RowPoint) → s.doing p ≡ InRow (Now (Load point))
@@ -62,7 +62,7 @@ pub record UnwindKeeps (i : Image) (root : Tree (Frame FrameWord Point) Result) 
 
 -- in each such row, from words that are kept
 abbrev pub UnwindRowKeeps : Type 0
-UnwindRowKeeps = (i : Image) → IsFair i.code
+UnwindRowKeeps = (i : Setting) → IsFair i.code
     → (root : Tree (Frame FrameWord Point) Result) (input : Words) (s : State) (t : Skeleton)
     → IsKept i root input s t
     → (p : ℕ) → p < i.shape.processors → (f : ℕ) → s.kind p ≡ Unwind f

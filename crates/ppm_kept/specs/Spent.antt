@@ -11,13 +11,13 @@ use Rattle.ppm_code.specs.declared.location.FrameWord.{FrameWord}
 use Rattle.ppm_step.specs.Frames.{Rest, Loads, Full}
 use Rattle.ppm_frames.specs.Skeletons.{Skeleton}
 use Rattle.ppm_kept.specs.Running.{IsFair, strands}
-use Rattle.ppm_kept.specs.Kept.{Image, InRest, State, IsKept}
+use Rattle.ppm_kept.specs.Kept.{Setting, InRest, State, IsKept}
 
 -- From words that are kept: where the capsule of a frame is about to load the room counter of its place,
 -- and finds the pool full by the word that is there, the root's frame and the block words that the
 -- depth-first run counts to its end are more than a pool has.
 abbrev pub FullPoolsAreSpent : Type 0
-FullPoolsAreSpent = (i : Image) → IsFair i.code
+FullPoolsAreSpent = (i : Setting) → IsFair i.code
     → (root : Tree (Frame FrameWord Point) Result) (input : Words) (s : State) (t : Skeleton)
     → IsKept i root input s t
     → (p f y : ℕ) → s.kind p ≡ Run f y

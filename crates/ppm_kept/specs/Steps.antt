@@ -34,7 +34,7 @@ use Rattle.ppm_frames.specs.Views.{view}
 use Rattle.ppm_frames.specs.Skeletons.{Waiting, Held, Skeleton, pushed, over_left, take_in}
 use Rattle.ppm_kept.specs.Running.{IsFair}
 use Rattle.ppm_kept.specs.Branches.{is_taker}
-use Rattle.ppm_kept.specs.Kept.{Image, AllowsAll, IsKept}
+use Rattle.ppm_kept.specs.Kept.{Setting, AllowsAll, IsKept}
 use Rattle.ppm_kept.specs.Moves.{by_install}
 use Rattle.ppm_kept.specs.Laws.{kind_then}
 use Rattle.ppm_kept.specs.Returns.{by_unwind}
@@ -64,7 +64,7 @@ by_exchange m p (Push2 r) true t = over_left p (pushed Waiting) t
 by_exchange m p k made t = t
 
 -- the step of a processor that stands there, by what these words by cells show
-abbrev pub tree_with : Image → (Cell → ℕ) → List ℕ → Standing → Skeleton → Skeleton
+abbrev pub tree_with : Setting → (Cell → ℕ) → List ℕ → Standing → Skeleton → Skeleton
 tree_with i m words (IsWithin seat (Now next)) t = by_end seat.place seat.restart.kind next t
 tree_with i m words (IsWithin seat (Store cell content next)) t = by_store seat.place seat.restart.kind t
 tree_with i m words (IsWithin seat (Exchange cell old new next)) t =
@@ -73,19 +73,19 @@ tree_with i m words (IsRunning seat (Installs kind)) t = by_install i m seat.pla
 tree_with i m words standing t = t
 
 -- its act; faults and quits change no tree
-abbrev pub act_with : Image → (Cell → ℕ) → List ℕ → Act → Standing → Skeleton → Skeleton
+abbrev pub act_with : Setting → (Cell → ℕ) → List ℕ → Act → Standing → Skeleton → Skeleton
 act_with i m words (Step victim) standing t = tree_with i m words standing t
 act_with i m words act standing t = t
 
 -- by the machine's own words
-abbrev pub tree_by : Image → List ℕ → Standing → Skeleton → Skeleton
+abbrev pub tree_by : Setting → List ℕ → Standing → Skeleton → Skeleton
 tree_by i words standing t = tree_with i (view i.shape words) words standing t
 
-abbrev pub by_act : Image → List ℕ → Act → Standing → Skeleton → Skeleton
+abbrev pub by_act : Setting → List ℕ → Act → Standing → Skeleton → Skeleton
 by_act i words act standing t = act_with i (view i.shape words) words act standing t
 
 -- the skeleton after a turn
-abbrev pub tree_after : Image → Machine → Turn → Skeleton → Skeleton
+abbrev pub tree_after : Setting → Machine → Turn → Skeleton → Skeleton
 tree_after i state turn t = by_act i state.words turn.act (stand_of state turn.processor) t
 
 -- how a row was come to, of kinds of which the words by cells do not say it
@@ -98,14 +98,14 @@ CameBy s seat (Join r d) row = Unit {0}
 CameBy s seat k row = (n : ℕ) × Comes s seat n (row_of s seat k) row
 
 -- a branch whose offset a taker loads waits, and one that it begins is begun by no other
-abbrev pub TakesSo : Image → Machine → Skeleton → (p : ℕ) → Row → Type 0
+abbrev pub TakesSo : Setting → Machine → Skeleton → (p : ℕ) → Row → Type 0
 TakesSo i state t p (Now (Load (Offset r b))) = IsWaiting t r
 TakesSo i state t p (Now (Begin r f b)) = IsAlone (places_of i.shape state) p r
 TakesSo i state t p row = Unit {0}
 
 -- what the deque's half says of a processor in a row: it is alone in its place, which is at the kind of
 -- its seat
-pub record InRowSo (i : Image) (state : Machine) (t : Skeleton) (c : ℕ) (seat : Seat) (row : Row) : Type 0 where
+pub record InRowSo (i : Setting) (state : Machine) (t : Skeleton) (c : ℕ) (seat : Seat) (row : Row) : Type 0 where
   pub holds : Holds i.shape state c seat.place
   pub own : seat.own < i.shape.processors
   pub kind : kinds_of i.shape state.words seat.place ≡ seat.restart.kind
@@ -114,19 +114,19 @@ pub record InRowSo (i : Image) (state : Machine) (t : Skeleton) (c : ℕ) (seat 
   pub takes : is_taker seat.restart.kind ≡ true → TakesSo i state t seat.place row
 
 -- in a capsule; its end may be counted
-pub record InRestSo (i : Image) (state : Machine) (c : ℕ) (seat : Seat) (rest : Rest) : Type 0 where
+pub record InRestSo (i : Setting) (state : Machine) (c : ℕ) (seat : Seat) (rest : Rest) : Type 0 where
   pub holds : Holds i.shape state c seat.place
   pub kind : kinds_of i.shape state.words seat.place ≡ seat.restart.kind
   pub there : rest_is_there i.shape seat rest ≡ true
   pub counts : (kind : RestartKind) → rest ≡ Installs kind → AllowsAll i
 
 -- the restart that was read is the place's
-abbrev pub IsKindIf : Image → List ℕ → ℕ → Option Restart → Type 0
+abbrev pub IsKindIf : Setting → List ℕ → ℕ → Option Restart → Type 0
 IsKindIf i words p None = Unit {0}
 IsKindIf i words p (Some restart) = kinds_of i.shape words p ≡ restart.kind
 
 -- wherever it stands
-abbrev pub StandsSo : Image → Machine → Skeleton → (c : ℕ) → Standing → Type 0
+abbrev pub StandsSo : Setting → Machine → Skeleton → (c : ℕ) → Standing → Type 0
 StandsSo i state t c IsLost = Unit {0}
 StandsSo i state t c (IsPlaced p) = Unit {0}
 StandsSo i state t c (IsAt p restart) = Holds i.shape state c p × IsKindIf i state.words p restart
@@ -147,7 +147,7 @@ pub record IsPresent (s : Shape) (state : Machine) (c : ℕ) : Type 0 where
   pub there : c < s.processors
 
 -- what it says of an act
-abbrev pub ActsSo : Image → Machine → Skeleton → (c : ℕ) → Act → Standing → Type 0
+abbrev pub ActsSo : Setting → Machine → Skeleton → (c : ℕ) → Act → Standing → Type 0
 ActsSo i state t c (Step victim) standing = IsPresent i.shape state c × StandsSo i state t c standing
 ActsSo i state t c act standing = IsPresent i.shape state c × LeavesSo i.shape state c standing
 
@@ -160,15 +160,15 @@ IsStop (BrokenAt place) = Unit {0}
 IsStop _ = ⊥
 
 -- the finish word says one
-abbrev pub IsStopped : Shape → List ℕ → Type 0
-IsStopped s words = (v : Finish) × (finish_of (view s words FinishWord) ≡ Some v) × IsStop v
+abbrev pub SaysStop : Shape → List ℕ → Type 0
+SaysStop s words = (v : Finish) × (finish_of (view s words FinishWord) ≡ Some v) × IsStop v
 
 -- With takeover by places: from a state that is kept by places, a turn of which the deque's half says so
 -- is kept, with the skeleton after it; or it stops the run with a finish that is no outcome
 abbrev pub TurnsKeep : Type 0
-TurnsKeep = (i : Image) → IsFair i.code → i.shape.takeover ≡ ByPlaces
+TurnsKeep = (i : Setting) → IsFair i.code → i.shape.takeover ≡ ByPlaces
     → (root : Tree (Frame FrameWord Point) Result) (input : Words) (state : Machine) (t : Skeleton)
     → IsKept i root input (places_of i.shape state) t → (turn : Turn)
     → ActsSo i state t turn.processor turn.act (stand_of state turn.processor)
     → IsKept i root input (places_of i.shape (happens i.shape i.code state turn)) (tree_after i state turn t)
-    ⊎ IsStopped i.shape (happens i.shape i.code state turn).words
+    ⊎ SaysStop i.shape (happens i.shape i.code state turn).words

@@ -11,13 +11,13 @@ use Rattle.ppm_step.specs.declared.turn.Turn.{Turn}
 use Rattle.ppm_frames.specs.Views.{written}
 use Rattle.ppm_frames.specs.Skeletons.{Skeleton}
 use Rattle.ppm_kept.specs.Running.{IsFair}
-use Rattle.ppm_kept.specs.Kept.{Image, Resting, State, NoOutcome, IsKept}
+use Rattle.ppm_kept.specs.Kept.{Setting, Resting, State, NoOutcome, IsKept}
 use Rattle.ppm_kept.specs.Places.{places_of}
 use Rattle.ppm_kept.specs.Steps.{ActsSo, tree_after}
 
 -- With takeover by places: as `TurnsKeep`, also where the turn stops the run, and behind it
 abbrev pub TurnsKeepOn : Type 0
-TurnsKeepOn = (i : Image) → IsFair i.code → i.shape.takeover ≡ ByPlaces
+TurnsKeepOn = (i : Setting) → IsFair i.code → i.shape.takeover ≡ ByPlaces
     → (root : Tree (Frame FrameWord Point) Result) (input : Words) (state : Machine) (t : Skeleton)
     → IsKept i root input (places_of i.shape state) t → (turn : Turn)
     → ActsSo i state t turn.processor turn.act (stand_of state turn.processor)
@@ -25,7 +25,7 @@ TurnsKeepOn = (i : Image) → IsFair i.code → i.shape.takeover ≡ ByPlaces
 
 -- where no place is in a row, and the finish word is another one that says no outcome
 abbrev pub WordsStay : Type 0
-WordsStay = (i : Image) → IsFair i.code
+WordsStay = (i : Setting) → IsFair i.code
     → (root : Tree (Frame FrameWord Point) Result) (input : Words) (s : State) (t : Skeleton)
     → IsKept i root input s t → (word : ℕ) → NoOutcome word
     → IsKept i root input (record { words = written s.words FinishWord word; kind = s.kind; doing = λ p. Resting }) t

@@ -22,7 +22,7 @@ use Rattle.ppm_frames.specs.Views.{is_cell}
 use Rattle.ppm_frames.specs.Skeletons.{Skeleton, take_in}
 use Rattle.ppm_kept.specs.Running.{IsFair}
 use Rattle.ppm_kept.specs.Branches.{Waits, is_taker}
-use Rattle.ppm_kept.specs.Kept.{Image, InRow, State, IsKept}
+use Rattle.ppm_kept.specs.Kept.{Setting, InRow, State, IsKept}
 use Rattle.ppm_kept.specs.Moves.{goes, installs, loaded, exchanged_unseen}
 use Rattle.ppm_kept.specs.Laws.{Ends}
 use Rattle.ppm_kept.specs.Others.{IsIdle}
@@ -56,7 +56,7 @@ EndsSo how k _ = Unit {0}
 
 -- Each step of a place in a row of a kind without a strand keeps all, but for where it goes on with
 -- what it inherited; the strand of a branch that it begins is then the place's
-pub record TakeKeeps (i : Image) (root : Tree (Frame FrameWord Point) Result) (input : Words) (s : State) (t : Skeleton) (p : ℕ) (k : RestartKind) : Type 0 where
+pub record TakeKeeps (i : Setting) (root : Tree (Frame FrameWord Point) Result) (input : Words) (s : State) (t : Skeleton) (p : ℕ) (k : RestartKind) : Type 0 where
   -- it begins, or goes on by a load: if it is then about to begin a branch, that waits there
   pub loads : (own bottom : ℕ) (rest : Row) → ((r f b : ℕ) → rest ≡ Now (Begin r f b) → Waits r f t)
       → IsKept i root input (goes s p (stands i.shape i.code (kind_seat own p k bottom) rest)) t
@@ -83,7 +83,7 @@ pub record TakeKeeps (i : Image) (root : Tree (Frame FrameWord Point) Result) (i
 
 -- in each row of such a kind, from words that are kept
 abbrev pub TakeRowsKeep : Type 0
-TakeRowsKeep = (i : Image) → IsFair i.code
+TakeRowsKeep = (i : Setting) → IsFair i.code
     → (root : Tree (Frame FrameWord Point) Result) (input : Words) (s : State) (t : Skeleton)
     → IsKept i root input s t
     → (p : ℕ) → p < i.shape.processors → (k : RestartKind) → s.kind p ≡ k → IsIdle k

@@ -27,7 +27,7 @@ use Rattle.ppm_step.specs.declared.row.Then.TheVariants.{Load}
 use Rattle.ppm_frames.specs.Views.{written, is_cell, view}
 use Rattle.ppm_frames.specs.Skeletons.{Skeleton}
 use Rattle.ppm_kept.specs.Running.{IsFair, MayStore}
-use Rattle.ppm_kept.specs.Kept.{Image, State, IsKept}
+use Rattle.ppm_kept.specs.Kept.{Setting, State, IsKept}
 use Rattle.ppm_kept.specs.Laws.{Ends}
 
 -- a load finds the word of its cell, a store is a write, an install is not seen, a full pool is an
@@ -56,7 +56,7 @@ StepsAreSeen = (s : Shape) (words : List ℕ) (seat : Seat) → AreWordsOf s wor
 
 -- the cells that a capsule under way stores into are such cells, where they are there
 abbrev pub StoresAreCells : Type 0
-StoresAreCells = (i : Image) → IsFair i.code
+StoresAreCells = (i : Setting) → IsFair i.code
     → (root : Tree (Frame FrameWord Point) Result) (input : Words) (s : State) (t : Skeleton)
     → IsKept i root input s t
     → (p : ℕ) → p < i.shape.processors → (f y : ℕ) → s.kind p ≡ Run f y

@@ -18,7 +18,7 @@ use Rattle.ppm_frames.specs.Skeletons.{Who, Fresh, Waiting, Held, Skeleton, Leaf
 use Rattle.ppm_frames.specs.Good.{link_at}
 use Rattle.ppm_kept.specs.Running.{IsFair}
 use Rattle.ppm_kept.specs.Branches.{Waits}
-use Rattle.ppm_kept.specs.Kept.{Image, InRow, State, IsKept}
+use Rattle.ppm_kept.specs.Kept.{Setting, InRow, State, IsKept}
 use Rattle.ppm_kept.specs.Moves.{by_install}
 use Rattle.ppm_kept.specs.Returns.{by_unwind}
 use Rattle.ppm_kept.specs.Arriving.{by_arrive}
@@ -63,7 +63,7 @@ abbrev pub Is : (v w : Who) → Type 0
 Is v w = v ≡ w
 
 -- of the skeletons that the laws of rows give for the steps of place p
-pub record UnrunsStay (i : Image) (s : State) (t : Skeleton) (p : ℕ) : Type 0 where
+pub record UnrunsStay (i : Setting) (s : State) (t : Skeleton) (p : ℕ) : Type 0 where
   -- the end of a capsule that opens no block, an install of Unwind, an arrival
   pub runs : (f y : ℕ) (kind : RestartKind) → IsSteady kind
       → SameUnruns t (by_install i s.words p (Run f y) kind t)
@@ -93,6 +93,6 @@ pub record UnrunsStay (i : Image) (s : State) (t : Skeleton) (p : ℕ) : Type 0 
 
 -- of each place, from words that are kept
 abbrev pub AllUnrunsStay : Type 0
-AllUnrunsStay = (i : Image) → IsFair i.code
+AllUnrunsStay = (i : Setting) → IsFair i.code
     → (root : Tree (Frame FrameWord Point) Result) (input : Words) (s : State) (t : Skeleton)
     → IsKept i root input s t → (p : ℕ) → UnrunsStay i s t p

@@ -10,7 +10,7 @@ use Rattle.ppm_listing_reader.specs.declared.part.Part.{Part}
 use Rattle.ppm_listing_reader.specs.declared.part.Part.TheVariants as part
 use Rattle.ppm_listing_reader.specs.declared.place.Place.{Place}
 use Rattle.ppm_listing_reader.specs.declared.place.Place.TheVariants.{AtVersion}
-use Rattle.ppm_listing_reader.specs.Limits.{text_limit}
+use Rattle.ppm_listing_reader.specs.Limits.{listing_limit}
 use Rattle.ppm_listing_reader.specs.ErrorNumbers.{fault_number, refusal_at}
 use Rattle.ppm_listing_reader.specs.Tokens.{split}
 use Rattle.ppm_listing_reader.specs.Forms.{line_of, lines_in, lines_of}
@@ -35,7 +35,7 @@ line_step all done place left front rest e h =
     ∙ ap (λ ls. done ++ standing_from place ls) (sym (lines_of-more left front rest e)) ∙ h
 
 -- the first broken rule of a text that is not too long is its first fault
-pub first_fault_of : (text : List ℕ) (fault : Fault) (number : ℕ) → length text ≤ text_limit
+pub first_fault_of : (text : List ℕ) (fault : Fault) (number : ℕ) → length text ≤ listing_limit
     → IsFirstBreak (code_in (standing_of text)) AtVersion (standing_of text) fault number → IsFirstFault text fault (number + 1)
 first_fault_of text fault number few b = record { there = Breaks fault number b.there; first = λ other later h. after other later h }
   where
@@ -78,7 +78,7 @@ first_none text tail e = record {
     after _ _ (TooLong long) = inr (refl, omega arith)
 
 -- one that is too long and whose first line stands
-long_none : (text : List ℕ) (tail : List (Option Part)) → text_limit < length text → standing_of text ≡ Some part.Version ∷ tail → IsFirstFault text NotThere 1
+long_none : (text : List ℕ) (tail : List (Option Part)) → listing_limit < length text → standing_of text ≡ Some part.Version ∷ tail → IsFirstFault text NotThere 1
 long_none text tail long e = record { there = TooLong long; first = after }
   where
     none : (rule : Fault) → IsTrue (breaks (code_in (standing_of text)) rule AtVersion (Some part.Version)) → ⊥
@@ -94,7 +94,7 @@ long_none text tail long e = record { there = TooLong long; first = after }
     after other _ (Breaks _ (suc n) h) = inl (omega arith)
     after _ _ (TooLong long) = inr (refl, omega arith)
 
-pub long_refusal : (text front rest : List ℕ) → text_limit < length text → split 10 text ≡ front ∷ split 10 rest
+pub long_refusal : (text front rest : List ℕ) → listing_limit < length text → split 10 text ≡ front ∷ split 10 rest
     → IsRefusal text (cond (is_some (standing AtVersion (line_of front))) (error.NotThere 1) (error.NoSuchForm 1))
 long_refusal text front rest long e = go (line_of front) (ap (standing_from AtVersion) (lines_of-more text front rest e))
   where
@@ -122,6 +122,6 @@ not_begun text front rest e none = go (line_of front) (ap (standing_from AtVersi
     go (Some (part.Instr i)) e none = first_none text _ e
 
 -- one that is too long, with no whole line
-pub long_unended : (text : List ℕ) → text_limit < length text → split 10 text ≡ text ∷ [] → IsFirstFault text NoSuchForm 1
+pub long_unended : (text : List ℕ) → listing_limit < length text → split 10 text ≡ text ∷ [] → IsFirstFault text NoSuchForm 1
 long_unended [] long e = absurd (omega (arith, long))
 long_unended (b ∷ bs) long e = first_none (b ∷ bs) _ (ap (λ ps. standing_from AtVersion (lines_in ps)) e)

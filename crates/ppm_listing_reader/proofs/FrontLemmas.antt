@@ -12,7 +12,7 @@ use Rattle.ppm_listing_reader.specs.declared.part.Part.TheVariants as part
 use Rattle.ppm_listing_reader.specs.declared.place.Place.{Place}
 use Rattle.ppm_listing_reader.specs.declared.place.Place.TheVariants.{AtVersion, AtRoot, AtProcedure, Within}
 use Rattle.ppm_listing_reader.specs.declared.reader.Reader.{Reader}
-use Rattle.ppm_listing_reader.specs.Limits.{text_limit}
+use Rattle.ppm_listing_reader.specs.Limits.{listing_limit}
 use Rattle.ppm_listing_reader.specs.ErrorNumbers.{fault_number, refusal_at}
 use Rattle.ppm_listing_reader.specs.Tokens.{split}
 use Rattle.ppm_listing_reader.specs.Forms.{line_of, lines_in, lines_of}
@@ -125,7 +125,7 @@ module _ (text : List ℕ) where
       }
 
   -- a line more can be counted
-  pub goes_counted : (r : Reader) (left : List ℕ) → length text ≤ text_limit → Goes text r left → counted r.place + 1 < 2 ^ 32
+  pub goes_counted : (r : Reader) (left : List ℕ) → length text ≤ listing_limit → Goes text r left → counted r.place + 1 < 2 ^ 32
   goes_counted r left few g = omega (arith, few, g.most, counted-after AtVersion g.so_far, ap counted g.read.place)
 
   -- no more lines are kept than were read
@@ -230,7 +230,7 @@ module _ (text : List ℕ) (r : Reader) (read : HasRead r (standing_of text)) wh
   outline : r.outline ≡ outline_of (code_in (standing_of text))
   outline = read.outline ∙ outlined_code (standing_of text)
 
-  pub found_refusal : length text ≤ text_limit → (kept : List (Option Part)) → kept ≡ r.kept.items → (fault : Fault) (number : ℕ)
+  pub found_refusal : length text ≤ listing_limit → (kept : List (Option Part)) → kept ≡ r.kept.items → (fault : Fault) (number : ℕ)
       → IsFirstBreak r.outline AtVersion kept fault number → IsRefusal text (refusal_at fault (number + 1))
   found_refusal few kept same fault number b =
       refusal_of text fault (number + 1) (first_fault_of text fault number few

@@ -23,7 +23,7 @@ use Rattle.ppm_listing_reader.specs.declared.listing_error.Fault.{Fault}
 use Rattle.ppm_listing_reader.specs.declared.part.Part.{Part}
 use Rattle.ppm_listing_reader.specs.declared.part.Part.TheVariants as part
 use Rattle.ppm_listing_reader.specs.declared.place.Place.TheVariants.{AtVersion}
-use Rattle.ppm_listing_reader.specs.Limits.{text_limit}
+use Rattle.ppm_listing_reader.specs.Limits.{listing_limit}
 use Rattle.ppm_listing_reader.specs.Forms.{lines_of as lines_of_text}
 use Rattle.ppm_listing_reader.specs.Places.{standing_from, code_in}
 use Rattle.ppm_listing_reader.specs.Faults.{KeepsRules}
@@ -263,7 +263,7 @@ by_all P [] h = tt
 by_all P (x ∷ xs) h = (h 0 x (omega arith), by_all P xs (λ k d l. h (suc k) d (omega (arith, l))))
 
 -- a listing is not too long
-pub listing_short : (c : CodeParts) → IsCode c → NumbersFit c → length (listing_of c) ≤ text_limit
+pub listing_short : (c : CodeParts) → IsCode c → NumbersFit c → length (listing_of c) ≤ listing_limit
 listing_short c is fits =
     let rest = procedure_parts 0 c.procedures (capsule_parts 0 c.capsules) in
     let below = subst (AllByRecursion (IsLineBelow short_limit)) (sym (parts_lines c)) (lines_small c is short_limit (omega arith)) in
@@ -275,7 +275,7 @@ listing_short c is fits =
     let body = text_short rest others all_fit.1.1 below.1.1 in
     let count = count_procedures 0 c.procedures (capsule_parts 0 c.capsules) in
     let capsules = count_capsules c 0 c.capsules (by_all (IsCapsule c) c.capsules is.capsules) in
-    let long : length (text_of (map part_line (parts_of c))) ≤ text_limit =
+    let long : length (text_of (map part_line (parts_of c))) ≤ listing_limit =
     omega (
       arith,
       first,
@@ -288,7 +288,7 @@ listing_short c is fits =
       length-append (line_text (part_line part.Version)) (text_of (map part_line (part.Root c.root c.arrays ∷ rest))),
       length-append (line_text (part_line (part.Root c.root c.arrays))) (text_of (map part_line rest)),
     ) in
-    subst (λ ls. length (text_of ls) ≤ text_limit) (parts_lines c) long
+    subst (λ ls. length (text_of ls) ≤ listing_limit) (parts_lines c) long
 
 -- a listing has no fault
 pub excludes : (text : List ℕ) (code : CodeParts) (rule : Fault) (line : ℕ) → IsListing text code → HasFault text rule line → ⊥

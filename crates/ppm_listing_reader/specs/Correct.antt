@@ -10,7 +10,7 @@ use Rattle.ppm_listing_reader.specs.declared.listing_error.ListingError.{Listing
 use Rattle.ppm_listing_reader.specs.declared.listing_error.ListingError.TheVariants as error
 use Rattle.ppm_listing_reader.specs.declared.part.Part.{Part}
 use Rattle.ppm_listing_reader.specs.declared.place.Place.TheVariants.{AtVersion}
-use Rattle.ppm_listing_reader.specs.Limits.{text_limit}
+use Rattle.ppm_listing_reader.specs.Limits.{listing_limit}
 use Rattle.ppm_listing_reader.specs.ErrorNumbers.{fault_number}
 use Rattle.ppm_listing_reader.specs.Forms.{lines_of}
 use Rattle.ppm_listing_reader.specs.Places.{standing_from, code_in}
@@ -23,7 +23,7 @@ standing_of text = standing_from AtVersion (lines_of text)
 -- a text has a fault at a line, counted from 1: the line breaks the rule by what the text declares; or the text is too long, which is a fault of its first line
 pub data HasFault (text : List ℕ) : Fault → (line : ℕ) → Type 0 where
   Breaks : (rule : Fault) (number : ℕ) → BreaksAt (code_in (standing_of text)) rule AtVersion (standing_of text) number → HasFault text rule (number + 1)
-  TooLong : text_limit < length text → HasFault text fault.NotThere 1
+  TooLong : listing_limit < length text → HasFault text fault.NotThere 1
 
 -- one fault comes at an earlier line, or at the same with no larger number
 abbrev pub IsNotAfter : (Fault × ℕ) → (Fault × ℕ) → Type 0

@@ -2,5 +2,5 @@
 use Rattle.std.specs.Prelude.{ℕ}
 
 -- bytes of a listing
-abbrev pub text_limit : ℕ
-text_limit = 536870912
+abbrev pub listing_limit : ℕ
+listing_limit = 536870912

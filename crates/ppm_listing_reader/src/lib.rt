@@ -29,5 +29,5 @@ pub use laws::faults_tell_listings;
 pub use listing_error::{Fault, ListingError};
 pub use part::Part;
 pub use place::Place;
-pub use reading::{TEXT_LIMIT, read_listing};
+pub use reading::{LISTING_LIMIT, read_listing};
 pub use token::Token;

@@ -3,7 +3,7 @@ ghost use Rattle.std.specs.Prelude.{◌≡◌, ◌≤◌, ◌<◌, nat_lt, lengt
 ghost use Rattle.std.specs.Prelude.{IfOk, IfErr};
 ghost use Rattle.ppm_listing.specs.Listing.{listing_of};
 ghost use Rattle.ppm_listing.specs.Correct.{NumbersFit};
-ghost use Rattle.ppm_listing_reader.specs.Limits.{text_limit};
+ghost use Rattle.ppm_listing_reader.specs.Limits.{listing_limit};
 ghost use Rattle.ppm_listing_reader.specs.Places.{standing};
 ghost use Rattle.ppm_listing_reader.specs.declared.place.Place.TheVariants.{AtVersion};
 ghost use Rattle.ppm_listing_reader.specs.declared.listing_error.ListingError.TheVariants.{NotThere};
@@ -24,11 +24,11 @@ use ppm_words::NoMemory;
 use std::alloc::Global;
 
 /// The bytes of a listing, at most.
-pub const TEXT_LIMIT: usize = 536_870_912;
+pub const LISTING_LIMIT: usize = 536_870_912;
 
 /// What was read of a text, line by line.
 fn read_lines(alloc: Global, text: &[u8]) -> Result<Reader, NoMemory>
-    requires { length text.now ≤ text_limit }
+    requires { length text.now ≤ listing_limit }
     ensures lines { IfOk result (λ r. HasRead r (standing_of text.now)) }
     ensures most { IfOk result (λ r. length r.kept.items ≤ length text.now) }
 {
@@ -48,9 +48,9 @@ fn read_lines(alloc: Global, text: &[u8]) -> Result<Reader, NoMemory>
 
 /// Whether so many bytes are more than a listing may have.
 fn is_too_long(bytes: usize) -> bool
-    ensures { result ≡ nat_lt text_limit bytes }
+    ensures { result ≡ nat_lt listing_limit bytes }
 {
-    bytes > TEXT_LIMIT
+    bytes > LISTING_LIMIT
 }
 
 /// The fault of a text with too many bytes, by its first line: that stands, or it does not.
@@ -65,7 +65,7 @@ fn too_long_by(line: Option<Part>) -> ListingError
 
 /// The first fault of a text with too many bytes.
 fn too_long(alloc: Global, text: &[u8]) -> Result<ListingError, NoMemory>
-    requires { text_limit < length text.now }
+    requires { listing_limit < length text.now }
     ensures { IfOk result (IsRefusal text.now) }
 {
     match split_once(text, b'\n') {

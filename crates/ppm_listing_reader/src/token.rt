@@ -1,12 +1,11 @@
 //! The tokens of a line as they are written, with numbers of any size.
 ghost use Rattle.std.specs.Prelude.{◌≡◌, OnOk};
-ghost use Rattle.std.specs.Str.{bytes_eq};
 ghost use Rattle.ppm_listing_reader.specs.Tokens.{spelled, keyword_of, named as named_token};
 ghost use Rattle.ppm_listing_reader.specs.Tokens.{minus as minus_token, token_of};
 ghost use Rattle.ppm_listing_reader.specs.Forms.{part_in, line_of, may_go_on as goes_on};
 
 use ppm_listing::Keyword;
-use ppm_pieces::{is_digit, is_numeral, split_once, value};
+use ppm_pieces::{is_digit, is_numeral, same_bytes, split_once, value};
 use ppm_words::NoMemory;
 use std::alloc::Global;
 
@@ -67,12 +66,6 @@ const KEYWORDS: [Keyword; 36] = [
     Keyword::Fork,
     Keyword::ForkTo,
 ];
-
-fn same_bytes(a: &[u8], b: &[u8]) -> bool
-    ensures { result ≡ bytes_eq a.now b.now }
-{
-    a == b
-}
 
 /// The first of some keywords that has this spelling.
 fn first_spelled(mut table: &[Keyword], bytes: &[u8]) -> Option<Keyword>

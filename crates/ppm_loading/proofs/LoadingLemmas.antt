@@ -28,7 +28,7 @@ use Rattle.ppm_loading.specs.declared.loading.Sizes.{Sizes}
 use Rattle.ppm_table.specs.Shown.{opening_of}
 use Rattle.ppm_table.specs.declared.processor.Shared.{Shared}
 use Rattle.ppm_table.specs.declared.view.Opening.{Opening}
-use Rattle.ppm_loading.specs.Loading.{AreSizes, HasShape, Opens, opened_by}
+use Rattle.ppm_loading.specs.Loading.{AreSizes, HasShape, OpensRun, opened_by}
 
 -- a machine begins with processor 0 lost
 first_lost : (p : ℕ) → 1 ≤ p → stand_in (slice_get (replicate p IsLost) 0) ≡ IsLost
@@ -77,28 +77,28 @@ module _ (sizes : Sizes) where
   module _ (code : CodeParts) (arrays : List NamedArray) (keeper : ℕ) where
     -- its arrays are as long as those that the text gives, and it has as many processors and as much room as the sizes say, and
     -- no turn behind it
-    pub opens_lengths : (m : Situation) → Opens sizes code arrays keeper m
+    pub opens_lengths : (m : Situation) → OpensRun sizes code arrays keeper m
         → m.array_lengths ≡ map (λ (a : NamedArray). length a.values) arrays
     opens_lengths m b = ap (λ (x : Situation). x.array_lengths) b.loads ∙ b.opens.lengths_are
 
-    pub opens_processors : (m : Situation) → Opens sizes code arrays keeper m → m.shape.processors ≡ sizes.processors
+    pub opens_processors : (m : Situation) → OpensRun sizes code arrays keeper m → m.shape.processors ≡ sizes.processors
     opens_processors m b = ap (λ (x : Situation). x.shape.processors) b.loads ∙ b.sized.processors
 
-    pub opens_room : (m : Situation) → Opens sizes code arrays keeper m → m.shape.room ≡ sizes.room
+    pub opens_room : (m : Situation) → OpensRun sizes code arrays keeper m → m.shape.room ≡ sizes.room
     opens_room m b = ap (λ (x : Situation). x.shape.room) b.loads ∙ b.sized.room
 
-    pub opens_turns : (m : Situation) → Opens sizes code arrays keeper m → m.turns ≡ 0
+    pub opens_turns : (m : Situation) → OpensRun sizes code arrays keeper m → m.turns ≡ 0
     opens_turns m b = ap (λ (x : Situation). x.turns) b.loads
 
     -- processor 0 is lost
-    pub opens_lost : (m : Situation) → Opens sizes code arrays keeper m → stand_of m.state 0 ≡ IsLost
+    pub opens_lost : (m : Situation) → OpensRun sizes code arrays keeper m → stand_of m.state 0 ≡ IsLost
     opens_lost m b =
         ap (λ (x : Situation). stand_of x.state 0) b.loads ∙ first_lost b.shape.processors b.shape.within.processors_least
 
     -- a machine that was loaded from the image of the program's code and input
     pub opens : (parts : CodeParts) (input : List NamedArray) (count : ℕ) (shape : Shape) (image : Image) (m : Situation)
         → parts ≡ code → input ≡ arrays → count ≡ value_count input → HasShape sizes count shape
-        → IsImageOf parts input shape keeper image → m ≡ loaded image.shape parts image.lengths image.words → Opens sizes code arrays keeper m
+        → IsImageOf parts input shape keeper image → m ≡ loaded image.shape parts image.lengths image.words → OpensRun sizes code arrays keeper m
     opens parts input count shape image m is_code is_input counted has opened loads = record {
       shape = shape;
       sized = subst (λ (n : ℕ). HasShape sizes n shape) (counted ∙ ap (λ (i : List NamedArray). value_count i) is_input) has;
@@ -110,7 +110,7 @@ module _ (sizes : Sizes) where
     }
 
     -- two of them are one
-    pub one_opening : ImagesAreOne → (m n : Situation) → Opens sizes code arrays keeper m → Opens sizes code arrays keeper n → m ≡ n
+    pub one_opening : ImagesAreOne → (m n : Situation) → OpensRun sizes code arrays keeper m → OpensRun sizes code arrays keeper n → m ≡ n
     one_opening images m n b c =
         let shape : c.shape ≡ b.shape = one_shape (value_count arrays) c.shape b.shape c.sized b.sized in
         let opens : IsImageOf code arrays b.shape keeper c.image =
@@ -126,7 +126,7 @@ module _ (sizes : Sizes) where
 
     -- and there is one
     pub some_opening : AreSizes sizes → keeper < sizes.processors → IsInput arrays
-        → (m : Situation) × Opens sizes code arrays keeper m
+        → (m : Situation) × OpensRun sizes code arrays keeper m
     some_opening are below fits =
         let shape : Shape = record {
           processors = sizes.processors;

@@ -25,7 +25,7 @@ pub record HasShape (sizes : Sizes) (array_words : ℕ) (s : Shape) : Type 0 whe
   pub takeover : s.takeover ≡ sizes.takeover
 
 -- the machine with which a run of a code on these arrays begins: it has these sizes, and the words of their image, with this keeper
-pub record Opens (sizes : Sizes) (code : CodeParts) (arrays : List NamedArray) (keeper : ℕ) (m : Situation) : Type 0 where
+pub record OpensRun (sizes : Sizes) (code : CodeParts) (arrays : List NamedArray) (keeper : ℕ) (m : Situation) : Type 0 where
   pub shape : Shape
   pub sized : HasShape sizes (value_count arrays) shape
   pub image : Image

@@ -8,7 +8,7 @@ ghost use Rattle.ppm_cut_code.specs.Routines.{code_of};
 ghost use Rattle.ppm_core.specs.Machine.{seen};
 ghost use Rattle.ppm_core.specs.Situation.{loaded};
 ghost use Rattle.ppm_table.specs.Shown.{AreNewOf};
-ghost use Rattle.ppm_loading.specs.Loading.{AreSizes, HasShape, Opens, opened_by};
+ghost use Rattle.ppm_loading.specs.Loading.{AreSizes, HasShape, OpensRun, opened_by};
 
 use crate::arrays::count_of;
 use ppm_cells::{Shape, Takeover};
@@ -62,7 +62,7 @@ fn opened(
     requires sizes { AreSizes sizes }
     requires keeper { keeper < sizes.processors }
     requires bounded { IsWithinBounds (tree_of program.now) }
-    ensures { IfOk result (λ r. Opens sizes (code_of (tree_of program.now)) (initial_arrays (tree_of program.now)) keeper
+    ensures { IfOk result (λ r. OpensRun sizes (code_of (tree_of program.now)) (initial_arrays (tree_of program.now)) keeper
         (loaded r.1.shape r.0 r.1.lengths r.1.words)) }
 {
     // The root of a program's code names arrays of what the program starts with; the calls do
@@ -89,7 +89,7 @@ pub fn load(
     requires sizes { AreSizes sizes }
     requires keeper { keeper < sizes.processors }
     requires bounded { IsWithinBounds (tree_of program.now) }
-    ensures { IfOk result (λ machine. Opens sizes (code_of (tree_of program.now)) (initial_arrays (tree_of program.now)) keeper
+    ensures { IfOk result (λ machine. OpensRun sizes (code_of (tree_of program.now)) (initial_arrays (tree_of program.now)) keeper
         (seen machine)) }
 {
     let opening = opened(alloc, sizes, program, keeper)?;
@@ -108,7 +108,7 @@ pub fn share(
     requires sizes { AreSizes sizes }
     requires keeper { keeper < sizes.processors }
     requires bounded { IsWithinBounds (tree_of program.now) }
-    ensures opens { IfOk result (λ r. Opens sizes (code_of (tree_of program.now)) (initial_arrays (tree_of program.now)) keeper
+    ensures opens { IfOk result (λ r. OpensRun sizes (code_of (tree_of program.now)) (initial_arrays (tree_of program.now)) keeper
         (opened_by r.0)) }
     ensures processors { IfOk result (λ r. AreNewOf r.0 r.1.items) }
 {

@@ -1,8 +1,10 @@
 //! Numbers in decimal.
-ghost use Rattle.std.specs.Prelude.{◌≡◌};
+ghost use Rattle.std.specs.Prelude.{◌≡◌, ◌++◌, OnOk, OnErr, decimal};
 ghost use Rattle.ppm_pieces.specs.Numbers.{is_digit as digit, is_numeral as numeral};
 ghost use Rattle.ppm_pieces.specs.Numbers.{value as value_of, number_of};
 ghost use Rattle.std.specs.List.{list_all};
+
+use std::alloc::{AllocError, Global};
 
 /// Whether a byte is a decimal digit.
 pub fn is_digit(byte: u8) -> bool
@@ -70,4 +72,13 @@ pub fn number(bytes: &[u8]) -> Option<u32>
     } else {
         None
     }
+}
+
+/// Appends a number in decimal; without memory the text stays.
+pub fn push_number(alloc: Global, text: &mut Vec<u8>, number: u64) -> Result<(), AllocError>
+    ensures ok { OnOk result (text.new.items ≡ text.old.items ++ decimal number) }
+    ensures kept { OnErr result (text.new.items ≡ text.old.items) }
+{
+    let digits = number.to_string(alloc)?;
+    text.extend_from_slice(digits.as_bytes())
 }

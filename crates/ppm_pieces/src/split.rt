@@ -1,8 +1,10 @@
 //! Cuts bytes at a separator.
-ghost use Rattle.std.specs.Prelude.{◌≡◌, ◌∷◌, [], ◌<◌, length, drop, MatchOption, not, ◌==◌, ◌≤◌};
+ghost use Rattle.std.specs.Prelude.{◌≡◌, ◌∷◌, [], ◌<◌, length, MatchOption, not, ◌==◌, ◌≤◌};
 ghost use Rattle.std.specs.Prelude.{Some, None};
 ghost use Rattle.std.specs.List.{prefix_len};
 ghost use Rattle.ppm_pieces.specs.Pieces.{split, halves_of};
+
+use crate::bytes::behind;
 
 /// How many bytes stand in front of the first separator.
 #[tactic(auto, using(crate::proofs::PieceLemmas::prefix_le))]
@@ -11,15 +13,6 @@ fn front_len(bytes: &[u8], separator: u8) -> usize
     ensures within { result ≤ length bytes.now }
 {
     bytes.iter().take_while(|b| !(**b == separator)).count()
-}
-
-/// The bytes behind the first n.
-#[tactic(auto, using(std::proofs::lemmas::List::take_rest))]
-fn behind(bytes: &[u8], n: usize) -> &[u8]
-    requires { n ≤ length bytes.now }
-    ensures { result.now ≡ drop n bytes.now }
-{
-    &bytes[n..]
 }
 
 /// The bytes in front of the first separator, and those behind it.

@@ -1,5 +1,8 @@
 //! Texts and numbers from outside, each call once.
-use crate::{is_digit, is_numeral, number, numerals_are_decimals, split_once, value};
+use crate::{
+    behind, is_digit, is_numeral, number, numerals_are_decimals, push_number, same_bytes,
+    split_once, value,
+};
 use std::test::Fail;
 
 #[test]
@@ -37,5 +40,36 @@ fn numbers_are_spelled_in_one_way(rt: HostRuntime) -> Result<(), Fail> {
     }
     assert!(rt; is_digit(b'9') && !is_digit(b':'));
     numerals_are_decimals();
+    Ok(())
+}
+
+#[test]
+fn bytes_are_compared_and_left_out(rt: HostRuntime) -> Result<(), Fail> {
+    let cases = [("", ""), ("1", "1"), ("1,2", "1,2")];
+    for (a, b) in cases {
+        assert!(rt; same_bytes(a.as_bytes(), b.as_bytes()), "{a} {b}");
+    }
+    let cases = [("1", ""), ("1", "2"), ("1", "12"), ("12", "1")];
+    for (a, b) in cases {
+        assert!(rt; !same_bytes(a.as_bytes(), b.as_bytes()), "{a} {b}");
+    }
+    let cases = [("1,2", 0, "1,2"), ("1,2", 2, "2"), ("1,2", 3, "")];
+    for (text, n, rest) in cases {
+        assert_eq!(rt; behind(text.as_bytes(), n), rest.as_bytes(), "{text} {n}");
+    }
+    let words: [u64; 3] = [7, 8, 9];
+    assert_eq!(rt; behind(&words, 1), [8, 9].as_slice());
+    Ok(())
+}
+
+#[test]
+fn numbers_are_appended(rt: HostRuntime) -> Result<(), Fail> {
+    let alloc = rt.alloc();
+    let mut text = Vec::new(alloc);
+    for number in [0, 42, u64::MAX] {
+        push_number(alloc, &mut text, number)?;
+        text.push(b';')?;
+    }
+    assert_eq!(rt; text.as_slice(), b"0;42;18446744073709551615;".as_slice());
     Ok(())
 }

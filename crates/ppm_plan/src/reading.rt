@@ -7,14 +7,8 @@ ghost use Rattle.ppm_plan.specs.Fronts.{StopsAt};
 
 use crate::item::Item;
 use crate::plan_error::PlanError;
-use ppm_pieces::split_once;
+use ppm_pieces::{same_bytes, split_once};
 use std::alloc::Global;
-
-fn same_bytes(a: &[u8], b: &[u8]) -> bool
-    ensures { result ≡ bytes_eq a.now b.now }
-{
-    a == b
-}
 
 /// Whether a text says that there are no items.
 fn says_none(text: &[u8]) -> bool

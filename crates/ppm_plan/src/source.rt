@@ -1,8 +1,9 @@
 //! The source that `self` runs.
-ghost use Rattle.std.specs.Prelude.{◌≡◌, ◌≤◌, ◌<◌, ◌^◌, ◌+◌, ◌++◌, IfOk, OnOk, decimal};
+ghost use Rattle.std.specs.Prelude.{◌≡◌, ◌≤◌, ◌<◌, ◌^◌, ◌+◌, ◌++◌, IfOk, OnOk};
 ghost use Rattle.std.specs.Int.{IsInRange};
 ghost use Rattle.ppm_plan.specs.Sources.{source_of, value_at as element, values_from};
 
+use ppm_pieces::push_number;
 use ppm_words::NoMemory;
 use std::alloc::Global;
 
@@ -11,15 +12,6 @@ fn value_at(seed: u32, index: u32) -> u64
     ensures { result ≡ element seed index }
 {
     (u64::from(seed) + 31 * u64::from(index)) % 1000
-}
-
-/// Appends a number in decimal.
-fn push_number(alloc: Global, text: &mut Vec<u8>, number: u64) -> Result<(), NoMemory>
-    ensures { OnOk result (text.new.items ≡ text.old.items ++ decimal number) }
-{
-    let digits = number.to_string(alloc)?;
-    text.extend_from_slice(digits.as_bytes())?;
-    Ok(())
 }
 
 /// Appends so many values from an element on, each behind a comma.

@@ -63,7 +63,7 @@ use Rattle.ppm_tickets.proofs.WriteLemmas.{put_here, put_else}
 use Rattle.ppm_frames.specs.Views.{is_cell}
 use Rattle.ppm_frames.specs.Skeletons.{Stand, Who, InPlace, Fresh, Held, Waiting, Came, Inlined, Skeleton, Leaf, Calling, Forking, grow, pushed, over_left, take_in, count}
 use Rattle.ppm_kept.specs.Running.{IsFair}
-use Rattle.ppm_kept.specs.Kept.{Image, seat_at, owner, InRow, State, IsKept}
+use Rattle.ppm_kept.specs.Kept.{Setting, seat_at, owner, InRow, State, IsKept}
 use Rattle.ppm_kept.specs.Kept as kept
 use Rattle.ppm_kept.specs.Births.{floor, Births}
 use Rattle.ppm_kept.specs.Moves.{by_install, opened}
@@ -95,7 +95,7 @@ use Rattle.ppm_kept.proofs.LoadLemmas.{bump_exchanges_none}
 use Rattle.ppm_kept.proofs.LookLemmas.{LookRow, comes_look, look_begins}
 use Rattle.ppm_kept.proofs.StepRows.{came_idle}
 use Rattle.ppm_join.specs.Order.{both}
-use Rattle.ppm_runs.specs.Run.{image, fate_of, IsAtLast}
+use Rattle.ppm_runs.specs.Run.{setting, fate_of, IsAtLast}
 use Rattle.ppm_runs.specs.Follow.{IsHalves}
 use Rattle.ppm_runs.specs.Joint.{IsCapped, AreJoint}
 use Rattle.ppm_runs.proofs.ShownLemmas.{away, Within}
@@ -457,15 +457,15 @@ module _ (s : Shape) (code : CodeParts) (root : Tree (Frame FrameWord Point) Res
   not_followed c p carried = here_gone run.lawful.1.board p (open_ c p carried)
 
   -- a place that pushes has the branch
-  pub pushing_home : (p r : ℕ) → run.lawful.1.board.gone p ≡ false → (left (image s code) l (places_of s state)).kind p ≡ Push1 r → h r ≡ Pushing p
+  pub pushing_home : (p r : ℕ) → run.lawful.1.board.gone p ≡ false → (left (setting s code) l (places_of s state)).kind p ≡ Push1 r → h r ≡ Pushing p
   pushing_home p r stays e =
       let kind : spots.kinds s state.words p ≡ Push1 r = sym (kinds_same s state.words p) ∙ sym (kind_away l (places_of s state).kind p (away l run.lawful.1.board.gone p run.gone stays)) ∙ e in
       run.lawful.1.board.board.only (Pushing p) r tt stays (subst (λ (k : RestartKind). Pushes k (run.lawful.1.board.ghost (Slot p (spots.bottoms s state.words p))) r) (sym kind) refl)
 
 module _ (s : Shape) (code : CodeParts) (fair : IsFair code) (root : Tree (Frame FrameWord Point) Result) (input : Words) (state : RunState) (h : ℕ → Home) (forked taken : List ℕ) (l : List Followed) (t : Skeleton) (run : IsHalves s code root input state h forked taken l t)
     (joint : AreJoint s code state h l t) where
-  abbrev i : Image
-  i = image s code
+  abbrev i : Setting
+  i = setting s code
 
   abbrev z : State
   z = left i l (places_of s state)

@@ -39,7 +39,7 @@ use Rattle.ppm_kept.specs.Moves.{doing_of}
 use Rattle.ppm_kept.specs.Places.{kind_or, kinds_of, is_in, doing_in, places_of}
 use Rattle.ppm_kept.proofs.BirthLemmas.{births_stay}
 use Rattle.ppm_kept.proofs.StopLemmas.{words_stay}
-use Rattle.ppm_runs.specs.Run.{image, IsRun}
+use Rattle.ppm_runs.specs.Run.{setting, IsRun}
 use Rattle.ppm_runs.specs.Renewals.{RunsComeBack, BehindParts, EndsInParts, PartsComeTo}
 use Rattle.ppm_runs.proofs.MomentLemmas.{all_lead, are_once}
 use Rattle.ppm_runs.proofs.OpenLemmas.{runs_open, not_broken}
@@ -121,18 +121,18 @@ module _ (s : Shape) (code : CodeParts) (places : s.takeover ≡ ByPlaces) (fair
     doing = fun_ext (λ p. resting (stand_of then_) all_lost s.processors p) k;
   }
 
-  born_back : Births (image s code) back (has forked)
-  born_back = let b = (births_stay (image s code) fair root input (places_of s state) t run.kept (has forked) run.born 0).stored FinishWord (read s saved FinishWord) IsLost tt in record { below = b.below; homes = b.homes }
+  born_back : Births (setting s code) back (has forked)
+  born_back = let b = (births_stay (setting s code) fair root input (places_of s state) t run.kept (has forked) run.born 0).stored FinishWord (read s saved FinishWord) IsLost tt in record { below = b.below; homes = b.homes }
 
   comes_back : IsRun s code root input then_ h forked taken t
   comes_back = record {
     lawful = resumes s code state saved h forked taken places run.lawful renewal;
-    kept = subst (λ (z : State). IsKept (image s code) root input z t) (sym back_is) (words_stay (image s code) fair root input (places_of s state) t run.kept (read s saved FinishWord) none);
+    kept = subst (λ (z : State). IsKept (setting s code) root input z t) (sym back_is) (words_stay (setting s code) fair root input (places_of s state) t run.kept (read s saved FinishWord) none);
     agrees = run.agrees;
     last = λ r p held home. ap (λ (b : ℕ). b + 1) (bottoms_back s state.words saved renewal p) ∙ run.last r p held home;
     ready = λ p r f y b ke de. absurd (let e = ap (λ (z : State). z.doing p) (sym back_is) ∙ de in cc);
     broken = λ c p e. absurd (not_broken (stand_of then_ c) p (all_lost c) e);
-    born = subst (λ (z : State). Births (image s code) z (has forked)) (sym back_is) born_back;
+    born = subst (λ (z : State). Births (setting s code) z (has forked)) (sym back_is) born_back;
   }
 
 pub runs_come_back : RunsComeBack

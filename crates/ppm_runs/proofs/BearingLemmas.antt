@@ -7,7 +7,7 @@ use Rattle.ppm_kept.specs.Bearing.{with_blocks}
 use Rattle.ppm_kept.specs.Births.{Births}
 use Rattle.ppm_kept.specs.Places.{places_of}
 use Rattle.ppm_kept.proofs.BearLemmas.{turns_bear}
-use Rattle.ppm_runs.specs.Run.{image}
+use Rattle.ppm_runs.specs.Run.{setting}
 use Rattle.ppm_runs.specs.Laws.{BirthsFollow}
 use Rattle.ppm_runs.proofs.GoingLemmas.{acts_so}
 
@@ -18,6 +18,6 @@ with_same (r ∷ l) f x = ap (λ (b : Bool). if r == x then true else b) (with_s
 
 pub births_follow : BirthsFollow
 births_follow s code places fair root input state h forked taken t run turn among =
-    subst (Births (image s code) (places_of s (happens s code state turn))) (fun_ext (with_same (forks_of state turn) forked))
-    (turns_bear (image s code) fair places root input state t run.kept (has forked) run.born turn
+    subst (Births (setting s code) (places_of s (happens s code state turn))) (fun_ext (with_same (forks_of state turn) forked))
+    (turns_bear (setting s code) fair places root input state t run.kept (has forked) run.born turn
     (acts_so s code places fair root input state h forked taken t run turn.processor turn.act among.processor))

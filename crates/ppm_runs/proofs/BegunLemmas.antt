@@ -16,7 +16,7 @@ use Rattle.ppm_code.specs.Strands.{Point, Result}
 use Rattle.ppm_code.specs.declared.location.FrameWord.{FrameWord}
 use Rattle.ppm_frames.specs.Skeletons.{Stand, Begins, Over, Arrives, Who, InPlace, Fresh, Waiting, Held, Came, Inlined, Skeleton, Leaf, Calling, Forking, header, tree_at, is_at, Around, Top, AtCall, AtLeft, AtRight, plug}
 use Rattle.ppm_kept.specs.Running.{IsFair}
-use Rattle.ppm_kept.specs.Kept.{Image, State, carried, IsKept}
+use Rattle.ppm_kept.specs.Kept.{Setting, State, carried, IsKept}
 use Rattle.ppm_kept.proofs.PlaceLemmas.{leaf, run_leaf}
 use Rattle.ppm_runs.proofs.SumLemmas.{sum, sum_zero, sum_plus}
 
@@ -78,7 +78,7 @@ begin_sum places m h (Forking f n y r a b) =
     let j = begin_sum places m (Branch Left r) a in let k = begin_sum places m (Branch Right r) b in omega (arith, e, j, k)
 
 -- a place that runs has such a strand
-pub runs_begin : (i : Image) (fair : IsFair i.code) (root : Tree (Frame FrameWord Point) Result) (input : Words) (s : State) (t : Skeleton) (law : IsKept i root input s t) (p : ℕ)
+pub runs_begin : (i : Setting) (fair : IsFair i.code) (root : Tree (Frame FrameWord Point) Result) (input : Words) (s : State) (t : Skeleton) (law : IsKept i root input s t) (p : ℕ)
     → (k : RestartKind) → s.kind p ≡ k → runs k ≤ begin_in p t
 runs_begin i fair root input s t law p (Run f y) e =
     let g = run_leaf i s t p f y e (leaf i fair root input s t law p (ap (carried s.words) e)) in

@@ -26,7 +26,7 @@ use Rattle.ppm_code.specs.declared.code.CodeParts.{CodeParts}
 use Rattle.ppm_code.specs.declared.location.FrameWord.{FrameWord}
 use Rattle.ppm_layout.specs.Correct.{Opens}
 use Rattle.ppm_layout.specs.Root.{root_strand}
-use Rattle.ppm_layout.specs.declared.images.Image.{Image as RealImage}
+use Rattle.ppm_layout.specs.declared.images.Image.{Image}
 use Rattle.ppm_step.specs.Among.{IsTurnAmong}
 use Rattle.ppm_step.specs.Laws.{finish_at, reached}
 use Rattle.ppm_step.specs.Frames.{Installs}
@@ -67,7 +67,7 @@ use Rattle.ppm_kept.proofs.LeftLemmas.{kind_away, kind_or}
 use Rattle.ppm_kept.proofs.PayingLemmas.{credit_stays}
 use Rattle.ppm_kept.proofs.PutLemmas.{put_here as set_here, put_else as set_else}
 use Rattle.ppm_runs.specs.Follow.{IsHalves}
-use Rattle.ppm_runs.specs.Run.{image, fate_of, IsRun}
+use Rattle.ppm_runs.specs.Run.{setting, fate_of, IsRun}
 use Rattle.ppm_runs.specs.Work.{is_push, is_at_push, undoes, undone_of, UndoneAreStruck}
 use Rattle.ppm_runs.proofs.StandLemmas.{kinds_same}
 use Rattle.ppm_runs.proofs.SumLemmas.{sum, sum_at, sum_le, sum_zero}
@@ -774,10 +774,10 @@ module _ (s : Shape) (code : CodeParts) (fair : IsFair code) (root : Tree (Frame
   module _ (places : s.takeover ≡ ByPlaces) where
     -- the next state, with its count of capsules
     run_then : (state : RunState) (h : ℕ → Home) (forked taken : List ℕ) (t : Skeleton) (run : IsRun s code root input state h forked taken t) (turn : Turn) → IsTurnAmong s.processors turn
-        → (next : IsRun s code root input (happens s code state turn) (by_act s state.words turn.act (stand_of state turn.processor) h) (forks_of state turn ++ forked) (takes_of state turn ++ taken) (tree_after (image s code) state turn t))
+        → (next : IsRun s code root input (happens s code state turn) (by_act s state.words turn.act (stand_of state turn.processor) h) (forks_of state turn ++ forked) (takes_of state turn ++ taken) (tree_after (setting s code) state turn t))
         × (run.kept.ahead.0.capsules + by_step ended_by turn.act (stand_of state turn.processor) ≤ next.kept.ahead.0.capsules)
     run_then state h forked taken t run turn among =
-        let counted = capsules_are_counted (image s code) fair places root input state t run.kept turn (acts_so s code places fair root input state h forked taken t run turn.processor turn.act among.processor) in
+        let counted = capsules_are_counted (setting s code) fair places root input state t run.kept turn (acts_so s code places fair root input state h forked taken t run turn.processor turn.act among.processor) in
         let joined = joins_stay s code places fair root input state h forked taken t run turn among counted.0 in (
           record {
             lawful = (turns_go_on s code places fair root input state h forked taken t run).lawful turn among;
@@ -809,13 +809,13 @@ module _ (s : Shape) (code : CodeParts) (fair : IsFair code) (root : Tree (Frame
         (t, run, subst₂ (λ (a b : ℕ). Stage lost state h forked taken [] t (halves run) run.agrees a b made) w z stage)
     all_stay lost words first (turn ∷ more) state is h forked taken t run work strikes made all stage =
         let next = run_then state h forked taken t run turn all.0 in
-        let credit = credit_stays (image s code) fair root input state t run.kept turn (acts_so s code places fair root input state h forked taken t run turn.processor turn.act all.0.processor) in
+        let credit = credit_stays (setting s code) fair root input state t run.kept turn (acts_so s code places fair root input state h forked taken t run turn.processor turn.act all.0.processor) in
         let then_ = alone_goes lost state h forked taken [] t (halves run) run.agrees work strikes made stage turn.processor turn.act all.0 (finish_still s code fair words first state is turn)
-        (tree_after (image s code) state turn t) (halves next.0) next.0.agrees next.1 credit
+        (tree_after (setting s code) state turn t) (halves next.0) next.0.agrees next.1 credit
         (λ v e. free_at s code fair root input state h forked taken [] t (halves run) run.agrees turn.processor (stand_of state turn.processor) refl (none_by (stand_of state turn.processor))) in
         let on : happens s code state turn ≡ reached s code words (first ++ turn ∷ []) = ap (λ (z : RunState). happens s code z turn) is ∙ sym (in_two s code (opening words s.processors) first (turn ∷ [])) in
         let rest = all_stay lost words (first ++ turn ∷ []) more (happens s code state turn) on
-        (by_act s state.words turn.act (stand_of state turn.processor) h) (forks_of state turn ++ forked) (takes_of state turn ++ taken) (tree_after (image s code) state turn t) next.0
+        (by_act s state.words turn.act (stand_of state turn.processor) h) (forks_of state turn ++ forked) (takes_of state turn ++ taken) (tree_after (setting s code) state turn t) next.0
         (work + length (work_of state turn)) (strikes + length (undone_of s state turn)) (λ d. made_behind s code d (made d) state turn) all.1 then_ in
         let a = length_both (work_of state turn) (along s code work_of (happens s code state turn) more) in
         let b = length_both (undone_of s state turn) (along s code (undone_of s) (happens s code state turn) more) in
@@ -864,7 +864,7 @@ opening_kinds p f q P seeks runs = elim (cases_eq q p) [
 ]
 
 -- a machine that opens an image is at the first moment
-module _ (code : CodeParts) (input : List NamedArray) (s : Shape) (keeper : ℕ) (im : RealImage) (fair : IsFair code) (opens : Opens code input s keeper im)
+module _ (code : CodeParts) (input : List NamedArray) (s : Shape) (keeper : ℕ) (im : Image) (fair : IsFair code) (opens : Opens code input s keeper im)
     (calm : Calm (strands s code) (root_strand code input) (arrays_at (view s im.words))) (end : End Result) (ends : EndsSo (strands s code) (root_strand code input) (arrays_at (view s im.words)) end) where
   abbrev pub first_tree : Skeleton
   first_tree = Leaf (InPlace keeper) (Begins 0) (pool_at s keeper) (slots_of code code.root)

@@ -57,17 +57,17 @@ use Rattle.ppm_kept.specs.Places.{places_of}
 use Rattle.ppm_kept.specs.Running.{IsFair}
 use Rattle.ppm_kept.proofs.LeftLemmas.{kind_away}
 use Rattle.ppm_kept.proofs.LinkLemmas.{called_or}
-use Rattle.ppm_runs.specs.Run.{image, fate_of}
+use Rattle.ppm_runs.specs.Run.{setting, fate_of}
 use Rattle.ppm_runs.specs.Follow.{IsHalves}
-use Rattle.ppm_runs.specs.Sound.{IsRising, IsRisingEntry, Told, Noted, IsRestartThere, IsSoundAt, IsSoundRow, IsSound}
+use Rattle.ppm_runs.specs.Sound.{IsRising, IsRisingEntry, KnownByPlaces, Noted, IsRestartThere, IsSoundAt, IsSoundRow, IsSound}
 use Rattle.ppm_runs.proofs.OpenedLemmas.{link_read}
 use Rattle.ppm_runs.proofs.ShownLemmas.{away}
 use Rattle.ppm_runs.proofs.SoundRows.{Here, Blocks, SoundAt, seat_of, seeks, goes_to, by_slot as find_slot, by_rising, bottom_ok, bottom_low, bottom_high, offered, begins, restart_known, here_of, can_take, and_is, and_left, and_right}
 use Rattle.ppm_runs.proofs.StandLemmas.{kinds_same}
 
 -- by entries a load of a Check needs no more than tickets say
-told_entries : (how : Takeover) (A : Type 0) → how ≡ ByEntries → Told how A
-told_entries how A e = subst (λ (x : Takeover). Told x A) (sym e) tt
+known_entries : (how : Takeover) (A : Type 0) → how ≡ ByEntries → KnownByPlaces how A
+known_entries how A e = subst (λ (x : Takeover). KnownByPlaces x A) (sym e) tt
 
 -- a message that rises is that of an entry that does
 rising_back : (s : Shape) (x : Entry) → IsRising s (word_as (AnEntry x)) → IsRisingEntry s x
@@ -95,7 +95,7 @@ module _ (s : Shape) (code : CodeParts) (ih : s.takeover ≡ ByEntries) (fair : 
   ghost = run.lawful.1.board.ghost
 
   abbrev z : State
-  z = left (image s code) l (places_of s state)
+  z = left (setting s code) l (places_of s state)
 
   -- a place that steals has noted what may be taken
   thief_notes : (q w j : ℕ) → IsThief (k q) w j → IsRising s (m (Message q))
@@ -129,7 +129,7 @@ module _ (s : Shape) (code : CodeParts) (ih : s.takeover ≡ ByEntries) (fair : 
     by_message : (q w j : ℕ) → nat_lt q s.processors ≡ true → IsThief (k q) w j → Sound (found_at s seat 0 (TakenMessage q w j) (content_of (reading_at (TakenMessage q w j)) (read s ws (cells.MessageWord q))))
     by_message q w j there th = by_rising s code a q there (thief_notes q w j th) (taken_message s q w j) (λ x fit rising is.
         subst (λ (y : Bool). Sound (if y then Now (Load (TakenEntry q w j x)) else Now Broken)) (sym (can_take s x rising))
-        ((thief_there q w j (ltb-true q s.processors there) th, told_entries s.takeover _ ih), tt))
+        ((thief_there q w j (ltb-true q s.processors there) th, known_entries s.takeover _ ih), tt))
 
     by_entry : (q w j : ℕ) (message : Entry) → (nat_lt w s.processors && nat_lt j s.slots) ≡ true → IsThief (k q) w j → m (Message q) ≡ word_as (AnEntry message)
         → Sound (found_at s seat 0 (TakenEntry q w j message) (content_of (reading_at (TakenEntry q w j message)) (read s ws (cells.EntryWord w j))))
@@ -138,7 +138,7 @@ module _ (s : Shape) (code : CodeParts) (ih : s.takeover ≡ ByEntries) (fair : 
         won : (message : Entry) → IsRisingEntry s message → (y : Bool) → Sound (if y then goes_on_with seat w j message else Now (with_kind seat Seek))
         won message rising false = seeks s code a
         won (entries.Job t x) rising true = ((lt-ltb (x + 4) (word_count s) rising.1, refl), tt)
-        won (entries.Local t x) rising true = ((and_left (nat_lt w s.processors) (nat_lt j s.slots) there, told_entries s.takeover ⊥ ih), tt)
+        won (entries.Local t x) rising true = ((and_left (nat_lt w s.processors) (nat_lt j s.slots) there, known_entries s.takeover ⊥ ih), tt)
         won (entries.Empty t) rising true = absurd rising
         won (entries.Taken t x) rising true = absurd rising
 
@@ -159,14 +159,14 @@ module _ (s : Shape) (code : CodeParts) (ih : s.takeover ≡ ByEntries) (fair : 
 
       at_end : (K : RestartKind) → kind_is_there s K ≡ true → Sound (at_bottom seat w K)
       at_end (Run f y) ok = (goes_to s code a (Run f y) ok, tt)
-      at_end (Bump x) ok = ((ok, told_entries s.takeover ⊥ ih), tt)
+      at_end (Bump x) ok = ((ok, known_entries s.takeover ⊥ ih), tt)
       at_end (Push1 x) ok = (goes_to s code a (Push1 x) ok, tt)
       at_end (Push2 x) ok = (goes_to s code a (Push1 x) ok, tt)
       at_end (Unwind f) ok = (goes_to s code a (Unwind f) ok, tt)
       at_end (Arrive x d) ok = (goes_to s code a (Arrive x d) ok, tt)
       at_end (Join x d) ok = (goes_to s code a (Join x d) ok, tt)
-      at_end (Steal u n) ok = ((lt, told_entries s.takeover _ ih), tt)
-      at_end (Check u n) ok = ((lt, told_entries s.takeover _ ih), tt)
+      at_end (Steal u n) ok = ((lt, known_entries s.takeover _ ih), tt)
+      at_end (Check u n) ok = ((lt, known_entries s.takeover _ ih), tt)
       at_end Pop1 ok = seeks s code a
       at_end (Pop2 x) ok = seeks s code a
       at_end Seek ok = seeks s code a
@@ -174,7 +174,7 @@ module _ (s : Shape) (code : CodeParts) (ih : s.takeover ≡ ByEntries) (fair : 
       at_end (Take2 u) ok = seeks s code a
 
       above_end : (K : RestartKind) → Sound (above_bottom seat w R.bottom K)
-      above_end (Push2 x) = ((and_is (nat_lt w s.processors) (nat_lt R.bottom s.slots) lt (bottom_slot R.bottom (and_left (bottom_is_there s R.bottom) (kind_is_there s R.kind) ok)), told_entries s.takeover ⊥ ih), tt)
+      above_end (Push2 x) = ((and_is (nat_lt w s.processors) (nat_lt R.bottom s.slots) lt (bottom_slot R.bottom (and_left (bottom_is_there s R.bottom) (kind_is_there s R.kind) ok)), known_entries s.takeover ⊥ ih), tt)
         where
           bottom_slot : (n : ℕ) → bottom_is_there s n ≡ true → nat_lt n s.slots ≡ true
           bottom_slot n e = and_right _ (nat_lt n s.slots) e
@@ -277,21 +277,21 @@ module _ (s : Shape) (code : CodeParts) (ih : s.takeover ≡ ByEntries) (fair : 
         opens Root q = absurd (none Root q (λ x y z_. cc) (λ x y z_. cc))
           where
             none : (K : LinkKind) → (link_at (z.words (cells.BlockWord r))).kind ≡ K → ((x y : ℕ) → K ≡ Called x y → ⊥) → ((x y : ℕ) → K ≡ Forked x y → ⊥) → ⊥
-            none K q c f = elim (called_or (image s code) fair root input z t run.kept it.place r kz) [
+            none K q c f = elim (called_or (setting s code) fair root input z t run.kept it.place r kz) [
               | inl d ↦ c d.0 d.1 (sym q ∙ d.2)
               | inr d ↦ f d.0 d.1 (sym q ∙ d.2)
             ]
         opens (Branch d x) q = absurd (none (Branch d x) q (λ x y z_. cc) (λ x y z_. cc))
           where
             none : (K : LinkKind) → (link_at (z.words (cells.BlockWord r))).kind ≡ K → ((x y : ℕ) → K ≡ Called x y → ⊥) → ((x y : ℕ) → K ≡ Forked x y → ⊥) → ⊥
-            none K q c f = elim (called_or (image s code) fair root input z t run.kept it.place r kz) [
+            none K q c f = elim (called_or (setting s code) fair root input z t run.kept it.place r kz) [
               | inl d ↦ c d.0 d.1 (sym q ∙ d.2)
               | inr d ↦ f d.0 d.1 (sym q ∙ d.2)
             ]
 
         by : (o : Option Link) → link_of (read s ws (cells.BlockWord r)) ≡ o → Sound (on_link (read_so ALink o) (λ link. closed_link seat r link.kind))
         by (Some link) is = opens link.kind (kind_or (Some link) is)
-        by None is = absurd (let q : (link_at (z.words (cells.BlockWord r))).kind ≡ Root = kind_or None is in elim (called_or (image s code) fair root input z t run.kept it.place r kz) [
+        by None is = absurd (let q : (link_at (z.words (cells.BlockWord r))).kind ≡ Root = kind_or None is in elim (called_or (setting s code) fair root input z t run.kept it.place r kz) [
           | inl d ↦ (let two : Root ≡ Called d.0 d.1 = sym q ∙ d.2 in cc)
           | inr d ↦ (let two : Root ≡ Forked d.0 d.1 = sym q ∙ d.2 in cc)
         ])

@@ -40,7 +40,7 @@ use Rattle.ppm_tickets.proofs.WriteLemmas.{put_here, put_else}
 use Rattle.ppm_frames.specs.Skeletons.{Skeleton}
 use Rattle.ppm_frames.specs.Good.{link_at}
 use Rattle.ppm_kept.specs.Running.{IsFair}
-use Rattle.ppm_kept.specs.Kept.{Image, Resting, State}
+use Rattle.ppm_kept.specs.Kept.{Setting, Resting, State}
 use Rattle.ppm_kept.specs.Bearing.{with_blocks}
 use Rattle.ppm_kept.specs.Births.{Births}
 use Rattle.ppm_kept.specs.Fates.{Agrees}
@@ -59,8 +59,8 @@ use Rattle.ppm_kept.proofs.FateLemmas.{fates_stay, fork_has}
 use Rattle.ppm_kept.proofs.LeftLemmas.{kind_away}
 use Rattle.ppm_kept.proofs.PutLemmas as kept_puts
 use Rattle.ppm_kept.proofs.UnrunUntaken.{unruns_are_untaken, handed_same}
-use Rattle.ppm_runs.specs.Run.{image, fate_of}
-use Rattle.ppm_runs.specs.Follow.{AreGone, IsHalves, GoesOn, Opens, HeirsLead}
+use Rattle.ppm_runs.specs.Run.{setting, fate_of}
+use Rattle.ppm_runs.specs.Follow.{AreGone, IsHalves, CarriesOn, OpensBlock, HeirsLead}
 use Rattle.ppm_runs.proofs.AgreeLemmas.{home_or}
 use Rattle.ppm_runs.proofs.BearingLemmas.{with_same}
 use Rattle.ppm_runs.proofs.ShownLemmas.{away, holds}
@@ -78,8 +78,8 @@ none_does f w none (suc n) = ap (λ (b : Bool). if b then doing_of (f n) else do
 
 module _ (s : Shape) (code : CodeParts) (ih : s.takeover ≡ ByEntries) (fair : IsFair code) (root : Tree (Frame FrameWord Point) Result) (input : Words) (state : RunState) (h : ℕ → Home) (forked taken : List ℕ) (l : List Followed) (t : Skeleton)
     (run : IsHalves s code root input state h forked taken l t) (agrees : Agrees t (λ r. fate_of (h r))) where
-  abbrev i : Image
-  i = image s code
+  abbrev i : Setting
+  i = setting s code
 
   abbrev P : State
   P = places_of s state
@@ -135,7 +135,7 @@ module _ (s : Shape) (code : CodeParts) (ih : s.takeover ≡ ByEntries) (fair : 
     held : Holds s state c p
     held = holds s code root input state h forked taken l t run c p sees.0.carried (subst (IsOf p) (sym at) refl)
 
-    module _ (it : InheritsAt s code state h forked taken run.lawful p) (opens : (r : ℕ) → kinds_of s state.words it.place ≡ Bump r → Opens r next → OpensAs r (link_at (S.words (BlockWord r))).kind (kind_then next)) where
+    module _ (it : InheritsAt s code state h forked taken run.lawful p) (opens : (r : ℕ) → kinds_of s state.words it.place ≡ Bump r → OpensBlock r next → OpensAs r (link_at (S.words (BlockWord r))).kind (kind_then next)) where
       abbrev w : ℕ
       w = it.place
 
@@ -241,8 +241,8 @@ module _ (s : Shape) (code : CodeParts) (ih : s.takeover ≡ ByEntries) (fair : 
           more y e = elim (cases_Bool (has (w ∷ it.through) y)) [ inl z ↦ in_too y z | inr z ↦ (rw z e) ]
 
   -- by how the row ends
-  leads : (c victim : ℕ) (seat : Seat) (next : Then) (v slot : ℕ) → stand_of state c ≡ IsWithin seat (Now next) → seat.restart.kind ≡ Check v slot → GoesOn next
-      → ((it : InheritsAt s code state h forked taken run.lawful seat.place) → (r : ℕ) → kinds_of s state.words it.place ≡ Bump r → Opens r next → OpensAs r (link_at (S.words (BlockWord r))).kind (kind_then next))
+  leads : (c victim : ℕ) (seat : Seat) (next : Then) (v slot : ℕ) → stand_of state c ≡ IsWithin seat (Now next) → seat.restart.kind ≡ Check v slot → CarriesOn next
+      → ((it : InheritsAt s code state h forked taken run.lawful seat.place) → (r : ℕ) → kinds_of s state.words it.place ≡ Bump r → OpensBlock r next → OpensAs r (link_at (S.words (BlockWord r))).kind (kind_then next))
       → (w : ℕ) × Agrees (handed w seat.place t) (λ r. fate_of (by_row s state.words seat (Now next) h r)) × IsHalves s code root input (happens s code state (record { processor = c; act = Step victim })) (by_row s state.words seat (Now next) h) (fork_row (Now next) ++ forked) (take_row (Now next) ++ taken)
       (and_followed i l P w) (handed w seat.place t) × Heired i state l t c seat next w
   leads c victim seat (Install restart) v slot at ke on opens = elim (heirs_see s code ih state h forked taken run.lawful c seat (Now (Install restart)) v slot at ke) [

@@ -23,7 +23,7 @@ use Rattle.ppm_code.specs.declared.code.CodeParts.{CodeParts}
 use Rattle.ppm_code.specs.declared.location.FrameWord.{FrameWord}
 use Rattle.ppm_layout.specs.Correct.{Opens}
 use Rattle.ppm_layout.specs.Root.{root_strand}
-use Rattle.ppm_layout.specs.declared.images.Image.{Image as RealImage}
+use Rattle.ppm_layout.specs.declared.images.Image.{Image}
 use Rattle.ppm_step.specs.Among.{IsTurnAmong}
 use Rattle.ppm_step.specs.Standings.{Standing, IsLost, IsPlaced, IsAt, IsWithin, IsRunning, IsBroken, IsDone}
 use Rattle.ppm_step.specs.State.{State as RunState, stand_of, happens, after, opening, forks_of, takes_of, step_by, row_by, fork_row, take_row}
@@ -61,7 +61,7 @@ use Rattle.ppm_kept.proofs.BeginLemmas.{machines_open}
 use Rattle.ppm_kept.proofs.CountLemmas.{recount, exactly, exactly_is, exactly_says, counts_are_exact, heirs_count_none}
 use Rattle.ppm_kept.proofs.StepRows.{act_away}
 use Rattle.ppm_kept.proofs.UnrunUntaken.{handed_same}
-use Rattle.ppm_runs.specs.Run.{image, fate_of, IsRun}
+use Rattle.ppm_runs.specs.Run.{setting, fate_of, IsRun}
 use Rattle.ppm_runs.specs.Follow.{IsHalves, LooksOnly}
 use Rattle.ppm_runs.specs.Joint.{IsCapped, AreJoint, StepsAlone}
 use Rattle.ppm_runs.specs.Entries.{IsHeired, RunsForkSo}
@@ -81,11 +81,11 @@ use Rattle.ppm_runs.proofs.OpenLemmas.{runs_open}
 use Rattle.ppm_runs.proofs.OrderlyLemmas.{halves_owe, how_or}
 use Rattle.ppm_runs.proofs.ShownLemmas.{halves}
 
-has_both : (r : ℕ) (l f : List ℕ) → has f r ≡ true → has (l ++ f) r ≡ true
+pub has_both : (r : ℕ) (l f : List ℕ) → has f r ≡ true → has (l ++ f) r ≡ true
 has_both r [] f e = e
 has_both r (x ∷ l) f e = has_more x r (l ++ f) (has_both r l f e)
 
-has_either : (r : ℕ) (l f : List ℕ) → has (l ++ f) r ≡ true → (has l r ≡ true) ⊎ (has f r ≡ true)
+pub has_either : (r : ℕ) (l f : List ℕ) → has (l ++ f) r ≡ true → (has l r ≡ true) ⊎ (has f r ≡ true)
 has_either r [] f e = inr e
 has_either r (x ∷ l) f e = elim (has_or x r (l ++ f) e) [
   | inl is ↦ inl (has_here_at x r l is)
@@ -131,7 +131,7 @@ module _ (f l tk : List ℕ) (h y : ℕ → Home) (t u : Skeleton) (old : Tallie
 
 -- both halves, with what is kept said otherwise
 abbrev with_kept : {s : Shape} {code : CodeParts} {root : Tree (Frame FrameWord Point) Result} {input : Words} {state : RunState} {h : ℕ → Home} {f tk : List ℕ} {l : List Followed} {t : Skeleton}
-    → IsHalves s code root input state h f tk l t → IsKept (image s code) root input (left (image s code) l (places_of s state)) t → IsHalves s code root input state h f tk l t
+    → IsHalves s code root input state h f tk l t → IsKept (setting s code) root input (left (setting s code) l (places_of s state)) t → IsHalves s code root input state h f tk l t
 with_kept a kept = record { lawful = a.lawful; apart = a.apart; gone = a.gone; kept = kept; born = a.born }
 
 -- a run's state, whose forks are counted
@@ -143,10 +143,10 @@ pub record IsForked (s : Shape) (code : CodeParts) (root : Tree (Frame FrameWord
 module _ (s : Shape) (code : CodeParts) (fair : IsFair code) (root : Tree (Frame FrameWord Point) Result) (input : Words) (state : RunState) (h : ℕ → Home) (forked taken : List ℕ) (l : List Followed) (t : Skeleton)
     (run : IsHalves s code root input state h forked taken l t) (joint : AreJoint s code state h l t) (turn : Turn) (alone : StepsAlone s.takeover turn.act (stand_of state turn.processor)) where
   abbrev z : State
-  z = left (image s code) l (places_of s state)
+  z = left (setting s code) l (places_of s state)
 
   abbrev u : Skeleton
-  u = act_with (image s code) z.words state.words turn.act (stand_of state turn.processor) t
+  u = act_with (setting s code) z.words state.words turn.act (stand_of state turn.processor) t
 
   abbrev g : ℕ → Home
   g = by_act s state.words turn.act (stand_of state turn.processor) h
@@ -194,16 +194,16 @@ module _ (s : Shape) (code : CodeParts) (places : s.takeover ≡ ByPlaces) (fair
 
     module _ (turn : Turn) (among : IsTurnAmong s.processors turn) where
       abbrev tree_then : Skeleton
-      tree_then = act_with (image s code) (places_of s state).words state.words turn.act (stand_of state turn.processor) t
+      tree_then = act_with (setting s code) (places_of s state).words state.words turn.act (stand_of state turn.processor) t
 
       abbrev Halves : Type 0
       Halves = IsHalves s code root input (happens s code state turn) (by_act s state.words turn.act (stand_of state turn.processor) h) (forks_of state turn ++ forked) (takes_of state turn ++ taken) [] tree_then
 
-      exact : (kept : IsKept (image s code) root input (places_of s (happens s code state turn)) tree_then)
+      exact : (kept : IsKept (setting s code) root input (places_of s (happens s code state turn)) tree_then)
           × (kept.ahead.0.forks ≡ now.run.halves.kept.ahead.0.forks + by_step (opened_by (places_of s state).words) turn.act (stand_of state turn.processor))
       exact =
           let so = places_so.acts_so s code places fair root input state h forked taken t as_run turn.processor turn.act among.processor in
-          let all = counts_are_exact (image s code) fair root input state [] tt t now.run.halves.kept turn so (act_away (image s code) places turn.act (stand_of state turn.processor)) in
+          let all = counts_are_exact (setting s code) fair root input state [] tt t now.run.halves.kept turn so (act_away (setting s code) places turn.act (stand_of state turn.processor)) in
           (all.0, all.2)
 
       abbrev after_ : Halves
@@ -261,10 +261,10 @@ module _ (s : Shape) (code : CodeParts) (ih : s.takeover ≡ ByEntries) (fair : 
         let orderly = (halves_owe s code fair root input state h forked taken l t run.halves run.joint.agrees (λ d seat re e. inlined s code ih fair root input state h forked taken l t run d seat re e)).orderly turn among in
         let next = halves_go_on s code ih fair root input state h forked taken l t run.halves run.joint.agrees run.broken turn among.processor orderly looks in
         let so = entries_so.acts_so s code ih fair root input state h forked taken l t run.halves run.joint.agrees run.broken c act among.processor in
-        let exact = counts_are_exact (image s code) fair root input state l run.halves.apart t run.halves.kept turn so (steps_away s code ih fair root input state h forked taken l t run.halves run.joint.agrees run.broken c act looks) in
+        let exact = counts_are_exact (setting s code) fair root input state l run.halves.apart t run.halves.kept turn so (steps_away s code ih fair root input state h forked taken l t run.halves run.joint.agrees run.broken c act looks) in
         let alone = alone_of s.takeover act (stand_of state c) looks in (
           l,
-          act_with (image s code) (left (image s code) l (places_of s state)).words state.words act (stand_of state c) t,
+          act_with (setting s code) (left (setting s code) l (places_of s state)).words state.words act (stand_of state c) t,
           record {
             run = record {
               halves = with_kept next exact.0;
@@ -279,10 +279,10 @@ module _ (s : Shape) (code : CodeParts) (ih : s.takeover ≡ ByEntries) (fair : 
     heirs_fork c victim seat row e goes =
         let at = e ∙ ap (IsWithin seat) goes.4 in
         let lead = heirs_lead s code ih fair root input state h forked taken l t run.halves run.joint.agrees c victim seat goes.2 goes.0 goes.1 at goes.3 goes.5 run.joint.opens in
-        let exact = heirs_count_none (image s code) fair root input state l run.halves.apart t run.halves.kept c victim seat goes.2 lead.0 at lead.3 in
+        let exact = heirs_count_none (setting s code) fair root input state l run.halves.apart t run.halves.kept c victim seat goes.2 lead.0 at lead.3 in
         let same = handed_same lead.0 seat.place t in
         subst (λ (x : Row). Forks c (Step victim) (IsWithin seat x)) (sym goes.4) (
-          and_followed (image s code) l (places_of s state) lead.0,
+          and_followed (setting s code) l (places_of s state) lead.0,
           handed lead.0 seat.place t,
           record {
             run = record {
@@ -325,7 +325,7 @@ module _ (s : Shape) (code : CodeParts) (ih : s.takeover ≡ ByEntries) (fair : 
       all_entries (happens s code state turn) (by_act s state.words turn.act (stand_of state turn.processor) h) (forks_of state turn ++ f) (takes_of state turn ++ tk) next.0 next.1 more all.1 next.2
 
 -- where a run opens none is counted
-module _ (code : CodeParts) (input : List NamedArray) (s : Shape) (keeper : ℕ) (im : RealImage) (fair : IsFair code) (opens : Opens code input s keeper im)
+module _ (code : CodeParts) (input : List NamedArray) (s : Shape) (keeper : ℕ) (im : Image) (fair : IsFair code) (opens : Opens code input s keeper im)
     (calm : Calm (strands s code) (root_strand code input) (arrays_at (view s im.words))) where
   abbrev root : Tree (Frame FrameWord Point) Result
   root = root_strand code input
@@ -336,7 +336,7 @@ module _ (code : CodeParts) (input : List NamedArray) (s : Shape) (keeper : ℕ)
   abbrev seed : Skeleton
   seed = Leaf (InPlace keeper) (Begins 0) (pool_at s keeper) (slots_of code code.root)
 
-  none_counted : (kept : IsKept (image s code) root (arrays_at (view s im.words)) (places_of s first) seed) × (kept.ahead.0.forks ≡ 0)
+  none_counted : (kept : IsKept (setting s code) root (arrays_at (view s im.words)) (places_of s first) seed) × (kept.ahead.0.forks ≡ 0)
   none_counted =
       let made = (machines_open code input s keeper im opens calm).1 (exactly none) (exactly_is none) in
       let plain = recount (record { shape = s; code = code; counted = exactly none }) (λ k. true) root (arrays_at (view s im.words)) (places_of s first) seed made refl in
@@ -367,7 +367,7 @@ module _ (code : CodeParts) (input : List NamedArray) (s : Shape) (keeper : ℕ)
       }
 
   -- so at each moment
-  runs_fork : (turns : List Turn) → AllByRecursion (IsTurnAmong s.processors) turns
+  pub runs_fork : (turns : List Turn) → AllByRecursion (IsTurnAmong s.processors) turns
       → (l : List Followed) × (t : Skeleton) × IsForked s code root (arrays_at (view s im.words)) (after s code first turns) (homes s code first (λ r. Unborn) turns) (forked_in s code first [] turns) (taken_in s code first [] turns) l t
   runs_fork turns all = elim (how_or s.takeover) [
     | inl places ↦ let a = all_places s code places fair root (arrays_at (view s im.words)) first (λ r. Unborn) [] [] seed turns all opens_forked in ([], a.0, a.1)
@@ -380,8 +380,8 @@ pub ends_forked : (s : Shape) (code : CodeParts) (root : Tree (Frame FrameWord P
     → (end : End Result) → EndsSo (strands s code) root input end → length forked ≡ end.counts.forks
 ends_forked s code root input state h forked taken l t now finish says out end ends =
     let kept = now.run.halves.kept in
-    let m = (left (image s code) l (places_of s state)).words in
-    let answer = left_ends_as_meant (image s code) root input state l t kept finish says out in
+    let m = (left (setting s code) l (places_of s state)).words in
+    let answer = left_ends_as_meant (setting s code) root input state l t kept finish says out in
     let d = (kept.ahead.1.ends end).0 ends in
     let last = result_at m answer.frame (m (BlockWord (answer.frame + 1))) in
     let rest = subst (λ (w : Tree (Frame FrameWord Point) Result). EndsSo (strands s code) w (arrays_at m) d.0) (ap (tree_of m) answer.alone) d.1 in

@@ -28,7 +28,7 @@ use Rattle.ppm_tickets.proofs.RenewalLemmas.{goes_on as tickets_go_on}
 use Rattle.ppm_frames.specs.Skeletons.{Skeleton}
 use Rattle.ppm_kept.specs.Branches.{is_taker}
 use Rattle.ppm_kept.specs.Running.{IsFair}
-use Rattle.ppm_kept.specs.Kept.{Image, Doing, InRow}
+use Rattle.ppm_kept.specs.Kept.{Setting, Doing, InRow}
 use Rattle.ppm_kept.specs.Moves.{doing_of}
 use Rattle.ppm_kept.specs.Places.{places_of, is_in, doing_in, IsOf}
 use Rattle.ppm_kept.specs.Steps.{TakesSo, IsKindIf, StandsSo, LeavesSo, ActsSo}
@@ -36,7 +36,7 @@ use Rattle.ppm_kept.specs.Takes.{IsAlone}
 use Rattle.ppm_kept.proofs.StepRows.{turns_keep}
 use Rattle.ppm_kept.specs.Fates.{Offered}
 use Rattle.ppm_kept.proofs.FateLemmas.{fates_show}
-use Rattle.ppm_runs.specs.Run.{image, fate_of, IsRun}
+use Rattle.ppm_runs.specs.Run.{setting, fate_of, IsRun}
 use Rattle.ppm_runs.specs.Laws.{IsTakers, RunsGoOn, TurnsGoOn}
 use Rattle.ppm_runs.proofs.StandLemmas.{kinds_same}
 use Rattle.ppm_runs.proofs.ShownLemmas.{halves, Within, within, runs, holds}
@@ -102,8 +102,8 @@ doer f q row (suc n) e = by (doer f q row n) (f n) refl e
     by rec IsDone fx e = out rec IsDone fx refl
 
 module _ (s : Shape) (code : CodeParts) (places : s.takeover ≡ ByPlaces) (fair : IsFair code) (root : Tree (Frame FrameWord Point) Result) (input : Words) (state : RunState) (h : ℕ → Home) (forked taken : List ℕ) (t : Skeleton) (run : IsRun s code root input state h forked taken t) where
-  abbrev i : Image
-  i = image s code
+  abbrev i : Setting
+  i = setting s code
 
   abbrev In : ℕ → Seat → Row → Type 0
   In c seat row = Within s code root input state h forked taken [] t (halves run) c seat row

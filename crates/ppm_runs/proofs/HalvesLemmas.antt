@@ -32,7 +32,7 @@ use Rattle.ppm_tickets.proofs.TakingRows.{heirs_take, one_takes}
 use Rattle.ppm_frames.specs.Skeletons.{Skeleton}
 use Rattle.ppm_kept.specs.Branches.{is_taker}
 use Rattle.ppm_kept.specs.Running.{IsFair}
-use Rattle.ppm_kept.specs.Kept.{Image, State}
+use Rattle.ppm_kept.specs.Kept.{Setting, State}
 use Rattle.ppm_kept.specs.Births.{Births}
 use Rattle.ppm_kept.specs.Fates.{Offered, Agrees}
 use Rattle.ppm_kept.specs.Left.{Followed, left, IsAway, StandsAway, InheritsNone, StepsAway}
@@ -42,7 +42,7 @@ use Rattle.ppm_kept.specs.Takes.{IsAlone}
 use Rattle.ppm_kept.proofs.BearLemmas.{turns_bear_left}
 use Rattle.ppm_kept.proofs.FateLemmas.{fates_show}
 use Rattle.ppm_kept.proofs.StepRows.{turns_keep_left}
-use Rattle.ppm_runs.specs.Run.{image, fate_of}
+use Rattle.ppm_runs.specs.Run.{setting, fate_of}
 use Rattle.ppm_runs.specs.Follow.{IsHalves, LooksOnly, HalvesGoOn}
 use Rattle.ppm_runs.proofs.BearingLemmas.{with_same}
 use Rattle.ppm_runs.proofs.FollowLemmas.{stays_gone}
@@ -69,8 +69,8 @@ taker_is (Take2 v) e = absurd (cc)
 
 module _ (s : Shape) (code : CodeParts) (ih : s.takeover ≡ ByEntries) (fair : IsFair code) (root : Tree (Frame FrameWord Point) Result) (input : Words) (state : RunState) (h : ℕ → Home) (forked taken : List ℕ) (l : List Followed) (t : Skeleton)
     (run : IsHalves s code root input state h forked taken l t) (agrees : Agrees t (λ r. fate_of (h r))) (broken : (c p : ℕ) → stand_of state c ≡ IsBroken p → p ≤ 64) where
-  abbrev i : Image
-  i = image s code
+  abbrev i : Setting
+  i = setting s code
 
   abbrev S : State
   S = left i l (places_of s state)
@@ -186,7 +186,7 @@ halves_go_on s code ih fair root input state h forked taken l t run agrees broke
       lawful = law.0;
       apart = run.apart;
       gone = stays_gone l run.lawful.1.board.gone law.0.1.board.gone law.1 run.gone;
-      kept = turns_keep_left (image s code) fair root input state l run.apart t run.kept turn so away_;
-      born = subst (Births (image s code) (left (image s code) l (places_of s (happens s code state turn)))) (fun_ext (with_same (forks_of state turn) forked))
-          (turns_bear_left (image s code) fair root input state l run.apart t run.kept (has forked) run.born turn so away_);
+      kept = turns_keep_left (setting s code) fair root input state l run.apart t run.kept turn so away_;
+      born = subst (Births (setting s code) (left (setting s code) l (places_of s (happens s code state turn)))) (fun_ext (with_same (forks_of state turn) forked))
+          (turns_bear_left (setting s code) fair root input state l run.apart t run.kept (has forked) run.born turn so away_);
     }

@@ -52,8 +52,8 @@ use Rattle.ppm_kept.specs.Unruns.{SameUnruns}
 use Rattle.ppm_kept.proofs.LeftLemmas.{kind_away}
 use Rattle.ppm_kept.proofs.LinkLemmas.{unrun_linked, called_or}
 use Rattle.ppm_kept.proofs.UnrunUntaken.{handed_same}
-use Rattle.ppm_runs.specs.Run.{image, fate_of}
-use Rattle.ppm_runs.specs.Follow.{IsHalves, GoesOn, Opens}
+use Rattle.ppm_runs.specs.Run.{setting, fate_of}
+use Rattle.ppm_runs.specs.Follow.{IsHalves, CarriesOn, OpensBlock}
 use Rattle.ppm_runs.specs.Joint.{IsCapped, AreJoint}
 use Rattle.ppm_runs.proofs.StandLemmas.{kinds_same}
 use Rattle.ppm_runs.proofs.ShownLemmas.{carried_away, Within, within}
@@ -70,10 +70,10 @@ restart_then seat next = seat.restart
 
 module _ (s : Shape) (code : CodeParts) (ih : s.takeover ≡ ByEntries) (fair : IsFair code) (root : Tree (Frame FrameWord Point) Result) (input : Words) (state : RunState) (h : ℕ → Home) (forked taken : List ℕ) (l : List Followed) (t : Skeleton)
     (run : IsHalves s code root input state h forked taken l t) (joint : AreJoint s code state h l t)
-    (c victim : ℕ) (seat : Seat) (next : Then) (v slot : ℕ) (at : stand_of state c ≡ IsWithin seat (Now next)) (ke : seat.restart.kind ≡ Check v slot) (on : GoesOn next) (w : ℕ)
+    (c victim : ℕ) (seat : Seat) (next : Then) (v slot : ℕ) (at : stand_of state c ≡ IsWithin seat (Now next)) (ke : seat.restart.kind ≡ Check v slot) (on : CarriesOn next) (w : ℕ)
     (agrees : Agrees (handed w seat.place t) (λ r. fate_of (by_row s state.words seat (Now next) h r)))
     (after : IsHalves s code root input (happens s code state (record { processor = c; act = Step victim })) (by_row s state.words seat (Now next) h) (fork_row (Now next) ++ forked) (take_row (Now next) ++ taken)
-    (and_followed (image s code) l (places_of s state) w) (handed w seat.place t)) where
+    (and_followed (setting s code) l (places_of s state) w) (handed w seat.place t)) where
   abbrev p : ℕ
   p = seat.place
 
@@ -84,16 +84,16 @@ module _ (s : Shape) (code : CodeParts) (ih : s.takeover ≡ ByEntries) (fair : 
   g = by_row s state.words seat (Now next) h
 
   abbrev l' : List Followed
-  l' = and_followed (image s code) l (places_of s state) w
+  l' = and_followed (setting s code) l (places_of s state) w
 
   abbrev u : Skeleton
   u = handed w p t
 
   abbrev z : State
-  z = left (image s code) l (places_of s state)
+  z = left (setting s code) l (places_of s state)
 
   abbrev N : State
-  N = left (image s code) l' (places_of s n)
+  N = left (setting s code) l' (places_of s n)
 
   same : SameUnruns t u
   same = handed_same w p t
@@ -102,7 +102,7 @@ module _ (s : Shape) (code : CodeParts) (ih : s.takeover ≡ ByEntries) (fair : 
   here = within s code root input state h forked taken l t run c seat (Now next) at
 
   -- the words after it
-  words_by : (x : Then) → GoesOn x → words_after state.words (wanted_row s seat victim (Now x)) ≡ store s state.words (RestartWord p) (restart_word (restart_then seat x))
+  words_by : (x : Then) → CarriesOn x → words_after state.words (wanted_row s seat victim (Now x)) ≡ store s state.words (RestartWord p) (restart_word (restart_then seat x))
   words_by (Install re) on = refl
   words_by (Fork r) on = refl
   words_by _ on = absurd on
@@ -114,13 +114,13 @@ module _ (s : Shape) (code : CodeParts) (ih : s.takeover ≡ ByEntries) (fair : 
   pub view_same : frames.view s n.words ≡ frames.view s state.words
   view_same = ap (frames.view s) words_are ∙ others_are_unseen s state.words (RestartWord p) (restart_word (restart_then seat next)) here.place refl
 
-  restart_here : (x : Then) → GoesOn x → row_is_there s seat (Now x) ≡ true → restart_is_there s (restart_then seat x) ≡ true
+  restart_here : (x : Then) → CarriesOn x → row_is_there s seat (Now x) ≡ true → restart_is_there s (restart_then seat x) ≡ true
   restart_here (Install re) on e = e
   restart_here (Fork r) on e = e
   restart_here _ on e = absurd on
 
   -- each bottom is as it was
-  low_then : (x : Then) → GoesOn x → stand_of state c ≡ IsWithin seat (Now x) → (restart_then seat x).bottom ≡ spots.bottoms s state.words p
+  low_then : (x : Then) → CarriesOn x → stand_of state c ≡ IsWithin seat (Now x) → (restart_then seat x).bottom ≡ spots.bottoms s state.words p
   low_then (Install re) on e = elim (heirs_see s code ih state h forked taken run.lawful c seat (Now (Install re)) v slot e ke) [
     | inl seeks ↦ absurd (on seeks)
     | inr a ↦ a.2
@@ -164,13 +164,13 @@ module _ (s : Shape) (code : CodeParts) (ih : s.takeover ≡ ByEntries) (fair : 
   kind_home (Push1 b) r q ne e = put_home b r q ne e
   kind_home _ r q ne e = e
 
-  home_before : (x : Then) → GoesOn x → (r q : ℕ) → (q ≡ p → ⊥) → by_row s state.words seat (Now x) h r ≡ Pushing q → h r ≡ Pushing q
+  home_before : (x : Then) → CarriesOn x → (r q : ℕ) → (q ≡ p → ⊥) → by_row s state.words seat (Now x) h r ≡ Pushing q → h r ≡ Pushing q
   home_before (Install re) on r q ne e = kind_home re.kind r q ne (subst (λ (k : RestartKind). by_install p k re.kind h r ≡ Pushing q) ke e)
   home_before (Fork b) on r q ne e = put_home b r q ne e
   home_before _ on r q ne e = absurd on
 
   -- who goes on is at its place
-  goes_at : (x : Then) → GoesOn x → Installing (IsWithin seat (Now x)) p
+  goes_at : (x : Then) → CarriesOn x → Installing (IsWithin seat (Now x)) p
   goes_at (Install re) on = refl
   goes_at (Fork r) on = refl
   goes_at _ on = absurd on
@@ -206,8 +206,8 @@ module _ (s : Shape) (code : CodeParts) (ih : s.takeover ≡ ByEntries) (fair : 
       let sees = sees_after c (IsAt q (Some to.0)) to.1 in
       open_ s code root input n g (fork_row (Now next) ++ forked) (take_row (Now next) ++ taken) l' u after c q sees.0 shut)
 
-  opens_after : (d : ℕ) (o : Seat) (x : Then) (a b : ℕ) → stand_of n d ≡ IsWithin o (Now x) → o.restart.kind ≡ Check a b → GoesOn x
-      → (q r : ℕ) → Closed s.takeover (spots.view s n.words) q → IsAway l' q → kinds_of s n.words q ≡ Bump r → Opens r x → OpensAs r (link_at (N.words (BlockWord r))).kind (kind_then x)
+  opens_after : (d : ℕ) (o : Seat) (x : Then) (a b : ℕ) → stand_of n d ≡ IsWithin o (Now x) → o.restart.kind ≡ Check a b → CarriesOn x
+      → (q r : ℕ) → Closed s.takeover (spots.view s n.words) q → IsAway l' q → kinds_of s n.words q ≡ Bump r → OpensBlock r x → OpensAs r (link_at (N.words (BlockWord r))).kind (kind_then x)
   opens_after d o x a b stand ko goes q r shut aw kw by =
       let was : kinds_of s state.words q ≡ Bump r = kinds_same s state.words q ∙ sym (closed_kind q shut) ∙ sym (kinds_same s n.words q) ∙ kw in
       let kz : z.kind q ≡ Bump r = kind_away l (places_of s state).kind q aw.1 ∙ was in
@@ -215,9 +215,9 @@ module _ (s : Shape) (code : CodeParts) (ih : s.takeover ≡ ByEntries) (fair : 
       let before = stood d o (Now x) stand in
       let closed = closed_before s code fair root input state h forked taken l t run joint.agrees ih q r kz d o x a b before ko goes by in
       opens_same r (kind_then x) (link_at (z.words (BlockWord r))).kind (link_at (N.words (BlockWord r))).kind
-      (called_or (image s code) fair root input N u after.kept q r kn)
-      (λ f. unrun_linked (image s code) fair root input N u after.kept Fresh r (same.on Fresh tt r (fork_fresh s code fair root input state h forked taken l t run joint.agrees q r kz f)))
-      (λ f. unrun_linked (image s code) fair root input z t run.kept Fresh r (same.back Fresh tt r (fork_fresh s code fair root input n g (fork_row (Now next) ++ forked) (take_row (Now next) ++ taken) l' u after agrees q r kn f)))
+      (called_or (setting s code) fair root input N u after.kept q r kn)
+      (λ f. unrun_linked (setting s code) fair root input N u after.kept Fresh r (same.on Fresh tt r (fork_fresh s code fair root input state h forked taken l t run joint.agrees q r kz f)))
+      (λ f. unrun_linked (setting s code) fair root input z t run.kept Fresh r (same.back Fresh tt r (fork_fresh s code fair root input n g (fork_row (Now next) ++ forked) (take_row (Now next) ++ taken) l' u after agrees q r kn f)))
       (joint.opens d o x a b before ko goes q r closed aw.1 was by)
 
   pub heir_joint : AreJoint s code n g l' u

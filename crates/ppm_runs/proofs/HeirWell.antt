@@ -28,7 +28,7 @@ use Rattle.ppm_kept.specs.Left.{Followed, left}
 use Rattle.ppm_kept.specs.Places.{places_of}
 use Rattle.ppm_kept.specs.Running.{IsFair}
 use Rattle.ppm_kept.specs.Steps.{act_with}
-use Rattle.ppm_runs.specs.Run.{image}
+use Rattle.ppm_runs.specs.Run.{setting}
 use Rattle.ppm_runs.specs.Entries.{IsHeired}
 use Rattle.ppm_runs.specs.Follow.{LooksOnly}
 use Rattle.ppm_runs.specs.Well.{IsWell}
@@ -57,7 +57,7 @@ module _ (s : Shape) (code : CodeParts) (ih : s.takeover ≡ ByEntries) (fair : 
       let orderly = (halves_owe s code fair root input state h forked taken l t run.halves agrees (λ d seat re e. inlined s code ih fair root input state h forked taken l t run d seat re e)).orderly turn among in
       let next = halves_go_on s code ih fair root input state h forked taken l t run.halves agrees run.broken turn among.processor orderly looks in record {
         left_out = l;
-        tree = act_with (image s code) (left (image s code) l (places_of s state)).words state.words act (stand_of state c) t;
+        tree = act_with (setting s code) (left (setting s code) l (places_of s state)).words state.words act (stand_of state c) t;
         heired = record {
           halves = next;
           joint = joints_stay s code fair root input state h forked taken l t run.halves run.joint turn among (alone_of s.takeover act (stand_of state c) looks) next;
@@ -75,7 +75,7 @@ module _ (s : Shape) (code : CodeParts) (ih : s.takeover ≡ ByEntries) (fair : 
       let n = happens s code state (record { processor = c; act = Step victim }) in
       let same = view_same s code ih fair root input state h forked taken l t run.halves run.joint c victim seat goes.2 goes.0 goes.1 at goes.3 goes.5 lead.0 lead.1 lead.2 in
       subst (λ (x : Row). Leads c (Step victim) (IsWithin seat x)) (sym goes.4) (record {
-        left_out = and_followed (image s code) l (places_of s state) lead.0;
+        left_out = and_followed (setting s code) l (places_of s state) lead.0;
         tree = handed lead.0 seat.place t;
         heired = record {
           halves = lead.2;

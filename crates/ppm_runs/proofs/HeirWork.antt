@@ -1,6 +1,6 @@
 -- The work of runs with takeover by entries: each turn leads from one moment to the next, also that by which a place goes on with what it
 -- inherited; and the bound of both takeovers.
-use Rattle.std.proofs.Common.{◌≡◌, ◌≢◌, ◌⊎◌, ◌≤◌, ℕ, ◌+◌, true, false, List, [], ◌∷◌, ◌++◌, length, inl, inr, refl, sym, ap, ◌∙◌, subst, subst₂, arith, true≢false}
+use Rattle.std.proofs.Common.{◌≡◌, ◌≢◌, ◌⊎◌, ◌≤◌, ℕ, ◌+◌, ◌*◌, true, false, List, [], ◌∷◌, ◌++◌, length, inl, inr, refl, sym, ap, ◌∙◌, subst, subst₂, arith, true≢false}
 use Rattle.std.specs.List.{AllByRecursion}
 use Rattle.std.proofs.lemmas.Bool.{cases_eq}
 use Rattle.ppm_strands.specs.Tree.{Words, Tree}
@@ -63,10 +63,10 @@ use Rattle.ppm_kept.proofs.HeirLemmas.{not_idle}
 use Rattle.ppm_kept.proofs.LeftLemmas.{kind_away}
 use Rattle.ppm_kept.proofs.PayingLemmas.{credit_stays_left}
 use Rattle.ppm_kept.proofs.PutLemmas.{put_here as set_here, put_else as set_else}
-use Rattle.ppm_runs.specs.Run.{image, fate_of}
-use Rattle.ppm_runs.specs.Follow.{IsHalves, GoesOn, LooksOnly}
+use Rattle.ppm_runs.specs.Run.{setting, fate_of}
+use Rattle.ppm_runs.specs.Follow.{IsHalves, CarriesOn, LooksOnly}
 use Rattle.ppm_runs.specs.Entries.{IsHeired}
-use Rattle.ppm_runs.specs.Work.{undone_of, WorkIsBoundedSo, WorkIsWithin256So}
+use Rattle.ppm_runs.specs.Work.{undone_of, work_in, strikes_in, WorkIsBounded, WorkIsWithin256}
 use Rattle.ppm_runs.proofs.AgainLemmas.{again, again_not, again_live, left_at, row_live}
 use Rattle.ppm_runs.proofs.BoundLemmas.{live_stands, length_both, finish_still, undone_is, Stage, Pays, dues, agains, goes_on, alone_goes, made_all, work_of_stage, first_run, first_stage, first_tree}
 use Rattle.ppm_runs.proofs.BrokenLemmas.{broken_stays}
@@ -75,7 +75,7 @@ use Rattle.ppm_runs.proofs.HalvesLemmas.{acts_so, steps_away, halves_go_on}
 use Rattle.ppm_runs.proofs.HeirJoinLemmas.{heir_joint}
 use Rattle.ppm_runs.proofs.HeiredLemmas.{looks_or, alone_of, inlined, heired_first}
 use Rattle.ppm_runs.proofs.JoinLemmas.{joints_stay}
-use Rattle.ppm_runs.proofs.LegWork.{work_is_bounded}
+use Rattle.ppm_runs.proofs.LegWork.{none_of, work_over_legs}
 use Rattle.ppm_runs.proofs.OrderlyLemmas.{how_or, halves_owe}
 use Rattle.ppm_runs.proofs.StandLemmas.{kinds_same}
 use Rattle.ppm_runs.proofs.SumLemmas.{sum_at, sum_le}
@@ -108,7 +108,7 @@ record Follows (x : Standing) : Type 0 where
   slot : ℕ
   is : x ≡ IsWithin seat (Now next)
   check : seat.restart.kind ≡ Check victim slot
-  on : GoesOn next
+  on : CarriesOn next
 
 step_or : (v : ℕ) (x : Standing) → LooksOnly (Step v) x ⊎ Follows x
 step_or v (IsWithin seat row) = elim (looks_or seat.restart.kind row) [
@@ -177,7 +177,7 @@ module _ (s : Shape) (code : CodeParts) (ih : s.takeover ≡ ByEntries) (fair : 
       others_go : (c : ℕ) (act : Act) → IsTurnAmong s.processors (record { processor = c; act = act }) → Stays c act → LooksOnly act (stand_of state c) → Then_ c act
       others_go c act among stays looks =
           let turn : Turn = record { processor = c; act = act } in
-          let i = image s code in
+          let i = setting s code in
           let orderly = (halves_owe s code fair root input state h forked taken l t run.halves run.joint.agrees (λ d seat re e. inlined s code ih fair root input state h forked taken l t run d seat re e)).orderly turn among in
           let next = halves_go_on s code ih fair root input state h forked taken l t run.halves run.joint.agrees run.broken turn among.processor orderly looks in
           let so = acts_so s code ih fair root input state h forked taken l t run.halves run.joint.agrees run.broken c act among.processor in
@@ -219,18 +219,18 @@ module _ (s : Shape) (code : CodeParts) (ih : s.takeover ≡ ByEntries) (fair : 
 
         lead : (w : ℕ)
             × Agrees (handed w p t) (λ r. fate_of (by_row s state.words seat (Now next) h r))
-            × IsHalves s code root input n (by_row s state.words seat (Now next) h) (fork_row (Now next) ++ forked) (take_row (Now next) ++ taken) (and_followed (image s code) l (places_of s state) w) (handed w p t)
-            × Heired (image s code) state l t c seat next w
+            × IsHalves s code root input n (by_row s state.words seat (Now next) h) (fork_row (Now next) ++ forked) (take_row (Now next) ++ taken) (and_followed (setting s code) l (places_of s state) w) (handed w p t)
+            × Heired (setting s code) state l t c seat next w
         lead = heirs_lead s code ih fair root input state h forked taken l t run.halves run.joint.agrees c victim seat next follows.victim follows.slot follows.is follows.check follows.on run.joint.opens
 
         abbrev w : ℕ
         w = lead.0
 
-        heir : Heired (image s code) state l t c seat next w
+        heir : Heired (setting s code) state l t c seat next w
         heir = lead.3
 
         abbrev l' : List Followed
-        l' = and_followed (image s code) l (places_of s state) w
+        l' = and_followed (setting s code) l (places_of s state) w
 
         abbrev t' : Skeleton
         t' = handed w p t
@@ -242,7 +242,7 @@ module _ (s : Shape) (code : CodeParts) (ih : s.takeover ≡ ByEntries) (fair : 
 
         led : Led x
         led = subst Led (sym follows.is) (
-            let counts = heirs_count_none (image s code) fair root input state l run.halves.apart t run.halves.kept c victim seat next w follows.is heir in
+            let counts = heirs_count_none (setting s code) fair root input state l run.halves.apart t run.halves.kept c victim seat next w follows.is heir in
             let halves : IsHalves s code root input n (by_act s state.words (Step victim) (IsWithin seat (Now next)) h) (fork_row (Now next) ++ forked) (take_row (Now next) ++ taken) l' t' =
             record { lawful = lead.2.lawful; apart = lead.2.apart; gone = lead.2.gone; kept = counts.0; born = lead.2.born } in
             record {
@@ -261,7 +261,7 @@ module _ (s : Shape) (code : CodeParts) (ih : s.takeover ≡ ByEntries) (fair : 
         abbrev K' : ℕ → RestartKind
         K' = spots.kinds s n.words
 
-        kinds_next : (next : Then) → GoesOn next → then_is_there s seat next ≡ true → spots.kinds s (acts s code state c (Step victim) (IsWithin seat (Now next))).words ≡ put K p (kind_then next)
+        kinds_next : (next : Then) → CarriesOn next → then_is_there s seat next ≡ true → spots.kinds s (acts s code state c (Step victim) (IsWithin seat (Now next))).words ≡ put K p (kind_then next)
         kinds_next (Install re) on there = kinds_then s code fair root input state h forked taken l t run.halves run.joint.agrees p re heir.holds.place there
         kinds_next (Fork r) on there = kinds_then s code fair root input state h forked taken l t run.halves run.joint.agrees p (forked_restart seat r) heir.holds.place there
         kinds_next _ on there = absurd on
@@ -270,7 +270,7 @@ module _ (s : Shape) (code : CodeParts) (ih : s.takeover ≡ ByEntries) (fair : 
         put_kinds = ap (λ (z : Standing). spots.kinds s (acts s code state c (Step victim) z).words) follows.is ∙ kinds_next next follows.on heir.there
 
         apart : p ≢ w
-        apart e = not_idle (left (image s code) l (places_of s state)) t w (kinds_of s state.words w) (kind_then next) (subst IsIdle (sym (ap (kinds_of s state.words) (sym e) ∙ heir.kind)) heir.idle) heir.goes
+        apart e = not_idle (left (setting s code) l (places_of s state)) t w (kinds_of s state.words w) (kind_then next) (subst IsIdle (sym (ap (kinds_of s state.words) (sym e) ∙ heir.kind)) heir.idle) heir.goes
 
         -- the sums
         here_kind : left_kinds l K' p ≡ kind_then next
@@ -357,7 +357,7 @@ module _ (s : Shape) (code : CodeParts) (ih : s.takeover ≡ ByEntries) (fair : 
                   let few = (made_few s code fair.code_is c (made c) x (now.stage.paces c)).0 in
                   let none : most (made c) x ≡ 0 = ap (most (made c)) follows.is ∙ ap cost follows.check in
                   let a = dues_then in let b = agains_then in let o = handed_owes w p t in
-                  let d = heir_due (left (image s code) l (places_of s state)) t w (kinds_of s state.words w) (kind_then next) heir.goes in
+                  let d = heir_due (left (setting s code) l (places_of s state)) t w (kinds_of s state.words w) (kind_then next) heir.goes in
                   omega (arith, look, few, none, a, b, o, d);
               owes = λ places. let two : ByPlaces ≡ ByEntries = sym places ∙ ih in cc;
             }
@@ -400,14 +400,17 @@ module _ (s : Shape) (code : CodeParts) (ih : s.takeover ≡ ByEntries) (fair : 
         let z : strikes + length (undone_of s state turn) + length (along s code (undone_of s) (happens s code state turn) more) ≡ strikes + length (along s code (undone_of s) state (turn ∷ more)) = omega (arith, b) in
         subst₂ (λ (x y : ℕ). Moment (after s code state (turn ∷ more)) (homes s code state h (turn ∷ more)) (forked_in s code state forked (turn ∷ more)) (taken_in s code state taken (turn ∷ more)) x y (made_all s code fair root input end ends made state (turn ∷ more))) w z rest
 
--- with either takeover
-pub work_is_bounded_so : WorkIsBoundedSo
+-- with either takeover: by places a run that no words come back in has no legs
+pub work_is_bounded : WorkIsBounded
 unfolding heired_first
-work_is_bounded_so code input s keeper im fair opens calm turns all end ends = elim (how_or s.takeover) [
+work_is_bounded code input s keeper im fair opens calm turns all end ends = elim (how_or s.takeover) [
   | inl places ↦
-      let le = work_is_bounded code input s keeper im places fair opens calm turns all end ends in
+      let state = opening im.words s.processors in
+      let le : 0 + work_in s code state turns ≤ 218 * end.counts.capsules + 171 * (0 + strikes_in s code state turns) + 172 * (s.processors * 0) + 6 =
+      work_over_legs code input s keeper im places fair opens calm [] tt turns all end ends in
+      let none = none_of s.processors in
       let same = ap (λ (told : RunState → Turn → List ℕ). length (along s code told (opening im.words s.processors) turns)) (undone_is s places) in
-      omega (arith, le, same)
+      omega (arith, le, none, same)
   | inr ih ↦
       let root = root_strand code input in
       let arrays = arrays_at (view s im.words) in
@@ -421,8 +424,8 @@ work_is_bounded_so code input s keeper im fair opens calm turns all end ends = e
       omega (arith, le)
 ]
 
-pub work_is_within_256_so : WorkIsWithin256So
-work_is_within_256_so code input s keeper im fair opens calm turns all end ends =
-    let le = work_is_bounded_so code input s keeper im fair opens calm turns all end ends in
+pub work_is_within_256 : WorkIsWithin256
+work_is_within_256 code input s keeper im fair opens calm turns all end ends =
+    let le = work_is_bounded code input s keeper im fair opens calm turns all end ends in
     let some = strands_are_counted (strands s code) (root_strand code input) (arrays_at (view s im.words)) end ends in
     omega (arith, le, some)

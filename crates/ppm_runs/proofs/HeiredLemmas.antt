@@ -18,7 +18,7 @@ use Rattle.ppm_code.specs.declared.code.CodeParts.{CodeParts}
 use Rattle.ppm_code.specs.declared.location.FrameWord.{FrameWord}
 use Rattle.ppm_layout.specs.Correct.{Opens}
 use Rattle.ppm_layout.specs.Root.{root_strand}
-use Rattle.ppm_layout.specs.declared.images.Image.{Image as RealImage}
+use Rattle.ppm_layout.specs.declared.images.Image.{Image}
 use Rattle.ppm_step.specs.Among.{IsTurnAmong}
 use Rattle.ppm_step.specs.Laws.{reached}
 use Rattle.ppm_step.specs.Standings.{Standing, IsLost, IsPlaced, IsAt, IsWithin, IsRunning, IsBroken, IsDone}
@@ -49,8 +49,8 @@ use Rattle.ppm_kept.specs.Places.{places_of}
 use Rattle.ppm_kept.specs.Steps.{act_with}
 use Rattle.ppm_kept.proofs.AnswerLemmas.{left_ends_as_meant}
 use Rattle.ppm_kept.proofs.FateLemmas.{none_is_left}
-use Rattle.ppm_runs.specs.Run.{image, fate_of}
-use Rattle.ppm_runs.specs.Follow.{IsHalves, GoesOn, LooksOnly}
+use Rattle.ppm_runs.specs.Run.{setting, fate_of}
+use Rattle.ppm_runs.specs.Follow.{IsHalves, CarriesOn, LooksOnly}
 use Rattle.ppm_runs.specs.Joint.{IsCapped, AreJoint, StepsAlone}
 use Rattle.ppm_runs.specs.Entries.{IsHeired, HeirsLeadOn, RunsStayHeired, OnceByEntries, RunsEndByEntries, HalvesStay, OnceInEachRun, RunsEndSo}
 use Rattle.ppm_runs.proofs.ShownLemmas.{halves, within}
@@ -85,7 +85,7 @@ idle_or (Take2 v) = inl tt
 
 -- a row by which a place goes on with what it inherited
 abbrev pub Inherits : RestartKind → Row → Type 0
-Inherits k row = (v : ℕ) × (j : ℕ) × (next : Then) × (k ≡ Check v j) × (row ≡ Now next) × GoesOn next
+Inherits k row = (v : ℕ) × (j : ℕ) × (next : Then) × (k ≡ Check v j) × (row ≡ Now next) × CarriesOn next
 
 check_or : (v j : ℕ) (next : Then) → LooksOn (Check v j) (Now next) ⊎ Inherits (Check v j) (Now next)
 check_or v j (Install re) = elim (idle_or re.kind) [ inl a ↦ inl a | inr ne ↦ inr (v, j, Install re, refl, refl, ne) ]
@@ -174,7 +174,7 @@ module _ (s : Shape) (code : CodeParts) (ih : s.takeover ≡ ByEntries) (fair : 
       let orderly = (halves_owe s code fair root input state h forked taken l t run.halves run.joint.agrees (λ d seat re e. inlined d seat re e)).orderly turn among in
       let next = halves_go_on s code ih fair root input state h forked taken l t run.halves run.joint.agrees run.broken turn among.processor orderly looks in (
         l,
-        act_with (image s code) (left (image s code) l (places_of s state)).words state.words act (stand_of state c) t,
+        act_with (setting s code) (left (setting s code) l (places_of s state)).words state.words act (stand_of state c) t,
         record {
           halves = next;
           joint = joints_stay s code fair root input state h forked taken l t run.halves run.joint turn among (alone_of s.takeover act (stand_of state c) looks) next;
@@ -234,7 +234,7 @@ not_within x seat row is e = elim is [
 ]
 
 -- where a run opens none was followed
-unfoldable pub heired_first : (code : CodeParts) (input : List NamedArray) (s : Shape) (keeper : ℕ) (im : RealImage) → Opens code input s keeper im → Calm (strands s code) (root_strand code input) (arrays_at (view s im.words))
+unfoldable pub heired_first : (code : CodeParts) (input : List NamedArray) (s : Shape) (keeper : ℕ) (im : Image) → Opens code input s keeper im → Calm (strands s code) (root_strand code input) (arrays_at (view s im.words))
     → IsHeired s code (root_strand code input) (arrays_at (view s im.words)) (opening im.words s.processors) (λ r. Unborn) [] [] [] (Leaf (InPlace keeper) (Begins 0) (pool_at s keeper) (slots_of code code.root))
 heired_first code input s keeper im opens calm =
     let run = runs_open code input s keeper im opens calm in record {
@@ -265,7 +265,7 @@ runs_end_by_entries code input s keeper im ih fair opens calm turns all finish s
     let h = homes s code (opening im.words s.processors) (λ r. Unborn) turns in
     let forked = forked_in s code (opening im.words s.processors) [] turns in
     let taken = taken_in s code (opening im.words s.processors) [] turns in
-    let answer = left_ends_as_meant (image s code) (root_strand code input) (arrays_at (view s im.words)) (reached s code im.words turns) run.0 run.1 run.2.halves.kept finish says out in
+    let answer = left_ends_as_meant (setting s code) (root_strand code input) (arrays_at (view s im.words)) (reached s code im.words turns) run.0 run.1 run.2.halves.kept finish says out in
     let counts = run.2.halves.lawful.1.counts in
     let agrees = subst (λ (w : Skeleton). Agrees w (λ r. fate_of (h r))) answer.alone run.2.joint.agrees in (
       run.1,

@@ -83,8 +83,8 @@ use Rattle.ppm_kept.proofs.LinkLemmas.{unrun_linked, called_or}
 use Rattle.ppm_kept.proofs.OrderLemmas.{order_says, order_shown}
 use Rattle.ppm_kept.proofs.StateLemmas.{turns_show}
 use Rattle.ppm_frames.specs.Good.{link_at}
-use Rattle.ppm_runs.specs.Run.{image, fate_of, IsAtLast, IsRun}
-use Rattle.ppm_runs.specs.Follow.{IsHalves, GoesOn, Opens}
+use Rattle.ppm_runs.specs.Run.{setting, fate_of, IsAtLast, IsRun}
+use Rattle.ppm_runs.specs.Follow.{IsHalves, CarriesOn, OpensBlock}
 use Rattle.ppm_runs.specs.Joint.{IsCapped, PushesOn, AreJoint, StepsAlone, JointsStay}
 use Rattle.ppm_runs.specs.Whole.{JoinsStay}
 use Rattle.ppm_runs.proofs.StandLemmas.{kinds_same}
@@ -280,7 +280,7 @@ entries_by ByEntries m w shut = refl
 
 -- no row ends as it begins
 abbrev GoesFirst : Row → Type 0
-GoesFirst (Now next) = Unit {0} → GoesOn next → ⊥
+GoesFirst (Now next) = Unit {0} → CarriesOn next → ⊥
 GoesFirst row = Unit {0}
 
 -- Push1 alone fills an empty entry
@@ -324,7 +324,7 @@ stand_else s code state c d act (IsBroken p) ne = stand_other state.stand c d _ 
 module _ (s : Shape) (code : CodeParts) (fair : IsFair code) (root : Tree (Frame FrameWord Point) Result) (input : Words) (state : RunState) (h : ℕ → Home) (forked taken : List ℕ) (l : List Followed) (t : Skeleton) (run : IsHalves s code root input state h forked taken l t)
     (joint : AreJoint s code state h l t) where
   abbrev z : State
-  z = left (image s code) l (places_of s state)
+  z = left (setting s code) l (places_of s state)
 
   -- a place that pushes then has the bottom that it had
   abbrev Lows : List ℕ → Type 0
@@ -609,24 +609,24 @@ module _ (s : Shape) (code : CodeParts) (fair : IsFair code) (root : Tree (Frame
   module _ (c p r : ℕ) (carried : Carried s (spots.view s state.words) c p) (ke : z.kind p ≡ Push1 r) where
     order_read : z.words (BlockWord (r + 1)) ≡ read s state.words (BlockWord (r + 1))
     order_read =
-        let can = order_shown (image s code) fair root input z t run.kept p r ke p carried.place in
-        shown (image s code) root input (places_of s state) l run.apart t run.kept p (carried_away s code root input state h forked taken l t run c p carried) (BlockWord (r + 1)) can.in_use ∙ view_is s state.words (BlockWord (r + 1)) can.cell_is
+        let can = order_shown (setting s code) fair root input z t run.kept p r ke p carried.place in
+        shown (setting s code) root input (places_of s state) l run.apart t run.kept p (carried_away s code root input state h forked taken l t run c p carried) (BlockWord (r + 1)) can.in_use ∙ view_is s state.words (BlockWord (r + 1)) can.cell_is
 
     held_by : read s state.words (BlockWord (r + 1)) ≡ 3 → HasUnrun Held r t
-    held_by three = elim (order_says (image s code) fair root input z t run.kept p r ke) [
+    held_by three = elim (order_says (setting s code) fair root input z t run.kept p r ke) [
       | inl fresh ↦ absurd (let e : 0 ≡ 3 = sym fresh.1 ∙ order_read ∙ three in omega (arith, e))
       | inr held ↦ held.0
     ]
 
     held_three : HasUnrun Held r t → read s state.words (BlockWord (r + 1)) ≡ 3
-    held_three is = elim (order_says (image s code) fair root input z t run.kept p r ke) [
+    held_three is = elim (order_says (setting s code) fair root input z t run.kept p r ke) [
       | inl fresh ↦ absurd (not_both s code fair root input state h forked taken l t run joint r fresh.0 is)
       | inr held ↦ sym order_read ∙ held.1
     ]
 
   -- a step, and what is kept behind it
-  module _ (c v : ℕ) (apart : (x : ℕ) → count Root (act_with (image s code) z.words state.words (Step v) (stand_of state c) t) x ≤ 1)
-      (born : Births (image s code) (left (image s code) l (places_of s (happens s code state (record { processor = c; act = Step v })))) (has (step_by (row_by fork_row) (Step v) (stand_of state c) ++ forked)))
+  module _ (c v : ℕ) (apart : (x : ℕ) → count Root (act_with (setting s code) z.words state.words (Step v) (stand_of state c) t) x ≤ 1)
+      (born : Births (setting s code) (left (setting s code) l (places_of s (happens s code state (record { processor = c; act = Step v })))) (has (step_by (row_by fork_row) (Step v) (stand_of state c) ++ forked)))
       (none : InheritsNone s.takeover (stand_of state c)) where
     abbrev A : ℕ → Skeleton → (ℕ → Home) → Type 0
     A n u g = Opened s code fair root input state h forked taken l t run joint n u g
@@ -635,14 +635,14 @@ module _ (s : Shape) (code : CodeParts) (fair : IsFair code) (root : Tree (Frame
     still_here = inl (here s code fair root input state h forked taken l t run joint, refl)
 
     installs_agree : (seat : Seat) (kind k : RestartKind) → seat.restart.kind ≡ k → stand_of state c ≡ IsRunning seat (Installs kind) → Runs s code root input state h forked taken l t run c seat (Installs kind)
-        → Does (image s code) z.words seat.place k (InRest (Installs kind)) → A (forks_with z.words kind) (by_install (image s code) z.words seat.place k kind t) h
+        → Does (setting s code) z.words seat.place k (InRest (Installs kind)) → A (forks_with z.words kind) (by_install (setting s code) z.words seat.place k kind t) h
     installs_agree seat (Bump r) (Run f y) ke e w d =
         let shown = ((turns_show s code state c).0 seat w.holds).1.installs v (Bump r) e w.here in
         let sees = subst (Sees s (spots.view s state.words) (spots.kinds s state.words) (spots.bottoms s state.words) c) e (run.lawful.1.sees c) in
         let away = carried_away s code root input state h forked taken l t run c seat.place sees.0.carried in
         opens_agree s code fair root input state h forked taken l t run joint c (Step v) apart born seat.place f y r (link_at (z.words (BlockWord r))).kind refl (w.kind ∙ ke)
         (kind_away l (places_of s (happens s code state (record { processor = c; act = Step v }))).kind seat.place away ∙ ap (λ (q : State). q.kind seat.place) shown ∙ kept_puts.put_here (places_of s state).kind seat.place (Bump r)) (IsRunning seat (Installs (Bump r))) e refl
-        (ap (λ (x : Standing). tree_with (image s code) z.words state.words x t) e ∙ ap (λ (k : RestartKind). by_install (image s code) z.words seat.place k (Bump r) t) ke)
+        (ap (λ (x : Standing). tree_with (setting s code) z.words state.words x t) e ∙ ap (λ (k : RestartKind). by_install (setting s code) z.words seat.place k (Bump r) t) ke)
     installs_agree seat (Run g n) (Run f y) ke e w d = inl (same s code fair root input state h forked taken l t run joint _ ((unruns s code fair root input state h forked taken l t run joint seat.place).runs f y (Run g n) tt), refl)
     installs_agree seat (Push1 x) (Run f y) ke e w d = inl (same s code fair root input state h forked taken l t run joint _ ((unruns s code fair root input state h forked taken l t run joint seat.place).runs f y (Push1 x) tt), refl)
     installs_agree seat (Push2 x) (Run f y) ke e w d = inl (same s code fair root input state h forked taken l t run joint _ ((unruns s code fair root input state h forked taken l t run joint seat.place).runs f y (Push2 x) tt), refl)
@@ -658,11 +658,11 @@ module _ (s : Shape) (code : CodeParts) (fair : IsFair code) (root : Tree (Frame
     installs_agree seat (Take2 x) (Run f y) ke e w d = still_here
     installs_agree seat kind _ ke e w d = absurd d
 
-    step_agree : (x : Standing) → stand_of state c ≡ x → InheritsNone s.takeover x → A (opened_by z.words x) (tree_with (image s code) z.words state.words x t) (by_standing s state.words x h)
+    step_agree : (x : Standing) → stand_of state c ≡ x → InheritsNone s.takeover x → A (opened_by z.words x) (tree_with (setting s code) z.words state.words x t) (by_standing s state.words x h)
     step_agree (IsWithin seat row) e alone = inl (row_agree s code fair root input state h forked taken l t run joint seat.own seat.place seat.restart.bottom seat.restart.kind c row e (within s code root input state h forked taken l t run c seat row e) alone, refl)
     step_agree (IsRunning seat (Installs kind)) e alone =
         let w = runs s code root input state h forked taken l t run c seat (Installs kind) e in
-        installs_agree seat kind seat.restart.kind refl e w (subst (λ (k : RestartKind). Does (image s code) z.words seat.place k (InRest (Installs kind))) w.kind w.does)
+        installs_agree seat kind seat.restart.kind refl e w (subst (λ (k : RestartKind). Does (setting s code) z.words seat.place k (InRest (Installs kind))) w.kind w.does)
     step_agree (IsRunning seat (Loads cell go)) e alone = still_here
     step_agree (IsRunning seat (Stores cell content rest)) e alone = still_here
     step_agree (IsRunning seat Full) e alone = still_here
@@ -676,7 +676,7 @@ module _ (s : Shape) (code : CodeParts) (fair : IsFair code) (root : Tree (Frame
   -- behind any act
   module _ (c : ℕ) (act : Act) (among : IsTurnAmong s.processors (record { processor = c; act = act })) (none : StepsAlone s.takeover act (stand_of state c))
       (after : IsHalves s code root input (happens s code state (record { processor = c; act = act })) (by_act s state.words act (stand_of state c) h) (forks_of state (record { processor = c; act = act }) ++ forked) (takes_of state (record { processor = c; act = act }) ++ taken) l
-      (act_with (image s code) z.words state.words act (stand_of state c) t)) where
+      (act_with (setting s code) z.words state.words act (stand_of state c) t)) where
     abbrev turn : Turn
     turn = record { processor = c; act = act }
 
@@ -687,10 +687,10 @@ module _ (s : Shape) (code : CodeParts) (fair : IsFair code) (root : Tree (Frame
     g = by_act s state.words act (stand_of state c) h
 
     abbrev u : Skeleton
-    u = act_with (image s code) z.words state.words act (stand_of state c) t
+    u = act_with (setting s code) z.words state.words act (stand_of state c) t
 
     abbrev N : State
-    N = left (image s code) l (places_of s n)
+    N = left (setting s code) l (places_of s n)
 
     sees_after : (d : ℕ) (x : Standing) → stand_of n d ≡ x → Sees s (spots.view s n.words) (spots.kinds s n.words) (spots.bottoms s n.words) d x
     sees_after d x e = subst (Sees s (spots.view s n.words) (spots.kinds s n.words) (spots.bottoms s n.words) d) e (after.lawful.1.sees d)
@@ -752,8 +752,8 @@ module _ (s : Shape) (code : CodeParts) (fair : IsFair code) (root : Tree (Frame
         by (Quit why) e = subst (λ (a : Act). Kinds (acts s code state c a (stand_of state c)).words q) (sym e) (live_kinds c (Quit why) (stand_of state c) q (kinds_if (slice_index state.words 0 == 0) FinishWord _ q tt tt))
 
     -- another that is about to open the block of a closed place does so by its link still
-    others_open : AgreeOn s code fair root input state h forked taken l t run joint u g → (d : ℕ) (seat : Seat) (next : Then) (v slot : ℕ) → d ≢ c → stand_of n d ≡ IsWithin seat (Now next) → seat.restart.kind ≡ Check v slot → GoesOn next
-        → (w r : ℕ) → Closed s.takeover (spots.view s n.words) w → IsAway l w → kinds_of s n.words w ≡ Bump r → Opens r next → OpensAs r (link_at (N.words (BlockWord r))).kind (kind_then next)
+    others_open : AgreeOn s code fair root input state h forked taken l t run joint u g → (d : ℕ) (seat : Seat) (next : Then) (v slot : ℕ) → d ≢ c → stand_of n d ≡ IsWithin seat (Now next) → seat.restart.kind ≡ Check v slot → CarriesOn next
+        → (w r : ℕ) → Closed s.takeover (spots.view s n.words) w → IsAway l w → kinds_of s n.words w ≡ Bump r → OpensBlock r next → OpensAs r (link_at (N.words (BlockWord r))).kind (kind_then next)
     others_open all d seat next v slot ne stand ke on w r shut aw kw by =
         let ih = entries_by s.takeover (spots.view s n.words) w shut in
         let was : kinds_of s state.words w ≡ Bump r = kinds_same s state.words w ∙ sym (closed_kind w shut) ∙ sym (kinds_same s n.words w) ∙ kw in
@@ -763,9 +763,9 @@ module _ (s : Shape) (code : CodeParts) (fair : IsFair code) (root : Tree (Frame
         let closed = closed_before s code fair root input state h forked taken l t run joint.agrees ih w r kz d seat next v slot before ke on by in
         let own = owner_of s code fair root input state h forked taken l t run joint.agrees w r kz in
         opens_same r (kind_then next) (link_at (z.words (BlockWord r))).kind (link_at (N.words (BlockWord r))).kind
-        (called_or (image s code) fair root input N u after.kept w r kn)
-        (λ f. unrun_linked (image s code) fair root input N u after.kept Fresh r (all.stays r (unborn s code fair root input state h forked taken l t run joint.agrees w r kz) (fork_fresh s code fair root input state h forked taken l t run joint.agrees w r kz f)))
-        (λ f. unrun_linked (image s code) fair root input z t run.kept Fresh r (elim (all.fresh r (fork_fresh s code fair root input n g (forks_of state turn ++ forked) (takes_of state turn ++ taken) l u after all.agrees w r kn f)) [
+        (called_or (setting s code) fair root input N u after.kept w r kn)
+        (λ f. unrun_linked (setting s code) fair root input N u after.kept Fresh r (all.stays r (unborn s code fair root input state h forked taken l t run joint.agrees w r kz) (fork_fresh s code fair root input state h forked taken l t run joint.agrees w r kz f)))
+        (λ f. unrun_linked (setting s code) fair root input z t run.kept Fresh r (elim (all.fresh r (fork_fresh s code fair root input n g (forks_of state turn ++ forked) (takes_of state turn ++ taken) l u after all.agrees w r kn f)) [
           | inl was ↦ was
           | inr new ↦ absurd (let two : Run new.1.0 new.1.1 ≡ Bump r = sym new.1.2 ∙ ap z.kind own ∙ kz in cc)
         ]))
@@ -794,8 +794,8 @@ module _ (s : Shape) (code : CodeParts) (fair : IsFair code) (root : Tree (Frame
     joined : AgreeOn s code fair root input state h forked taken l t run joint u g
         → ((r f y b : ℕ) (seat : Seat) → stand_of n c ≡ IsWithin seat (Now (Install (record { kind = Run f y; bottom = b }))) → seat.restart.kind ≡ Push1 r → HasUnrun Fresh r t → HasUnrun Held r u)
         → (s.takeover ≡ ByEntries → (r : ℕ) (row : Row) (seat : Seat) → stand_of n c ≡ IsWithin seat row → seat.restart.kind ≡ Push1 r → PushesOn row → HasUnrun Held r u → ⊥)
-        → ((seat : Seat) (next : Then) (v slot : ℕ) → stand_of n c ≡ IsWithin seat (Now next) → seat.restart.kind ≡ Check v slot → GoesOn next
-        → (w r : ℕ) → Closed s.takeover (spots.view s n.words) w → IsAway l w → kinds_of s n.words w ≡ Bump r → Opens r next → OpensAs r (link_at (N.words (BlockWord r))).kind (kind_then next))
+        → ((seat : Seat) (next : Then) (v slot : ℕ) → stand_of n c ≡ IsWithin seat (Now next) → seat.restart.kind ≡ Check v slot → CarriesOn next
+        → (w r : ℕ) → Closed s.takeover (spots.view s n.words) w → IsAway l w → kinds_of s n.words w ≡ Bump r → OpensBlock r next → OpensAs r (link_at (N.words (BlockWord r))).kind (kind_then next))
         → AreJoint s code n g l u
     joined all own unheld opens = record {
       opens = λ d seat next v slot stand ke on w r shut aw kw by. elim (cases_eq d c) [
@@ -848,7 +848,7 @@ module _ (s : Shape) (code : CodeParts) (fair : IsFair code) (root : Tree (Frame
     To x = x ≡ IsWithin seat' row
 
     abbrev After : Standing → Skeleton
-    After x = tree_with (image s code) z.words state.words x t
+    After x = tree_with (setting s code) z.words state.words x t
 
     abbrev found : Standing → ℕ
     found x = found_in state.words (wanted s c v x)
@@ -972,7 +972,7 @@ module _ (s : Shape) (code : CodeParts) (fair : IsFair code) (root : Tree (Frame
       went_unheld IsDone e to held = out _ tt to
 
   -- where the processor of a step comes to the end of a Check
-  module _ (c v : ℕ) (seat' : Seat) (next : Then) (v' slot : ℕ) (ke : seat'.restart.kind ≡ Check v' slot) (on : GoesOn next) where
+  module _ (c v : ℕ) (seat' : Seat) (next : Then) (v' slot : ℕ) (ke : seat'.restart.kind ≡ Check v' slot) (on : CarriesOn next) where
     abbrev Comes : Standing → Type 0
     Comes x = went s code c v (found_in state.words (wanted s c v x)) x ≡ IsWithin seat' (Now next)
 
@@ -1016,15 +1016,15 @@ module _ (s : Shape) (code : CodeParts) (fair : IsFair code) (root : Tree (Frame
     went_loads ih IsDone e to = absurd (gone_out _ tt to)
 
     -- so it opens a block by its link
-    own_opens : (x : Standing) → stand_of state c ≡ x → Comes x → (w r : ℕ) → Closed s.takeover (spots.view s (acts s code state c (Step v) x).words) w → IsAway l w → kinds_of s (acts s code state c (Step v) x).words w ≡ Bump r → Opens r next
-        → OpensAs r (link_at (left_words (image s code) l (view s (acts s code state c (Step v) x).words) (BlockWord r))).kind (kind_then next)
+    own_opens : (x : Standing) → stand_of state c ≡ x → Comes x → (w r : ℕ) → Closed s.takeover (spots.view s (acts s code state c (Step v) x).words) w → IsAway l w → kinds_of s (acts s code state c (Step v) x).words w ≡ Bump r → OpensBlock r next
+        → OpensAs r (link_at (left_words (setting s code) l (view s (acts s code state c (Step v) x).words) (BlockWord r))).kind (kind_then next)
     own_opens x e to w r shut aw kw by =
         let ih = entries_by s.takeover (spots.view s (acts s code state c (Step v) x).words) w shut in
         let loads = went_loads ih x e to in
         let words : (acts s code state c (Step v) x).words ≡ state.words = ap (λ (y : Standing). (acts s code state c (Step v) y).words) (sym e ∙ loads.stand) in
         let was : kinds_of s state.words w ≡ Bump r = ap (λ (ws : List ℕ). kinds_of s ws w) (sym words) ∙ kw in
         let there : w < s.processors = place_of_bump w r was in
-        subst (λ (ws : List ℕ). OpensAs r (link_at (left_words (image s code) l (view s ws) (BlockWord r))).kind (kind_then next)) (sym words)
+        subst (λ (ws : List ℕ). OpensAs r (link_at (left_words (setting s code) l (view s ws) (BlockWord r))).kind (kind_then next)) (sym words)
         (load_opens s code fair root input state h forked taken l t run joint.agrees ih w r (kind_away l (places_of s state).kind w aw ∙ was) there aw c v seat' next on by loads.point (checks ih (Now (Load loads.point)) loads.stand)
         (within s code root input state h forked taken l t run c seat' (Now (Load loads.point)) loads.stand) loads.is)
       where
@@ -1047,8 +1047,8 @@ module _ (s : Shape) (code : CodeParts) (fair : IsFair code) (root : Tree (Frame
   -- so many forks an act opens
   acts_open : (c : ℕ) (act : Act) → StepsAlone s.takeover act (stand_of state c)
       → IsHalves s code root input (happens s code state (record { processor = c; act = act })) (by_act s state.words act (stand_of state c) h) (forks_of state (record { processor = c; act = act }) ++ forked) (takes_of state (record { processor = c; act = act }) ++ taken) l
-      (act_with (image s code) z.words state.words act (stand_of state c) t)
-      → Opened s code fair root input state h forked taken l t run joint (by_step (opened_by z.words) act (stand_of state c)) (act_with (image s code) z.words state.words act (stand_of state c) t) (by_act s state.words act (stand_of state c) h)
+      (act_with (setting s code) z.words state.words act (stand_of state c) t)
+      → Opened s code fair root input state h forked taken l t run joint (by_step (opened_by z.words) act (stand_of state c)) (act_with (setting s code) z.words state.words act (stand_of state c) t) (by_act s state.words act (stand_of state c) h)
   acts_open c (Step v) none after = step_agree c v after.kept.apart after.born none (stand_of state c) refl none
   acts_open c Soft none after = inl (here s code fair root input state h forked taken l t run joint, refl)
   acts_open c Hard none after = inl (here s code fair root input state h forked taken l t run joint, refl)
@@ -1056,8 +1056,8 @@ module _ (s : Shape) (code : CodeParts) (fair : IsFair code) (root : Tree (Frame
 
   all_joined : (c : ℕ) (act : Act) → IsTurnAmong s.processors (record { processor = c; act = act }) → StepsAlone s.takeover act (stand_of state c)
       → IsHalves s code root input (happens s code state (record { processor = c; act = act })) (by_act s state.words act (stand_of state c) h) (forks_of state (record { processor = c; act = act }) ++ forked) (takes_of state (record { processor = c; act = act }) ++ taken) l
-      (act_with (image s code) z.words state.words act (stand_of state c) t)
-      → AreJoint s code (happens s code state (record { processor = c; act = act })) (by_act s state.words act (stand_of state c) h) l (act_with (image s code) z.words state.words act (stand_of state c) t)
+      (act_with (setting s code) z.words state.words act (stand_of state c) t)
+      → AreJoint s code (happens s code state (record { processor = c; act = act })) (by_act s state.words act (stand_of state c) h) l (act_with (setting s code) z.words state.words act (stand_of state c) t)
   all_joined c (Step v) among none after = joined c (Step v) among none after (on_opened s code fair root input state h forked taken l t run joint _ _ _ (acts_open c (Step v) none after))
       (λ r f y b seat stand ke before. let row = Now (Install (record { kind = Run f y; bottom = b })) in
       went_held c v r row seat ke f y b refl before (stand_of state c) refl (step_to c v seat row (stand_of state c) refl stand))
@@ -1080,9 +1080,9 @@ module _ (s : Shape) (code : CodeParts) (fair : IsFair code) (root : Tree (Frame
 pub turns_open : (s : Shape) (code : CodeParts) (fair : IsFair code) (root : Tree (Frame FrameWord Point) Result) (input : Words) (state : RunState) (h : ℕ → Home) (forked taken : List ℕ) (l : List Followed) (t : Skeleton)
     (run : IsHalves s code root input state h forked taken l t) (joint : AreJoint s code state h l t) (turn : Turn) → StepsAlone s.takeover turn.act (stand_of state turn.processor)
     → IsHalves s code root input (happens s code state turn) (by_act s state.words turn.act (stand_of state turn.processor) h) (forks_of state turn ++ forked) (takes_of state turn ++ taken) l
-    (act_with (image s code) (left (image s code) l (places_of s state)).words state.words turn.act (stand_of state turn.processor) t)
-    → Opened s code fair root input state h forked taken l t run joint (by_step (opened_by (left (image s code) l (places_of s state)).words) turn.act (stand_of state turn.processor))
-    (act_with (image s code) (left (image s code) l (places_of s state)).words state.words turn.act (stand_of state turn.processor) t) (by_act s state.words turn.act (stand_of state turn.processor) h)
+    (act_with (setting s code) (left (setting s code) l (places_of s state)).words state.words turn.act (stand_of state turn.processor) t)
+    → Opened s code fair root input state h forked taken l t run joint (by_step (opened_by (left (setting s code) l (places_of s state)).words) turn.act (stand_of state turn.processor))
+    (act_with (setting s code) (left (setting s code) l (places_of s state)).words state.words turn.act (stand_of state turn.processor) t) (by_act s state.words turn.act (stand_of state turn.processor) h)
 turns_open s code fair root input state h forked taken l t run joint turn none after = acts_open s code fair root input state h forked taken l t run joint turn.processor turn.act none after
 
 pub joints_stay : JointsStay

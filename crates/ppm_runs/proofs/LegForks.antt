@@ -14,7 +14,7 @@ use Rattle.ppm_code.specs.declared.code.CodeParts.{CodeParts}
 use Rattle.ppm_code.specs.declared.location.FrameWord.{FrameWord}
 use Rattle.ppm_layout.specs.Correct.{Opens}
 use Rattle.ppm_layout.specs.Root.{root_strand}
-use Rattle.ppm_layout.specs.declared.images.Image.{Image as RealImage}
+use Rattle.ppm_layout.specs.declared.images.Image.{Image}
 use Rattle.ppm_step.specs.Among.{IsTurnAmong}
 use Rattle.ppm_step.specs.State.{State as RunState, opening}
 use Rattle.ppm_step.specs.declared.turn.Turn.{Turn}
@@ -28,7 +28,7 @@ use Rattle.ppm_runs.proofs.CountedLemmas.{counted_on}
 use Rattle.ppm_runs.proofs.ForkLemmas.{IsForked, as_run, forked_run, all_places, opens_forked, ends_forked}
 use Rattle.ppm_runs.proofs.LegLemmas.{goes_on_back, forks_back}
 
-module _ (code : CodeParts) (input : List NamedArray) (s : Shape) (keeper : ℕ) (im : RealImage) (places : s.takeover ≡ ByPlaces) (fair : IsFair code) (opens : Opens code input s keeper im)
+module _ (code : CodeParts) (input : List NamedArray) (s : Shape) (keeper : ℕ) (im : Image) (places : s.takeover ≡ ByPlaces) (fair : IsFair code) (opens : Opens code input s keeper im)
     (calm : Calm (strands s code) (root_strand code input) (arrays_at (view s im.words))) where
   abbrev root : Tree (Frame FrameWord Point) Result
   root = root_strand code input
@@ -64,7 +64,7 @@ module _ (code : CodeParts) (input : List NamedArray) (s : Shape) (keeper : ℕ)
         back (last_state s code im.words legs leg.turns) (all_homes s code im.words legs leg.turns) (all_forked s code im.words legs leg.turns) (all_taken s code im.words legs leg.turns) now.0 now.1 leg.back are.2,
       )
 
-  stays : (legs : List Leg) → AreLegs s code im.words legs → (turns : List Turn) → AllByRecursion (IsTurnAmong s.processors) turns → (t : Skeleton) × IsForkedBehind legs turns t
+  pub stays : (legs : List Leg) → AreLegs s code im.words legs → (turns : List Turn) → AllByRecursion (IsTurnAmong s.processors) turns → (t : Skeleton) × IsForkedBehind legs turns t
   stays legs are turns all = behind legs (begins_so legs are) turns all
 
 pub forks_over_legs : ForksOverLegs

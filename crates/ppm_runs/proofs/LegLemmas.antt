@@ -25,7 +25,7 @@ use Rattle.ppm_code.specs.declared.code.CodeParts.{CodeParts}
 use Rattle.ppm_code.specs.declared.location.FrameWord.{FrameWord}
 use Rattle.ppm_layout.specs.Correct.{Opens}
 use Rattle.ppm_layout.specs.Root.{root_strand}
-use Rattle.ppm_layout.specs.declared.images.Image.{Image as RealImage}
+use Rattle.ppm_layout.specs.declared.images.Image.{Image}
 use Rattle.ppm_step.specs.Among.{IsTurnAmong}
 use Rattle.ppm_step.specs.Standings.{IsLost, IsDone}
 use Rattle.ppm_step.specs.State.{State as RunState, stand_of, opening}
@@ -42,12 +42,12 @@ use Rattle.ppm_frames.proofs.ViewLemmas.{view_is}
 use Rattle.ppm_frames.proofs.WriteLemmas.{write_here, write_else}
 use Rattle.ppm_kept.specs.Births.{Births}
 use Rattle.ppm_kept.specs.Running.{IsFair, strands}
-use Rattle.ppm_kept.specs.Kept.{Resting, Image, State, NoOutcome, Head, Ordered, IsKept}
+use Rattle.ppm_kept.specs.Kept.{Resting, Setting, State, NoOutcome, Head, Ordered, IsKept}
 use Rattle.ppm_kept.specs.Places.{kinds_of, places_of}
 use Rattle.ppm_kept.proofs.BirthLemmas.{births_stay}
 use Rattle.ppm_kept.proofs.CountLemmas.{Counted, asked, as_asked, answered}
 use Rattle.ppm_kept.proofs.StopLemmas.{words_stay}
-use Rattle.ppm_runs.specs.Run.{image, IsRun}
+use Rattle.ppm_runs.specs.Run.{setting, IsRun}
 use Rattle.ppm_runs.specs.Legs.{Leg, GoOn, words_then, state_then, AreLegs, homes_then, forked_then, taken_then, last_state, all_homes, all_forked, all_taken, LegsStay, OnceOverLegs, LegsComeTo, RoomOverLegs}
 use Rattle.ppm_runs.proofs.BackLemmas.{view_back, kinds_back, bottoms_back, resting}
 use Rattle.ppm_runs.proofs.MomentLemmas.{all_lead, are_once}
@@ -63,7 +63,7 @@ none_said w none v says out =
     subst IsOutcome {x = v} {y = Unset} (ap (finish_in v) (sym says ∙ ap finish_of none ∙ unset_stands)) out
 
 -- what is kept is kept where no place is in a row
-module _ (i : Image) (root : Tree (Frame FrameWord Point) Result) (input : Words) (s : State) (t : Skeleton) (law : IsKept i root input s t) where
+module _ (i : Setting) (root : Tree (Frame FrameWord Point) Result) (input : Words) (s : State) (t : Skeleton) (law : IsKept i root input s t) where
   abbrev idle : State
   idle = record { words = s.words; kind = s.kind; doing = λ p. Resting }
 
@@ -149,7 +149,7 @@ module _ (s : Shape) (code : CodeParts) (places : s.takeover ≡ ByPlaces) (fair
       each (ArrayWord x) = write_else m FinishWord (read s back FinishWord) (ArrayWord x) (λ e. cc)
 
   -- whatever is asked of the counts
-  module _ (i : Image) (law : IsKept i root input (places_of s state) t) where
+  module _ (i : Setting) (law : IsKept i root input (places_of s state) t) where
     same_kept : read s back FinishWord ≡ read s state.words FinishWord → IsKept i root input back_so t
     same_kept same =
         subst (λ (w : Cell → ℕ). IsKept i root input (record { words = w; kind = kinds_of s state.words; doing = λ p. Resting }) t) (sym (same_words same))
@@ -162,12 +162,12 @@ module _ (s : Shape) (code : CodeParts) (places : s.takeover ≡ ByPlaces) (fair
     kept_back fair_i = subst (λ (z : State). IsKept i root input z t) (sym back_is) (elim on.finish [ inl same ↦ same_kept same | inr none ↦ none_kept fair_i none ])
 
   -- the counts are the same
-  counts_on : Counted (image s code) root input (places_of s then_) t run.kept.ahead.0.capsules run.kept.ahead.0.forks
-  counts_on = answered (image s code) root input (places_of s state) t run.kept (places_of s then_) t
-      (kept_back (asked (image s code) root input (places_of s state) t run.kept) (as_asked (image s code) root input (places_of s state) t run.kept) fair)
+  counts_on : Counted (setting s code) root input (places_of s then_) t run.kept.ahead.0.capsules run.kept.ahead.0.forks
+  counts_on = answered (setting s code) root input (places_of s state) t run.kept (places_of s then_) t
+      (kept_back (asked (setting s code) root input (places_of s state) t run.kept) (as_asked (setting s code) root input (places_of s state) t run.kept) fair)
 
-  born_back : Births (image s code) back_so (has forked)
-  born_back = let b = (births_stay (image s code) fair root input (places_of s state) t run.kept (has forked) run.born 0).stored FinishWord (read s back FinishWord) IsLost tt in record { below = b.below; homes = b.homes }
+  born_back : Births (setting s code) back_so (has forked)
+  born_back = let b = (births_stay (setting s code) fair root input (places_of s state) t run.kept (has forked) run.born 0).stored FinishWord (read s back FinishWord) IsLost tt in record { below = b.below; homes = b.homes }
 
   pub goes_on_back : IsRun s code root input then_ h forked taken t
   goes_on_back = record {
@@ -177,7 +177,7 @@ module _ (s : Shape) (code : CodeParts) (places : s.takeover ≡ ByPlaces) (fair
     last = λ r p held home. ap (λ (b : ℕ). b + 1) (bottoms_back s state.words back on.renewal p) ∙ run.last r p held home;
     ready = λ p r f y b ke de. absurd (let e = ap (λ (z : State). z.doing p) (sym back_is) ∙ de in cc);
     broken = λ c p e. absurd (not_broken (stand_of then_ c) p (all_lost c) e);
-    born = subst (λ (z : State). Births (image s code) z (has forked)) (sym back_is) born_back;
+    born = subst (λ (z : State). Births (setting s code) z (has forked)) (sym back_is) born_back;
   }
 
   pub counted_back : run.kept.ahead.0.capsules ≤ goes_on_back.kept.ahead.0.capsules
@@ -188,7 +188,7 @@ module _ (s : Shape) (code : CodeParts) (places : s.takeover ≡ ByPlaces) (fair
   unfolding goes_on_back
   forks_back = counts_on.2
 
-module _ (code : CodeParts) (input : List NamedArray) (s : Shape) (keeper : ℕ) (im : RealImage) (places : s.takeover ≡ ByPlaces) (fair : IsFair code) (opens : Opens code input s keeper im)
+module _ (code : CodeParts) (input : List NamedArray) (s : Shape) (keeper : ℕ) (im : Image) (places : s.takeover ≡ ByPlaces) (fair : IsFair code) (opens : Opens code input s keeper im)
     (calm : Calm (strands s code) (root_strand code input) (arrays_at (view s im.words))) where
   abbrev root : Tree (Frame FrameWord Point) Result
   root = root_strand code input

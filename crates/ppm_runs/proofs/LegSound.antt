@@ -26,7 +26,7 @@ use Rattle.ppm_code.specs.declared.code.CodeParts.{CodeParts}
 use Rattle.ppm_code.specs.declared.location.FrameWord.{FrameWord}
 use Rattle.ppm_layout.specs.Correct.{Opens}
 use Rattle.ppm_layout.specs.Root.{root_strand}
-use Rattle.ppm_layout.specs.declared.images.Image.{Image as RealImage}
+use Rattle.ppm_layout.specs.declared.images.Image.{Image}
 use Rattle.ppm_layout.proofs.ValueLemmas.{stands_for}
 use Rattle.ppm_step.specs.Among.{IsTurnAmong}
 use Rattle.ppm_step.specs.Contents.{content_of}
@@ -51,9 +51,9 @@ use Rattle.ppm_kept.specs.Steps.{tree_after}
 use Rattle.ppm_kept.proofs.BlockLemmas.{finish_back}
 use Rattle.ppm_runs.specs.Deques.{one_if, raised_by}
 use Rattle.ppm_runs.specs.Legs.{Leg, GoOn, words_then, state_then, AreLegs, homes_then, forked_then, taken_then, work_then, last_state, all_homes, all_forked, all_taken, all_work}
-use Rattle.ppm_runs.specs.Run.{image, IsRun}
+use Rattle.ppm_runs.specs.Run.{setting, IsRun}
 use Rattle.ppm_runs.specs.Sound.{Noted, IsSoundAt, IsRestartThere, IsHolderWithin, IsTopLow, IsTagLow, IsNoBreak, SaysNoBreak, IsSound}
-use Rattle.ppm_runs.specs.Unbroken.{IsWhole}
+use Rattle.ppm_runs.specs.Unbroken.{HasNoBreak}
 use Rattle.ppm_runs.specs.UnbrokenLegs.{NothingBreaksOverLegs, FinishStandsOverLegs}
 use Rattle.ppm_runs.specs.Well.{IsWell}
 use Rattle.ppm_runs.proofs.BackLemmas.{view_back, kinds_back}
@@ -166,7 +166,7 @@ module _ (s : Shape) (code : CodeParts) (places : s.takeover ≡ ByPlaces) (fair
   one_more : (state : RunState) (h : ℕ → Home) (f tk : List ℕ) (work : ℕ) → Moment state h f tk work → (turn : Turn) → IsTurnAmong N turn → work ≤ 2 ^ 34
       → Moment (happens s code state turn) (by_act s state.words turn.act (stand_of state turn.processor) h) (forks_of state turn ++ f) (takes_of state turn ++ tk) (work + one_if (is_work_turn turn.act (stand_of state turn.processor)))
   one_more state h f tk work z turn among few = record {
-    tree = tree_after (image s code) state turn z.tree;
+    tree = tree_after (setting s code) state turn z.tree;
     made = raised_by z.made state turn;
     run = turns_lead_on s code places fair root input state h f tk z.tree z.run turn among;
     sound = deques_are_sound s code places fair root input state h f tk z.tree z.run z.made (rises z.made (about s code N state) work z.half few) z.sound (strands_sound s code fair root input state h f tk z.tree z.run z.made z.sound z.well) turn among;
@@ -247,7 +247,7 @@ few_risen n k few legs = by ((n + 1) * k) (mul-le (n + 1) k 65 (2 ^ 50) (omega (
     by : (x : ℕ) → x ≤ 65 * 2 ^ 50 → x ≤ 2 ^ 57
     by x le = omega (arith, le)
 
-module _ (code : CodeParts) (input : List NamedArray) (s : Shape) (keeper : ℕ) (im : RealImage) (places : s.takeover ≡ ByPlaces) (fair : IsFair code) (opens : Opens code input s keeper im)
+module _ (code : CodeParts) (input : List NamedArray) (s : Shape) (keeper : ℕ) (im : Image) (places : s.takeover ≡ ByPlaces) (fair : IsFair code) (opens : Opens code input s keeper im)
     (calm : Calm (strands s code) (root_strand code input) (arrays_at (frames.view s im.words))) where
   abbrev root : Tree (Frame FrameWord Point) Result
   root = root_strand code input
@@ -282,7 +282,7 @@ module _ (code : CodeParts) (input : List NamedArray) (s : Shape) (keeper : ℕ)
       (begins_low code input s keeper im places fair opens calm (leg ∷ legs) are)
 
   whole_last : (legs : List Leg) → AreLegs s code im.words legs → (turns : List Turn) → AllByRecursion (IsTurnAmong s.processors) turns
-      → length legs ≤ 2 ^ 50 → all_work s code im.words legs turns ≤ 2 ^ 34 → IsWhole s (last_state s code im.words legs turns)
+      → length legs ≤ 2 ^ 50 → all_work s code im.words legs turns ≤ 2 ^ 34 → HasNoBreak s (last_state s code im.words legs turns)
   whole_last legs are turns all few work =
       let z = behind legs (begins legs are few (omega (arith, work))) turns all work in record {
         stands = λ c p e. subst (IsSoundAt s code (view s (last_state s code im.words legs turns).words)) e (z.sound.stands c);

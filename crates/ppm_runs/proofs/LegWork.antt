@@ -1,5 +1,5 @@
--- The work of runs in legs: where words come back, each row that was under way is lost, and that of a run without legs.
-use Rattle.std.proofs.Common.{◌≡◌, ◌≤◌, ◌<◌, ℕ, suc, ◌+◌, ◌*◌, List, [], ◌∷◌, length, replicate, refl, sym, ap, ◌∙◌, arith}
+-- The work of runs in legs: where words come back, each row that was under way is lost.
+use Rattle.std.proofs.Common.{◌≡◌, ◌≤◌, ℕ, suc, ◌+◌, ◌*◌, List, [], ◌∷◌, length, replicate, refl, sym, ap, ◌∙◌, arith}
 use Rattle.std.specs.Prelude.{slice_get}
 use Rattle.std.specs.List.{AllByRecursion}
 use Rattle.std.proofs.Math.Path.{fun_ext}
@@ -17,7 +17,7 @@ use Rattle.ppm_code.specs.declared.code.CodeParts.{CodeParts}
 use Rattle.ppm_code.specs.declared.location.FrameWord.{FrameWord}
 use Rattle.ppm_layout.specs.Correct.{Opens}
 use Rattle.ppm_layout.specs.Root.{root_strand}
-use Rattle.ppm_layout.specs.declared.images.Image.{Image as RealImage}
+use Rattle.ppm_layout.specs.declared.images.Image.{Image}
 use Rattle.ppm_step.specs.Among.{IsTurnAmong}
 use Rattle.ppm_step.specs.Standings.{IsLost}
 use Rattle.ppm_step.specs.State.{State as RunState, stand_in, stand_of, opening}
@@ -30,7 +30,6 @@ use Rattle.ppm_frames.specs.Views.{view}
 use Rattle.ppm_frames.specs.Seen.{arrays_at}
 use Rattle.ppm_frames.specs.Skeletons.{Skeleton}
 use Rattle.ppm_kept.specs.Running.{IsFair, strands}
-use Rattle.ppm_runs.specs.Work.{work_in, strikes_in, WorkIsBounded, WorkIsWithin256}
 use Rattle.ppm_runs.specs.Run.{IsRun}
 use Rattle.ppm_runs.specs.Legs.{Leg, GoOn, words_then, state_then, AreLegs, homes_then, forked_then, taken_then, work_then, strikes_then, last_state, all_homes, all_forked, all_taken, all_work, all_strikes, WorkOverLegs, WorkOverLegsIsWithin256}
 use Rattle.ppm_runs.proofs.BackLemmas.{kinds_back}
@@ -81,7 +80,7 @@ lost_in n (leg ∷ legs) = lost_in n legs + 172 * n
 times_more : (n k : ℕ) → n * suc k ≡ n + n * k
 times_more n k = grind arith
 
-none_of : (n : ℕ) → n * 0 ≡ 0
+pub none_of : (n : ℕ) → n * 0 ≡ 0
 none_of n = grind arith
 
 lost_are : (n : ℕ) (legs : List Leg) → lost_in n legs ≡ 172 * (n * length legs)
@@ -91,7 +90,7 @@ lost_are n (leg ∷ legs) =
     let m = times_more n (length legs) in
     let all : lost_in n legs + 172 * n ≡ 172 * (n * suc (length legs)) = omega (arith, e, m) in all
 
-module _ (code : CodeParts) (input : List NamedArray) (s : Shape) (keeper : ℕ) (im : RealImage) (places : s.takeover ≡ ByPlaces) (fair : IsFair code) (opens : Opens code input s keeper im)
+module _ (code : CodeParts) (input : List NamedArray) (s : Shape) (keeper : ℕ) (im : Image) (places : s.takeover ≡ ByPlaces) (fair : IsFair code) (opens : Opens code input s keeper im)
     (calm : Calm (strands s code) (root_strand code input) (arrays_at (view s im.words))) (end : End Result) (ends : Ends (strands s code) (root_strand code input) (arrays_at (view s im.words)) end) where
   abbrev root : Tree (Frame FrameWord Point) Result
   root = root_strand code input
@@ -155,18 +154,3 @@ work_over_legs_is_within_256 code input s keeper im places fair opens calm legs 
     let le = work_over_legs code input s keeper im places fair opens calm legs are turns all end ends in
     let some = strands_are_counted (strands s code) (root_strand code input) (arrays_at (view s im.words)) end ends in
     omega (arith, le, some)
-
--- a run that no words come back in has no legs
-pub work_is_bounded : WorkIsBounded
-work_is_bounded code input s keeper im places fair opens calm turns all end ends =
-    let le : 0 + work_in s code im.words turns ≤ 218 * end.counts.capsules + 171 * (0 + strikes_in s code im.words turns) + 172 * (s.processors * 0) + 6 =
-    work_over_legs code input s keeper im places fair opens calm [] tt turns all end ends in
-    let none = none_of s.processors in
-    omega (arith, le, none)
-
-pub work_is_within_256 : WorkIsWithin256
-work_is_within_256 code input s keeper im places fair opens calm turns all end ends =
-    let le : 0 + work_in s code im.words turns < 256 * (end.counts.capsules + (0 + strikes_in s code im.words turns + s.processors * 0)) =
-    work_over_legs_is_within_256 code input s keeper im places fair opens calm [] tt turns all end ends in
-    let none = none_of s.processors in
-    omega (arith, le, none)

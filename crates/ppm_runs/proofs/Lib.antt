@@ -14,6 +14,8 @@
 -- (`WellCapsules`, `WellTurns`, `HeirWell`). Half of the work turns at most raise a tag (`RaisedLemmas`), and
 -- `UnbrokenLemmas` has all of it in whole runs. Who holds a place changes by bids alone (`BidLemmas`), so tags
 -- of holders stay low over legs (`TagLemmas`), and what is sound is so again behind each (`LegSound`).
+-- So each run is one of orderly turns (`EveryRunLemmas`), the words show a tree that is ahead of the root
+-- (`TreeLemmas`), and who runs a right branch was counted (`RunnerLemmas`).
 
 pub mod TameLemmas
 pub mod StandLemmas
@@ -48,6 +50,9 @@ pub mod LongLemmas
 pub mod CountedLemmas
 pub mod ForkLemmas
 pub mod LegForks
+pub mod EveryRunLemmas
+pub mod TreeLemmas
+pub mod RunnerLemmas
 pub mod SoundRows
 pub mod CheckRows
 pub mod BidLemmas

@@ -23,7 +23,7 @@ use Rattle.ppm_frames.specs.Skeletons.{Begins, InPlace, Skeleton, Leaf}
 use Rattle.ppm_kept.specs.Running.{IsFair}
 use Rattle.ppm_kept.specs.Steps.{tree_after}
 use Rattle.ppm_kept.proofs.StepRows.{turns_keep_on}
-use Rattle.ppm_runs.specs.Run.{image, IsRun}
+use Rattle.ppm_runs.specs.Run.{setting, IsRun}
 use Rattle.ppm_runs.specs.Moments.{TurnsLeadOn, RunsStay, AreOnce, OnceAtEachMoment}
 use Rattle.ppm_runs.proofs.JoinLemmas.{joins_stay}
 use Rattle.ppm_runs.proofs.BearingLemmas.{births_follow}
@@ -33,7 +33,7 @@ use Rattle.ppm_runs.proofs.OpenLemmas.{runs_open}
 
 pub turns_lead_on : TurnsLeadOn
 turns_lead_on s code places fair root input state h forked taken t run turn among =
-    let kept = turns_keep_on (image s code) fair places root input state t run.kept turn (acts_so s code places fair root input state h forked taken t run turn.processor turn.act among.processor) in
+    let kept = turns_keep_on (setting s code) fair places root input state t run.kept turn (acts_so s code places fair root input state h forked taken t run turn.processor turn.act among.processor) in
     let joined = joins_stay s code places fair root input state h forked taken t run turn among kept in record {
       lawful = (turns_go_on s code places fair root input state h forked taken t run).lawful turn among;
       kept = kept;
@@ -50,7 +50,7 @@ module _ (s : Shape) (code : CodeParts) (places : s.takeover ≡ ByPlaces) (fair
       → (v : Skeleton) × IsRun s code root input (after s code state turns) (homes s code state h turns) (forked_in s code state f turns) (taken_in s code state tk turns) v
   all_lead state h f tk t [] all run = (t, run)
   all_lead state h f tk t (turn ∷ more) all run =
-      all_lead (happens s code state turn) (by_act s state.words turn.act (stand_of state turn.processor) h) (forks_of state turn ++ f) (takes_of state turn ++ tk) (tree_after (image s code) state turn t) more all.1
+      all_lead (happens s code state turn) (by_act s state.words turn.act (stand_of state turn.processor) h) (forks_of state turn ++ f) (takes_of state turn ++ tk) (tree_after (setting s code) state turn t) more all.1
       (turns_lead_on s code places fair root input state h f tk t run turn all.0)
 
 pub runs_stay : RunsStay

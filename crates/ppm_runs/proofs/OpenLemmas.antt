@@ -10,7 +10,7 @@ use Rattle.ppm_kept.specs.Kept.{State}
 use Rattle.ppm_kept.specs.Births.{Births}
 use Rattle.ppm_kept.proofs.BeginLemmas.{machines_open}
 use Rattle.ppm_kept.proofs.BirthLemmas.{openings_have_none}
-use Rattle.ppm_runs.specs.Run.{image}
+use Rattle.ppm_runs.specs.Run.{setting}
 use Rattle.ppm_runs.specs.Openings.{RunsOpen}
 
 -- a processor that is lost, or is not there, has met no broken words
@@ -39,5 +39,5 @@ runs_open code input s keeper real opens calm =
       last = λ r p e home. absurd e;
       ready = λ p r f y b ke de. absurd (let z = ap (λ (q : State). q.doing p) (sym made.0) ∙ de in cc);
       broken = λ c p e. absurd (not_broken (stand_of state c) p (elim (lost_or s.processors c) [ inl a ↦ inl a.0 | inr a ↦ inr a ]) e);
-      born = subst (λ (q : State). Births (image s code) q (λ x. false)) (sym made.0) (openings_have_none (image s code) (view s real.words) keeper (pool_at s keeper));
+      born = subst (λ (q : State). Births (setting s code) q (λ x. false)) (sym made.0) (openings_have_none (setting s code) (view s real.words) keeper (pool_at s keeper));
     }

@@ -50,7 +50,7 @@ use Rattle.ppm_frames.specs.Skeletons.{Fresh, Held, Skeleton}
 use Rattle.ppm_frames.specs.Good.{link_or, link_at}
 use Rattle.ppm_frames.proofs.ViewLemmas.{view_is}
 use Rattle.ppm_kept.specs.Running.{IsFair}
-use Rattle.ppm_kept.specs.Kept.{Image, State, owner}
+use Rattle.ppm_kept.specs.Kept.{Setting, State, owner}
 use Rattle.ppm_kept.specs.Fates.{Agrees}
 use Rattle.ppm_kept.specs.Fates as fates
 use Rattle.ppm_kept.specs.Heirs.{OpensAs}
@@ -62,8 +62,8 @@ use Rattle.ppm_kept.proofs.FateLemmas.{fork_has}
 use Rattle.ppm_kept.proofs.LeftLemmas.{kind_away, shown}
 use Rattle.ppm_kept.proofs.LinkLemmas.{link_shown, runs_none, pushes_none}
 use Rattle.ppm_kept.proofs.OwnerLemmas.{owned}
-use Rattle.ppm_runs.specs.Run.{image, fate_of}
-use Rattle.ppm_runs.specs.Follow.{IsHalves, GoesOn, Opens}
+use Rattle.ppm_runs.specs.Run.{setting, fate_of}
+use Rattle.ppm_runs.specs.Follow.{IsHalves, CarriesOn, OpensBlock}
 use Rattle.ppm_runs.proofs.StandLemmas.{kinds_same}
 use Rattle.ppm_runs.proofs.ShownLemmas.{away, Within}
 use Rattle.ppm_runs.proofs.OrderlyLemmas.{not_born}
@@ -98,13 +98,13 @@ forked_block _ = 0
 
 -- a row that ends so that a place goes on
 abbrev GoesRow : Row → Type 0
-GoesRow (Now next) = GoesOn next
+GoesRow (Now next) = CarriesOn next
 GoesRow _ = ⊥
 
 module _ (s : Shape) (code : CodeParts) (fair : IsFair code) (root : Tree (Frame FrameWord Point) Result) (input : Words) (state : RunState) (h : ℕ → Home) (forked taken : List ℕ) (l : List Followed) (t : Skeleton) (run : IsHalves s code root input state h forked taken l t)
     (agrees : Agrees t (λ r. fate_of (h r))) where
-  abbrev i : Image
-  i = image s code
+  abbrev i : Setting
+  i = setting s code
 
   abbrev z : State
   z = left i l (places_of s state)
@@ -168,7 +168,7 @@ module _ (s : Shape) (code : CodeParts) (fair : IsFair code) (root : Tree (Frame
     closed_at p it e = subst (Closed s.takeover m) e (claims_shut run.lawful.1.board it.place it.way.0.slot (subst IsClaim (sym it.way.0.taken) (omega arith)))
 
     -- so w is closed
-    pub closed_before : (c : ℕ) (seat : Seat) (next : Then) (v slot : ℕ) → stand_of state c ≡ IsWithin seat (Now next) → seat.restart.kind ≡ Check v slot → GoesOn next → Opens r next → Closed s.takeover m w
+    pub closed_before : (c : ℕ) (seat : Seat) (next : Then) (v slot : ℕ) → stand_of state c ≡ IsWithin seat (Now next) → seat.restart.kind ≡ Check v slot → CarriesOn next → OpensBlock r next → Closed s.takeover m w
     closed_before c seat (Install re) v slot e ke on by = elim (heirs_see s code ih state h forked taken run.lawful c seat (Now (Install re)) v slot e ke) [
       | inl seeks ↦ absurd (on seeks)
       | inr a ↦ elim by [
@@ -186,7 +186,7 @@ module _ (s : Shape) (code : CodeParts) (fair : IsFair code) (root : Tree (Frame
     closed_before c seat _ v slot e ke on by = absurd on
 
     -- a load behind which a place is to open the block is that of its link
-    module _ (there : w < s.processors) (aw : IsAway l w) (c v : ℕ) (seat : Seat) (next : Then) (on : GoesOn next) (by : Opens r next) where
+    module _ (there : w < s.processors) (aw : IsAway l w) (c v : ℕ) (seat : Seat) (next : Then) (on : CarriesOn next) (by : OpensBlock r next) where
       abbrev Right : Type 0
       Right = OpensAs r (link_at (z.words (BlockWord r))).kind (kind_then next)
 

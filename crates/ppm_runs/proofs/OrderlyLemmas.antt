@@ -42,7 +42,7 @@ use Rattle.ppm_tickets.specs.Words.{Word, Slot, has}
 use Rattle.ppm_frames.specs.Skeletons.{Stand, Begins, Over, Arrives, InPlace, Skeleton, Leaf, Around, plug, hook_at}
 use Rattle.ppm_frames.specs.Good.{Match}
 use Rattle.ppm_kept.specs.Running.{IsFair}
-use Rattle.ppm_kept.specs.Kept.{Image, seat_at, InRow, InRest, State, Reach, Does, Ordered, carried, IsKept}
+use Rattle.ppm_kept.specs.Kept.{Setting, seat_at, InRow, InRest, State, Reach, Does, Ordered, carried, IsKept}
 use Rattle.ppm_kept.proofs.PlaceLemmas.{Leafed, leaf, head_on}
 use Rattle.ppm_kept.proofs.Rows.{run_row_keeps}
 use Rattle.ppm_kept.proofs.UnwindRow.{unwind_row_keeps}
@@ -59,7 +59,7 @@ use Rattle.ppm_tickets.proofs.HeirRows.{heirs_see}
 use Rattle.ppm_kept.specs.Fates.{Agrees}
 use Rattle.ppm_kept.specs.Left.{Followed, left}
 use Rattle.ppm_kept.proofs.LeftLemmas.{kind_away}
-use Rattle.ppm_runs.specs.Run.{image, fate_of}
+use Rattle.ppm_runs.specs.Run.{setting, fate_of}
 use Rattle.ppm_runs.specs.Follow.{IsHalves, HalvesOwe}
 use Rattle.ppm_runs.specs.Laws.{Owes, TurnsAreOrderly}
 use Rattle.ppm_runs.proofs.TameLemmas.{May, TameRow, rest_tame, reach_tame}
@@ -120,8 +120,8 @@ how_or ByEntries = inr refl
 
 module _ (s : Shape) (code : CodeParts) (fair : IsFair code) (root : Tree (Frame FrameWord Point) Result) (input : Words) (state : RunState) (h : ℕ → Home) (forked taken : List ℕ) (l : List Followed) (t : Skeleton)
     (run : IsHalves s code root input state h forked taken l t) (agrees : Agrees t (λ r. fate_of (h r))) where
-  abbrev i : Image
-  i = image s code
+  abbrev i : Setting
+  i = setting s code
 
   abbrev z : State
   z = left i l (places_of s state)

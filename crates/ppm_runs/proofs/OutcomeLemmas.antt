@@ -1,28 +1,22 @@
--- At an outcome of the root all is as the depth-first run has it; and what was stopped stays so.
-use Rattle.std.proofs.Common.{◌≡◌, ◌≢◌, ◌⊎◌, ℕ, Bool, true, false, List, Option, Some, None, inl, inr, refl, sym, ap, ◌∙◌, subst}
+-- At an outcome of the root all is as the depth-first run has it.
+use Rattle.std.proofs.Common.{◌≡◌, ◌⊎◌, ℕ, Bool, true, false, List, Option, Some, None, inl, inr, refl, sym, ◌∙◌, subst}
 use Rattle.ppm_cells.specs.Fields.{number_of}
 use Rattle.ppm_cells.specs.Finish.{finish_of, finish_word}
-use Rattle.ppm_cells.specs.Memory.{read}
-use Rattle.ppm_cells.specs.declared.cell.Cell.TheVariants.{FinishWord}
 use Rattle.ppm_cells.specs.declared.finish.Finish.{Finish}
 use Rattle.ppm_cells.specs.declared.finish.Finish.TheVariants.{Unset}
-use Rattle.ppm_step.specs.Laws.{reached}
-use Rattle.ppm_step.proofs.FinishLemmas.{finish_stays}
 use Rattle.ppm_tickets.specs.Homes.{Home, Unborn, Pushing, Listed, Popping, Stolen, Inline, Begun}
 use Rattle.ppm_tickets.specs.Lawful.{Counts}
 use Rattle.ppm_tickets.specs.Words.{has}
-use Rattle.ppm_frames.specs.Views.{view}
 use Rattle.ppm_frames.specs.Skeletons.{Over, InPlace, Skeleton}
 use Rattle.ppm_kept.specs.Fates as fates
 use Rattle.ppm_kept.specs.Fates.{ToPush, Offered, Agrees}
 use Rattle.ppm_kept.specs.Places.{places_of}
-use Rattle.ppm_kept.specs.Steps.{IsStop}
 use Rattle.ppm_kept.proofs.AnswerLemmas.{ends_as_meant}
 use Rattle.ppm_kept.proofs.BlockLemmas.{finish_back}
 use Rattle.ppm_kept.proofs.FateLemmas.{none_is_left}
 use Rattle.ppm_kept.proofs.RoomLemmas.{room_is_bounded}
-use Rattle.ppm_runs.specs.Run.{image, fate_of}
-use Rattle.ppm_runs.specs.Outcomes.{RunsEnd, StopsStay}
+use Rattle.ppm_runs.specs.Run.{setting, fate_of}
+use Rattle.ppm_runs.specs.Outcomes.{RunsEnd}
 
 -- a branch of which nothing has come, or that was begun, is so in the deques too
 pub unborn_is : (x : Home) → fate_of x ≡ fates.Unborn → x ≡ Unborn
@@ -57,7 +51,7 @@ same_lists h forked taken counts r (inr e) =
 
 pub runs_end : RunsEnd
 runs_end s code root input state h forked taken t run finish says out =
-    let answer = ends_as_meant (image s code) root input state t run.kept finish says out in
+    let answer = ends_as_meant (setting s code) root input state t run.kept finish says out in
     let counts = run.lawful.1.counts in
     let agrees = subst (λ (w : Skeleton). Agrees w (λ r. fate_of (h r))) answer.alone run.agrees in record {
       answer = answer;
@@ -67,7 +61,7 @@ runs_end s code root input state h forked taken t run finish says out =
       ]);
       forked_once = counts.forked_once;
       taken_once = counts.once;
-      room = room_is_bounded (image s code) root input (places_of s state) t run.kept answer.end answer.ends;
+      room = room_is_bounded (setting s code) root input (places_of s state) t run.kept answer.end answer.ends;
     }
 
 -- no finish word that says a stop is 0
@@ -81,16 +75,3 @@ unset_stands = subst (λ (w : ℕ). finish_of w ≡ Some Unset) unset_is (finish
 abbrev pub finish_in : Finish → Option Finish → Finish
 finish_in v None = v
 finish_in v (Some w) = w
-
-stop_is_there : (w : ℕ) (v : Finish) → finish_of w ≡ Some v → IsStop v → w ≢ 0
-stop_is_there w v e stop none =
-    let same : Some v ≡ Some Unset = sym e ∙ ap finish_of none ∙ unset_stands in
-    absurd (subst IsStop {x = v} {y = Unset} (ap (finish_in v) same) stop)
-
-pub stops_stay : StopsStay
-unfolding view
-stops_stay s code is words first more stopped = (
-  stopped.0,
-  ap finish_of (finish_stays s code is words first more (stop_is_there (read s (reached s code words first).words FinishWord) stopped.0 stopped.1 stopped.2)) ∙ stopped.1,
-  stopped.2,
-)

@@ -29,7 +29,7 @@ use Rattle.ppm_code.specs.declared.code.CodeParts.{CodeParts}
 use Rattle.ppm_code.specs.declared.location.FrameWord.{FrameWord}
 use Rattle.ppm_layout.specs.Correct.{Opens}
 use Rattle.ppm_layout.specs.Root.{root_strand}
-use Rattle.ppm_layout.specs.declared.images.Image.{Image as RealImage}
+use Rattle.ppm_layout.specs.declared.images.Image.{Image}
 use Rattle.ppm_step.specs.Among.{IsTurnAmong}
 use Rattle.ppm_step.specs.Contents.{word_of, read_so}
 use Rattle.ppm_step.specs.Frames.{Rest, Loads, Stores, Full, Installs, Breaks}
@@ -58,7 +58,7 @@ use Rattle.ppm_frames.specs.Seen.{arrays_at}
 use Rattle.ppm_frames.specs.Skeletons.{Begins, InPlace, Skeleton, Leaf}
 use Rattle.ppm_frames.proofs.ViewLemmas.{view_is}
 use Rattle.ppm_kept.specs.Running.{IsFair, strands}
-use Rattle.ppm_kept.specs.Kept.{Image, seat_at, InRow, InRest, State, put, ceiling, Reach, Under, Going, Does}
+use Rattle.ppm_kept.specs.Kept.{Setting, seat_at, InRow, InRest, State, put, ceiling, Reach, Under, Going, Does}
 use Rattle.ppm_kept.specs.Births.{IsNoCounter, IsSteady, SteadyRow}
 use Rattle.ppm_kept.specs.Fates.{Agrees}
 use Rattle.ppm_kept.specs.Left.{Followed, left}
@@ -72,7 +72,7 @@ use Rattle.ppm_kept.proofs.PutLemmas.{put_here, put_else}
 use Rattle.ppm_kept.proofs.RoomLemmas.{room_is_bounded}
 use Rattle.ppm_kept.proofs.Rows.{run_row_keeps}
 use Rattle.ppm_kept.proofs.SteadyLemmas.{rows_are_steady}
-use Rattle.ppm_runs.specs.Run.{image, fate_of, IsRun}
+use Rattle.ppm_runs.specs.Run.{setting, fate_of, IsRun}
 use Rattle.ppm_runs.specs.Entries.{IsHeired}
 use Rattle.ppm_runs.specs.Follow.{IsHalves}
 use Rattle.ppm_runs.specs.Legs.{Leg, words_then, state_then, AreLegs, last_state, all_homes, all_forked, all_taken, RoomIsWithinOverLegs}
@@ -91,7 +91,7 @@ Raises top (Store cell content next) = word_of content ≡ top
 Raises top row = Unit {0}
 
 -- the row of Bump stores where its block ends
-module _ (i : Image) (m : Cell → ℕ) (p r b : ℕ) where
+module _ (i : Setting) (m : Cell → ℕ) (p r b : ℕ) where
   abbrev bump_seat : Seat
   bump_seat = seat_at p (Bump r) b
 
@@ -140,8 +140,8 @@ counted cell = 0
 
 module _ (s : Shape) (code : CodeParts) (fair : IsFair code) (root : Tree (Frame FrameWord Point) Result) (input : Words) (state : RunState) (h : ℕ → Home) (forked taken : List ℕ) (l : List Followed) (t : Skeleton)
     (run : IsHalves s code root input state h forked taken l t) (agrees : Agrees t (λ r. fate_of (h r))) where
-  abbrev i : Image
-  i = image s code
+  abbrev i : Setting
+  i = setting s code
 
   abbrev z : State
   z = left i l (places_of s state)
@@ -294,14 +294,14 @@ module _ (s : Shape) (code : CodeParts) (fair : IsFair code) (root : Tree (Frame
       elim (act_stays s code fair root input state h forked taken l t run agrees turn.processor among.processor turn.act q there) [
         | inl e ↦ subst (λ (x : ℕ). x ≤ pool_at s q + (frame_size code code.root + end.counts.block_words)) (sym e) (low q there)
         | inr e ↦ subst (λ (x : ℕ). x ≤ pool_at s q + (frame_size code code.root + end.counts.block_words)) (sym e)
-            (room_is_bounded (image s code) root input (left (image s code) l (places_of s state)) t run.kept end ends q)
+            (room_is_bounded (setting s code) root input (left (setting s code) l (places_of s state)) t run.kept end ends q)
       ]
 
   pub places_bound : s.takeover ≡ ByPlaces → (state : RunState) (h : ℕ → Home) (f tk : List ℕ) (t : Skeleton) (turns : List Turn) → AllByRecursion (IsTurnAmong s.processors) turns
       → IsRun s code root input state h f tk t → IsBounded state.words → IsBounded (after s code state turns).words
   places_bound places state h f tk t [] all run low = low
   places_bound places state h f tk t (turn ∷ more) all run low =
-      places_bound places (happens s code state turn) (by_act s state.words turn.act (stand_of state turn.processor) h) (forks_of state turn ++ f) (takes_of state turn ++ tk) (tree_after (image s code) state turn t) more all.1
+      places_bound places (happens s code state turn) (by_act s state.words turn.act (stand_of state turn.processor) h) (forks_of state turn ++ f) (takes_of state turn ++ tk) (tree_after (setting s code) state turn t) more all.1
       (turns_lead_on s code places fair root input state h f tk t run turn all.0) (turn_bounds state h f tk [] t (halves run) run.agrees turn all.0 low)
 
   entries_bound : s.takeover ≡ ByEntries → (state : RunState) (h : ℕ → Home) (f tk : List ℕ) (l : List Followed) (t : Skeleton) (turns : List Turn) → AllByRecursion (IsTurnAmong s.processors) turns
@@ -313,13 +313,13 @@ module _ (s : Shape) (code : CodeParts) (fair : IsFair code) (root : Tree (Frame
       (turn_bounds state h f tk l t run.halves run.joint.agrees turn all.0 low)
 
 -- where a run opens no place is about to open a block
-opening_roof : (i : Image) (m : Cell → ℕ) (keeper f q : ℕ) → ceiling i m q (put (λ x. Seek) keeper (Run f 0) q) ≡ m (RoomCounter q)
+opening_roof : (i : Setting) (m : Cell → ℕ) (keeper f q : ℕ) → ceiling i m q (put (λ x. Seek) keeper (Run f 0) q) ≡ m (RoomCounter q)
 opening_roof i m keeper f q = elim (cases_eq q keeper) [
   | inl e ↦ ap (ceiling i m q) (ap (put (λ x. Seek) keeper (Run f 0)) e ∙ put_here (λ x. Seek) keeper (Run f 0))
   | inr ne ↦ ap (ceiling i m q) (put_else (λ x. Seek) keeper (Run f 0) q ne)
 ]
 
-module _ (code : CodeParts) (input : List NamedArray) (s : Shape) (keeper : ℕ) (im : RealImage) (fair : IsFair code) (opens : Opens code input s keeper im) (calm : Calm (strands s code) (root_strand code input) (arrays_at (view s im.words)))
+module _ (code : CodeParts) (input : List NamedArray) (s : Shape) (keeper : ℕ) (im : Image) (fair : IsFair code) (opens : Opens code input s keeper im) (calm : Calm (strands s code) (root_strand code input) (arrays_at (view s im.words)))
     (end : End Result) (ends : Ends (strands s code) (root_strand code input) (arrays_at (view s im.words)) end) where
   abbrev root : Tree (Frame FrameWord Point) Result
   root = root_strand code input
@@ -342,8 +342,8 @@ module _ (code : CodeParts) (input : List NamedArray) (s : Shape) (keeper : ℕ)
   opened : Low im.words
   opened q there =
       subst (λ (x : ℕ). x ≤ pool_at s q + (frame_size code code.root + end.counts.block_words))
-      (ap (λ (z : State). ceiling (image s code) z.words q (z.kind q)) (machines_open code input s keeper im opens calm).0 ∙ opening_roof (image s code) (view s im.words) keeper (pool_at s keeper) q ∙ view_is s im.words (RoomCounter q) (lt-ltb q s.processors there))
-      (room_is_bounded (image s code) root arrays (places_of s first) leaf run.kept end ends q)
+      (ap (λ (z : State). ceiling (setting s code) z.words q (z.kind q)) (machines_open code input s keeper im opens calm).0 ∙ opening_roof (setting s code) (view s im.words) keeper (pool_at s keeper) q ∙ view_is s im.words (RoomCounter q) (lt-ltb q s.processors there))
+      (room_is_bounded (setting s code) root arrays (places_of s first) leaf run.kept end ends q)
 
   stays_low : (turns : List Turn) → AllByRecursion (IsTurnAmong s.processors) turns → Low (reached s code im.words turns).words
   stays_low turns all = elim (how_or s.takeover) [

@@ -26,14 +26,14 @@ use Rattle.ppm_tickets.specs.View as spots
 use Rattle.ppm_tickets.specs.Words.{Word, Empty, Local, Job, Taken, Held, Number, Linked, Restarts, Unread, Spot, Holder}
 use Rattle.ppm_frames.specs.Views.{place_of, in_pool, is_cell}
 use Rattle.ppm_frames.specs.Skeletons.{Skeleton}
-use Rattle.ppm_kept.specs.Kept.{Image, InRow, InRest, State, Does, Head, owner, IsKept}
+use Rattle.ppm_kept.specs.Kept.{Setting, InRow, InRest, State, Does, Head, owner, IsKept}
 use Rattle.ppm_kept.specs.Moves.{doing_of}
 use Rattle.ppm_kept.specs.Places.{places_of, is_in, IsOf, Holds}
 use Rattle.ppm_tickets.proofs.EstateLemmas.{here}
 use Rattle.ppm_tickets.proofs.StepLemmas.{shut_not}
 use Rattle.ppm_kept.specs.Left.{Followed, left, IsAway}
 use Rattle.ppm_kept.proofs.LeftLemmas.{kind_away}
-use Rattle.ppm_runs.specs.Run.{image, IsRun}
+use Rattle.ppm_runs.specs.Run.{setting, IsRun}
 use Rattle.ppm_runs.specs.Follow.{AreGone, IsHalves}
 use Rattle.ppm_runs.proofs.StandLemmas.{kinds_same, doing_own}
 
@@ -97,8 +97,8 @@ unfoldable pub halves : {s : Shape} {code : CodeParts} {root : Tree (Frame Frame
 halves run = record { lawful = run.lawful; apart = tt; gone = tt; kept = run.kept; born = run.born }
 
 module _ (s : Shape) (code : CodeParts) (root : Tree (Frame FrameWord Point) Result) (input : Words) (state : RunState) (h : ℕ → Home) (forked taken : List ℕ) (l : List Followed) (t : Skeleton) (run : IsHalves s code root input state h forked taken l t) where
-  abbrev i : Image
-  i = image s code
+  abbrev i : Setting
+  i = setting s code
 
   abbrev z : State
   z = left i l (places_of s state)

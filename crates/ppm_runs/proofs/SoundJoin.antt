@@ -42,7 +42,7 @@ use Rattle.ppm_frames.proofs.ViewLemmas.{view_is}
 use Rattle.ppm_kept.specs.Running.{IsFair}
 use Rattle.ppm_kept.specs.Branches.{is_taker}
 use Rattle.ppm_kept.specs.Fates.{Offered, Agrees}
-use Rattle.ppm_kept.specs.Kept.{Image, State, carried, IsKept}
+use Rattle.ppm_kept.specs.Kept.{Setting, State, carried, IsKept}
 use Rattle.ppm_kept.specs.Left.{Followed, left}
 use Rattle.ppm_kept.specs.Places.{kind_or, kinds_of, is_in, places_of}
 use Rattle.ppm_kept.proofs.FateLemmas.{fates_show}
@@ -50,7 +50,7 @@ use Rattle.ppm_kept.proofs.LeftLemmas.{kind_away}
 use Rattle.ppm_kept.proofs.LoadLemmas.{in_part}
 use Rattle.ppm_kept.proofs.PlaceLemmas.{leaf, counted}
 use Rattle.ppm_kept.proofs.TakeRow.{find_wait}
-use Rattle.ppm_runs.specs.Run.{image, fate_of}
+use Rattle.ppm_runs.specs.Run.{setting, fate_of}
 use Rattle.ppm_runs.specs.Follow.{IsHalves}
 use Rattle.ppm_runs.specs.Laws.{Owes, IsTakers}
 use Rattle.ppm_runs.specs.Deques.{DequesAreSound, DequesStaySound}
@@ -88,8 +88,8 @@ taken_fate p (Take2 v) x e a = absurd (cc)
 
 module _ (s : Shape) (code : CodeParts) (fair : IsFair code) (root : Tree (Frame FrameWord Point) Result) (input : Words) (state : RunState) (h : ℕ → Home) (forked taken : List ℕ) (l : List Followed) (t : Skeleton)
     (run : IsHalves s code root input state h forked taken l t) where
-  abbrev i : Image
-  i = image s code
+  abbrev i : Setting
+  i = setting s code
 
   abbrev z : State
   z = left i l (places_of s state)

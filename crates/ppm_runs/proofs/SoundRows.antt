@@ -52,7 +52,7 @@ use Rattle.ppm_tickets.proofs.ViewLemmas.{if_true, if_false, shows, shows_conten
 use Rattle.ppm_kept.specs.Branches.{is_taker}
 use Rattle.ppm_kept.specs.Fates.{Offered}
 use Rattle.ppm_runs.specs.Run.{fate_of}
-use Rattle.ppm_runs.specs.Sound.{IsHeld, LocalRises, IsRising, IsRisingEntry, IsTakenEntry, TakesPlaces, Told, Noted, IsLoadOf, GoesWell, IsNoted, IsSoundRow, IsHolderSound, IsTopLow, IsTagLow, IsRestartThere, IsSound, one_dead, deads}
+use Rattle.ppm_runs.specs.Sound.{IsHeld, LocalRises, IsRising, IsRisingEntry, IsTakenEntry, TakesPlaces, KnownByPlaces, Noted, IsLoadOf, GoesWell, IsNoted, IsSoundRow, IsHolderSound, IsTopLow, IsTagLow, IsRestartThere, IsSound, one_dead, deads}
 
 pub and_is : (a b : Bool) → a ≡ true → b ≡ true → (a && b) ≡ true
 and_is true b e f = f
@@ -179,13 +179,13 @@ can_take s (entries.Local t x) a = ap (λ (how : Takeover). can_be_taken how (en
 can_take s (entries.Empty t) a = absurd a
 can_take s (entries.Taken t x) a = absurd a
 
-told : (how : Takeover) (A : Type 0) → A → Told how A
-told ByPlaces A a = a
-told ByEntries A a = tt
+known : (how : Takeover) (A : Type 0) → A → KnownByPlaces how A
+known ByPlaces A a = a
+known ByEntries A a = tt
 
-told_so : (how : Takeover) (A : Type 0) → how ≡ ByPlaces → Told how A → A
-told_so ByPlaces A e a = a
-told_so ByEntries A e a = absurd (cc)
+known_so : (how : Takeover) (A : Type 0) → how ≡ ByPlaces → KnownByPlaces how A → A
+known_so ByPlaces A e a = a
+known_so ByEntries A e a = absurd (cc)
 
 module _ (s : Shape) (code : CodeParts) where
   -- what the frames show of blocks: those of a place that pushes, and that none has followed, and those of
@@ -703,7 +703,7 @@ module _ (s : Shape) (code : CodeParts) where
     check_message : SoundAt words o p (Check v i) (on_entry (content_of AsEntry (read s words (cells.MessageWord p))) (taken_message s p v i))
     check_message = by_rising a p (own_there a) (subst (Noted s (view s words) p) a.kind (a.noted p)) (taken_message s p v i) (λ x fit rising is.
         subst (λ (b : Bool). SoundAt words o p (Check v i) (if b then Now (Load (TakenEntry p v i x)) else Now Broken)) (sym (can_take s x rising))
-        ((kind_ok a, told s.takeover ((p ≡ p) × (v ≡ v) × (i ≡ i) × IsRisingEntry s x) (refl, refl, refl, rising)), tt))
+        ((kind_ok a, known s.takeover ((p ≡ p) × (v ≡ v) × (i ≡ i) × IsRisingEntry s x) (refl, refl, refl, rising)), tt))
 
     check_entry : (message : Entry) → IsRisingEntry s message → SoundAt words o p (Check v i) (on_entry (content_of AsEntry (read s words (cells.EntryWord v i))) (taken_entry (seat_of words o p (Check v i)) p v i message))
     check_entry message job = by_slot a v i (kind_ok a) (taken_entry (seat_of words o p (Check v i)) p v i message) (λ x fit is. by message job x)
@@ -787,20 +787,20 @@ module _ (s : Shape) (code : CodeParts) where
     check_loads : (v i : ℕ) → Here words standings h f tk made o p (Check v i) → s.takeover ≡ ByPlaces → (u : ℕ) → (point : Point) → IsLoadOf s p (bottoms s words p) (Check v i) point
         → ((r low : ℕ) → point ≡ Offset r low → fate_of (h r) ≡ Offered) → SoundAt words o p (Check v i) (Found words o p (Check v i) u point)
     check_loads v i a places u (TakenMessage by w j) fits fates =
-        let so = told_so s.takeover ((by ≡ p) × (w ≡ v) × (j ≡ i)) places fits in
+        let so = known_so s.takeover ((by ≡ p) × (w ≡ v) × (j ≡ i)) places fits in
         subst (λ (z : ℕ). SoundAt words o p (Check v i) (Found words o p (Check v i) u (TakenMessage z w j))) (sym so.0)
         (subst (λ (z : ℕ). SoundAt words o p (Check v i) (Found words o p (Check v i) u (TakenMessage p z j))) (sym so.1)
         (subst (λ (z : ℕ). SoundAt words o p (Check v i) (Found words o p (Check v i) u (TakenMessage p v z))) (sym so.2) (check_message a places)))
     check_loads v i a places u (TakenEntry by w j message) fits fates =
-        let so = told_so s.takeover ((by ≡ p) × (w ≡ v) × (j ≡ i) × IsRisingEntry s message) places fits in
+        let so = known_so s.takeover ((by ≡ p) × (w ≡ v) × (j ≡ i) × IsRisingEntry s message) places fits in
         subst (λ (z : ℕ). SoundAt words o p (Check v i) (Found words o p (Check v i) u (TakenEntry z w j message))) (sym so.0)
         (subst (λ (z : ℕ). SoundAt words o p (Check v i) (Found words o p (Check v i) u (TakenEntry p z j message))) (sym so.1)
         (subst (λ (z : ℕ). SoundAt words o p (Check v i) (Found words o p (Check v i) u (TakenEntry p v z message))) (sym so.2) (check_entry a places message so.3)))
     check_loads v i a places u (Offset x low) fits fates =
         subst (λ (z : ℕ). SoundAt words o p (Check v i) (Found words o p (Check v i) u (Offset x z))) (sym fits) (check_offset a places x (fates x low refl))
-    check_loads v i a places u (ClosedRestart w j x) fits fates = absurd (told_so s.takeover ⊥ places fits)
-    check_loads v i a places u (ClosedLink x) fits fates = absurd (told_so s.takeover ⊥ places fits)
-    check_loads v i a places u (ClosedBottom w j x) fits fates = absurd (told_so s.takeover ⊥ places fits)
+    check_loads v i a places u (ClosedRestart w j x) fits fates = absurd (known_so s.takeover ⊥ places fits)
+    check_loads v i a places u (ClosedLink x) fits fates = absurd (known_so s.takeover ⊥ places fits)
+    check_loads v i a places u (ClosedBottom w j x) fits fates = absurd (known_so s.takeover ⊥ places fits)
     check_loads v i a places u _ fits fates = absurd fits
 
     -- where a branch whose offset is loaded may be taken; by entries loads of a Check are told apart
@@ -856,7 +856,7 @@ module _ (s : Shape) (code : CodeParts) where
     begins_sound (Pop2 r) a is = ((lower_there a, refl), tt)
     begins_sound Seek a is = ((refl, tt), tt)
     begins_sound (Steal v i) a is = ((own_there a, (refl, refl)), tt)
-    begins_sound (Check v i) a is = ((own_there a, told s.takeover ((p ≡ p) × (v ≡ v) × (i ≡ i)) (refl, refl, refl)), tt)
+    begins_sound (Check v i) a is = ((own_there a, known s.takeover ((p ≡ p) × (v ≡ v) × (i ≡ i)) (refl, refl, refl)), tt)
     begins_sound (Take v d) a is = by_how (λ (how : Takeover). TakesPlaces how → SoundAt words o p (Take v d) (by_places how (Now (Load (BidMessage v d)))))
         (λ takes. ((own_there a, (refl, refl)), tt)) (λ takes. absurd takes) s.takeover (subst (Noted s (view s words) p) a.kind (a.noted p))
     begins_sound (Take2 v) a is = by_how (λ (how : Takeover). TakesPlaces how → SoundAt words o p (Take2 v) (by_places how (Now (Load (BidAgain v)))))

@@ -42,9 +42,9 @@ use Rattle.ppm_kept.specs.Left.{Followed, left}
 use Rattle.ppm_kept.specs.Places.{places_of}
 use Rattle.ppm_kept.proofs.LeftLemmas.{shown}
 use Rattle.ppm_kept.proofs.SpentLemmas.{full_pools_are_spent}
-use Rattle.ppm_runs.specs.Run.{image}
+use Rattle.ppm_runs.specs.Run.{setting}
 use Rattle.ppm_runs.specs.Follow.{IsHalves}
-use Rattle.ppm_runs.specs.Spent.{RoomIsSpent, RoomIsSpentSo}
+use Rattle.ppm_runs.specs.Spent.{RoomIsSpent}
 use Rattle.ppm_runs.proofs.ShownLemmas.{carried_away, Runs, runs}
 use Rattle.ppm_runs.proofs.OutcomeLemmas.{unset_is}
 use Rattle.ppm_runs.proofs.HeiredLemmas.{halves_stay}
@@ -80,7 +80,7 @@ loads_counter s code place home (i ∷ instrs) words e = absurd (cc)
 module _ (s : Shape) (code : CodeParts) (fair : IsFair code) (root : Tree (Frame FrameWord Point) Result) (input : Words) (state : RunState) (h : ℕ → BranchHome) (fk tk : List ℕ) (l : List Followed) (t : Skeleton) (run : IsHalves s code root input state h fk tk l t)
     (place : ℕ) (turn : Turn) (finds : FindsFull s code place state turn) (end : End Result) (ends : Ends (strands s code) root input end) where
   abbrev z : State
-  z = left (image s code) l (places_of s state)
+  z = left (setting s code) l (places_of s state)
 
   abbrev rest : Rest
   rest = rest_of s code place finds.home (capsule_of s.arrays finds.capsule.instrs)
@@ -93,7 +93,7 @@ module _ (s : Shape) (code : CodeParts) (fair : IsFair code) (root : Tree (Frame
   counter_is =
       let sees = subst (Sees s (spots.view s state.words) (spots.kinds s state.words) (spots.bottoms s state.words) turn.processor) finds.begins (run.lawful.1.sees turn.processor) in
       let away = carried_away s code root input state h fk tk l t run turn.processor finds.seat.place sees.0.carried in
-      shown (image s code) root input (places_of s state) l run.apart t run.kept finds.seat.place away (RoomCounter finds.seat.place) refl
+      shown (setting s code) root input (places_of s state) l run.apart t run.kept finds.seat.place away (RoomCounter finds.seat.place) refl
 
   counts : LoadsCounter s place finds.words rest
   counts = loads_counter s code place finds.home finds.capsule.instrs finds.words finds.asks
@@ -107,14 +107,14 @@ module _ (s : Shape) (code : CodeParts) (fair : IsFair code) (root : Tree (Frame
   of_run : (f y : ℕ) → z.kind place ≡ Run f y → s.room < frame_size code code.root + end.counts.block_words
   of_run f y ke =
       let seen : read s state.words (RoomCounter place) ≡ z.words (RoomCounter place) = sym (subst (λ (p : ℕ). z.words (RoomCounter p) ≡ view s state.words (RoomCounter p)) finds.at_place counter_is ∙ view_is s state.words (RoomCounter place) (lt-ltb place s.processors there)) in
-      let low : pool_at s place ≤ z.words (RoomCounter place) = subst (λ (k : RestartKind). start (image s code) place ≤ ceiling (image s code) z.words place k) ke (run.kept.rooms place).0 in
+      let low : pool_at s place ≤ z.words (RoomCounter place) = subst (λ (k : RestartKind). start (setting s code) place ≤ ceiling (setting s code) z.words place k) ke (run.kept.rooms place).0 in
       let passes : pool_at s place + s.room < z.words (RoomCounter place) + finds.words = subst (λ (c : ℕ). pool_at s place + s.room < c + finds.words) seen finds.passes in
-      full_pools_are_spent (image s code) fair root input z t run.kept place f y ke (next_of rest) doing_is (counts.full (z.words (RoomCounter place)) low passes) end ends
+      full_pools_are_spent (setting s code) fair root input z t run.kept place f y ke (next_of rest) doing_is (counts.full (z.words (RoomCounter place)) low passes) end ends
 
-  going : Going (image s code) z.words place (z.kind place) rest
-  going = subst (λ (p : ℕ). Going (image s code) z.words p (z.kind p) rest) finds.at_place here.does
+  going : Going (setting s code) z.words place (z.kind place) rest
+  going = subst (λ (p : ℕ). Going (setting s code) z.words p (z.kind p) rest) finds.at_place here.does
 
-  by_kind : (k : RestartKind) → z.kind place ≡ k → Going (image s code) z.words place k rest → s.room < frame_size code code.root + end.counts.block_words
+  by_kind : (k : RestartKind) → z.kind place ≡ k → Going (setting s code) z.words place k rest → s.room < frame_size code code.root + end.counts.block_words
   by_kind (Run f y) ke go = of_run f y ke
   by_kind (Bump r) ke go = absurd go
   by_kind (Push1 r) ke go = absurd go
@@ -133,14 +133,11 @@ module _ (s : Shape) (code : CodeParts) (fair : IsFair code) (root : Tree (Frame
   pub spent_at : s.room < frame_size code code.root + end.counts.block_words
   spent_at = by_kind (z.kind place) refl going
 
-pub room_is_spent_so : RoomIsSpentSo
-room_is_spent_so code input s keeper im fair opens calm turns all place says end ends =
+pub room_is_spent : RoomIsSpent
+room_is_spent code input s keeper im fair opens calm turns all place says end ends =
     let cause = room_has_cause s code opens.code_is im.words turns place (opens.image_is.opened FinishWord tt ∙ unset_is) says in
     let among = front (IsTurnAmong s.processors) cause.first (cause.turn ∷ cause.more) (subst (AllByRecursion (IsTurnAmong s.processors)) cause.turns_are all) in
     let run = halves_stay code input s keeper im fair opens calm cause.first among in
     spent_at s code fair (root_strand code input) (arrays_at (view s im.words)) (reached s code im.words cause.first)
     (homes s code (opening im.words s.processors) (λ r. Unborn) cause.first) (forked_in s code (opening im.words s.processors) [] cause.first) (taken_in s code (opening im.words s.processors) [] cause.first)
     run.0 run.1 run.2 place cause.turn cause.finds end ends
-
-pub room_is_spent : RoomIsSpent
-room_is_spent code input s keeper im places fair opens calm turns all place says end ends = room_is_spent_so code input s keeper im fair opens calm turns all place says end ends

@@ -23,7 +23,7 @@ use Rattle.ppm_code.specs.declared.code.CodeParts.{CodeParts}
 use Rattle.ppm_code.specs.declared.location.FrameWord.{FrameWord}
 use Rattle.ppm_layout.specs.Correct.{Opens}
 use Rattle.ppm_layout.specs.Root.{root_strand}
-use Rattle.ppm_layout.specs.declared.images.Image.{Image as RealImage}
+use Rattle.ppm_layout.specs.declared.images.Image.{Image}
 use Rattle.ppm_layout.proofs.ValueLemmas.{stands_for}
 use Rattle.ppm_step.specs.Among.{IsTurnAmong}
 use Rattle.ppm_step.specs.Contents.{content_of, word_of, read_so}
@@ -58,7 +58,7 @@ use Rattle.ppm_frames.specs.Views as frames
 use Rattle.ppm_kept.specs.Running.{IsFair, strands}
 use Rattle.ppm_kept.specs.Steps.{tree_after}
 use Rattle.ppm_runs.specs.Legs.{Leg, words_then, state_then, AreLegs, homes_then, forked_then, taken_then, last_state}
-use Rattle.ppm_runs.specs.Run.{image, IsRun}
+use Rattle.ppm_runs.specs.Run.{setting, IsRun}
 use Rattle.ppm_runs.specs.Sound.{RaisesHolder, one_dead, IsHolderWithin}
 use Rattle.ppm_runs.specs.Tags.{TagsStayLow}
 use Rattle.ppm_runs.proofs.BidLemmas.{Bids, Leaves, row_bids}
@@ -327,7 +327,7 @@ module _ (s : Shape) (code : CodeParts) (places : s.takeover ≡ ByPlaces) (fair
       → IsRun s code root input state h f tk t → AreLow s raised state.words → AreLow s raised (after s code state turns).words
   all_low raised state h f tk t [] all run low = low
   all_low raised state h f tk t (turn ∷ more) all run low =
-      all_low raised (happens s code state turn) (by_act s state.words turn.act (stand_of state turn.processor) h) (forks_of state turn ++ f) (takes_of state turn ++ tk) (tree_after (image s code) state turn t) more all.1
+      all_low raised (happens s code state turn) (by_act s state.words turn.act (stand_of state turn.processor) h) (forks_of state turn ++ f) (takes_of state turn ++ tk) (tree_after (setting s code) state turn t) more all.1
       (turns_lead_on s code places fair root input state h f tk t run turn all.0)
       (turn_low s code state h f tk run.lawful (turns_are_orderly s code places fair root input state h f tk t run).pooled raised low turn all.0)
 
@@ -337,7 +337,7 @@ times_more n k = grind arith
 none_of : (n : ℕ) → n * 0 ≡ 0
 none_of n = grind arith
 
-module _ (code : CodeParts) (input : List NamedArray) (s : Shape) (keeper : ℕ) (im : RealImage) (places : s.takeover ≡ ByPlaces) (fair : IsFair code) (opens : Opens code input s keeper im)
+module _ (code : CodeParts) (input : List NamedArray) (s : Shape) (keeper : ℕ) (im : Image) (places : s.takeover ≡ ByPlaces) (fair : IsFair code) (opens : Opens code input s keeper im)
     (calm : Calm (strands s code) (root_strand code input) (arrays_at (frames.view s im.words))) where
   -- how much tags have risen by legs
   abbrev pub risen : List Leg → ℕ

@@ -43,7 +43,7 @@ use Rattle.ppm_step.specs.declared.row.Then.TheVariants.{Load, Install, Fork, Be
 use Rattle.ppm_tickets.specs.Saw.{rest_of}
 use Rattle.ppm_tickets.specs.View.{content_by}
 use Rattle.ppm_tickets.specs.Words.{Word}
-use Rattle.ppm_kept.specs.Kept.{Image, Reach}
+use Rattle.ppm_kept.specs.Kept.{Setting, Reach}
 
 -- a job
 abbrev pub IsJobEntry : Entry → Type 0
@@ -438,7 +438,7 @@ module _ (s : Shape) (seat : Seat) (may : May) where
   rest_tame v (Exchange c old new next) (w ∷ ws) q = rest_tame v (Now next) ws q.1
 
 -- and by the words as they are
-pub reach_tame : (i : Image) (seat : Seat) (may : May) (m : Cell → ℕ) (n : ℕ) (row rest : Row) → TameRow i.shape.takeover may row → Reach i m seat n row rest → TameRow i.shape.takeover may rest
+pub reach_tame : (i : Setting) (seat : Seat) (may : May) (m : Cell → ℕ) (n : ℕ) (row rest : Row) → TameRow i.shape.takeover may row → Reach i m seat n row rest → TameRow i.shape.takeover may rest
 reach_tame i seat may m zero row rest q e = subst (TameRow i.shape.takeover may) e q
 reach_tame i seat may m (suc n) (Now (Load point)) rest q e =
     reach_tame i seat may m n (found_at i.shape seat 0 point (content_of (reading_at point) (m (cell_at seat 0 point)))) rest

@@ -3,6 +3,7 @@ use Rattle.std.proofs.Common.{◌≡◌, ◌<◌, ◌≤◌, ℕ, zero, suc, ◌
 use Rattle.std.specs.List.{AllByRecursion}
 use Rattle.std.specs.Prelude.{nat_lt, nat_le}
 use Rattle.std.proofs.lemmas.Bool.{cases_Bool, cases_eq, lt-ltb, ltb-true}
+use Rattle.std.proofs.lemmas.List.{length-append}
 use Rattle.ppm_strands.specs.Calm.{Calm}
 use Rattle.ppm_strands.specs.Tree.{Words, Tree, Strand}
 use Rattle.ppm_words.specs.declared.named_array.NamedArray.{NamedArray}
@@ -31,11 +32,11 @@ use Rattle.ppm_code.proofs.CodeLemmas.{entry_is}
 use Rattle.ppm_layout.specs.Correct.{Opens}
 use Rattle.ppm_layout.specs.Opening.{first_entry}
 use Rattle.ppm_layout.specs.Root.{root_strand}
-use Rattle.ppm_layout.specs.declared.images.Image.{Image as RealImage}
+use Rattle.ppm_layout.specs.declared.images.Image.{Image}
 use Rattle.ppm_layout.proofs.ValueLemmas.{stands_for}
 use Rattle.ppm_step.specs.Among.{IsTurnAmong}
 use Rattle.ppm_step.specs.Contents.{content_of, read_so}
-use Rattle.ppm_step.specs.State.{State as RunState, stand_of, happens, after, opening, is_work_turn, forks_of, takes_of}
+use Rattle.ppm_step.specs.State.{State as RunState, stand_of, happens, after, along, opening, is_work_turn, work_of, forks_of, takes_of}
 use Rattle.ppm_step.specs.There.{bottom_is_there, kind_is_there}
 use Rattle.ppm_step.specs.declared.content.Content.TheVariants.{AnEntry, AHolder}
 use Rattle.ppm_step.specs.declared.turn.Turn.{Turn}
@@ -59,9 +60,10 @@ use Rattle.ppm_kept.proofs.ImageLemmas.{images_open as frames_open}
 use Rattle.ppm_kept.proofs.PutLemmas.{put_here, put_else}
 use Rattle.ppm_runs.specs.Deques.{one_if, raised_by}
 use Rattle.ppm_runs.specs.Entries.{IsHeired}
-use Rattle.ppm_runs.specs.Run.{image, IsRun}
+use Rattle.ppm_runs.specs.Run.{setting, IsRun}
 use Rattle.ppm_runs.specs.Sound.{Noted, IsSoundAt, IsRestartThere, IsHolderSound, IsTopLow, IsTagLow, IsNoBreak, SaysNoBreak, one_dead, IsSound}
-use Rattle.ppm_runs.specs.Unbroken.{works, IsWhole, NothingBreaks}
+use Rattle.ppm_runs.specs.Unbroken.{HasNoBreak, NothingBreaks}
+use Rattle.ppm_runs.specs.Work.{work_in}
 use Rattle.ppm_runs.specs.Well.{IsWell}
 use Rattle.ppm_runs.proofs.MomentLemmas.{turns_lead_on}
 use Rattle.ppm_runs.proofs.OpenLemmas.{runs_open}
@@ -93,7 +95,7 @@ unset_no_break word e f says = by f (sym e ∙ says)
     by (OutOfRoom p) q = tt
     by Stopped q = tt
 
-module _ (code : CodeParts) (input : List NamedArray) (s : Shape) (keeper : ℕ) (im : RealImage) (fair : IsFair code) (opens : Opens code input s keeper im)
+module _ (code : CodeParts) (input : List NamedArray) (s : Shape) (keeper : ℕ) (im : Image) (fair : IsFair code) (opens : Opens code input s keeper im)
     (calm : Calm (strands s code) (root_strand code input) (arrays_at (frames.view s im.words))) where
   abbrev ws : List ℕ
   ws = im.words
@@ -186,20 +188,38 @@ module _ (code : CodeParts) (input : List NamedArray) (s : Shape) (keeper : ℕ)
   }
 
 -- what is sound says that nothing is broken
-whole_of : (s : Shape) (code : CodeParts) (made : ℕ) (state : RunState) → IsSound s code made state → IsWhole s state
+whole_of : (s : Shape) (code : CodeParts) (made : ℕ) (state : RunState) → IsSound s code made state → HasNoBreak s state
 whole_of s code made state sound = record {
   stands = λ c p e. subst (IsSoundAt s code (view s state.words)) e (sound.stands c);
   finish = sound.finish;
 }
 
+-- work turns, counted one after the other
+module _ (s : Shape) (code : CodeParts) where
+  abbrev works : RunState → List Turn → ℕ
+  works state [] = 0
+  works state (turn ∷ more) = one_if (is_work_turn turn.act (stand_of state turn.processor)) + works (happens s code state turn) more
+
+  works_are : (state : RunState) (turns : List Turn) → works state turns ≡ work_in s code state turns
+  works_are state [] = refl
+  works_are state (turn ∷ more) =
+      let rest = works_are (happens s code state turn) more in
+      let both = length-append (work_of state turn) (along s code work_of (happens s code state turn) more) in
+      let one = one_or (is_work_turn turn.act (stand_of state turn.processor)) turn.processor in
+      omega (arith, rest, both, one)
+    where
+      one_or : (b : Bool) (p : ℕ) → length (if b then p ∷ [] else []) ≡ one_if b
+      one_or true p = refl
+      one_or false p = refl
+
 module _ (s : Shape) (code : CodeParts) (places : s.takeover ≡ ByPlaces) (fair : IsFair code) (root : Tree (Frame FrameWord Point) Result) (input : Words) where
   pub all_whole : (made work : ℕ) (state : RunState) (h : ℕ → Home) (f tk : List ℕ) (t : Skeleton) (turns : List Turn) → AllByRecursion (IsTurnAmong s.processors) turns
       → 2 * made + about s code s.processors state ≤ work → work + works s code state turns ≤ 2 ^ 34
       → IsRun s code root input state h f tk t → IsSound s code made state → IsWell code (frames.view s state.words) Root t
-      → IsWhole s (after s code state turns)
+      → HasNoBreak s (after s code state turns)
   all_whole made work state h f tk t [] all half few run sound well = whole_of s code made state sound
   all_whole made work state h f tk t (turn ∷ more) all half few run sound well =
-      all_whole (raised_by made state turn) (work + one_if (is_work_turn turn.act (stand_of state turn.processor))) (happens s code state turn) (by_act s state.words turn.act (stand_of state turn.processor) h) (forks_of state turn ++ f) (takes_of state turn ++ tk) (tree_after (image s code) state turn t) more all.1
+      all_whole (raised_by made state turn) (work + one_if (is_work_turn turn.act (stand_of state turn.processor))) (happens s code state turn) (by_act s state.words turn.act (stand_of state turn.processor) h) (forks_of state turn ++ f) (takes_of state turn ++ tk) (tree_after (setting s code) state turn t) more all.1
       (half_stays s code s.processors made work state turn fair.code_is all.0.processor half)
       (omega (arith, few))
       (turns_lead_on s code places fair root input state h f tk t run turn all.0)
@@ -215,7 +235,7 @@ module _ (s : Shape) (code : CodeParts) (ih : s.takeover ≡ ByEntries) (fair : 
   all_heired : (made work : ℕ) (state : RunState) (h : ℕ → Home) (f tk : List ℕ) (l : List Followed) (t : Skeleton) (turns : List Turn) → AllByRecursion (IsTurnAmong s.processors) turns
       → 2 * made + about s code s.processors state ≤ work → work + works s code state turns ≤ 2 ^ 34
       → IsHeired s code root input state h f tk l t → IsSound s code made state → IsWell code (frames.view s state.words) Root t
-      → IsWhole s (after s code state turns)
+      → HasNoBreak s (after s code state turns)
   all_heired made work state h f tk l t [] all half few run sound well = whole_of s code made state sound
   all_heired made work state h f tk l t (turn ∷ more) all half few run sound well =
       let next = acts_lead s code ih fair root input state h f tk l t run well turn.processor turn.act all.0 in
@@ -232,11 +252,11 @@ module _ (s : Shape) (code : CodeParts) (ih : s.takeover ≡ ByEntries) (fair : 
       rises made some work more half few = omega (arith, half, few)
 
 pub nothing_breaks : NothingBreaks
-nothing_breaks code input s keeper im fair opens calm turns all few = elim (how_or s.takeover) [
+nothing_breaks code input s keeper im fair opens calm turns all few = let same = works_are s code (opening im.words s.processors) turns in elim (how_or s.takeover) [
   | inl places ↦ all_whole s code places fair (root_strand code input) (arrays_at (frames.view s im.words)) 0 0 (opening im.words s.processors) (λ r. Unborn) [] []
-      (Leaf (InPlace keeper) (Begins 0) (pool_at s keeper) (slots_of code code.root)) turns all (half_opens s code im.words s.processors) (omega (arith, few)) (runs_open code input s keeper im opens calm)
+      (Leaf (InPlace keeper) (Begins 0) (pool_at s keeper) (slots_of code code.root)) turns all (half_opens s code im.words s.processors) (omega (arith, few, same)) (runs_open code input s keeper im opens calm)
       (opens_sound code input s keeper im fair opens calm) (opens_well code input s keeper im fair opens calm)
   | inr ih ↦ all_heired s code ih fair (root_strand code input) (arrays_at (frames.view s im.words)) 0 0 (opening im.words s.processors) (λ r. Unborn) [] [] []
-      (Leaf (InPlace keeper) (Begins 0) (pool_at s keeper) (slots_of code code.root)) turns all (half_opens s code im.words s.processors) (omega (arith, few)) (heired_first code input s keeper im opens calm)
+      (Leaf (InPlace keeper) (Begins 0) (pool_at s keeper) (slots_of code code.root)) turns all (half_opens s code im.words s.processors) (omega (arith, few, same)) (heired_first code input s keeper im opens calm)
       (opens_sound code input s keeper im fair opens calm) (opens_well code input s keeper im fair opens calm)
 ]

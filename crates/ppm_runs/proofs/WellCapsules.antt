@@ -31,7 +31,7 @@ use Rattle.ppm_frames.specs.Skeletons.{Stand, Begins, Over, InPlace, Skeleton, L
 use Rattle.ppm_frames.specs.Views.{written}
 use Rattle.ppm_frames.proofs.SkeletonLemmas.{inside_at, grow_plug}
 use Rattle.ppm_frames.proofs.WriteLemmas.{address}
-use Rattle.ppm_kept.specs.Kept.{Image, State, InRest, owner, ceiling, Free, Does, IsKept}
+use Rattle.ppm_kept.specs.Kept.{Setting, State, InRest, owner, ceiling, Free, Does, IsKept}
 use Rattle.ppm_kept.specs.Moves.{by_install, opened}
 use Rattle.ppm_kept.specs.Running.{AllStand, IsFair, IsClean, HasRoom, HasCome, home_at, number_at, all_of, now, limit, LiesApart, MayStore}
 use Rattle.ppm_kept.proofs.BlockLemmas.{finish_back, header_then, still_open, end_fits, CallStands, call_stands, ForkStands, fork_stands}
@@ -56,7 +56,7 @@ abbrev right_capsule : Tree (Frame FrameWord Point) Result → ℕ
 right_capsule (tree.Fork g a (tree.Strand h)) = h.point.capsule
 right_capsule _ = 0
 
-module _ (i : Image) (fair : IsFair i.code) (root : Tree (Frame FrameWord Point) Result) (input : Words) (s : State) (t : Skeleton) (law : IsKept i root input s t) (well : IsWell i.code s.words Root t)
+module _ (i : Setting) (fair : IsFair i.code) (root : Tree (Frame FrameWord Point) Result) (input : Words) (s : State) (t : Skeleton) (law : IsKept i root input s t) (well : IsWell i.code s.words Root t)
     (p : ℕ) (there : p < i.shape.processors) (f y : ℕ) (ke : s.kind p ≡ Run f y) where
   abbrev m : Cell → ℕ
   m = s.words

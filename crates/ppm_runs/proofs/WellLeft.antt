@@ -8,7 +8,7 @@ use Rattle.ppm_capsules.specs.Strand.{Frame}
 use Rattle.ppm_code.specs.Strands.{Point, Result}
 use Rattle.ppm_code.specs.declared.location.FrameWord.{FrameWord}
 use Rattle.ppm_frames.specs.Skeletons.{Skeleton, count}
-use Rattle.ppm_kept.specs.Kept.{Image, State, IsKept}
+use Rattle.ppm_kept.specs.Kept.{Setting, State, IsKept}
 use Rattle.ppm_kept.specs.Left.{Followed, left, IsAway, AreApart}
 use Rattle.ppm_kept.proofs.LeftLemmas.{IsIn, NotSettled, left_same, in_use}
 use Rattle.ppm_runs.specs.Well.{IsWell}
@@ -26,7 +26,7 @@ beyond (v ∷ l) = let more = beyond l in record {
   away = λ p le. (λ e. omega (arith, le, e), more.away p (omega (arith, le)));
 }
 
-module _ (i : Image) (root : Tree (Frame FrameWord Point) Result) (input : Words) (s : State) (l : List Followed) (apart : AreApart l) (t : Skeleton) (law : IsKept i root input (left i l s) t) where
+module _ (i : Setting) (root : Tree (Frame FrameWord Point) Result) (input : Words) (s : State) (l : List Followed) (apart : AreApart l) (t : Skeleton) (law : IsKept i root input (left i l s) t) where
   pub tree_out : (x : ℕ) → (count Root t x ≡ 0 → ⊥) → (v : Followed) → IsIn v l → NotSettled i v (BlockWord x)
   tree_out x some = let out = beyond l in in_use i root input s l apart t law out.place (out.away out.place (le_refl out.place)) (BlockWord x) (inl (law.below x some).1)
 

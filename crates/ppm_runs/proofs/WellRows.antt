@@ -43,7 +43,7 @@ use Rattle.ppm_frames.specs.Good.{link_or, link_at, Mark, IsPlain, IsFirst, IsFr
 use Rattle.ppm_frames.proofs.SkeletonLemmas.{inside_at, CalledFrom, called_from, branch_from}
 use Rattle.ppm_frames.proofs.SwapLemmas.{good_here}
 use Rattle.ppm_kept.specs.Running.{IsFair}
-use Rattle.ppm_kept.specs.Kept.{Image, side_code, seat_at, State, Reach, Head, Ordered, carried, IsKept}
+use Rattle.ppm_kept.specs.Kept.{Setting, side_code, seat_at, State, Reach, Head, Ordered, carried, IsKept}
 use Rattle.ppm_cells.proofs.FinishLemmas.{finishes_exact}
 use Rattle.ppm_frames.proofs.WriteLemmas.{address}
 use Rattle.ppm_kept.proofs.BumpRow.{Bumps, bump_at}
@@ -60,7 +60,7 @@ use Rattle.ppm_runs.proofs.WellWords.{crit, small_in, crit_plain, crit_none, non
 use Rattle.ppm_runs.specs.Well.{SaysOutcome, IsWell}
 
 -- a part of a tree that is well is so
-pub well_here : (i : Image) (m : Cell → ℕ) (h : LinkKind) (c : Around) (u : Skeleton) → IsWell i.code m h (plug c u) → IsWell i.code m (hook_at h c) u
+pub well_here : (i : Setting) (m : Cell → ℕ) (h : LinkKind) (c : Around) (u : Skeleton) → IsWell i.code m h (plug c u) → IsWell i.code m (hook_at h c) u
 well_here i m h Top u a = a
 well_here i m h (AtCall f n y c) u a = well_here i m (Called f y) c u a.1
 well_here i m h (AtLeft f n y r c b) u a = well_here i m (Branch Left r) c u a.1
@@ -143,7 +143,7 @@ both_out (BrokenFinish q) w out other = absurd out
 
 -- What a row of a strand is about to do, where its loads know this: it installs a kind of a strand that is
 -- there, and stores and exchanges words that are there.
-module _ (i : Image) (t : Skeleton) (At : RowPoint → Type 0) (seat : Seat) where
+module _ (i : Setting) (t : Skeleton) (At : RowPoint → Type 0) (seat : Seat) where
   abbrev pub StrandThen : Then → Type 0
   StrandThen (Load point) = At point
   StrandThen (Install r) = (r.bottom ≡ seat.restart.bottom) × (kind_is_there i.shape r.kind ≡ true) × IsStrandOrPop r.kind
@@ -177,7 +177,7 @@ module _ (i : Image) (t : Skeleton) (At : RowPoint → Type 0) (seat : Seat) whe
   strand_walk m found (suc n) (Exchange c v w next) rest a e = strand_walk m found n (Now next) rest a.1 e.1
 
 -- and that is sound
-module _ (i : Image) (t : Skeleton) (At : RowPoint → Type 0) (seat : Seat) (view_ : Spot → Word) (is : IsStrand seat.restart.kind) (there : restart_is_there i.shape seat.restart ≡ true)
+module _ (i : Setting) (t : Skeleton) (At : RowPoint → Type 0) (seat : Seat) (view_ : Spot → Word) (is : IsStrand seat.restart.kind) (there : restart_is_there i.shape seat.restart ≡ true)
     (loads : (point : RowPoint) → At point → point_is_there i.shape seat point ≡ true) where
   abbrev Well : Row → Type 0
   Well row = IsSoundRow i.shape i.code view_ seat row
@@ -225,7 +225,7 @@ module _ (i : Image) (t : Skeleton) (At : RowPoint → Type 0) (seat : Seat) (vi
       by (BlockWord x) new b = (let w = next_well next a.1 in (lt-ltb x (word_count i.shape) b.0, tt, w.0, w.1))
       by _ new b = absurd b
 
-module _ (i : Image) (fair : IsFair i.code) (root : Tree (Frame FrameWord Point) Result) (input : Words) (s : State) (t : Skeleton) (law : IsKept i root input s t) (well : IsWell i.code s.words Root t) (p : ℕ) (there : p < i.shape.processors) where
+module _ (i : Setting) (fair : IsFair i.code) (root : Tree (Frame FrameWord Point) Result) (input : Words) (s : State) (t : Skeleton) (law : IsKept i root input s t) (well : IsWell i.code s.words Root t) (p : ℕ) (there : p < i.shape.processors) where
   abbrev m : Cell → ℕ
   m = s.words
 

@@ -30,7 +30,7 @@ use Rattle.ppm_frames.specs.Skeletons.{Begins, InPlace, Skeleton, Leaf, plug}
 use Rattle.ppm_frames.proofs.SkeletonLemmas.{inside_at}
 use Rattle.ppm_kept.specs.Running.{room_or, asked_of, IsFair, IsOf, last_of, home_at, number_at, all_of, now, HasRoom, IsRoomy, HasCome}
 use Rattle.ppm_kept.specs.Branches.{HasCopy}
-use Rattle.ppm_kept.specs.Kept.{Image, State, carried, IsKept}
+use Rattle.ppm_kept.specs.Kept.{Setting, State, carried, IsKept}
 use Rattle.ppm_kept.proofs.BlockLemmas.{header_is}
 use Rattle.ppm_kept.proofs.LoadLemmas.{in_part}
 use Rattle.ppm_kept.proofs.PlaceLemmas.{leaf, Runs, run_leaf}
@@ -43,7 +43,7 @@ use Rattle.ppm_runs.proofs.SoundRows.{and_is}
 pool_low : (s : Shape) (p : ℕ) → p < s.processors → (x : ℕ) → x < pool_at s p + s.room → x < word_count s
 pool_low s p lt x below = let m = place_end s p lt in omega (arith, m, below)
 
-module _ (i : Image) (fair : IsFair i.code) (root : Tree (Frame FrameWord Point) Result) (input : Words) (s : State) (t : Skeleton) (law : IsKept i root input s t) (p : ℕ) (there : p < i.shape.processors) (f y : ℕ) (ke : s.kind p ≡ Run f y) where
+module _ (i : Setting) (fair : IsFair i.code) (root : Tree (Frame FrameWord Point) Result) (input : Words) (s : State) (t : Skeleton) (law : IsKept i root input s t) (p : ℕ) (there : p < i.shape.processors) (f y : ℕ) (ke : s.kind p ≡ Run f y) where
   abbrev m : Cell → ℕ
   m = s.words
 

@@ -40,7 +40,7 @@ use Rattle.ppm_frames.specs.Views.{view}
 use Rattle.ppm_frames.specs.Skeletons.{Begins, InPlace, Skeleton, Leaf}
 use Rattle.ppm_frames.proofs.ViewLemmas.{view_is}
 use Rattle.ppm_kept.specs.Running.{IsFair, number_at, limit, LiesApart, HasCome}
-use Rattle.ppm_kept.specs.Kept.{Image, seat_at, State, start, end_of, ceiling, Under, Going, IsKept}
+use Rattle.ppm_kept.specs.Kept.{Setting, seat_at, State, start, end_of, ceiling, Under, Going, IsKept}
 use Rattle.ppm_kept.specs.Copies.{IsKnown}
 use Rattle.ppm_kept.specs.Left.{Followed, left}
 use Rattle.ppm_kept.specs.Loads.{IsLoadable}
@@ -56,7 +56,7 @@ use Rattle.ppm_kept.proofs.RunLemmas.{by_loads, by_stores}
 use Rattle.ppm_kept.proofs.Rows.{run_row_keeps}
 use Rattle.ppm_runs.specs.Deques.{StrandsAreSound}
 use Rattle.ppm_runs.specs.Follow.{IsHalves}
-use Rattle.ppm_runs.specs.Run.{image, IsRun}
+use Rattle.ppm_runs.specs.Run.{setting, IsRun}
 use Rattle.ppm_runs.specs.Sound.{IsSoundRow, IsSoundAt, IsUnbroken, IsSound}
 use Rattle.ppm_runs.specs.Well.{IsWell}
 use Rattle.ppm_runs.proofs.ShownLemmas.{halves, carried_away, carried_kind, Within, within, Runs, runs}
@@ -82,8 +82,8 @@ HeaderAt f y _ = ⊥
 
 module _ (s : Shape) (code : CodeParts) (fair : IsFair code) (root : Tree (Frame FrameWord Point) Result) (input : Words) (state : RunState) (h : ℕ → Home) (forked taken : List ℕ) (l : List Followed) (t : Skeleton) (run : IsHalves s code root input state h forked taken l t)
     (made : ℕ) (sound : IsSound s code made state) (well_seen : IsWell code (view s state.words) Root t) where
-  abbrev i : Image
-  i = image s code
+  abbrev i : Setting
+  i = setting s code
 
   abbrev z : State
   z = left i l (places_of s state)

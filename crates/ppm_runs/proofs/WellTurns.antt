@@ -51,7 +51,7 @@ use Rattle.ppm_frames.proofs.ViewLemmas.{cells_are_viewed, others_are_unseen}
 use Rattle.ppm_frames.proofs.WriteLemmas.{address}
 use Rattle.ppm_kept.specs.Heirs.{handed}
 use Rattle.ppm_kept.specs.Left.{Followed, left, IsAway, AreApart, StandsAway, StepsAway}
-use Rattle.ppm_kept.specs.Kept.{Image, State, InRow, InRest, Doing, seat_at, carried, Reach, Under, Does, IsKept}
+use Rattle.ppm_kept.specs.Kept.{Setting, State, InRow, InRest, Doing, seat_at, carried, Reach, Under, Does, IsKept}
 use Rattle.ppm_kept.specs.Moves.{doing_of, installs}
 use Rattle.ppm_kept.specs.Others.{IsIdle}
 use Rattle.ppm_kept.specs.Places.{places_of, IsOf, Holds, acted, RowShows}
@@ -75,7 +75,7 @@ use Rattle.ppm_kept.proofs.LeftLemmas.{kind_away, left_same}
 use Rattle.ppm_kept.proofs.StepRows.{look_cell, came_idle, act_away}
 use Rattle.ppm_kept.proofs.TurnLemmas.{stores_are_cells}
 use Rattle.ppm_kept.proofs.UnwindRow.{Overs, unwind_row_keeps}
-use Rattle.ppm_runs.specs.Run.{image, IsRun}
+use Rattle.ppm_runs.specs.Run.{setting, IsRun}
 use Rattle.ppm_runs.specs.Well.{SaysOutcome, IsWell}
 use Rattle.ppm_runs.proofs.GoingLemmas.{acts_so}
 use Rattle.ppm_runs.proofs.MomentLemmas.{turns_lead_on}
@@ -84,7 +84,7 @@ use Rattle.ppm_runs.proofs.WellRows.{StrandStore, StrandTry, strand_walk, linked
 use Rattle.ppm_runs.proofs.WellLeft.{well_left, tree_out}
 use Rattle.ppm_runs.proofs.WellWords.{crit, crit_plain, crit_low, well_same, written_as, well_written, well_owned, well_swap, well_over_left, well_pushed, well_inlined, well_take_in, well_came, well_back, well_joined, well_back_over, well_joined_over}
 
-module _ (i : Image) (fair : IsFair i.code) (root : Tree (Frame FrameWord Point) Result) (input : Words) (state : Machine) (l : List Followed) (t : Skeleton)
+module _ (i : Setting) (fair : IsFair i.code) (root : Tree (Frame FrameWord Point) Result) (input : Words) (state : Machine) (l : List Followed) (t : Skeleton)
     (law : IsKept i root input (left i l (places_of i.shape state)) t) (well : IsWell i.code (left i l (places_of i.shape state)).words Root t) (c : ℕ) where
   -- the places, and the same with those that were followed left out
   abbrev P : State
@@ -592,25 +592,25 @@ module _ (i : Image) (fair : IsFair i.code) (root : Tree (Frame FrameWord Point)
 -- by which no place goes on with what it inherited, and behind which words are kept
 pub well_stays_left : (s : Shape) (code : CodeParts) → IsFair code
     → (root : Tree (Frame FrameWord Point) Result) (input : Words) (state : Machine) (l : List Followed) → AreApart l → (t : Skeleton)
-    → IsKept (image s code) root input (left (image s code) l (places_of s state)) t → IsWell code (view s state.words) Root t → (turn : Turn)
-    → ActsSo (image s code) state t turn.processor turn.act (stand_of state turn.processor) → StepsAway (image s code) l turn.act (stand_of state turn.processor)
-    → IsKept (image s code) root input (left (image s code) l (places_of s (happens s code state turn)))
-    (act_with (image s code) (left (image s code) l (places_of s state)).words state.words turn.act (stand_of state turn.processor) t)
-    → IsWell code (view s (happens s code state turn).words) Root (act_with (image s code) (left (image s code) l (places_of s state)).words state.words turn.act (stand_of state turn.processor) t)
+    → IsKept (setting s code) root input (left (setting s code) l (places_of s state)) t → IsWell code (view s state.words) Root t → (turn : Turn)
+    → ActsSo (setting s code) state t turn.processor turn.act (stand_of state turn.processor) → StepsAway (setting s code) l turn.act (stand_of state turn.processor)
+    → IsKept (setting s code) root input (left (setting s code) l (places_of s (happens s code state turn)))
+    (act_with (setting s code) (left (setting s code) l (places_of s state)).words state.words turn.act (stand_of state turn.processor) t)
+    → IsWell code (view s (happens s code state turn).words) Root (act_with (setting s code) (left (setting s code) l (places_of s state)).words state.words turn.act (stand_of state turn.processor) t)
 well_stays_left s code fair root input state l apart t kept well turn so away after =
-    act_step (image s code) fair root input state l t kept (well_left (image s code) root input (places_of s state) l apart t kept well) turn.processor turn.act (stand_of state turn.processor) refl so away
-    (λ x one. left_same (image s code) l (view s state.words) (BlockWord x) (tree_out (image s code) root input (places_of s (happens s code state turn)) l apart
-    (act_with (image s code) (left (image s code) l (places_of s state)).words state.words turn.act (stand_of state turn.processor) t) after x
-    (λ none. let low = crit_low Root (act_with (image s code) (left (image s code) l (places_of s state)).words state.words turn.act (stand_of state turn.processor) t) x in omega (arith, low, one, none))))
+    act_step (setting s code) fair root input state l t kept (well_left (setting s code) root input (places_of s state) l apart t kept well) turn.processor turn.act (stand_of state turn.processor) refl so away
+    (λ x one. left_same (setting s code) l (view s state.words) (BlockWord x) (tree_out (setting s code) root input (places_of s (happens s code state turn)) l apart
+    (act_with (setting s code) (left (setting s code) l (places_of s state)).words state.words turn.act (stand_of state turn.processor) t) after x
+    (λ none. let low = crit_low Root (act_with (setting s code) (left (setting s code) l (places_of s state)).words state.words turn.act (stand_of state turn.processor) t) x in omega (arith, low, one, none))))
 
 -- by places
 pub well_stays : (s : Shape) (code : CodeParts) → s.takeover ≡ ByPlaces → IsFair code
     → (root : Tree (Frame FrameWord Point) Result) (input : Words) (state : Machine) (h : ℕ → Home) (forked taken : List ℕ) (t : Skeleton)
     → IsRun s code root input state h forked taken t → IsWell code (view s state.words) Root t → (turn : Turn) → IsTurnAmong s.processors turn
-    → IsWell code (view s (happens s code state turn).words) Root (tree_after (image s code) state turn t)
+    → IsWell code (view s (happens s code state turn).words) Root (tree_after (setting s code) state turn t)
 well_stays s code places fair root input state h forked taken t run well turn among =
     well_stays_left s code fair root input state [] tt t run.kept well turn (acts_so s code places fair root input state h forked taken t run turn.processor turn.act among.processor)
-    (act_away (image s code) places turn.act (stand_of state turn.processor)) (turns_lead_on s code places fair root input state h forked taken t run turn among).kept
+    (act_away (setting s code) places turn.act (stand_of state turn.processor)) (turns_lead_on s code places fair root input state h forked taken t run turn among).kept
 
 -- so does one by which a place goes on with what it inherited, and stores its restart word alone
 pub heir_well : (s : Shape) (code : CodeParts) (state after : Machine) (w p : ℕ) (t : Skeleton)

@@ -64,7 +64,7 @@ use Rattle.ppm_kept.specs.Pushing.{Comes}
 use Rattle.ppm_kept.specs.Steps.{CameBy}
 use Rattle.ppm_kept.specs.Credit.{paid_by, ended_by}
 use Rattle.ppm_kept.proofs.LeftLemmas.{kind_away}
-use Rattle.ppm_runs.specs.Run.{image, fate_of}
+use Rattle.ppm_runs.specs.Run.{setting, fate_of}
 use Rattle.ppm_runs.specs.Follow.{IsHalves}
 use Rattle.ppm_runs.proofs.StandLemmas.{kinds_same}
 use Rattle.ppm_runs.proofs.SumLemmas.{sum, sum_le, sum_plus, sum_times, sum_there}
@@ -155,7 +155,7 @@ module _ (s : Shape) (code : CodeParts) (fair : IsFair code) (root : Tree (Frame
   L = left_kinds l K
 
   abbrev z : State
-  z = left (image s code) l (places_of s state)
+  z = left (setting s code) l (places_of s state)
 
   kinds_left : z.kind ≡ L
   kinds_left = ap (left_kinds l) (fun_ext (kinds_same s state.words))
@@ -441,7 +441,7 @@ module _ (s : Shape) (code : CodeParts) (fair : IsFair code) (root : Tree (Frame
 
   runs_sum : sum s.processors (λ p. runs_at (L p)) ≤ sum s.processors (λ p. begin_in p t)
   runs_sum = subst (λ (f : ℕ → RestartKind). sum s.processors (λ p. runs_at (f p)) ≤ sum s.processors (λ p. begin_in p t)) kinds_left
-      (sum_le s.processors (λ p. runs_at (z.kind p)) (λ p. begin_in p t) (λ p lt. runs_begin (image s code) fair root input z t run.kept p (z.kind p) refl))
+      (sum_le s.processors (λ p. runs_at (z.kind p)) (λ p. begin_in p t) (λ p lt. runs_begin (setting s code) fair root input z t run.kept p (z.kind p) refl))
 
   -- so, with the capsules that are counted, it is within those of the depth-first run
   pub rows_within : (made : ℕ → ℕ) → ((c : ℕ) → Claim c (made c) (stand_of state c)) → (end : End Result) → EndsSo (strands s code) root input end

@@ -18,7 +18,7 @@ use Rattle.ppm_code.specs.declared.code.CodeParts.{CodeParts}
 use Rattle.ppm_code.specs.declared.location.FrameWord.{FrameWord}
 use Rattle.ppm_layout.specs.Correct.{Opens}
 use Rattle.ppm_layout.specs.Root.{root_strand}
-use Rattle.ppm_layout.specs.declared.images.Image.{Image as RealImage}
+use Rattle.ppm_layout.specs.declared.images.Image.{Image}
 use Rattle.ppm_step.specs.Among.{IsTurnAmong}
 use Rattle.ppm_step.specs.Laws.{reached}
 use Rattle.ppm_step.specs.Standings.{IsBroken}
@@ -33,7 +33,7 @@ use Rattle.ppm_frames.specs.Skeletons.{Skeleton}
 use Rattle.ppm_kept.specs.Answers.{AnswersSo}
 use Rattle.ppm_kept.specs.Running.{IsFair, strands}
 use Rattle.ppm_kept.specs.Left.{Followed}
-use Rattle.ppm_runs.specs.Run.{image}
+use Rattle.ppm_runs.specs.Run.{setting}
 use Rattle.ppm_runs.specs.Follow.{IsHalves}
 use Rattle.ppm_runs.specs.Joint.{AreJoint}
 use Rattle.ppm_runs.specs.Moments.{AreOnce}
@@ -55,7 +55,7 @@ HeirsLeadOn = (s : Shape) (code : CodeParts) → s.takeover ≡ ByEntries → Is
 
 -- from an image of a sound code, whatever the turns, faults among them, such a state is come to
 abbrev pub RunsStayHeired : Type 0
-RunsStayHeired = (code : CodeParts) (input : List NamedArray) (s : Shape) (keeper : ℕ) (image : RealImage)
+RunsStayHeired = (code : CodeParts) (input : List NamedArray) (s : Shape) (keeper : ℕ) (image : Image)
     → s.takeover ≡ ByEntries → IsFair code → Opens code input s keeper image
     → Calm (strands s code) (root_strand code input) (arrays_at (view s image.words))
     → (turns : List Turn) → AllByRecursion (IsTurnAmong s.processors) turns
@@ -66,7 +66,7 @@ RunsStayHeired = (code : CodeParts) (input : List NamedArray) (s : Shape) (keepe
 
 -- so at each moment no right branch was forked twice, none was taken twice, and each taken was forked
 abbrev pub OnceByEntries : Type 0
-OnceByEntries = (code : CodeParts) (input : List NamedArray) (s : Shape) (keeper : ℕ) (image : RealImage)
+OnceByEntries = (code : CodeParts) (input : List NamedArray) (s : Shape) (keeper : ℕ) (image : Image)
     → s.takeover ≡ ByEntries → IsFair code → Opens code input s keeper image
     → Calm (strands s code) (root_strand code input) (arrays_at (view s image.words))
     → (turns : List Turn) → AllByRecursion (IsTurnAmong s.processors) turns
@@ -75,14 +75,14 @@ OnceByEntries = (code : CodeParts) (input : List NamedArray) (s : Shape) (keeper
 -- the depth-first run of the root ends so, with the words of the arrays as they are; each right branch that
 -- was forked was taken, and none was forked or taken twice
 pub record EndsAsRun (s : Shape) (code : CodeParts) (root : Tree (Frame FrameWord Point) Result) (input : Words) (state : RunState) (forked taken : List ℕ) (t : Skeleton) (finish : Finish) : Type 0 where
-  pub answer : AnswersSo (image s code) root input state t finish
+  pub answer : AnswersSo (setting s code) root input state t finish
   pub all : (r : ℕ) → has forked r ≡ has taken r
   pub forked_once : Once forked
   pub taken_once : Once taken
 
 -- so it is where the finish word says an outcome
 abbrev pub RunsEndByEntries : Type 0
-RunsEndByEntries = (code : CodeParts) (input : List NamedArray) (s : Shape) (keeper : ℕ) (image : RealImage)
+RunsEndByEntries = (code : CodeParts) (input : List NamedArray) (s : Shape) (keeper : ℕ) (image : Image)
     → s.takeover ≡ ByEntries → IsFair code → Opens code input s keeper image
     → Calm (strands s code) (root_strand code input) (arrays_at (view s image.words))
     → (turns : List Turn) → AllByRecursion (IsTurnAmong s.processors) turns
@@ -94,7 +94,7 @@ RunsEndByEntries = (code : CodeParts) (input : List NamedArray) (s : Shape) (kee
 
 -- whatever the takeover, both halves hold at each moment of a run
 abbrev pub HalvesStay : Type 0
-HalvesStay = (code : CodeParts) (input : List NamedArray) (s : Shape) (keeper : ℕ) (image : RealImage)
+HalvesStay = (code : CodeParts) (input : List NamedArray) (s : Shape) (keeper : ℕ) (image : Image)
     → IsFair code → Opens code input s keeper image
     → Calm (strands s code) (root_strand code input) (arrays_at (view s image.words))
     → (turns : List Turn) → AllByRecursion (IsTurnAmong s.processors) turns
@@ -105,7 +105,7 @@ HalvesStay = (code : CodeParts) (input : List NamedArray) (s : Shape) (keeper : 
 
 -- so at each moment of a run, whatever the takeover
 abbrev pub OnceInEachRun : Type 0
-OnceInEachRun = (code : CodeParts) (input : List NamedArray) (s : Shape) (keeper : ℕ) (image : RealImage)
+OnceInEachRun = (code : CodeParts) (input : List NamedArray) (s : Shape) (keeper : ℕ) (image : Image)
     → IsFair code → Opens code input s keeper image
     → Calm (strands s code) (root_strand code input) (arrays_at (view s image.words))
     → (turns : List Turn) → AllByRecursion (IsTurnAmong s.processors) turns
@@ -113,7 +113,7 @@ OnceInEachRun = (code : CodeParts) (input : List NamedArray) (s : Shape) (keeper
 
 -- and at its outcome
 abbrev pub RunsEndSo : Type 0
-RunsEndSo = (code : CodeParts) (input : List NamedArray) (s : Shape) (keeper : ℕ) (image : RealImage)
+RunsEndSo = (code : CodeParts) (input : List NamedArray) (s : Shape) (keeper : ℕ) (image : Image)
     → IsFair code → Opens code input s keeper image
     → Calm (strands s code) (root_strand code input) (arrays_at (view s image.words))
     → (turns : List Turn) → AllByRecursion (IsTurnAmong s.processors) turns
@@ -125,7 +125,7 @@ RunsEndSo = (code : CodeParts) (input : List NamedArray) (s : Shape) (keeper : �
 
 -- where the depth-first run of the root ends, as many branches were forked as that run forks
 abbrev pub RunsForkSo : Type 0
-RunsForkSo = (code : CodeParts) (input : List NamedArray) (s : Shape) (keeper : ℕ) (image : RealImage)
+RunsForkSo = (code : CodeParts) (input : List NamedArray) (s : Shape) (keeper : ℕ) (image : Image)
     → IsFair code → Opens code input s keeper image
     → Calm (strands s code) (root_strand code input) (arrays_at (view s image.words))
     → (turns : List Turn) → AllByRecursion (IsTurnAmong s.processors) turns

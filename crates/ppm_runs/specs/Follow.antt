@@ -39,7 +39,7 @@ use Rattle.ppm_kept.specs.Places.{kinds_of, places_of}
 use Rattle.ppm_kept.specs.Steps.{act_with}
 use Rattle.ppm_cells.specs.declared.restart.Restart.{Restart}
 use Rattle.ppm_runs.specs.Laws.{Owes}
-use Rattle.ppm_runs.specs.Run.{image, fate_of}
+use Rattle.ppm_runs.specs.Run.{setting, fate_of}
 
 -- each of them was followed
 abbrev pub AreGone : (gone : ℕ → Bool) → List Followed → Type 0
@@ -51,25 +51,25 @@ pub record IsHalves (s : Shape) (code : CodeParts) (root : Tree (Frame FrameWord
   pub lawful : IsLawful s code state h forked taken
   pub apart : AreApart l
   pub gone : AreGone lawful.1.board.gone l
-  pub kept : IsKept (image s code) root input (left (image s code) l (places_of s state)) t
-  pub born : Births (image s code) (left (image s code) l (places_of s state)) (has forked)
+  pub kept : IsKept (setting s code) root input (left (setting s code) l (places_of s state)) t
+  pub born : Births (setting s code) (left (setting s code) l (places_of s state)) (has forked)
 
 -- a row that ends so goes on with what was inherited
-abbrev pub GoesOn : Then → Type 0
-GoesOn (Install restart) = restart.kind ≢ Seek
-GoesOn (Fork block) = Unit {0}
-GoesOn next = ⊥
+abbrev pub CarriesOn : Then → Type 0
+CarriesOn (Install restart) = restart.kind ≢ Seek
+CarriesOn (Fork block) = Unit {0}
+CarriesOn next = ⊥
 
 -- it opens the block: its callee runs, or its fork is made
-abbrev pub Opens : (block : ℕ) → Then → Type 0
-Opens r next = (kind_then next ≡ Run r 0) ⊎ (next ≡ Fork r)
+abbrev pub OpensBlock : (block : ℕ) → Then → Type 0
+OpensBlock r next = (kind_then next ≡ Run r 0) ⊎ (next ≡ Fork r)
 
 -- a place that is about to open a closed place's block, which none has followed, opens it by its link
 abbrev pub OpenRightly : (s : Shape) (code : CodeParts) → RunState → List Followed → Type 0
 OpenRightly s code state l = (c : ℕ) (seat : Seat) (next : Then) (v slot : ℕ) → stand_of state c ≡ IsWithin seat (Now next)
-    → seat.restart.kind ≡ Check v slot → GoesOn next
-    → (w r : ℕ) → Closed s.takeover (view s state.words) w → IsAway l w → kinds_of s state.words w ≡ Bump r → Opens r next
-    → OpensAs r (link_at ((left (image s code) l (places_of s state)).words (BlockWord r))).kind (kind_then next)
+    → seat.restart.kind ≡ Check v slot → CarriesOn next
+    → (w r : ℕ) → Closed s.takeover (view s state.words) w → IsAway l w → kinds_of s state.words w ≡ Bump r → OpensBlock r next
+    → OpensAs r (link_at ((left (setting s code) l (places_of s state)).words (BlockWord r))).kind (kind_then next)
 
 abbrev pub HeirsLead : Type 0
 HeirsLead = (s : Shape) (code : CodeParts) → s.takeover ≡ ByEntries → IsFair code
@@ -77,13 +77,13 @@ HeirsLead = (s : Shape) (code : CodeParts) → s.takeover ≡ ByEntries → IsFa
     → IsHalves s code root input state h forked taken l t
     → Agrees t (λ r. fate_of (h r))
     → (c victim : ℕ) (seat : Seat) (next : Then) (v slot : ℕ) → stand_of state c ≡ IsWithin seat (Now next)
-    → seat.restart.kind ≡ Check v slot → GoesOn next
+    → seat.restart.kind ≡ Check v slot → CarriesOn next
     → OpenRightly s code state l
     → (w : ℕ)
     × Agrees (handed w seat.place t) (λ r. fate_of (by_row s state.words seat (Now next) h r))
     × IsHalves s code root input (happens s code state (record { processor = c; act = Step victim })) (by_row s state.words seat (Now next) h) (fork_row (Now next) ++ forked) (take_row (Now next) ++ taken)
-    (and_followed (image s code) l (places_of s state) w) (handed w seat.place t)
-    × Heired (image s code) state l t c seat next w
+    (and_followed (setting s code) l (places_of s state) w) (handed w seat.place t)
+    × Heired (setting s code) state l t c seat next w
 
 -- a turn by which no place goes on with what it inherited
 abbrev pub LooksOnly : Act → Standing → Type 0
@@ -100,7 +100,7 @@ HalvesGoOn = (s : Shape) (code : CodeParts) → s.takeover ≡ ByEntries → IsF
     → IsOrderly s state.words turn.act (stand_of state turn.processor) h forked
     → LooksOnly turn.act (stand_of state turn.processor)
     → IsHalves s code root input (happens s code state turn) (by_act s state.words turn.act (stand_of state turn.processor) h) (forks_of state turn ++ forked) (takes_of state turn ++ taken) l
-    (act_with (image s code) (left (image s code) l (places_of s state)).words state.words turn.act (stand_of state turn.processor) t)
+    (act_with (setting s code) (left (setting s code) l (places_of s state)).words state.words turn.act (stand_of state turn.processor) t)
 
 -- With either takeover, turns owe the tickets nothing that the frames don't show, where by entries a branch
 -- that is left to a strand is none in the entry above its bottom.

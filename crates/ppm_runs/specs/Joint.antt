@@ -33,7 +33,7 @@ use Rattle.ppm_kept.specs.Left.{Followed, left, InheritsNone}
 use Rattle.ppm_kept.specs.Places.{places_of}
 use Rattle.ppm_kept.specs.Steps.{act_with}
 use Rattle.ppm_kept.specs.Unruns.{HasUnrun}
-use Rattle.ppm_runs.specs.Run.{image, fate_of, IsAtLast}
+use Rattle.ppm_runs.specs.Run.{setting, fate_of, IsAtLast}
 use Rattle.ppm_runs.specs.Follow.{IsHalves, OpenRightly}
 
 -- nothing is pushed above the place's bottom: by places it has no slot left, by entries the one above is empty
@@ -53,9 +53,9 @@ PushesOn row = ⊥
 pub record AreJoint (s : Shape) (code : CodeParts) (state : RunState) (h : ℕ → Home) (l : List Followed) (t : Skeleton) : Type 0 where
   pub agrees : Agrees t (λ r. fate_of (h r))
   pub last : (r p : ℕ) → HasUnrun Held r t → h r ≡ Pushing p → IsCapped s.takeover s state.words p
-  pub ready : (p r f y b : ℕ) → (left (image s code) l (places_of s state)).kind p ≡ Push1 r
+  pub ready : (p r f y b : ℕ) → (left (setting s code) l (places_of s state)).kind p ≡ Push1 r
       → (places_of s state).doing p ≡ InRow (Now (Install (record { kind = RunFrame f y; bottom = b }))) → HasUnrun Held r t
-  pub unheld : s.takeover ≡ ByEntries → (p r : ℕ) (row : Row) → (left (image s code) l (places_of s state)).kind p ≡ Push1 r
+  pub unheld : s.takeover ≡ ByEntries → (p r : ℕ) (row : Row) → (left (setting s code) l (places_of s state)).kind p ≡ Push1 r
       → (places_of s state).doing p ≡ InRow row → PushesOn row → HasUnrun Held r t → ⊥
   pub opens : OpenRightly s code state l
 
@@ -71,6 +71,6 @@ JointsStay = (s : Shape) (code : CodeParts) → IsFair code
     → IsHalves s code root input state h forked taken l t → AreJoint s code state h l t
     → (turn : Turn) → IsTurnAmong s.processors turn → StepsAlone s.takeover turn.act (stand_of state turn.processor)
     → IsHalves s code root input (happens s code state turn) (by_act s state.words turn.act (stand_of state turn.processor) h) (forks_of state turn ++ forked) (takes_of state turn ++ taken) l
-    (act_with (image s code) (left (image s code) l (places_of s state)).words state.words turn.act (stand_of state turn.processor) t)
+    (act_with (setting s code) (left (setting s code) l (places_of s state)).words state.words turn.act (stand_of state turn.processor) t)
     → AreJoint s code (happens s code state turn) (by_act s state.words turn.act (stand_of state turn.processor) h) l
-    (act_with (image s code) (left (image s code) l (places_of s state)).words state.words turn.act (stand_of state turn.processor) t)
+    (act_with (setting s code) (left (setting s code) l (places_of s state)).words state.words turn.act (stand_of state turn.processor) t)

@@ -28,8 +28,8 @@ use Rattle.ppm_kept.specs.Running.{IsFair}
 use Rattle.ppm_kept.specs.Kept.{IsKept}
 use Rattle.ppm_kept.specs.Births.{Births}
 use Rattle.ppm_kept.specs.Places.{places_of}
-use Rattle.ppm_kept.specs.Steps.{tree_after, IsStopped}
-use Rattle.ppm_runs.specs.Run.{image, IsRun}
+use Rattle.ppm_kept.specs.Steps.{tree_after, SaysStop}
+use Rattle.ppm_runs.specs.Run.{setting, IsRun}
 
 module _ (s : Shape) (code : CodeParts) (root : Tree (Frame FrameWord Point) Result) (input : Words) (state : RunState) (h : ℕ → Home) (forked taken : List ℕ) (t : Skeleton) where
   -- what each premise of an orderly turn comes of
@@ -81,8 +81,8 @@ pub record RunsGoOn (s : Shape) (code : CodeParts) (root : Tree (Frame FrameWord
   pub lawful : (turn : Turn) → IsTurnAmong s.processors turn
       → IsLawful s code (happens s code state turn) (by_act s state.words turn.act (stand_of state turn.processor) h) (forks_of state turn ++ forked) (takes_of state turn ++ taken)
   pub kept : (turn : Turn) → IsTurnAmong s.processors turn
-      → IsKept (image s code) root input (places_of s (happens s code state turn)) (tree_after (image s code) state turn t)
-      ⊎ IsStopped s (happens s code state turn).words
+      → IsKept (setting s code) root input (places_of s (happens s code state turn)) (tree_after (setting s code) state turn t)
+      ⊎ SaysStop s (happens s code state turn).words
 
 -- with takeover by places
 abbrev pub TurnsGoOn : Type 0
@@ -97,7 +97,7 @@ BirthsFollow = (s : Shape) (code : CodeParts) → s.takeover ≡ ByPlaces → Is
     → (root : Tree (Frame FrameWord Point) Result) (input : Words) (state : RunState) (h : ℕ → Home) (forked taken : List ℕ) (t : Skeleton)
     → IsRun s code root input state h forked taken t
     → (turn : Turn) → IsTurnAmong s.processors turn
-    → Births (image s code) (places_of s (happens s code state turn)) (has (forks_of state turn ++ forked))
+    → Births (setting s code) (places_of s (happens s code state turn)) (has (forks_of state turn ++ forked))
 
 -- after each turn who has met broken words knows a place, or that it is at none
 abbrev pub BrokenFollow : Type 0

@@ -17,11 +17,10 @@ use Rattle.ppm_code.specs.Strands.{Result}
 use Rattle.ppm_code.specs.declared.code.CodeParts.{CodeParts}
 use Rattle.ppm_layout.specs.Correct.{Opens}
 use Rattle.ppm_layout.specs.Root.{root_strand}
-use Rattle.ppm_layout.specs.declared.images.Image.{Image as RealImage}
+use Rattle.ppm_layout.specs.declared.images.Image.{Image}
 use Rattle.ppm_step.specs.Among.{IsTurnAmong}
-use Rattle.ppm_step.specs.State.{State as RunState, after, along, opening, work_of}
+use Rattle.ppm_step.specs.State.{State as RunState, after, opening}
 use Rattle.ppm_step.specs.declared.turn.Turn.{Turn}
-use Rattle.ppm_paces.specs.Paces.{strikes_of}
 use Rattle.ppm_tickets.specs.Along.{homes, forked as forked_in, taken as taken_in}
 use Rattle.ppm_tickets.specs.Homes.{Home, Unborn}
 use Rattle.ppm_tickets.specs.Renewal.{IsRenewal}
@@ -31,6 +30,7 @@ use Rattle.ppm_frames.specs.Skeletons.{Skeleton}
 use Rattle.ppm_kept.specs.Running.{IsFair, strands}
 use Rattle.ppm_runs.specs.Run.{IsRun}
 use Rattle.ppm_runs.specs.Moments.{AreOnce}
+use Rattle.ppm_runs.specs.Work.{work_in, strikes_in}
 use Rattle.ppm_runs.specs.Outcomes.{EndsWell}
 
 -- turns, and the words with which fresh processors go on behind them
@@ -75,11 +75,11 @@ module _ (s : Shape) (code : CodeParts) (words : List ℕ) where
   -- the work turns that were made in them, and the faults that struck a row of work
   abbrev pub work_then : List Leg → ℕ
   work_then [] = 0
-  work_then (leg ∷ legs) = work_then legs + length (along s code work_of (state_then legs) leg.turns)
+  work_then (leg ∷ legs) = work_then legs + work_in s code (state_then legs) leg.turns
 
   abbrev pub strikes_then : List Leg → ℕ
   strikes_then [] = 0
-  strikes_then (leg ∷ legs) = strikes_then legs + length (along s code strikes_of (state_then legs) leg.turns)
+  strikes_then (leg ∷ legs) = strikes_then legs + strikes_in s code (state_then legs) leg.turns
 
   module _ (legs : List Leg) (turns : List Turn) where
     -- so behind turns that follow
@@ -96,14 +96,14 @@ module _ (s : Shape) (code : CodeParts) (words : List ℕ) where
     all_taken = taken_in s code (state_then legs) (taken_then legs) turns
 
     abbrev pub all_work : ℕ
-    all_work = work_then legs + length (along s code work_of (state_then legs) turns)
+    all_work = work_then legs + work_in s code (state_then legs) turns
 
     abbrev pub all_strikes : ℕ
-    all_strikes = strikes_then legs + length (along s code strikes_of (state_then legs) turns)
+    all_strikes = strikes_then legs + strikes_in s code (state_then legs) turns
 
 -- From an image of a sound code, whatever the legs and the turns behind them: a run's state is come to
 abbrev pub LegsStay : Type 0
-LegsStay = (code : CodeParts) (input : List NamedArray) (s : Shape) (keeper : ℕ) (image : RealImage)
+LegsStay = (code : CodeParts) (input : List NamedArray) (s : Shape) (keeper : ℕ) (image : Image)
     → s.takeover ≡ ByPlaces → IsFair code → Opens code input s keeper image
     → Calm (strands s code) (root_strand code input) (arrays_at (view s image.words))
     → (legs : List Leg) → AreLegs s code image.words legs → (turns : List Turn) → AllByRecursion (IsTurnAmong s.processors) turns
@@ -113,7 +113,7 @@ LegsStay = (code : CodeParts) (input : List NamedArray) (s : Shape) (keeper : �
 
 -- no right branch was forked twice over all of them, none was taken twice, and each that was taken was forked
 abbrev pub OnceOverLegs : Type 0
-OnceOverLegs = (code : CodeParts) (input : List NamedArray) (s : Shape) (keeper : ℕ) (image : RealImage)
+OnceOverLegs = (code : CodeParts) (input : List NamedArray) (s : Shape) (keeper : ℕ) (image : Image)
     → s.takeover ≡ ByPlaces → IsFair code → Opens code input s keeper image
     → Calm (strands s code) (root_strand code input) (arrays_at (view s image.words))
     → (legs : List Leg) → AreLegs s code image.words legs → (turns : List Turn) → AllByRecursion (IsTurnAmong s.processors) turns
@@ -121,7 +121,7 @@ OnceOverLegs = (code : CodeParts) (input : List NamedArray) (s : Shape) (keeper 
 
 -- where the finish word says an outcome the depth-first run of the root ends so, and each branch that was forked was taken once
 abbrev pub LegsComeTo : Type 0
-LegsComeTo = (code : CodeParts) (input : List NamedArray) (s : Shape) (keeper : ℕ) (image : RealImage)
+LegsComeTo = (code : CodeParts) (input : List NamedArray) (s : Shape) (keeper : ℕ) (image : Image)
     → s.takeover ≡ ByPlaces → IsFair code → Opens code input s keeper image
     → Calm (strands s code) (root_strand code input) (arrays_at (view s image.words))
     → (legs : List Leg) → AreLegs s code image.words legs → (turns : List Turn) → AllByRecursion (IsTurnAmong s.processors) turns
@@ -132,7 +132,7 @@ LegsComeTo = (code : CodeParts) (input : List NamedArray) (s : Shape) (keeper : 
 
 -- and where that run ends, as many branches were forked over all of them as it forks
 abbrev pub ForksOverLegs : Type 0
-ForksOverLegs = (code : CodeParts) (input : List NamedArray) (s : Shape) (keeper : ℕ) (image : RealImage)
+ForksOverLegs = (code : CodeParts) (input : List NamedArray) (s : Shape) (keeper : ℕ) (image : Image)
     → s.takeover ≡ ByPlaces → IsFair code → Opens code input s keeper image
     → Calm (strands s code) (root_strand code input) (arrays_at (view s image.words))
     → (legs : List Leg) → AreLegs s code image.words legs → (turns : List Turn) → AllByRecursion (IsTurnAmong s.processors) turns
@@ -142,7 +142,7 @@ ForksOverLegs = (code : CodeParts) (input : List NamedArray) (s : Shape) (keeper
 
 -- where it says that a pool is full, and the depth-first run of the root comes to an end, that run takes more words than a pool has
 abbrev pub RoomOverLegs : Type 0
-RoomOverLegs = (code : CodeParts) (input : List NamedArray) (s : Shape) (keeper : ℕ) (image : RealImage)
+RoomOverLegs = (code : CodeParts) (input : List NamedArray) (s : Shape) (keeper : ℕ) (image : Image)
     → s.takeover ≡ ByPlaces → IsFair code → Opens code input s keeper image
     → Calm (strands s code) (root_strand code input) (arrays_at (view s image.words))
     → (legs : List Leg) → AreLegs s code image.words legs → (turns : List Turn) → AllByRecursion (IsTurnAmong s.processors) turns
@@ -152,7 +152,7 @@ RoomOverLegs = (code : CodeParts) (input : List NamedArray) (s : Shape) (keeper 
 
 -- at each moment, where that run comes to an end, no place has given out more of its pool than it takes
 abbrev pub RoomIsWithinOverLegs : Type 0
-RoomIsWithinOverLegs = (code : CodeParts) (input : List NamedArray) (s : Shape) (keeper : ℕ) (image : RealImage)
+RoomIsWithinOverLegs = (code : CodeParts) (input : List NamedArray) (s : Shape) (keeper : ℕ) (image : Image)
     → s.takeover ≡ ByPlaces → IsFair code → Opens code input s keeper image
     → Calm (strands s code) (root_strand code input) (arrays_at (view s image.words))
     → (legs : List Leg) → AreLegs s code image.words legs → (turns : List Turn) → AllByRecursion (IsTurnAmong s.processors) turns
@@ -163,7 +163,7 @@ RoomIsWithinOverLegs = (code : CodeParts) (input : List NamedArray) (s : Shape) 
 -- Where the depth-first run of the root ends, all work turns together are no more than 218 for each of its capsules, 171 for each fault
 -- that strikes a row, 172 for each processor whenever words come back, since a row that was under way is lost, and 6.
 abbrev pub WorkOverLegs : Type 0
-WorkOverLegs = (code : CodeParts) (input : List NamedArray) (s : Shape) (keeper : ℕ) (image : RealImage)
+WorkOverLegs = (code : CodeParts) (input : List NamedArray) (s : Shape) (keeper : ℕ) (image : Image)
     → s.takeover ≡ ByPlaces → IsFair code → Opens code input s keeper image
     → Calm (strands s code) (root_strand code input) (arrays_at (view s image.words))
     → (legs : List Leg) → AreLegs s code image.words legs → (turns : List Turn) → AllByRecursion (IsTurnAmong s.processors) turns
@@ -173,7 +173,7 @@ WorkOverLegs = (code : CodeParts) (input : List NamedArray) (s : Shape) (keeper 
 
 -- so they are fewer than 256 for each capsule, each such fault, and each fresh processor
 abbrev pub WorkOverLegsIsWithin256 : Type 0
-WorkOverLegsIsWithin256 = (code : CodeParts) (input : List NamedArray) (s : Shape) (keeper : ℕ) (image : RealImage)
+WorkOverLegsIsWithin256 = (code : CodeParts) (input : List NamedArray) (s : Shape) (keeper : ℕ) (image : Image)
     → s.takeover ≡ ByPlaces → IsFair code → Opens code input s keeper image
     → Calm (strands s code) (root_strand code input) (arrays_at (view s image.words))
     → (legs : List Leg) → AreLegs s code image.words legs → (turns : List Turn) → AllByRecursion (IsTurnAmong s.processors) turns

@@ -17,3 +17,5 @@ pub mod Work
 pub mod Follow
 pub mod Joint
 pub mod Entries
+pub mod EveryRun
+pub mod Trees

@@ -13,7 +13,7 @@ use Rattle.ppm_code.specs.declared.code.CodeParts.{CodeParts}
 use Rattle.ppm_code.specs.declared.location.FrameWord.{FrameWord}
 use Rattle.ppm_layout.specs.Correct.{Opens}
 use Rattle.ppm_layout.specs.Root.{root_strand}
-use Rattle.ppm_layout.specs.declared.images.Image.{Image as RealImage}
+use Rattle.ppm_layout.specs.declared.images.Image.{Image}
 use Rattle.ppm_step.specs.Among.{IsTurnAmong}
 use Rattle.ppm_step.specs.Laws.{reached}
 use Rattle.ppm_step.specs.State.{State as RunState, stand_of, happens, opening, forks_of, takes_of}
@@ -26,7 +26,7 @@ use Rattle.ppm_frames.specs.Seen.{arrays_at}
 use Rattle.ppm_frames.specs.Skeletons.{Skeleton}
 use Rattle.ppm_kept.specs.Running.{IsFair, strands}
 use Rattle.ppm_kept.specs.Steps.{tree_after}
-use Rattle.ppm_runs.specs.Run.{image, IsRun}
+use Rattle.ppm_runs.specs.Run.{setting, IsRun}
 
 -- with takeover by places, each turn of a run's state leads to the next one, with the homes, the lists
 -- and the tree that the turn makes, also where it stops the run
@@ -35,11 +35,11 @@ TurnsLeadOn = (s : Shape) (code : CodeParts) → s.takeover ≡ ByPlaces → IsF
     → (root : Tree (Frame FrameWord Point) Result) (input : Words) (state : RunState) (h : ℕ → Home) (forked taken : List ℕ) (t : Skeleton)
     → IsRun s code root input state h forked taken t
     → (turn : Turn) → IsTurnAmong s.processors turn
-    → IsRun s code root input (happens s code state turn) (by_act s state.words turn.act (stand_of state turn.processor) h) (forks_of state turn ++ forked) (takes_of state turn ++ taken) (tree_after (image s code) state turn t)
+    → IsRun s code root input (happens s code state turn) (by_act s state.words turn.act (stand_of state turn.processor) h) (forks_of state turn ++ forked) (takes_of state turn ++ taken) (tree_after (setting s code) state turn t)
 
 -- from an image of a sound code, whatever the turns, a run's state is come to
 abbrev pub RunsStay : Type 0
-RunsStay = (code : CodeParts) (input : List NamedArray) (s : Shape) (keeper : ℕ) (image : RealImage)
+RunsStay = (code : CodeParts) (input : List NamedArray) (s : Shape) (keeper : ℕ) (image : Image)
     → s.takeover ≡ ByPlaces → IsFair code → Opens code input s keeper image
     → Calm (strands s code) (root_strand code input) (arrays_at (view s image.words))
     → (turns : List Turn) → AllByRecursion (IsTurnAmong s.processors) turns
@@ -57,7 +57,7 @@ pub record AreOnce (forked taken : List ℕ) : Type 0 where
 -- so it is at each moment of a run from an image of a sound code, whatever the turns, also where the
 -- run was stopped
 abbrev pub OnceAtEachMoment : Type 0
-OnceAtEachMoment = (code : CodeParts) (input : List NamedArray) (s : Shape) (keeper : ℕ) (image : RealImage)
+OnceAtEachMoment = (code : CodeParts) (input : List NamedArray) (s : Shape) (keeper : ℕ) (image : Image)
     → s.takeover ≡ ByPlaces → IsFair code → Opens code input s keeper image
     → Calm (strands s code) (root_strand code input) (arrays_at (view s image.words))
     → (turns : List Turn) → AllByRecursion (IsTurnAmong s.processors) turns

@@ -8,7 +8,7 @@ use Rattle.ppm_code.specs.Sizes.{slots_of}
 use Rattle.ppm_code.specs.declared.code.CodeParts.{CodeParts}
 use Rattle.ppm_layout.specs.Correct.{Opens}
 use Rattle.ppm_layout.specs.Root.{root_strand}
-use Rattle.ppm_layout.specs.declared.images.Image.{Image as RealImage}
+use Rattle.ppm_layout.specs.declared.images.Image.{Image}
 use Rattle.ppm_step.specs.State.{opening}
 use Rattle.ppm_tickets.specs.Homes.{Unborn}
 use Rattle.ppm_frames.specs.Views.{view}
@@ -20,7 +20,7 @@ use Rattle.ppm_runs.specs.Run.{IsRun}
 -- a machine that opens an image of a sound code is in the state of a run, with no branch forked, and
 -- with the strand of the root at the keeper's place as its tree
 abbrev pub RunsOpen : Type 0
-RunsOpen = (code : CodeParts) (input : List NamedArray) (s : Shape) (keeper : ℕ) (image : RealImage)
+RunsOpen = (code : CodeParts) (input : List NamedArray) (s : Shape) (keeper : ℕ) (image : Image)
     → Opens code input s keeper image
     → Calm (strands s code) (root_strand code input) (arrays_at (view s image.words))
     → IsRun s code (root_strand code input) (arrays_at (view s image.words)) (opening image.words s.processors) (λ r. Unborn) [] []

@@ -16,7 +16,7 @@ use Rattle.ppm_code.specs.declared.code.CodeParts.{CodeParts}
 use Rattle.ppm_code.specs.declared.location.FrameWord.{FrameWord}
 use Rattle.ppm_layout.specs.Correct.{Opens}
 use Rattle.ppm_layout.specs.Root.{root_strand}
-use Rattle.ppm_layout.specs.declared.images.Image.{Image as RealImage}
+use Rattle.ppm_layout.specs.declared.images.Image.{Image}
 use Rattle.ppm_step.specs.Among.{IsTurnAmong}
 use Rattle.ppm_step.specs.State.{State as RunState, after, opening}
 use Rattle.ppm_tickets.specs.Along.{homes, forked as forked_in, taken as taken_in}
@@ -37,8 +37,8 @@ abbrev pub RunsComeBack : Type 0
 RunsComeBack = (s : Shape) (code : CodeParts) → s.takeover ≡ ByPlaces → IsFair code
     → (root : Tree (Frame FrameWord Point) Result) (input : Words) (state : RunState) (h : ℕ → Home) (forked taken : List ℕ) (t : Skeleton)
     → IsRun s code root input state h forked taken t
-    → (saved : List ℕ) → IsRenewal s state.words saved → NoOutcome (read s saved FinishWord)
-    → IsRun s code root input (opening saved s.processors) h forked taken t
+    → (back : List ℕ) → IsRenewal s state.words back → NoOutcome (read s back FinishWord)
+    → IsRun s code root input (opening back s.processors) h forked taken t
 
 -- What holds behind a run in parts: turns among the processors, whatever they are, and words that come
 -- back, which are a renewal of those before, with a finish word that says no outcome. Homes and lists
@@ -48,9 +48,9 @@ abbrev pub BehindParts : (s : Shape) (code : CodeParts) (P : RunState → (ℕ �
 BehindParts s code P state h f tk [] = P state h f tk
 BehindParts s code P state h f tk (Ran turns ∷ parts) = AllByRecursion (IsTurnAmong s.processors) turns
     → BehindParts s code P (after s code state turns) (homes s code state h turns) (forked_in s code state f turns) (taken_in s code state tk turns) parts
-BehindParts s code P state h f tk (CameBack saved ∷ parts) = IsRenewal s state.words saved
-    → NoOutcome (read s saved FinishWord)
-    → BehindParts s code P (opening saved s.processors) h f tk parts
+BehindParts s code P state h f tk (CameBack back ∷ parts) = IsRenewal s state.words back
+    → NoOutcome (read s back FinishWord)
+    → BehindParts s code P (opening back s.processors) h f tk parts
 
 -- no branch was forked or taken twice over all the parts; and where the finish word says an outcome, the
 -- depth-first run of the root ends so, and each branch that was forked was taken once
@@ -61,7 +61,7 @@ pub record EndsInParts (s : Shape) (code : CodeParts) (root : Tree (Frame FrameW
 
 -- so it is from an image of a sound code, whatever the parts
 abbrev pub PartsComeTo : Type 0
-PartsComeTo = (code : CodeParts) (input : List NamedArray) (s : Shape) (keeper : ℕ) (image : RealImage)
+PartsComeTo = (code : CodeParts) (input : List NamedArray) (s : Shape) (keeper : ℕ) (image : Image)
     → s.takeover ≡ ByPlaces → IsFair code → Opens code input s keeper image
     → Calm (strands s code) (root_strand code input) (arrays_at (view s image.words))
     → (parts : List Part)

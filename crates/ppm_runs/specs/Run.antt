@@ -17,7 +17,7 @@ use Rattle.ppm_tickets.specs.Renewal.{IsLawful}
 use Rattle.ppm_tickets.specs.View as spots
 use Rattle.ppm_tickets.specs.Words.{has}
 use Rattle.ppm_frames.specs.Skeletons.{Held, Skeleton}
-use Rattle.ppm_kept.specs.Kept.{Image, InRow, IsKept}
+use Rattle.ppm_kept.specs.Kept.{Setting, InRow, IsKept}
 use Rattle.ppm_kept.specs.Births.{Births}
 use Rattle.ppm_kept.specs.Places.{places_of}
 use Rattle.ppm_kept.specs.Fates.{Fate, ToPush, Offered, Agrees}
@@ -25,8 +25,8 @@ use Rattle.ppm_kept.specs.Fates as fates
 use Rattle.ppm_kept.specs.Unruns.{HasUnrun}
 
 -- a shape with its code
-abbrev pub image : Shape → CodeParts → Image
-image s code = record { shape = s; code = code; counted = λ k. true }
+abbrev pub setting : Shape → CodeParts → Setting
+setting s code = record { shape = s; code = code; counted = λ k. true }
 
 -- what has come of a right branch, by where it is
 abbrev pub fate_of : Home → Fate
@@ -48,10 +48,10 @@ IsAtLast s words p = spots.bottoms s words p + 1 ≡ s.slots
 -- about to go on with the left one; blocks are forked upwards.
 pub record IsRun (s : Shape) (code : CodeParts) (root : Tree (Frame FrameWord Point) Result) (input : Words) (state : RunState) (h : ℕ → Home) (forked taken : List ℕ) (t : Skeleton) : Type 0 where
   pub lawful : IsLawful s code state h forked taken
-  pub kept : IsKept (image s code) root input (places_of s state) t
+  pub kept : IsKept (setting s code) root input (places_of s state) t
   pub agrees : Agrees t (λ r. fate_of (h r))
   pub last : (r p : ℕ) → HasUnrun Held r t → h r ≡ Pushing p → IsAtLast s state.words p
   pub ready : (p r f y b : ℕ) → (places_of s state).kind p ≡ Push1 r
       → (places_of s state).doing p ≡ InRow (Now (Install (record { kind = RunFrame f y; bottom = b }))) → HasUnrun Held r t
   pub broken : (c p : ℕ) → stand_of state c ≡ IsBroken p → p ≤ 64
-  pub born : Births (image s code) (places_of s state) (has forked)
+  pub born : Births (setting s code) (places_of s state) (has forked)

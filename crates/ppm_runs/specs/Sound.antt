@@ -90,9 +90,9 @@ NotedBy s content (Take2 v) = ⊥
 NotedBy s content kind = Unit {0}
 
 -- what a load of a Check knows by places; by entries it is what tickets say of it
-abbrev pub Told : Takeover → Type 0 → Type 0
-Told ByPlaces A = A
-Told ByEntries A = Unit {0}
+abbrev pub KnownByPlaces : Takeover → Type 0 → Type 0
+KnownByPlaces ByPlaces A = A
+KnownByPlaces ByEntries A = Unit {0}
 
 -- by entries a top stays a slot
 abbrev pub IsTopLow : Takeover → Shape → ℕ → Type 0
@@ -133,11 +133,11 @@ module _ (s : Shape) (place bottom : ℕ) where
   AtSteal v i _ = ⊥
 
   abbrev AtCheck : (victim slot : ℕ) → Point → Type 0
-  AtCheck v i (TakenMessage by w j) = Told s.takeover ((by ≡ place) × (w ≡ v) × (j ≡ i))
-  AtCheck v i (TakenEntry by w j entry) = Told s.takeover ((by ≡ place) × (w ≡ v) × (j ≡ i) × IsRisingEntry s entry)
-  AtCheck v i (ClosedRestart w j x) = Told s.takeover ⊥
-  AtCheck v i (ClosedLink x) = Told s.takeover ⊥
-  AtCheck v i (ClosedBottom w j x) = Told s.takeover ⊥
+  AtCheck v i (TakenMessage by w j) = KnownByPlaces s.takeover ((by ≡ place) × (w ≡ v) × (j ≡ i))
+  AtCheck v i (TakenEntry by w j entry) = KnownByPlaces s.takeover ((by ≡ place) × (w ≡ v) × (j ≡ i) × IsRisingEntry s entry)
+  AtCheck v i (ClosedRestart w j x) = KnownByPlaces s.takeover ⊥
+  AtCheck v i (ClosedLink x) = KnownByPlaces s.takeover ⊥
+  AtCheck v i (ClosedBottom w j x) = KnownByPlaces s.takeover ⊥
   AtCheck v i (Offset x low) = low ≡ bottom
   AtCheck v i _ = ⊥
 

@@ -11,13 +11,12 @@ use Rattle.ppm_cells.specs.Memory.{read}
 use Rattle.ppm_cells.specs.declared.cell.Cell.TheVariants.{FinishWord, RoomCounter}
 use Rattle.ppm_cells.specs.declared.finish.Finish.TheVariants.{OutOfRoom}
 use Rattle.ppm_cells.specs.declared.shape.Shape.{Shape}
-use Rattle.ppm_cells.specs.declared.shape.Takeover.TheVariants.{ByPlaces}
 use Rattle.ppm_code.specs.Sizes.{frame_size}
 use Rattle.ppm_code.specs.Strands.{Result}
 use Rattle.ppm_code.specs.declared.code.CodeParts.{CodeParts}
 use Rattle.ppm_layout.specs.Correct.{Opens}
 use Rattle.ppm_layout.specs.Root.{root_strand}
-use Rattle.ppm_layout.specs.declared.images.Image.{Image as RealImage}
+use Rattle.ppm_layout.specs.declared.images.Image.{Image}
 use Rattle.ppm_step.specs.Among.{IsTurnAmong}
 use Rattle.ppm_step.specs.Laws.{reached}
 use Rattle.ppm_step.specs.declared.turn.Turn.{Turn}
@@ -25,21 +24,11 @@ use Rattle.ppm_frames.specs.Views.{view}
 use Rattle.ppm_frames.specs.Seen.{arrays_at}
 use Rattle.ppm_kept.specs.Running.{IsFair, strands}
 
--- With takeover by places, from an image of a sound code, whatever the turns: where the finish word says
--- that a pool is full, and the depth-first run of the root comes to an end, the root's frame and the block
--- words that it counts are more than a pool has.
+-- Whatever the takeover, from an image of a sound code, whatever the turns: where the finish word says that a
+-- pool is full, and the depth-first run of the root comes to an end, the root's frame and the block words that
+-- it counts are more than a pool has.
 abbrev pub RoomIsSpent : Type 0
-RoomIsSpent = (code : CodeParts) (input : List NamedArray) (s : Shape) (keeper : ℕ) (image : RealImage)
-    → s.takeover ≡ ByPlaces → IsFair code → Opens code input s keeper image
-    → Calm (strands s code) (root_strand code input) (arrays_at (view s image.words))
-    → (turns : List Turn) → AllByRecursion (IsTurnAmong s.processors) turns
-    → (place : ℕ) → finish_of (read s (reached s code image.words turns).words FinishWord) ≡ Some (OutOfRoom place)
-    → (end : End Result) → Ends (strands s code) (root_strand code input) (arrays_at (view s image.words)) end
-    → s.room < frame_size code code.root + end.counts.block_words
-
--- so it is whatever the takeover
-abbrev pub RoomIsSpentSo : Type 0
-RoomIsSpentSo = (code : CodeParts) (input : List NamedArray) (s : Shape) (keeper : ℕ) (image : RealImage)
+RoomIsSpent = (code : CodeParts) (input : List NamedArray) (s : Shape) (keeper : ℕ) (image : Image)
     → IsFair code → Opens code input s keeper image
     → Calm (strands s code) (root_strand code input) (arrays_at (view s image.words))
     → (turns : List Turn) → AllByRecursion (IsTurnAmong s.processors) turns
@@ -50,7 +39,7 @@ RoomIsSpentSo = (code : CodeParts) (input : List NamedArray) (s : Shape) (keeper
 -- At each moment, also behind a stop, and whatever the takeover: no place has given out more of its pool than
 -- the root's frame and the block words that the depth-first run counts to its end.
 abbrev pub RoomIsWithin : Type 0
-RoomIsWithin = (code : CodeParts) (input : List NamedArray) (s : Shape) (keeper : ℕ) (image : RealImage)
+RoomIsWithin = (code : CodeParts) (input : List NamedArray) (s : Shape) (keeper : ℕ) (image : Image)
     → IsFair code → Opens code input s keeper image
     → Calm (strands s code) (root_strand code input) (arrays_at (view s image.words))
     → (turns : List Turn) → AllByRecursion (IsTurnAmong s.processors) turns

@@ -1,5 +1,5 @@
--- Whole runs: each turn leads from one state of a run to the next, and what all of them come to.
-use Rattle.std.specs.Prelude.{◌≡◌, ◌⊎◌, ℕ, List, [], ◌++◌, Some}
+-- Whole runs: what joins the halves of a run's state stays behind each turn, and what all turns come to.
+use Rattle.std.specs.Prelude.{◌≡◌, ℕ, List, [], Some}
 use Rattle.std.specs.List.{AllByRecursion}
 use Rattle.ppm_strands.specs.Tree.{Words, Tree}
 use Rattle.ppm_strands.specs.Calm.{Calm}
@@ -17,10 +17,10 @@ use Rattle.ppm_code.specs.declared.code.CodeParts.{CodeParts}
 use Rattle.ppm_code.specs.declared.location.FrameWord.{FrameWord}
 use Rattle.ppm_layout.specs.Correct.{Opens}
 use Rattle.ppm_layout.specs.Root.{root_strand}
-use Rattle.ppm_layout.specs.declared.images.Image.{Image as RealImage}
+use Rattle.ppm_layout.specs.declared.images.Image.{Image}
 use Rattle.ppm_step.specs.Among.{IsTurnAmong}
 use Rattle.ppm_step.specs.Laws.{reached}
-use Rattle.ppm_step.specs.State.{State as RunState, stand_of, happens, opening, forks_of, takes_of}
+use Rattle.ppm_step.specs.State.{State as RunState, stand_of, happens, opening}
 use Rattle.ppm_step.specs.declared.row.Row.TheVariants.{Now}
 use Rattle.ppm_step.specs.declared.row.Then.TheVariants.{Install}
 use Rattle.ppm_step.specs.declared.turn.Turn.{Turn}
@@ -33,20 +33,10 @@ use Rattle.ppm_kept.specs.Running.{IsFair, strands}
 use Rattle.ppm_kept.specs.Kept.{InRow, IsKept}
 use Rattle.ppm_kept.specs.Fates.{Agrees}
 use Rattle.ppm_kept.specs.Places.{places_of}
-use Rattle.ppm_kept.specs.Steps.{tree_after, IsStopped}
+use Rattle.ppm_kept.specs.Steps.{tree_after}
 use Rattle.ppm_kept.specs.Unruns.{HasUnrun}
-use Rattle.ppm_runs.specs.Run.{image, fate_of, IsAtLast, IsRun}
+use Rattle.ppm_runs.specs.Run.{setting, fate_of, IsAtLast, IsRun}
 use Rattle.ppm_runs.specs.Outcomes.{EndsWell}
-
--- with takeover by places, each turn of a run's state leads to the next one, with the homes, the lists
--- and the tree that the turn makes, or it stops the run
-abbrev pub TurnsLead : Type 0
-TurnsLead = (s : Shape) (code : CodeParts) → s.takeover ≡ ByPlaces → IsFair code
-    → (root : Tree (Frame FrameWord Point) Result) (input : Words) (state : RunState) (h : ℕ → Home) (forked taken : List ℕ) (t : Skeleton)
-    → IsRun s code root input state h forked taken t
-    → (turn : Turn) → IsTurnAmong s.processors turn
-    → IsRun s code root input (happens s code state turn) (by_act s state.words turn.act (stand_of state turn.processor) h) (forks_of state turn ++ forked) (takes_of state turn ++ taken) (tree_after (image s code) state turn t)
-    ⊎ IsStopped s (happens s code state turn).words
 
 -- what joins the two halves of `IsRun`, after a turn
 pub record AreJoined (s : Shape) (state : RunState) (h : ℕ → Home) (t : Skeleton) : Type 0 where
@@ -61,13 +51,13 @@ JoinsStay = (s : Shape) (code : CodeParts) → s.takeover ≡ ByPlaces → IsFai
     → (root : Tree (Frame FrameWord Point) Result) (input : Words) (state : RunState) (h : ℕ → Home) (forked taken : List ℕ) (t : Skeleton)
     → IsRun s code root input state h forked taken t
     → (turn : Turn) → IsTurnAmong s.processors turn
-    → IsKept (image s code) root input (places_of s (happens s code state turn)) (tree_after (image s code) state turn t)
-    → AreJoined s (happens s code state turn) (by_act s state.words turn.act (stand_of state turn.processor) h) (tree_after (image s code) state turn t)
+    → IsKept (setting s code) root input (places_of s (happens s code state turn)) (tree_after (setting s code) state turn t)
+    → AreJoined s (happens s code state turn) (by_act s state.words turn.act (stand_of state turn.processor) h) (tree_after (setting s code) state turn t)
 
 -- From an image of a sound code, whatever the turns, faults among them: where the finish word says an
 -- outcome the depth-first run of the root ends so, and each branch that was forked was taken once
 abbrev pub RunsComeTo : Type 0
-RunsComeTo = (code : CodeParts) (input : List NamedArray) (s : Shape) (keeper : ℕ) (image : RealImage)
+RunsComeTo = (code : CodeParts) (input : List NamedArray) (s : Shape) (keeper : ℕ) (image : Image)
     → s.takeover ≡ ByPlaces → IsFair code → Opens code input s keeper image
     → Calm (strands s code) (root_strand code input) (arrays_at (view s image.words))
     → (turns : List Turn) → AllByRecursion (IsTurnAmong s.processors) turns

@@ -17,7 +17,7 @@ use Rattle.ppm_code.specs.Strands.{Result}
 use Rattle.ppm_code.specs.declared.code.CodeParts.{CodeParts}
 use Rattle.ppm_layout.specs.Correct.{Opens}
 use Rattle.ppm_layout.specs.Root.{root_strand}
-use Rattle.ppm_layout.specs.declared.images.Image.{Image as RealImage}
+use Rattle.ppm_layout.specs.declared.images.Image.{Image}
 use Rattle.ppm_step.specs.Among.{IsTurnAmong}
 use Rattle.ppm_step.specs.Standings.{Standing}
 use Rattle.ppm_step.specs.State.{State, stand_of, along, opening, is_done_at, work_of}
@@ -28,34 +28,6 @@ use Rattle.ppm_paces.specs.Paces.{is_strike, strikes_of}
 use Rattle.ppm_frames.specs.Views.{view}
 use Rattle.ppm_frames.specs.Seen.{arrays_at}
 use Rattle.ppm_kept.specs.Running.{IsFair, strands}
-
-module _ (s : Shape) (code : CodeParts) (words : List ℕ) where
-  -- how many work turns all processors make, and how many faults strike a row of work: they find it under way, or at the broken words
-  -- that it has met
-  abbrev pub work_in : List Turn → ℕ
-  work_in turns = length (along s code work_of (opening words s.processors) turns)
-
-  abbrev pub strikes_in : List Turn → ℕ
-  strikes_in turns = length (along s code strikes_of (opening words s.processors) turns)
-
--- From an image of a sound code, with takeover by places, whatever the turns: where the depth-first run of the root ends, all work turns
--- together are no more than 218 for each of its capsules, 171 for each fault that strikes a row, and 6
-abbrev pub WorkIsBounded : Type 0
-WorkIsBounded = (code : CodeParts) (input : List NamedArray) (s : Shape) (keeper : ℕ) (image : RealImage)
-    → s.takeover ≡ ByPlaces → IsFair code → Opens code input s keeper image
-    → Calm (strands s code) (root_strand code input) (arrays_at (view s image.words))
-    → (turns : List Turn) → AllByRecursion (IsTurnAmong s.processors) turns
-    → (end : End Result) → Ends (strands s code) (root_strand code input) (arrays_at (view s image.words)) end
-    → work_in s code image.words turns ≤ 218 * end.counts.capsules + 171 * strikes_in s code image.words turns + 6
-
--- so fewer than 256 for each capsule and each such fault
-abbrev pub WorkIsWithin256 : Type 0
-WorkIsWithin256 = (code : CodeParts) (input : List NamedArray) (s : Shape) (keeper : ℕ) (image : RealImage)
-    → s.takeover ≡ ByPlaces → IsFair code → Opens code input s keeper image
-    → Calm (strands s code) (root_strand code input) (arrays_at (view s image.words))
-    → (turns : List Turn) → AllByRecursion (IsTurnAmong s.processors) turns
-    → (end : End Result) → Ends (strands s code) (root_strand code input) (arrays_at (view s image.words)) end
-    → work_in s code image.words turns < 256 * (end.counts.capsules + strikes_in s code image.words turns)
 
 -- whether a place is at Push2
 abbrev pub is_push : RestartKind → Bool
@@ -82,24 +54,34 @@ undone_of s state turn =
 abbrev pub UndoneAreStruck : Type 0
 UndoneAreStruck = (s : Shape) → s.takeover ≡ ByPlaces → (state : State) (turn : Turn) → undone_of s state turn ≡ strikes_of state turn
 
-abbrev pub undone_in : Shape → CodeParts → (words : List ℕ) → List Turn → ℕ
-undone_in s code words turns = length (along s code (undone_of s) (opening words s.processors) turns)
+module _ (s : Shape) (code : CodeParts) (state : State) (turns : List Turn) where
+  -- how many work turns all processors make in these turns
+  abbrev pub work_in : ℕ
+  work_in = length (along s code work_of state turns)
 
--- With either takeover all work turns together are no more than 218 for each capsule of the depth-first run, 171 for each fault that undoes
--- work, and 6
-abbrev pub WorkIsBoundedSo : Type 0
-WorkIsBoundedSo = (code : CodeParts) (input : List NamedArray) (s : Shape) (keeper : ℕ) (image : RealImage)
+  -- how many faults strike a row of work: they find it under way, or at the broken words that it has met
+  abbrev pub strikes_in : ℕ
+  strikes_in = length (along s code strikes_of state turns)
+
+  -- and how many undo work
+  abbrev pub undone_in : ℕ
+  undone_in = length (along s code (undone_of s) state turns)
+
+-- From an image of a sound code, with either takeover, whatever the turns: where the depth-first run of the root ends, all work turns together
+-- are no more than 218 for each of its capsules, 171 for each fault that undoes work, and 6
+abbrev pub WorkIsBounded : Type 0
+WorkIsBounded = (code : CodeParts) (input : List NamedArray) (s : Shape) (keeper : ℕ) (image : Image)
     → IsFair code → Opens code input s keeper image
     → Calm (strands s code) (root_strand code input) (arrays_at (view s image.words))
     → (turns : List Turn) → AllByRecursion (IsTurnAmong s.processors) turns
     → (end : End Result) → Ends (strands s code) (root_strand code input) (arrays_at (view s image.words)) end
-    → work_in s code image.words turns ≤ 218 * end.counts.capsules + 171 * undone_in s code image.words turns + 6
+    → work_in s code (opening image.words s.processors) turns ≤ 218 * end.counts.capsules + 171 * undone_in s code (opening image.words s.processors) turns + 6
 
 -- so fewer than 256 for each capsule and each such fault
-abbrev pub WorkIsWithin256So : Type 0
-WorkIsWithin256So = (code : CodeParts) (input : List NamedArray) (s : Shape) (keeper : ℕ) (image : RealImage)
+abbrev pub WorkIsWithin256 : Type 0
+WorkIsWithin256 = (code : CodeParts) (input : List NamedArray) (s : Shape) (keeper : ℕ) (image : Image)
     → IsFair code → Opens code input s keeper image
     → Calm (strands s code) (root_strand code input) (arrays_at (view s image.words))
     → (turns : List Turn) → AllByRecursion (IsTurnAmong s.processors) turns
     → (end : End Result) → Ends (strands s code) (root_strand code input) (arrays_at (view s image.words)) end
-    → work_in s code image.words turns < 256 * (end.counts.capsules + undone_in s code image.words turns)
+    → work_in s code (opening image.words s.processors) turns < 256 * (end.counts.capsules + undone_in s code (opening image.words s.processors) turns)

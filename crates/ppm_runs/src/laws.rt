@@ -7,12 +7,12 @@ ghost use Rattle.ppm_runs.specs.Joint.{JointsStay};
 ghost use Rattle.ppm_runs.specs.Laws.{BirthsFollow, BrokenFollow, TakersHave, TurnsAreOrderly, TurnsGoOn};
 ghost use Rattle.ppm_runs.specs.Moments.{OnceAtEachMoment, RunsStay, TurnsLeadOn};
 ghost use Rattle.ppm_runs.specs.Openings.{RunsOpen};
-ghost use Rattle.ppm_runs.specs.Outcomes.{RunsEnd, StopsStay};
+ghost use Rattle.ppm_runs.specs.Outcomes.{RunsEnd};
 ghost use Rattle.ppm_runs.specs.Renewals.{PartsComeTo, RunsComeBack};
-ghost use Rattle.ppm_runs.specs.Spent.{RoomIsSpent, RoomIsSpentSo, RoomIsWithin};
+ghost use Rattle.ppm_runs.specs.Spent.{RoomIsSpent, RoomIsWithin};
 ghost use Rattle.ppm_runs.specs.Unbroken.{NothingBreaks};
-ghost use Rattle.ppm_runs.specs.Whole.{JoinsStay, RunsComeTo, TurnsLead};
-ghost use Rattle.ppm_runs.specs.Work.{UndoneAreStruck, WorkIsBounded, WorkIsBoundedSo, WorkIsWithin256, WorkIsWithin256So};
+ghost use Rattle.ppm_runs.specs.Whole.{JoinsStay, RunsComeTo};
+ghost use Rattle.ppm_runs.specs.Work.{UndoneAreStruck, WorkIsBounded, WorkIsWithin256};
 
 /// With takeover by places each turn is orderly in a state of a run: block words that it changes
 /// are those of pools, a block that it forks was not forked before, and a branch that it begins
@@ -52,18 +52,11 @@ pub fn runs_end()
     ensures law { RunsEnd }
 {}
 
-/// A run that was stopped by a finish that is no outcome stays stopped, whatever turns are made.
-pub fn stops_stay()
-    ensures law { StopsStay }
-{}
-
 /// With takeover by places, from an image of a sound code, whatever the turns: where the finish word
 /// says an outcome the depth-first run of the root ends so, and each branch that was forked was taken
-/// once. Each turn leads from one state of a run to the next, as what joins the two halves of such a
-/// state stays so.
+/// once. What joins the two halves of a run's state stays so behind each turn that keeps the words.
 pub fn runs_come_to()
     ensures law { RunsComeTo }
-    ensures leads { TurnsLead }
     ensures joins { JoinsStay }
 {}
 
@@ -82,7 +75,6 @@ pub fn runs_stay()
 /// run takes of all.
 pub fn room_is_spent()
     ensures law { RoomIsSpent }
-    ensures so { RoomIsSpentSo }
     ensures within { RoomIsWithin }
 {}
 
@@ -103,15 +95,13 @@ pub fn nothing_breaks()
     ensures law { NothingBreaks }
 {}
 
-/// From an image of a sound code, with takeover by places, whatever the turns: where the depth-first run
-/// of the root ends, all work turns together are no more than 218 for each of its capsules, 171 for each
-/// fault that strikes a row of work, and 6; so they are fewer than 256 for each. With either takeover that
-/// is so of the faults that undo work; by places these are those that strike.
+/// From an image of a sound code, with either takeover, whatever the turns: where the depth-first run of
+/// the root ends, all work turns together are no more than 218 for each of its capsules, 171 for each
+/// fault that undoes work, and 6; so they are fewer than 256 for each. By places the faults that undo
+/// work are those that strike a row of it.
 pub fn work_is_bounded()
     ensures law { WorkIsBounded }
     ensures within { WorkIsWithin256 }
-    ensures so { WorkIsBoundedSo }
-    ensures within_so { WorkIsWithin256So }
     ensures struck { UndoneAreStruck }
 {}
 

@@ -1,18 +1,10 @@
 //! Numbers in the lines of a saved text.
-ghost use Rattle.std.specs.Prelude.{◌≡◌, ◌++◌, OnOk, decimal};
+ghost use Rattle.std.specs.Prelude.{◌≡◌, ◌++◌, OnOk};
 ghost use Rattle.ppm_saved.specs.Text.{numbers_text};
 
+use ppm_pieces::push_number;
 use ppm_words::NoMemory;
 use std::alloc::Global;
-
-/// Appends a number in decimal.
-pub(crate) fn push_number(alloc: Global, text: &mut Vec<u8>, number: u64) -> Result<(), NoMemory>
-    ensures { OnOk result (text.new.items ≡ text.old.items ++ decimal number) }
-{
-    let digits = number.to_string(alloc)?;
-    text.extend_from_slice(digits.as_bytes())?;
-    Ok(())
-}
 
 /// Appends each of the numbers behind a space, and a line feed.
 pub(crate) fn push_numbers(

@@ -1,7 +1,9 @@
 //! Runs of equal words.
-ghost use Rattle.std.specs.Prelude.{◌≡◌, ◌∷◌, [], ◌<◌, ◌≤◌, ◌==◌, drop, length, MatchOption};
+ghost use Rattle.std.specs.Prelude.{◌≡◌, ◌∷◌, [], ◌<◌, ◌≤◌, ◌==◌, length, MatchOption};
 ghost use Rattle.std.specs.List.{prefix_len};
 ghost use Rattle.ppm_saved.specs.Runs.{runs_of};
+
+use ppm_pieces::behind;
 
 /// A word, and how often it stands in a row: once at least.
 #[derive(Clone, Copy, Debug, PartialEq, Eq)]
@@ -17,15 +19,6 @@ fn front_len(words: &[u64], word: u64) -> usize
     ensures within { result ≤ length words.now }
 {
     words.iter().take_while(|w| **w == word).count()
-}
-
-/// The words behind the first n.
-#[tactic(auto, using(std::proofs::lemmas::List::take_rest))]
-fn behind(words: &[u64], n: usize) -> &[u64]
-    requires { n ≤ length words.now }
-    ensures { result.now ≡ drop n words.now }
-{
-    &words[n..]
 }
 
 /// The first of the longest runs of words, and the words behind it; `None` where there are none.

@@ -7,11 +7,12 @@ ghost use Rattle.ppm_saved.specs.Text.{shape_line, array_line as line_of_array, 
 ghost use Rattle.ppm_saved.specs.Text.{times_text, head_text, code_text, words_text, saved_text};
 
 use crate::names::{NamedLength, Names};
-use crate::numbers::{push_number, push_numbers};
+use crate::numbers::push_numbers;
 use crate::run::{Run, first_run};
 use ppm_cells::Shape;
 use ppm_code::Code;
 use ppm_listing::write_listing;
+use ppm_pieces::push_number;
 use ppm_words::NoMemory;
 use std::alloc::Global;
 

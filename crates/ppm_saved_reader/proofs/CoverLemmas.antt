@@ -20,7 +20,7 @@ use Rattle.ppm_saved.proofs.TellLemmas.{texts_tell}
 use Rattle.ppm_saved_reader.specs.declared.lines.Sizes.{Sizes}
 use Rattle.ppm_saved_reader.specs.declared.saved_error.Fault.{Fault}
 use Rattle.ppm_saved_reader.specs.Lines.{first_line, version_in, sizes_in, array_in, count_in, run_in}
-use Rattle.ppm_saved_reader.specs.Rules.{text_limit, sizes_fit, is_twice, is_past, words_for, is_other_count, ends_with}
+use Rattle.ppm_saved_reader.specs.Rules.{saved_limit, sizes_fit, is_twice, is_past, words_for, is_other_count, ends_with}
 use Rattle.ppm_saved_reader.specs.Places.{Place, AtSizes, AtArrays, AtWords, AtRuns, NamesArrays}
 use Rattle.ppm_saved_reader.specs.Places.{Version, Shaped, Array, Coded, Counted, Repeated}
 use Rattle.ppm_saved_reader.specs.Places.{IsWrong, NoVersion, NoSizes, NoFit, NoArray, BadArray, BadCode, NoCount, OtherCount, NoRun, Same, NoWord}
@@ -80,10 +80,10 @@ module _ (listings : FaultsTellListings) (text : List ℕ) (none : (f : Fault) (
   right {line = line} {f = f} k w = none f line (Breaks k w)
 
   -- the text is not too long
-  short : length text ≤ text_limit
-  short = by (cases_lt text_limit (length text))
+  short : length text ≤ saved_limit
+  short = by (cases_lt saved_limit (length text))
     where
-      by : (text_limit < length text) ⊎ (length text ≤ text_limit) → length text ≤ text_limit
+      by : (saved_limit < length text) ⊎ (length text ≤ saved_limit) → length text ≤ saved_limit
       by (inl long) = absurd (none _ 1 (TooLong long))
       by (inr h) = h
 

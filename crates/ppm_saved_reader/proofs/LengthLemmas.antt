@@ -10,7 +10,7 @@ use Rattle.ppm_cells.specs.declared.shape.Shape.{Shape}
 use Rattle.ppm_code.specs.declared.code.CodeParts.{CodeParts}
 use Rattle.ppm_listing.specs.Listing.{listing_of}
 use Rattle.ppm_listing_reader.specs.Correct.{FaultsTellListings, TooLong as ListingTooLong}
-use Rattle.ppm_listing_reader.specs.Limits.{text_limit as listing_limit}
+use Rattle.ppm_listing_reader.specs.Limits.{listing_limit}
 use Rattle.ppm_saved.specs.Correct.{IsWord, LengthFits, RunFits}
 use Rattle.ppm_saved.specs.Names.{IsArrayName}
 use Rattle.ppm_saved.specs.Runs.{runs_of, AreLongest}
@@ -18,7 +18,7 @@ use Rattle.ppm_saved.specs.Text.{spaced, numbers_text, version_line, shape_line,
 use Rattle.ppm_saved.specs.declared.names.NamedLength.{NamedLength}
 use Rattle.ppm_saved.specs.declared.run.Run.{Run}
 use Rattle.ppm_saved.proofs.RunLemmas.{runs_are_longest}
-use Rattle.ppm_saved_reader.specs.Rules.{text_limit}
+use Rattle.ppm_saved_reader.specs.Rules.{saved_limit}
 use Rattle.ppm_saved_reader.specs.Correct.{sizes_of, IsSavedText}
 use Rattle.ppm_saved_reader.proofs.CountLemmas.{times_sum, length-words_of}
 use Rattle.ppm_saved_reader.proofs.SpelledLemmas.{sizes_are}
@@ -101,7 +101,7 @@ module _ (listings : FaultsTellListings) (text : List ℕ) (s : Shape) (arrays :
       omega (arith, summed, runs_short (runs_of words) (runs_are_longest.longest words) h.fits.runs)
 
   -- so the text is not
-  pub text_short : length text ≤ text_limit
+  pub text_short : length text ≤ saved_limit
   text_short =
       let z = sizes_are (sizes_of s) h.sizes in
       let listing : List ℕ = listing_of code in

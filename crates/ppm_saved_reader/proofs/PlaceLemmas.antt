@@ -10,7 +10,7 @@ use Rattle.ppm_saved.specs.declared.names.NamedLength.{NamedLength}
 use Rattle.ppm_saved.specs.declared.run.Run.{Run}
 use Rattle.ppm_saved_reader.specs.declared.lines.Sizes.{Sizes}
 use Rattle.ppm_saved_reader.specs.declared.saved_error.Fault.{Fault}
-use Rattle.ppm_saved_reader.specs.Rules.{text_limit, line_feeds, sizes_fit, is_twice, is_past, is_other_count, ends_with}
+use Rattle.ppm_saved_reader.specs.Rules.{saved_limit, line_feeds, sizes_fit, is_twice, is_past, is_other_count, ends_with}
 use Rattle.ppm_saved_reader.specs.Places.{Place, AtVersion, AtArrays, AtWords, AtRuns, array_of}
 use Rattle.ppm_saved_reader.specs.Places.{Goes, Version, Shaped, Array, Coded, Counted, Repeated, LeadsTo, Stays, Then}
 use Rattle.ppm_saved_reader.specs.Places.{IsWrong, NoVersion, NoSizes, NoFit, NoArray, BadArray, BadCode, NoCount, OtherCount, NoRun, Same, NoWord}
@@ -172,7 +172,7 @@ reads_on {n = n} k g = record {
 }
 
 -- nothing was read yet
-pub reads_all : (text : List ℕ) → length text ≤ text_limit → IsRead text AtVersion 1 text
+pub reads_all : (text : List ℕ) → length text ≤ saved_limit → IsRead text AtVersion 1 text
 reads_all text h = record { short = h; lines = 0; leads = Stays; counted = refl }
 
 -- what is wrong at a place that was reached is the refusal of the text

@@ -26,7 +26,7 @@ use Rattle.ppm_saved.specs.declared.run.Run.{Run}
 use Rattle.ppm_saved.proofs.RunLemmas.{runs_are_longest}
 use Rattle.ppm_saved_reader.specs.declared.lines.Sizes.{Sizes}
 use Rattle.ppm_saved_reader.specs.Lines.{first_line, version_in, sizes_in, array_in, count_in, run_in}
-use Rattle.ppm_saved_reader.specs.Rules.{text_limit, is_from_to, sizes_fit, is_twice, is_past, words_for, is_other_count, ends_with}
+use Rattle.ppm_saved_reader.specs.Rules.{saved_limit, is_from_to, sizes_fit, is_twice, is_past, words_for, is_other_count, ends_with}
 use Rattle.ppm_saved_reader.specs.Places.{Place, AtVersion, AtSizes, AtArrays, AtWords, AtRuns, array_of, NamesArrays}
 use Rattle.ppm_saved_reader.specs.Places.{Goes, Version, Shaped, Array, Coded, Counted, Repeated, LeadsTo, Stays, Then}
 use Rattle.ppm_saved_reader.specs.Correct.{IsRead, AreRunsRead, sizes_of, IsSavedText}
@@ -94,7 +94,7 @@ record HasCode (z : Sizes) (arrays : List NamedLength) (code : CodeParts) : Type
   front : HasArrays z arrays
   code_is : IsCode code
   numbers : NumbersFit code
-  bytes : length (listing_of code) ≤ text_limit
+  bytes : length (listing_of code) ≤ saved_limit
   named : NamesArrays (length arrays) code
   free : IsFree code
   tidy : IsTidy code
@@ -120,7 +120,7 @@ record IsAt (text : List ℕ) (place : Place) (rest : List ℕ) : Type 0 where
   same : text ≡ spelled place ++ rest
 
 -- the rest is no longer than the text
-rest_short : (text front rest : List ℕ) → text ≡ front ++ rest → length text ≤ text_limit → length rest ≤ text_limit
+rest_short : (text front rest : List ℕ) → text ≡ front ++ rest → length text ≤ saved_limit → length rest ≤ saved_limit
 rest_short text front rest e h = omega (arith, h, ap (λ (l : List ℕ). length l) e, length-append front rest)
 
 -- nothing more in front of the rest
@@ -163,7 +163,7 @@ at_array text t rest z arrays line h e twice past =
     }
 
 -- a code
-at_code : (text t rest : List ℕ) (z : Sizes) (arrays : List NamedLength) (bytes : ℕ) (code : CodeParts) → length text ≤ text_limit
+at_code : (text t rest : List ℕ) (z : Sizes) (arrays : List NamedLength) (bytes : ℕ) (code : CodeParts) → length text ≤ saved_limit
     → IsAt text (AtArrays z arrays) t → first_line (count_in (codes "code")) t ≡ Some (bytes, rest) → bytes ≤ length rest
     → IsListing (take bytes rest) code → NamesArrays (length arrays) code → IsFree code → IsTidy code
     → IsAt text (AtWords z arrays code) (drop bytes rest)
@@ -250,7 +250,7 @@ at_run text t rest z arrays code rs w n h e other =
     }
 
 -- reading goes on to what is written
-goes_at : (text : List ℕ) → length text ≤ text_limit → {p q : Place} {t r : List ℕ} {n : ℕ} → Goes p t n q r → IsAt text p t → IsAt text q r
+goes_at : (text : List ℕ) → length text ≤ saved_limit → {p q : Place} {t r : List ℕ} {n : ℕ} → Goes p t n q r → IsAt text p t → IsAt text q r
 goes_at text short (Version {text = t} {rest = r} {line = x} e) h =
     let (line, form, halves) = first_line_back version_in t r x e in
     record {
@@ -278,7 +278,7 @@ goes_at text short (Counted {text = t} {rest = r} {z = z} {arrays = arrays} {cod
 goes_at text short (Repeated {text = t} {rest = r} {z = z} {arrays = arrays} {code = code} {rs = rs} {word = w} {times = n} e other) h =
     at_run text t r z arrays code rs w n h e other
 
-leads_at : (text : List ℕ) → length text ≤ text_limit → {p q : Place} {t r : List ℕ} {n : ℕ} → LeadsTo p t n q r → IsAt text p t → IsAt text q r
+leads_at : (text : List ℕ) → length text ≤ saved_limit → {p q : Place} {t r : List ℕ} {n : ℕ} → LeadsTo p t n q r → IsAt text p t → IsAt text q r
 leads_at text short Stays h = h
 leads_at text short (Then a b) h = leads_at text short b (goes_at text short a h)
 
@@ -301,7 +301,7 @@ pub read_named : (text : List ℕ) {z : Sizes} {arrays : List NamedLength} {code
     → NamesArrays (length arrays) code
 read_named text k = (read_at text k).has.named
 
-pub rest_within : (text : List ℕ) {q : Place} {r : List ℕ} {line : ℕ} → IsRead text q line r → length r ≤ text_limit
+pub rest_within : (text : List ℕ) {q : Place} {r : List ℕ} {line : ℕ} → IsRead text q line r → length r ≤ saved_limit
 rest_within text {q = q} {r = r} k = rest_short text (spelled q) r (read_at text k).same k.short
 
 -- how many words the machine has
@@ -369,7 +369,7 @@ read_text text s z arrays code rs words last k sizes e len whole =
     }
 
 -- the version and the sizes were read
-pub front_read : (text : List ℕ) {rest behind : List ℕ} {z : Sizes} → length text ≤ text_limit → Goes AtVersion text 1 AtSizes rest
+pub front_read : (text : List ℕ) {rest behind : List ℕ} {z : Sizes} → length text ≤ saved_limit → Goes AtVersion text 1 AtSizes rest
     → Goes AtSizes rest 1 (AtArrays z []) behind → IsRead text (AtArrays z []) 3 behind
 front_read text short g k = reads_on (reads_on (reads_all text short) g) k
 

@@ -29,7 +29,7 @@ use Rattle.ppm_saved_reader.specs.declared.lines.Sizes.{Sizes}
 use Rattle.ppm_saved_reader.specs.declared.saved_error.Fault.{Fault}
 use Rattle.ppm_saved_reader.specs.Lines.{behind_halves, behind_word, number_in, number_behind, count_in, three, last_two, three_between, sizes_behind}
 use Rattle.ppm_saved_reader.specs.Lines.{sizes_in, is_array_name, named, name_and_len, array_behind, array_in, word_in, times_in, run_between, run_in, first_line}
-use Rattle.ppm_saved_reader.specs.Rules.{text_limit, words_for, is_other_count, ends_with}
+use Rattle.ppm_saved_reader.specs.Rules.{saved_limit, words_for, is_other_count, ends_with}
 use Rattle.ppm_saved_reader.specs.Places.{Place, AtVersion, AtArrays, AtWords, AtRuns, Goes, Version, Shaped, Array, Coded, Counted, Repeated, LeadsTo, Stays, Then}
 use Rattle.ppm_saved_reader.specs.Places.{IsWrong, NoRun, Same, NoWord}
 use Rattle.ppm_saved_reader.specs.Correct.{sizes_of, IsSavedText, IsWrongAt, Breaks, TooLong}
@@ -273,6 +273,6 @@ fine f (NoWord e) = not_both refl e
 
 -- so the text of a state is wrong nowhere
 pub text_right : (text : List ℕ) (s : Shape) (arrays : List NamedLength) (code : CodeParts) (words : List ℕ) (f : Fault) (line : ℕ)
-    → length text ≤ text_limit → IsSavedText text s arrays code words → IsWrongAt text f line → ⊥
+    → length text ≤ saved_limit → IsSavedText text s arrays code words → IsWrongAt text f line → ⊥
 text_right text s arrays code words f line short h (Breaks r w) = none_wrong stuck fine (text_leads s arrays code words text h).1 r.leads w
 text_right text s arrays code words f line short h (TooLong long) = omega (arith, short, long)

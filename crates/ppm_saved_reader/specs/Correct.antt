@@ -18,12 +18,12 @@ use Rattle.ppm_saved_reader.specs.declared.saved_error.Fault.{Fault}
 use Rattle.ppm_saved_reader.specs.declared.saved_error.Fault.TheVariants as fault
 use Rattle.ppm_saved_reader.specs.declared.saved_error.SavedError.{SavedError}
 use Rattle.ppm_saved_reader.specs.declared.saved_error.SavedError.TheVariants as error
-use Rattle.ppm_saved_reader.specs.Rules.{text_limit, sizes_fit}
+use Rattle.ppm_saved_reader.specs.Rules.{saved_limit, sizes_fit}
 use Rattle.ppm_saved_reader.specs.Places.{Place, AtVersion, AtRuns, LeadsTo, IsWrong}
 
 -- a text that is not too long was read up to a place
 pub record IsRead (text : List ℕ) (place : Place) (line : ℕ) (rest : List ℕ) : Type 0 where
-  pub short : length text ≤ text_limit
+  pub short : length text ≤ saved_limit
   pub lines : ℕ
   pub leads : LeadsTo AtVersion text lines place rest
   pub counted : line ≡ 1 + lines
@@ -41,7 +41,7 @@ pub record AreRunsRead (text : List ℕ) (line count : ℕ) (words : List ℕ) :
 -- first line
 pub data IsWrongAt (text : List ℕ) : Fault → (line : ℕ) → Type 0 where
   Breaks : {place : Place} {rest : List ℕ} {f : Fault} {line : ℕ} → IsRead text place line rest → IsWrong place rest f → IsWrongAt text f line
-  TooLong : text_limit < length text → IsWrongAt text fault.NoSuchForm 1
+  TooLong : saved_limit < length text → IsWrongAt text fault.NoSuchForm 1
 
 -- a refusal is the fault of the text; that memory was refused is none
 abbrev pub IsRefusal : List ℕ → SavedError → Type 0
@@ -82,7 +82,7 @@ pub record FaultsTellSavedTexts : Type 0 where
       → IsSavedText text s arrays code words → IsWrongAt text f line → ⊥
   pub covers : (text : List ℕ) → ((f : Fault) (line : ℕ) → IsWrongAt text f line → ⊥) → HasState text
   pub short : (text : List ℕ) (s : Shape) (arrays : List NamedLength) (code : CodeParts) (words : List ℕ) → IsSavedText text s arrays code words
-      → length text ≤ text_limit
+      → length text ≤ saved_limit
   pub one_state : (text : List ℕ) (s t : Shape) (xs ys : List NamedLength) (c d : CodeParts) (ws vs : List ℕ)
       → IsSavedText text s xs c ws → IsSavedText text t ys d vs → (s ≡ t) × (xs ≡ ys) × (c ≡ d) × (ws ≡ vs)
   pub one : (text : List ℕ) (f g : Fault) (line later : ℕ) → IsWrongAt text f line → IsWrongAt text g later → (f ≡ g) × (line ≡ later)

@@ -11,8 +11,8 @@ use Rattle.ppm_saved_reader.specs.declared.lines.Sizes.{Sizes}
 use Rattle.ppm_saved_reader.specs.Lines.{run_in}
 
 -- bytes of a saved text
-abbrev pub text_limit : ℕ
-text_limit = 671088640
+abbrev pub saved_limit : ℕ
+saved_limit = 671088640
 
 -- whether a number is from one to another
 abbrev pub is_from_to : (least most n : ℕ) → Bool

@@ -1,5 +1,5 @@
 //! Reads what stands in front of the words: the version, the sizes, the arrays and the code.
-ghost use Rattle.std.specs.Prelude.{◌≡◌, ◌≤◌, ◌<◌, ◌+◌, ◌^◌, ℕ, nat_lt, List, [], None, length, take, drop};
+ghost use Rattle.std.specs.Prelude.{◌≡◌, ◌≤◌, ◌<◌, ◌+◌, ◌^◌, ℕ, nat_lt, List, [], None, length, take};
 ghost use Rattle.std.specs.Prelude.{◌↔◌, IsTrue, IfOk, IfErr};
 ghost use Rattle.std.specs.List.{list_all, sum};
 ghost use Rattle.ppm_code.specs.Code.{IsCode};
@@ -11,12 +11,12 @@ ghost use Rattle.ppm_saved_reader.specs.Places.{Place, AtVersion, AtSizes, AtArr
 ghost use Rattle.ppm_saved_reader.specs.Places.{Goes, IsWrong, NamesArrays};
 ghost use Rattle.ppm_saved_reader.specs.Correct.{IsRead, IsRefusal};
 
-use crate::lines::{Sizes, array_in, count_in, same_bytes, sizes_in};
+use crate::lines::{Sizes, array_in, count_in, sizes_in};
 use crate::rules::{is_past, is_twice, sizes_fit};
 use crate::saved_error::{Fault, SavedError};
 use ppm_code::Code;
 use ppm_listing_reader::{faults_tell_listings, read_listing};
-use ppm_pieces::split_once;
+use ppm_pieces::{behind, same_bytes, split_once};
 use ppm_saved::NamedLength;
 use ppm_war::{check, tidy};
 use ppm_words::Name;
@@ -172,15 +172,6 @@ fn front(bytes: &[u8], n: usize) -> &[u8]
     ensures { result.now ≡ take n bytes.now }
 {
     &bytes[..n]
-}
-
-/// The bytes behind the first n.
-#[tactic(auto, using(std::proofs::lemmas::List::take_rest))]
-fn behind(bytes: &[u8], n: usize) -> &[u8]
-    requires { n ≤ length bytes.now }
-    ensures { result.now ≡ drop n bytes.now }
-{
-    &bytes[n..]
 }
 
 /// A code that was read, and the text behind it with its line.

@@ -19,5 +19,5 @@ mod saved_error;
 
 pub use laws::faults_tell_saved_texts;
 pub use lines::Sizes;
-pub use reading::{TEXT_LIMIT, read_saved};
+pub use reading::{SAVED_LIMIT, read_saved};
 pub use saved_error::{Fault, SavedError};

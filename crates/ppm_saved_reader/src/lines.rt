@@ -1,7 +1,6 @@
 //! The forms of the lines of a saved text.
 ghost use Rattle.std.specs.Prelude.{◌≡◌, ◌^◌, ◌<◌, nat_lt, true, Some, None, MatchOption, length};
 ghost use Rattle.std.specs.List.{list_all};
-ghost use Rattle.std.specs.Str.{bytes_eq};
 ghost use Rattle.ppm_words.specs.Names.{is_name_byte as name_byte};
 ghost use Rattle.ppm_pieces.specs.Numbers.{is_numeral as numeral};
 ghost use Rattle.ppm_pieces.specs.Pieces.{halves_of};
@@ -13,7 +12,7 @@ ghost use Rattle.ppm_saved_reader.specs.Lines.{named as named_len, name_and_len 
 ghost use Rattle.ppm_saved_reader.specs.Lines.{array_in as array, word_in as word, times_in as times};
 ghost use Rattle.ppm_saved_reader.specs.Lines.{run_in as run};
 
-use ppm_pieces::{is_numeral, split_once, value};
+use ppm_pieces::{is_numeral, same_bytes, split_once, value};
 use ppm_text::{is_letter_byte, keyword};
 use ppm_words::NAME_LIMIT;
 
@@ -27,12 +26,6 @@ pub struct Sizes {
 
 /// The largest word, in decimal.
 const LAST_WORD: &[u8] = b"18446744073709551615";
-
-pub(crate) fn same_bytes(a: &[u8], b: &[u8]) -> bool
-    ensures { result ≡ bytes_eq a.now b.now }
-{
-    a == b
-}
 
 /// What stands behind a word and a space.
 fn behind_word<'a>(word: &[u8], line: &'a [u8]) -> Option<&'a [u8]>

@@ -17,7 +17,7 @@ use ppm_words::{Items, NoMemory};
 use std::alloc::Global;
 
 /// The bytes of a saved text, at most.
-pub const TEXT_LIMIT: usize = 671_088_640;
+pub const SAVED_LIMIT: usize = 671_088_640;
 
 /// The lengths of arrays.
 fn lengths_of(alloc: Global, arrays: &[NamedLength]) -> Result<Vec<u32>, NoMemory>
@@ -52,7 +52,7 @@ fn read_front(text: &[u8]) -> Result<(Sizes, &[u8]), SavedError>
     ensures ok { IfOk result (λ p. IsRead text.now (AtArrays p.0 []) 3 p.1.now) }
     ensures err { IfErr result (IsRefusal text.now) }
 {
-    if text.len() > TEXT_LIMIT {
+    if text.len() > SAVED_LIMIT {
         return Err(SavedError::NoSuchForm(1));
     }
     let rest = match read_version(text) {

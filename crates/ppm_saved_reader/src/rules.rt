@@ -6,8 +6,8 @@ ghost use Rattle.ppm_saved_reader.specs.Rules.{is_from_to as from_to, sizes_fit 
 ghost use Rattle.ppm_saved_reader.specs.Rules.{is_twice as twice, is_past as past};
 ghost use Rattle.ppm_saved_reader.specs.Rules.{is_other_count as other_count};
 
-use crate::lines::{Sizes, run_in, same_bytes};
-use ppm_pieces::split_once;
+use crate::lines::{Sizes, run_in};
+use ppm_pieces::{same_bytes, split_once};
 use ppm_saved::NamedLength;
 use ppm_words::{ARRAY_LIMIT, WORD_LIMIT};
 

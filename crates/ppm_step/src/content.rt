@@ -60,6 +60,7 @@ impl Content {
     }
 
     /// The word of it.
+    #[inline(always)]
     pub fn word(&self) -> u64
         requires { IsContent self.now }
         ensures { result ≡ word_of self.now }

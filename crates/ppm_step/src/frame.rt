@@ -28,6 +28,7 @@ pub struct Home {
 }
 
 /// The words of a frame of a procedure.
+#[inline(always)]
 fn size_of(code: &Code, procedure: u32) -> u32
     ensures value { result ≡ frame_size code.now procedure }
     ensures bound { result ≤ 31 }
@@ -39,6 +40,7 @@ fn size_of(code: &Code, procedure: u32) -> u32
 }
 
 /// The capsule with which a procedure begins.
+#[inline(always)]
 fn entry_of(code: &Code, procedure: u32) -> u32
     ensures { result ≡ entry_of code.now procedure }
 {
@@ -49,6 +51,7 @@ fn entry_of(code: &Code, procedure: u32) -> u32
 }
 
 /// A store of a number.
+#[inline(always)]
 fn store(cell: Cell, number: u64) -> Put
     ensures { result ≡ put cell (ANumber number) }
 {
@@ -59,6 +62,7 @@ fn store(cell: Cell, number: u64) -> Put
 }
 
 /// A store of the link of a block, or of a frame in one.
+#[inline(always)]
 fn store_link(address: u32, kind: LinkKind, size: u32) -> Put
     ensures { result ≡ put (BlockWord address) (link kind size) }
 {
@@ -69,6 +73,7 @@ fn store_link(address: u32, kind: LinkKind, size: u32) -> Put
 }
 
 /// A store of the outcome with which a frame begins.
+#[inline(always)]
 fn store_ended(frame: u32) -> Put
     requires { frame + 1 < 2 ^ 32 }
     ensures { result ≡ put (outcome_word frame) (AFinish Ended) }
@@ -80,6 +85,7 @@ fn store_ended(frame: u32) -> Put
 }
 
 /// The target word of a slot.
+#[inline(always)]
 fn target_of(to: Option<u32>) -> u64
     ensures { result ≡ target_of to }
 {
@@ -101,6 +107,7 @@ impl Home {
     ghost use Rattle.ppm_step.specs.Frames.{installed, goes_on, other_copy, target_of, IsNext};
 
     /// The copy that is not in use.
+    #[inline(always)]
     fn other(&self) -> u32
         requires { IsHome self.now }
         ensures { result ≡ other_copy self.now.copy }
@@ -131,6 +138,7 @@ impl Home {
     }
 
     /// The frame is to go on with a capsule.
+    #[inline(always)]
     fn goes_on(&self, capsule: u32) -> Put
         requires { IsHome self.now }
         ensures { result ≡ goes_on self.now capsule }
@@ -142,6 +150,7 @@ impl Home {
     }
 
     /// The n-th store of a call.
+    #[inline(always)]
     fn call_put(
         &self,
         code: &Code,
@@ -173,6 +182,7 @@ impl Home {
     }
 
     /// The link of a branch's frame.
+    #[inline(always)]
     fn branch(&self, side: Side) -> LinkKind
         ensures { result ≡ Branch side self.now.block }
     {
@@ -183,6 +193,7 @@ impl Home {
     }
 
     /// The n-th store of a fork without targets.
+    #[inline(always)]
     fn fork_put(&self, code: &Code, left: u32, right: u32, capsule: u32, n: usize) -> Option<Put>
         requires { IsHome self.now }
         ensures value { result
@@ -218,6 +229,7 @@ impl Home {
     }
 
     /// The n-th store of a fork with targets.
+    #[inline(always)]
     fn fork_to_put(
         &self,
         code: &Code,
@@ -264,6 +276,7 @@ impl Home {
     }
 
     /// The n-th store of a fork of two procedures, left and right, with targets if one is named.
+    #[inline(always)]
     fn fork_put_by(
         &self,
         code: &Code,
@@ -288,6 +301,7 @@ impl Home {
     }
 
     /// The n-th store of an end; `None` behind the last one.
+    #[inline(always)]
     fn put(&self, code: &Code, end: End, n: usize) -> Option<Put>
         requires home { IsHome self.now }
         requires end { IsEnd end }
@@ -327,8 +341,8 @@ impl Home {
 
     /// The n-th store of an end, which comes next; `None` where the restart word does.
     #[tactic(auto, using(crate::proofs::StoringLemmas::ending_by))]
-    #[inline(never)]
-    pub fn next_put(&self, code: &Code, end: End, n: usize) -> Option<Put>
+    #[inline(always)]
+    pub fn coming_put(&self, code: &Code, end: End, n: usize) -> Option<Put>
         requires home { IsHome self.now }
         requires end { IsEnd end }
         ensures next { IsNext code.now self.now end n result }
@@ -338,7 +352,20 @@ impl Home {
         self.put(code, end, n)
     }
 
+    /// The same in a function of its own, for callers that seldom store.
+    #[inline(never)]
+    pub fn next_put(&self, code: &Code, end: End, n: usize) -> Option<Put>
+        requires home { IsHome self.now }
+        requires end { IsEnd end }
+        ensures next { IsNext code.now self.now end n result }
+        ensures few { IfSome result (λ p. n < 11) }
+        ensures fits { IfSome result (λ p. IsContent p.content) }
+    {
+        self.coming_put(code, end, n)
+    }
+
     /// What an end installs.
+    #[inline(always)]
     pub fn installed(&self, end: End) -> RestartKind
         requires { IsHome self.now }
         ensures { result ≡ installed self.now end }

@@ -63,7 +63,9 @@ impl Local {
     ghost use Rattle.ppm_step.specs.Standings.{IsLost, IsAt, IsBroken, IsDone, wanted, went};
     ghost use Rattle.ppm_step.specs.Standings.{enters, begins, stands, stands_then, then_is_there};
     ghost use Rattle.ppm_step.specs.Standings.{went_then, went_rest, WantIsWithin};
-    ghost use Rattle.ppm_step.specs.Rows.{row_of};
+    ghost use Rattle.ppm_step.specs.Contents.{content_of};
+    ghost use Rattle.ppm_step.specs.Points.{reading_at};
+    ghost use Rattle.ppm_step.specs.Rows.{found_at, row_of};
     ghost use Rattle.ppm_step.specs.Stages.{IsUnderWay, rest_at};
     ghost use Rattle.ppm_step.specs.State.{next_of};
     ghost use Rattle.ppm_step.specs.declared.row.Point.TheVariants.{Header};
@@ -176,6 +178,31 @@ impl Local {
         }
     }
 
+    /// Goes on with what the load of a row has found.
+    #[inline(never)]
+    fn observe_load(
+        &mut self,
+        shape: &Shape,
+        code: &Code,
+        victim: u32,
+        found: u64,
+        seat: Seat,
+        point: &Point,
+    )
+        requires seat { IsSeat shape.now seat }
+        requires own { seat.own ≡ self.old.own }
+        requires carrier { self.old.own < shape.now.processors }
+        requires point { IsPoint point.now }
+        ensures stands { standing_of shape.now code.now self.new
+            ≡ stands shape.now code.now seat (found_at shape.now seat victim point.now (content_of (reading_at point.now) found)) }
+        ensures holds { IsLocal shape.now code.now self.new }
+        ensures own_stays { self.new.own ≡ self.old.own }
+    {
+        let content = Content::of(reading_at(point), found);
+        let row = found_at(shape, &seat, victim, point, content);
+        self.stand_with(shape, code, seat, &row);
+    }
+
     /// Goes on with what a row has found, whose next step this was.
     fn observe_then(
         &mut self,
@@ -197,11 +224,7 @@ impl Local {
         ensures own_stays { self.new.own ≡ self.old.own }
     {
         match next {
-            Then::Load(point) => {
-                let content = Content::of(reading_at(point), found);
-                let row = found_at(shape, &seat, victim, point, content);
-                self.stand_with(shape, code, seat, &row);
-            }
+            Then::Load(point) => self.observe_load(shape, code, victim, found, seat, point),
             Then::Install(restart) => self.stand = installed(shape, seat, *restart),
             Then::Fork { block } => self.stand = installed(shape, seat, forked(&seat, *block)),
             Then::Begin { frame, bottom, .. } => {
@@ -314,6 +337,14 @@ impl Local {
                 seat,
                 row: Row::Now(Then::Load(Point::Header { .. })),
             } => self.enter(shape, code, seat, found),
+            Stand::Within {
+                seat,
+                row: Row::Now(Then::Load(point)),
+            } => self.observe_load(shape, code, victim, found, seat, &point),
+            Stand::Within {
+                seat,
+                row: Row::Now(Then::Install(restart)),
+            } => self.stand = installed(shape, seat, restart),
             Stand::Runs(running) => match running.stage {
                 Stage::Ending(End::Next { .. }, _) => self.observe_run(shape, code, running, found),
                 Stage::Before(Step::Loads(..)) => self.observe_run(shape, code, running, found),

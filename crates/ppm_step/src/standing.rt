@@ -83,6 +83,20 @@ impl Local {
         }
     }
 
+    /// The same in a function of its own, for callers that seldom enter one.
+    #[inline(never)]
+    fn enter_apart(&mut self, shape: &Shape, code: &Code, seat: Seat, number: u64)
+        requires seat { IsSeat shape.now seat }
+        requires own { seat.own ≡ self.old.own }
+        requires carrier { self.old.own < shape.now.processors }
+        ensures stands { standing_of shape.now code.now self.new
+            ≡ enters shape.now code.now seat seat.restart.kind (slice_get code.now.capsules number) }
+        ensures holds { IsLocal shape.now code.now self.new }
+        ensures own_stays { self.new.own ≡ self.old.own }
+    {
+        self.enter(shape, code, seat, number);
+    }
+
     /// Stands with this next in its row.
     #[inline(always)]
     pub(crate) fn stand_then(&mut self, shape: &Shape, code: &Code, seat: Seat, next: &Then)
@@ -96,7 +110,7 @@ impl Local {
         ensures own_stays { self.new.own ≡ self.old.own }
     {
         match next {
-            Then::Enter { capsule } => self.enter(shape, code, seat, *capsule),
+            Then::Enter { capsule } => self.enter_apart(shape, code, seat, *capsule),
             Then::Again => self.stand = at(seat, seat.restart),
             Then::Load(_)
             | Then::Install(_)

@@ -24,7 +24,7 @@ use Rattle.ppm_answers.specs.declared.answer.Answer.TheVariants as answers
 use Rattle.ppm_cli.specs.declared.stop.StopOptions.{StopOptions}
 use Rattle.ppm_cli.specs.Words.{AreStopped}
 use Rattle.ppm_following.specs.Followed.{followed}
-use Rattle.ppm_loading.specs.Loading.{Opens}
+use Rattle.ppm_loading.specs.Loading.{OpensRun}
 use Rattle.ppm_loading.proofs.LoadingLemmas.{one_opening, some_opening}
 use Rattle.ppm_loading.proofs.PlannedLemmas.{IsSteady, planned_one, planned_front, some_answer}
 use Rattle.ppm_loading.proofs.ProgramLemmas.{text_one, text_front, of_text, plain}
@@ -51,7 +51,7 @@ module _ (laws : Laws) (options : StopOptions) where
       → a ≡ b
   program_one items t a b h k =
       let keeper : k.keeper ≡ h.keeper = one_keeper schedule_form items k.keeper h.keeper k.spared h.spared in
-      let begins = subst (λ (n : ℕ). Opens (sizes_of options) (code_of t) (initial_arrays t) n k.start) keeper k.opens in
+      let begins = subst (λ (n : ℕ). OpensRun (sizes_of options) (code_of t) (initial_arrays t) n k.start) keeper k.opens in
       let start : h.start ≡ k.start =
       one_opening (sizes_of options) (code_of t) (initial_arrays t) h.keeper laws.images h.start k.start h.opens begins in
       h.saves ∙ ap (λ (m : Situation). answers.Saved (text_of (followed m items options.after) (initial_arrays t))) start ∙ sym k.saves

@@ -26,7 +26,7 @@ use Rattle.ppm_cli.specs.declared.stop.StopOptions.{StopOptions}
 use Rattle.ppm_cli.specs.Words.{AreStopped}
 use Rattle.ppm_choice.specs.Schedules.{schedule_turns}
 use Rattle.ppm_following.specs.Followed.{followed}
-use Rattle.ppm_loading.specs.Loading.{Opens}
+use Rattle.ppm_loading.specs.Loading.{OpensRun}
 use Rattle.ppm_saved.specs.Correct.{StateFits}
 use Rattle.ppm_saved_reader.specs.Rules.{is_from_to, sizes_fit}
 use Rattle.ppm_saved_reader.specs.Correct.{sizes_of as sizes_in}
@@ -64,7 +64,7 @@ from_to least most n m above below e =
     and_from (nat_le least m) (nat_le m most) (le-leb least m (omega (arith, above, e))) (le-leb m most (omega (arith, below, e)))
 
 module _ (laws : CodeLaws) (t : ProgramTree) (within : IsWithin t) (admitted : IsAdmitted t) (bounded : IsWithinBounds t) (options : StopOptions)
-    (are : AreStopped options) (keeper : ℕ) (start : Situation) (opens : Opens (sizes_of options) (code_of t) (initial_arrays t) keeper start) where
+    (are : AreStopped options) (keeper : ℕ) (start : Situation) (opens : OpensRun (sizes_of options) (code_of t) (initial_arrays t) keeper start) where
   abbrev input : List NamedArray
   input = initial_arrays t
 

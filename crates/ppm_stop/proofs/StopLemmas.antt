@@ -17,7 +17,7 @@ use Rattle.ppm_cli.specs.declared.stop.StopOptions.{StopOptions}
 use Rattle.ppm_cli.specs.Words.{AreStopped}
 use Rattle.ppm_following.specs.Followed.{followed}
 use Rattle.ppm_loading.specs.declared.loading.Sizes.{Sizes}
-use Rattle.ppm_loading.specs.Loading.{AreSizes, Opens}
+use Rattle.ppm_loading.specs.Loading.{AreSizes, OpensRun}
 use Rattle.ppm_loading.proofs.ProgramLemmas.{AreKinds}
 use Rattle.ppm_saved.specs.Correct.{StateFits}
 use Rattle.ppm_saved.specs.Text.{saved_text}
@@ -70,13 +70,13 @@ module _ (options : StopOptions) (items : List ScheduleItem) where
     input = initial_arrays t
 
     pub program_reads : (sizes : Sizes) (m : Situation) (arrays : List NamedArray) (names : List NamedLength) (s : Shape) (code : CodeParts)
-        (words text : List ℕ) → sizes ≡ sizes_of options → IsKeeper schedule_form items keeper → Opens sizes (code_of t) input keeper start → m ≡ end
+        (words text : List ℕ) → sizes ≡ sizes_of options → IsKeeper schedule_form items keeper → OpensRun sizes (code_of t) input keeper start → m ≡ end
         → arrays ≡ input → names ≡ names_of arrays → s ≡ m.shape → code ≡ m.code → words ≡ m.state.words → text ≡ saved_text s names code words
         → StateFits names code words
-        → (Opens (sizes_of options) (code_of t) input keeper start → StateFits (names_of input) end.code end.state.words → IsReadBack end input)
+        → (OpensRun (sizes_of options) (code_of t) input keeper start → StateFits (names_of input) end.code end.state.words → IsReadBack end input)
         → ProgramReads options items t (answers.Saved text)
     program_reads sizes m arrays names s code words text is_sizes spared opens ends is_arrays is_names is_shape is_code is_words is fits reads =
-        let opened = subst (λ (z : Sizes). Opens z (code_of t) input keeper start) is_sizes opens in
+        let opened = subst (λ (z : Sizes). OpensRun z (code_of t) input keeper start) is_sizes opens in
         let shape : s ≡ end.shape = is_shape ∙ ap (λ (x : Situation). x.shape) ends in
         let named : names ≡ names_of input = is_names ∙ ap names_of is_arrays in
         let coded : code ≡ end.code = is_code ∙ ap (λ (x : Situation). x.code) ends in
@@ -97,7 +97,7 @@ module _ (options : StopOptions) (items : List ScheduleItem) where
 
   -- there is one, where a machine opens
   pub some_has : (t : ProgramTree) (keeper : ℕ) (start : Situation) → IsKeeper schedule_form items keeper
-      → Opens (sizes_of options) (code_of t) (initial_arrays t) keeper start → (a : Answer) × ProgramHas options items t a
+      → OpensRun (sizes_of options) (code_of t) (initial_arrays t) keeper start → (a : Answer) × ProgramHas options items t a
   some_has t keeper start spared opens = (
     answers.Saved (text_of (followed start items options.after) (initial_arrays t)),
     record { keeper = keeper; spared = spared; start = start; opens = opens; saves = refl },

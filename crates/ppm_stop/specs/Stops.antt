@@ -18,7 +18,7 @@ use Rattle.ppm_cli.specs.declared.stop.StopOptions.{StopOptions}
 use Rattle.ppm_cli.specs.Words.{AreStopped}
 use Rattle.ppm_following.specs.Followed.{followed}
 use Rattle.ppm_loading.specs.declared.loading.Sizes.{Sizes}
-use Rattle.ppm_loading.specs.Loading.{Opens}
+use Rattle.ppm_loading.specs.Loading.{OpensRun}
 use Rattle.ppm_loading.specs.Planned.{PlannedHas, PlannedMay, HasSomeAnswer}
 use Rattle.ppm_loading.specs.Programs as programs
 use Rattle.ppm_saved.specs.Text.{saved_text}
@@ -47,7 +47,7 @@ pub record ProgramHas (options : StopOptions) (items : List ScheduleItem) (t : P
   pub keeper : ℕ
   pub spared : IsKeeper schedule_form items keeper
   pub start : Situation
-  pub opens : Opens (sizes_of options) (code_of t) (initial_arrays t) keeper start
+  pub opens : OpensRun (sizes_of options) (code_of t) (initial_arrays t) keeper start
   pub saves : answer ≡ answers.Saved (text_of (followed start items options.after) (initial_arrays t))
 
 -- it is so, and the text is read back: of a machine in memory it is known that its numbers fit 64 bits

@@ -31,8 +31,8 @@ use std::alloc::Global;
 
 /// Runs the text that is read, on a machine whose processors act as the schedule says, for so many
 /// acts, those of the schedule among them, and writes the saved text of the machine then on `out`,
-/// whatever its finish word is; why there is none on `err`. That state is read back from the text. Where the schedule is refused, the
-/// source is left unread.
+/// whatever its finish word is; why there is none on `err`. That state is read back from the text.
+/// Where the schedule is refused, the source is left unread.
 pub fn stop_command<S: Source, K: Sink, E: Sink>(
     alloc: Global,
     options: StopOptions,

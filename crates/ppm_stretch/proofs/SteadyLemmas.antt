@@ -7,7 +7,7 @@ use Rattle.ppm_step.specs.declared.ask.Want.TheVariants.{Stores as WantsStore}
 use Rattle.ppm_step.specs.declared.row.Seat.{Seat}
 use Rattle.ppm_step.specs.declared.turn.Next.TheVariants.{Seek}
 use Rattle.ppm_step.specs.Frames.{Rest, Loads, Stores, Full, Installs, Breaks}
-use Rattle.ppm_ports.specs.Told.{KeepsList}
+use Rattle.ppm_ports.specs.Told.{KeepsFront, KeepsList}
 use Rattle.ppm_words.specs.declared.event.Event.{Event}
 use Rattle.ppm_step.specs.Standings.{Standing, IsDone, IsBroken, IsRunning, running, running_if, rest_is_there, wanted, wanted_rest, went_rest}
 use Rattle.ppm_step.specs.State.{seeks_holder, next_of}
@@ -17,9 +17,9 @@ use Rattle.ppm_table.specs.declared.view.Opening.{Opening}
 use Rattle.ppm_table.specs.Run.{behind, stood, stands_by, deeds_in, deed_by, seen, seated, Mine, IsSeat, IsAsked, IsFound}
 use Rattle.ppm_stretch.specs.Steady.{IsSteady, AreSteady, work_in, looks_in, looks_behind, is_exchange, exchanged_in, Goes, Moves, Lives, Refuses}
 use Rattle.ppm_stretch.specs.declared.way.Steps.{Steps}
-use Rattle.ppm_stretch.specs.Rows.{GivesUp, Makes, Stops}
-use Rattle.ppm_table.specs.Telling.{shown, deeds_since, Keeps, Shows}
-use Rattle.ppm_table.proofs.TellingLemmas.{keeps_both, keeps_same, shown_both, since_is}
+use Rattle.ppm_stretch.specs.Rows.{GivesUp, Makes, GivesUpIfRefused}
+use Rattle.ppm_table.specs.Telling.{shown, deeds_since, Shows}
+use Rattle.ppm_table.proofs.TellingLemmas.{keeps_both, keeps_known, keeps_same, shown_both, since_is}
 use Rattle.ppm_table.proofs.StandLemmas.{deeds_seen, stands_on, step_told}
 
 -- the seat that keeps one more
@@ -336,7 +336,7 @@ module _ {W : Type 0} (told : W → Option (List Event)) where
   row_makes k own a b w0 w1 m v x p steps is f = λ fine. subst (λ (s : Steps). Moves told k own a b w0 w1 s.made s.work s.looks s.exchanged) (sym is) f
 
   pub row_stops : (k : Opening) (own : ℕ) (a b : Mine) (w0 w1 : W) (m v x : ℕ) (p : Bool) (most : ℕ) (steps : Steps)
-      → steps ≡ record { made = m; work = v; looks = x; exchanged = p; refused = false } → Stops told k own a b w0 w1 most steps
+      → steps ≡ record { made = m; work = v; looks = x; exchanged = p; refused = false } → GivesUpIfRefused told k own a b w0 w1 most steps
   row_stops k own a b w0 w1 m v x p most steps is = λ refused. let e : true ≡ false = sym refused ∙ ap (λ (s : Steps). s.refused) is in absurd cc
 
   pub row_few : (m v x : ℕ) (p : Bool) (most : ℕ) (steps : Steps) → steps ≡ record { made = m; work = v; looks = x; exchanged = p; refused = false }
@@ -344,18 +344,20 @@ module _ {W : Type 0} (told : W → Option (List Event)) where
   row_few m v x p most steps is few works looks = subst (λ (s : Steps). (s.made ≤ most) × (s.work ≤ s.made) × (s.looks ≤ s.made)) (sym is) (few, works, looks)
 
   -- so a known list keeps what it had in front
-  moves_keep : (k : Opening) (own : ℕ) (me me' : Mine) (w w' : W) (m v x : ℕ) (p : Bool) → Moves told k own me me' w w' m v x p → Keeps (told w) (told w')
-  moves_keep k own me me' w w' m v x p f = λ list e. (shown k.shape k.code own (stands_by k own (deeds_in me.0)) (deeds_since me me'), f.shows list e)
+  moves_keep : (k : Opening) (own : ℕ) (me me' : Mine) (w w' : W) (m v x : ℕ) (p : Bool) → Moves told k own me me' w w' m v x p → KeepsFront (told w) (told w')
+  moves_keep k own me me' w w' m v x p f =
+      keeps_known (told w) (told w') (shown k.shape k.code own (stands_by k own (deeds_in me.0)) (deeds_since me me')) f.shows
 
-  pub steps_keep : (k : Opening) (own : ℕ) (me me' : Mine) (w w' : W) (most : ℕ) (steps : Steps) → Makes told k own me me' w w' steps → Stops told k own me me' w w' most steps
-      → Keeps (told w) (told w')
+  pub steps_keep : (k : Opening) (own : ℕ) (me me' : Mine) (w w' : W) (most : ℕ) (steps : Steps) → Makes told k own me me' w w' steps → GivesUpIfRefused told k own me me' w w' most steps
+      → KeepsFront (told w) (told w')
   steps_keep k own me me' w w' most steps makes stops = by steps.refused refl
     where
-      by : (b : Bool) → steps.refused ≡ b → Keeps (told w) (told w')
+      by : (b : Bool) → steps.refused ≡ b → KeepsFront (told w) (told w')
       by false e = moves_keep k own me me' w w' steps.made steps.work steps.looks steps.exchanged (makes e)
       by true e =
           let r = (stops e).refuses in
-          keeps_both _ _ _ (moves_keep k own me r.before w r.watch r.made r.work r.looks r.exchanged r.moves) (keeps_same _ _ r.keeps)
+          keeps_both (told w) (told r.watch) (told w') (moves_keep k own me r.before w r.watch r.made r.work r.looks r.exchanged r.moves)
+          (keeps_same (told r.watch) (told w') r.keeps)
 
 -- no looks behind work
 pub no_looks : (n : ℕ) → looks_behind 0 n 0 ≡ 0

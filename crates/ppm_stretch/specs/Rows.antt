@@ -38,8 +38,8 @@ module _ {W : Type 0} (told : W → Option (List Event)) where
     pub quits : Quits behind me' lives
 
   -- so it is where it refused one of at most so many
-  abbrev pub Stops : Opening → (own : ℕ) → Mine → Mine → W → W → (most : ℕ) → Steps → Type 0
-  Stops k own me me' w w' most steps = steps.refused ≡ true → GivesUp k own me me' w w' most
+  abbrev pub GivesUpIfRefused : Opening → (own : ℕ) → Mine → Mine → W → W → (most : ℕ) → Steps → Type 0
+  GivesUpIfRefused k own me me' w w' most steps = steps.refused ≡ true → GivesUp k own me me' w w' most
 
 -- something is to be chosen for the coming step: a victim is due, or the processor would seek work; or it takes no step any more
 abbrev pub IsChoosing : Standing → Type 0

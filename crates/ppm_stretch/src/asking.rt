@@ -8,7 +8,7 @@ ghost use Rattle.ppm_step.specs.Locals.{IsLocal, standing_of};
 ghost use Rattle.ppm_step.specs.Standings.{running};
 ghost use Rattle.ppm_table.specs.Run.{stands_by, deeds_in, IsAtCode, IsAtTable, IsSeat};
 ghost use Rattle.ppm_stretch.specs.Asking.{HasAsked, HasFilled, IsAsking, IsRoom, asking, rest_asking};
-ghost use Rattle.ppm_stretch.specs.Rows.{Makes, Stops};
+ghost use Rattle.ppm_stretch.specs.Rows.{Makes, GivesUpIfRefused};
 
 use crate::capsule::go_along;
 use crate::entering::halt_behind;
@@ -174,7 +174,7 @@ pub(crate) fn fills<W: Watch>(
     ensures table { mine.new.table_id ≡ mine.old.table_id }
     ensures few { (result.made ≤ most) × (result.work ≤ result.made) × (result.looks ≤ result.made) }
     ensures makes { Makes W.told words.now.shared.key local.old.own mine.old.me mine.new.me watch.old watch.new result }
-    ensures stops { Stops W.told words.now.shared.key local.old.own mine.old.me mine.new.me watch.old watch.new most result }
+    ensures stops { GivesUpIfRefused W.told words.now.shared.key local.old.own mine.old.me mine.new.me watch.old watch.new most result }
     ensures sits_on { IsSeat local.old.own mine.new.me }
     ensures stands_on { standing_of shape.now code.now local.new ≡ stands_by words.now.shared.key local.old.own (deeds_in mine.new.me.0) }
     ensures holds { IsLocal shape.now code.now local.new }

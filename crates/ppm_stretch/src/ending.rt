@@ -112,7 +112,7 @@ pub(crate) fn end_at<W: Watch>(
         mine.old.me mine.new.me watch.old watch.new result }
 {
     let _ = code.parts().root;
-    match home.next_put(code, end, n) {
+    match home.coming_put(code, end, n) {
         Some(put) => put_at(words, shape, mine, watch, place, put),
         None => install_at(words, shape, mine, watch, place, home.installed(end)),
     }

@@ -7,7 +7,7 @@ ghost use Rattle.ppm_step.specs.Frames.{ending};
 ghost use Rattle.ppm_step.specs.Standings.{IsAt, running};
 ghost use Rattle.ppm_table.specs.Run.{stands_by, deeds_in, IsAtCode, IsSeat};
 ghost use Rattle.ppm_stretch.specs.Entering.{looks_at};
-ghost use Rattle.ppm_stretch.specs.Rows.{Makes, Stops};
+ghost use Rattle.ppm_stretch.specs.Rows.{Makes, GivesUpIfRefused};
 
 use crate::ending::end_at;
 use crate::entering::round;
@@ -43,7 +43,7 @@ pub(crate) fn rounds<W: Watch>(
     ensures table { mine.new.table_id ≡ mine.old.table_id }
     ensures few { (result.made ≤ most) × (result.work ≤ result.made) × (result.looks ≤ result.made) }
     ensures makes { Makes W.told words.now.shared.key local.old.own mine.old.me mine.new.me watch.old watch.new result }
-    ensures stops { Stops W.told words.now.shared.key local.old.own mine.old.me mine.new.me watch.old watch.new most result }
+    ensures stops { GivesUpIfRefused W.told words.now.shared.key local.old.own mine.old.me mine.new.me watch.old watch.new most result }
     ensures sits_on { IsSeat local.old.own mine.new.me }
     ensures stands_on { standing_of shape.now code.now local.new ≡ stands_by words.now.shared.key local.old.own (deeds_in mine.new.me.0) }
     ensures holds { IsLocal shape.now code.now local.new }
@@ -150,7 +150,7 @@ pub(crate) fn ends<W: Watch>(
     ensures table { mine.new.table_id ≡ mine.old.table_id }
     ensures few { (result.made ≤ most) × (result.work ≤ result.made) × (result.looks ≤ result.made) }
     ensures makes { Makes W.told words.now.shared.key local.old.own mine.old.me mine.new.me watch.old watch.new result }
-    ensures stops { Stops W.told words.now.shared.key local.old.own mine.old.me mine.new.me watch.old watch.new most result }
+    ensures stops { GivesUpIfRefused W.told words.now.shared.key local.old.own mine.old.me mine.new.me watch.old watch.new most result }
     ensures sits_on { IsSeat local.old.own mine.new.me }
     ensures stands_on { standing_of shape.now code.now local.new ≡ stands_by words.now.shared.key local.old.own (deeds_in mine.new.me.0) }
     ensures holds { IsLocal shape.now code.now local.new }

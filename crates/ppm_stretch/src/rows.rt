@@ -2,6 +2,7 @@
 ghost use Rattle.std.specs.Prelude.{◌≡◌, ◌≢◌, ◌≤◌, ◌<◌, ◌+◌, ◌^◌, ◌||◌, ℕ, Bool, true, false, not, if◌then◌else◌};
 ghost use Rattle.ppm_cells.specs.declared.shape.Shape.{Shape};
 ghost use Rattle.ppm_code.specs.declared.code.CodeParts.{CodeParts};
+ghost use Rattle.ppm_ports.specs.Told.{KeepsFront};
 ghost use Rattle.ppm_step.specs.Locals.{IsLocal, standing_of};
 ghost use Rattle.ppm_step.specs.Standings.{IsDone};
 ghost use Rattle.ppm_step.specs.State.{is_done_at, next_of, seeks_holder};
@@ -9,8 +10,7 @@ ghost use Rattle.ppm_step.specs.Told.{is_work_next};
 ghost use Rattle.ppm_step.specs.declared.turn.Next.TheVariants.{Seek};
 ghost use Rattle.ppm_table.specs.Run.{stands_by, deed_by, deeds_in, IsAtCode, IsSeat};
 ghost use Rattle.ppm_table.specs.Shown.{IsOf, opening_of};
-ghost use Rattle.ppm_table.specs.Telling.{Keeps};
-ghost use Rattle.ppm_stretch.specs.Rows.{IsChoosing, IsFree, Makes, Stops};
+ghost use Rattle.ppm_stretch.specs.Rows.{IsChoosing, IsFree, Makes, GivesUpIfRefused};
 ghost use Rattle.ppm_stretch.specs.Steady.{Moves, Refuses, is_exchange, looks_behind};
 
 use crate::asking::fills;
@@ -113,7 +113,7 @@ fn frame_steps<W: Watch>(
     ensures table { mine.new.table_id ≡ mine.old.table_id }
     ensures few { (result.made ≤ most) × (result.work ≤ result.made) × (result.looks ≤ result.made) }
     ensures makes { Makes W.told words.now.shared.key local.old.own mine.old.me mine.new.me watch.old watch.new result }
-    ensures stops { Stops W.told words.now.shared.key local.old.own mine.old.me mine.new.me watch.old watch.new most result }
+    ensures stops { GivesUpIfRefused W.told words.now.shared.key local.old.own mine.old.me mine.new.me watch.old watch.new most result }
     ensures sits_on { IsSeat local.old.own mine.new.me }
     ensures stands_on { standing_of shape.now code.now local.new ≡ stands_by words.now.shared.key local.old.own (deeds_in mine.new.me.0) }
     ensures holds { IsLocal shape.now code.now local.new }
@@ -176,7 +176,7 @@ fn some_steps<W: Watch>(
     ensures table { mine.new.table_id ≡ mine.old.table_id }
     ensures few { (result.made ≤ most) × (result.work ≤ result.made) × (result.looks ≤ result.made) }
     ensures makes { Makes W.told words.now.shared.key local.old.own mine.old.me mine.new.me watch.old watch.new result }
-    ensures stops { Stops W.told words.now.shared.key local.old.own mine.old.me mine.new.me watch.old watch.new most result }
+    ensures stops { GivesUpIfRefused W.told words.now.shared.key local.old.own mine.old.me mine.new.me watch.old watch.new most result }
     ensures on { result.refused ≡ false → result.made ≡ 0 → IsChoosing (standing_of shape.now code.now local.new) }
     ensures sits_on { IsSeat local.old.own mine.new.me }
     ensures stands_on { standing_of shape.now code.now local.new ≡ stands_by words.now.shared.key local.old.own (deeds_in mine.new.me.0) }
@@ -213,7 +213,7 @@ fn other_step<W: Watch>(
     ensures table { mine.new.table_id ≡ mine.old.table_id }
     ensures few { (result.made ≤ 1) × (result.work ≤ result.made) × (result.looks ≤ result.made) }
     ensures makes { Makes W.told words.now.shared.key local.old.own mine.old.me mine.new.me watch.old watch.new result }
-    ensures stops { Stops W.told words.now.shared.key local.old.own mine.old.me mine.new.me watch.old watch.new 1 result }
+    ensures stops { GivesUpIfRefused W.told words.now.shared.key local.old.own mine.old.me mine.new.me watch.old watch.new 1 result }
     ensures on { result.refused ≡ false → result.made ≡ 0 → IsChoosing (standing_of shape.now code.now local.new) }
     ensures sits_on { IsSeat local.old.own mine.new.me }
     ensures stands_on { standing_of shape.now code.now local.new ≡ stands_by words.now.shared.key local.old.own (deeds_in mine.new.me.0) }
@@ -294,7 +294,7 @@ pub(crate) fn steps_along<W: Watch>(
     ensures table { mine.new.table_id ≡ mine.old.table_id }
     ensures few { (result.made ≤ most) × (result.work ≤ result.made) × (result.looks ≤ result.made) }
     ensures makes { Makes W.told words.now.shared.key local.old.own mine.old.me mine.new.me watch.old watch.new result }
-    ensures stops { Stops W.told words.now.shared.key local.old.own mine.old.me mine.new.me watch.old watch.new most result }
+    ensures stops { GivesUpIfRefused W.told words.now.shared.key local.old.own mine.old.me mine.new.me watch.old watch.new most result }
     ensures on { result.refused ≡ false → result.made < most → IsChoosing (standing_of shape.now code.now local.new) }
     ensures sits_on { IsSeat local.old.own mine.new.me }
     ensures stands_on { standing_of shape.now code.now local.new ≡ stands_by words.now.shared.key local.old.own (deeds_in mine.new.me.0) }
@@ -350,11 +350,11 @@ pub fn steps<W: Watch>(
     requires of { IsOf shared.now processor.old }
     ensures of { IsOf shared.now processor.new }
     ensures own { processor.new.local.own ≡ processor.old.local.own }
-    ensures keeps { Keeps (W.told watch.old) (W.told watch.new) }
+    ensures keeps { KeepsFront (W.told watch.old) (W.told watch.new) }
     ensures few { (result.made ≤ most) × (result.work ≤ result.made) × (result.looks ≤ result.made) }
     ensures makes { Makes W.told (opening_of shared.now) processor.old.local.own processor.old.seat.me processor.new.seat.me
         watch.old watch.new result }
-    ensures stops { Stops W.told (opening_of shared.now) processor.old.local.own processor.old.seat.me processor.new.seat.me
+    ensures stops { GivesUpIfRefused W.told (opening_of shared.now) processor.old.local.own processor.old.seat.me processor.new.seat.me
         watch.old watch.new most result }
     ensures on { result.refused ≡ false → result.made < most → IsChoosing (standing_of shared.now.shape shared.now.code processor.new.local) }
 {

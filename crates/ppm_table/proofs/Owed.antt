@@ -17,7 +17,7 @@ use Rattle.ppm_step.specs.Stood.{holder_at}
 use Rattle.ppm_step.proofs.VictimLemmas.{loads_holder, holder_at_is}
 use Rattle.ppm_table.specs.declared.view.Deed.TheVariants.{Loaded, Stored, Exchanged, Softened, Hardened, Quitted}
 use Rattle.ppm_table.specs.declared.view.Opening.{Opening}
-use Rattle.ppm_table.specs.Run.{padding, deed_by, stands_by, deeds_in, IsRun, seen, Mine, IsActAt, Does, Steps}
+use Rattle.ppm_table.specs.Run.{padding, deed_by, stands_by, deeds_in, IsRun, seen, Mine, IsActAt, Does, IsToStep}
 use Rattle.ppm_table.proofs.Kept.{allows, allows_at}
 
 -- a victim that is told by the address of a holder word
@@ -50,7 +50,7 @@ either_is n old new true = refl
 either_is n old new false = refl
 
 module _ (k : Opening) (slots id : ℕ) (me : Mine) where
-  pub loads_owed : (at : ℕ) → Steps k me (Loads at)
+  pub loads_owed : (at : ℕ) → IsToStep k me (Loads at)
       → Allows (IsRun k) slots id me (padding + at) (λ n. n) (λ n new. (a : ℕ) → padding + at ≡ padding + a → new ≡ (seen me.0 (Loaded a n), me.1))
   loads_owed at st =
       let wants = st.does.wants in
@@ -60,7 +60,7 @@ module _ (k : Opening) (slots id : ℕ) (me : Mine) where
       (λ ws. ap (λ (w : Want). deed_by w (found_in ws w)) (sym wants))
       (λ n. ap (λ (v : ℕ). Step v) (victim_told k.shape st.own st.victim at (stands_by k st.own (deeds_in me.0)) _ refl st.does.may wants)))
 
-  pub stores_owed : (at word : ℕ) → Steps k me (Stores at word)
+  pub stores_owed : (at word : ℕ) → IsToStep k me (Stores at word)
       → Allows (IsRun k) slots id me (padding + at) (λ _. word) (λ _ new. (a : ℕ) → padding + at ≡ padding + a → new ≡ (seen me.0 (Stored a word), me.1))
   stores_owed at word st =
       let wants = st.does.wants in
@@ -70,7 +70,7 @@ module _ (k : Opening) (slots id : ℕ) (me : Mine) where
       (λ ws. ap (λ (w : Want). deed_by w (found_in ws w)) (sym wants))
       (λ n. ap (λ (v : ℕ). Step v) (no_victim k.shape st.own st.victim (stands_by k st.own (deeds_in me.0)) _ refl st.does.may (Stores at word) (λ a e. cc) wants)))
 
-  pub exchanges_owed : (at old new : ℕ) → Steps k me (Exchanges at old new)
+  pub exchanges_owed : (at old new : ℕ) → IsToStep k me (Exchanges at old new)
       → Allows (IsRun k) slots id me (padding + at) (λ n. either (n == old) new n)
       (λ _ m. (a : ℕ) → padding + at ≡ padding + a → m ≡ (seen me.0 (Exchanged a old new), me.1))
   exchanges_owed at old new st =

@@ -1,8 +1,8 @@
 -- What a watcher is told of one more deed.
-use Rattle.std.proofs.Common.{◌≡◌, ℕ, List, [], ◌∷◌, ◌++◌, Option, None, Some, refl, sym, ap, ◌∙◌, append_assoc, append-nil, drop, length}
+use Rattle.std.proofs.Common.{◌≡◌, ℕ, List, [], ◌∷◌, ◌++◌, Option, None, Some, refl, sym, ap, subst, ◌∙◌, append_assoc, append-nil, drop, length}
 use Rattle.ppm_cells.specs.declared.shape.Shape.{Shape}
 use Rattle.ppm_code.specs.declared.code.CodeParts.{CodeParts}
-use Rattle.ppm_ports.specs.Told.{AppendsList, KeepsList}
+use Rattle.ppm_ports.specs.Told.{AppendsList, KeepsFront, KeepsList}
 use Rattle.ppm_words.specs.declared.event.Event.{Event}
 use Rattle.ppm_step.specs.Standings.{Standing, IsLost}
 use Rattle.ppm_step.specs.Told.{place_of}
@@ -12,7 +12,7 @@ use Rattle.ppm_table.specs.declared.view.Deed.{Deed}
 use Rattle.ppm_table.specs.declared.view.Opening.{Opening}
 use Rattle.ppm_table.specs.Run.{behind, stood, deed_by, seen, stands_by, deeds_in, Mine, IsSeat}
 use Rattle.ppm_table.specs.Events.{event_found}
-use Rattle.ppm_table.specs.Telling.{event_of_deed, shown, deeds_since, Keeps, Shows}
+use Rattle.ppm_table.specs.Telling.{event_of_deed, shown, deeds_since, Shows}
 use Rattle.ppm_table.proofs.StandLemmas.{deeds_seen}
 
 some_same : (a b : List Event) → Some a ≡ Some b → a ≡ b
@@ -24,25 +24,37 @@ appended None now event list h e = absurd (cc)
 appended (Some before) None event list h e = absurd h
 appended (Some before) (Some now) event list h e = ap (λ (l : List Event). Some l) (h ∙ ap (λ (l : List Event). l ++ event ∷ []) (some_same before list e))
 
-pub keeps_appended : (before now : Option (List Event)) (event : Event) → AppendsList before now (event ∷ []) → Keeps before now
-keeps_appended before now event h = λ list e. (event ∷ [], appended before now event list h e)
+-- a known list that does so keeps its front
+pub keeps_appended : (before now : Option (List Event)) (event : Event) → AppendsList before now (event ∷ []) → KeepsFront before now
+keeps_appended None now event h = tt
+keeps_appended (Some before) None event h = absurd h
+keeps_appended (Some before) (Some now) event h = (event ∷ [], h)
 
-pub keeps_same : (before now : Option (List Event)) → KeepsList before now → Keeps before now
-keeps_same None now h = λ list e. absurd (cc)
+pub keeps_same : (before now : Option (List Event)) → KeepsList before now → KeepsFront before now
+keeps_same None now h = tt
 keeps_same (Some before) None h = absurd h
-keeps_same (Some before) (Some now) h = λ list e. ([], ap (λ (l : List Event). Some l) (h ∙ some_same before list e ∙ sym (append-nil list)))
+keeps_same (Some before) (Some now) h = ([], h ∙ sym (append-nil before))
 
-pub keeps_still : {W : Type 0} (told : W → Option (List Event)) (w w' : W) → w' ≡ w → Keeps (told w) (told w')
-keeps_still told w w' same = λ list e. ([], ap told same ∙ e ∙ ap (λ (l : List Event). Some l) (sym (append-nil list)))
+pub keeps_none : (before : Option (List Event)) → KeepsFront before before
+keeps_none None = tt
+keeps_none (Some before) = ([], sym (append-nil before))
 
-pub keeps_none : (before : Option (List Event)) → Keeps before before
-keeps_none before = λ list e. ([], e ∙ ap (λ (l : List Event). Some l) (sym (append-nil list)))
+pub keeps_still : {W : Type 0} (told : W → Option (List Event)) (w w' : W) → w' ≡ w → KeepsFront (told w) (told w')
+keeps_still told w w' same = subst (λ (l : Option (List Event)). KeepsFront (told w) l) (ap told (sym same)) (keeps_none (told w))
 
-pub keeps_both : (a b c : Option (List Event)) → Keeps a b → Keeps b c → Keeps a c
-keeps_both a b c f g = λ list e.
-    let first = f list e in
-    let second = g (list ++ first.0) first.1 in
-    (first.0 ++ second.0, second.1 ∙ ap (λ (l : List Event). Some l) (append_assoc list first.0 second.0))
+pub keeps_both : (a b c : Option (List Event)) → KeepsFront a b → KeepsFront b c → KeepsFront a c
+keeps_both None b c f g = tt
+keeps_both (Some before) None c f g = absurd f
+keeps_both (Some before) (Some now) None f g = absurd g
+keeps_both (Some before) (Some now) (Some later) f g =
+    (f.0 ++ g.0, g.1 ∙ ap (λ (l : List Event). l ++ g.0) f.1 ∙ append_assoc before f.0 g.0)
+
+-- so does one that has these events behind it, whatever it was
+pub keeps_known : (before now : Option (List Event)) (events : List Event) → ((list : List Event) → before ≡ Some list → now ≡ Some (list ++ events))
+    → KeepsFront before now
+keeps_known None now events h = tt
+keeps_known (Some before) None events h = let e : None ≡ Some (before ++ events) = h before refl in cc
+keeps_known (Some before) (Some now) events h = (events, some_same now (before ++ events) (h before refl))
 
 -- the events of two lists of deeds, the one behind the other
 pub shown_both : (s : Shape) (code : CodeParts) (own : ℕ) (standing : Standing) (ds es : List Deed)

@@ -227,7 +227,7 @@ IsAsked (Exchanges at old new) = Unit {0}
 IsAsked Nothing = ⊥
 
 -- a processor is to make a step
-pub record Steps (k : Opening) (me : Mine) (want : Want) : Type 0 where
+pub record IsToStep (k : Opening) (me : Mine) (want : Want) : Type 0 where
   pub own : ℕ
   pub victim : ℕ
   pub does : Does k own (Step victim) me want

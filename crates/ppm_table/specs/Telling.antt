@@ -32,10 +32,6 @@ module _ (s : Shape) (code : CodeParts) (own : ℕ) where
 abbrev pub shown_by : Opening → (own : ℕ) → List Deed → List Event
 shown_by k own deeds = shown k.shape k.code own IsLost deeds
 
--- a known list keeps what it had in front
-abbrev pub Keeps : Option (List Event) → Option (List Event) → Type 0
-Keeps before now = (list : List Event) → before ≡ Some list → (more : List Event) × (now ≡ Some (list ++ more))
-
 -- the deeds that a seat keeps more
 abbrev pub deeds_since : (before now : Mine) → List Deed
 deeds_since me me' = drop (length (deeds_in me.0)) (deeds_in me'.0)

@@ -9,11 +9,11 @@ ghost use Rattle.ppm_step.specs.declared.turn.Act.TheVariants.{Soft, Hard, Quit}
 ghost use Rattle.ppm_table.specs.declared.view.Deed.TheVariants.{Softened, Hardened, Quitted};
 ghost use Rattle.ppm_step.specs.Standings.{WantIsWithin};
 ghost use Rattle.std.specs.Prelude.{ℕ, true, false, ◌∷◌, []};
-ghost use Rattle.ppm_ports.specs.Told.{AppendsList, KeepsList};
+ghost use Rattle.ppm_ports.specs.Told.{AppendsList, KeepsFront, KeepsList};
 ghost use Rattle.ppm_step.specs.Told.{place_of};
-ghost use Rattle.ppm_table.specs.Run.{Does, Steps, IsFound, IsSeat, padding, seen, deed_by, stands_by};
+ghost use Rattle.ppm_table.specs.Run.{Does, IsToStep, IsFound, IsSeat, padding, seen, deed_by, stands_by};
 ghost use Rattle.ppm_table.specs.Run.{deeds_in};
-ghost use Rattle.ppm_table.specs.Telling.{Keeps, Shows};
+ghost use Rattle.ppm_table.specs.Telling.{Shows};
 ghost use Rattle.ppm_table.specs.Events.{event_found};
 
 use crate::view::{Exchanges, Hardens, Loads, Refuses, Softens, Spends, Stores, View, Words};
@@ -40,7 +40,7 @@ pub fn touch(words: &Words, shape: &Shape, seat: &mut Seat<(), View>, want: Want
     requires table { seat.old.table_id ≡ words.now.shared.table_id }
     requires within { WantIsWithin words.now.shared.key.shape want }
     requires wide { padding + word_count words.now.shared.key.shape ≤ words.now.shared.table_id.words }
-    requires steps { Steps words.now.shared.key seat.old.me want }
+    requires steps { IsToStep words.now.shared.key seat.old.me want }
     ensures table { seat.new.table_id ≡ seat.old.table_id }
     ensures found { IsFound want result }
     ensures told { seat.new.me ≡ (seen seat.old.me.0 (deed_by want result), seat.old.me.1) }
@@ -77,11 +77,11 @@ pub fn tell<W: Watch>(
     requires table { seat.old.table_id ≡ words.now.shared.table_id }
     requires within { WantIsWithin words.now.shared.key.shape want }
     requires wide { padding + word_count words.now.shared.key.shape ≤ words.now.shared.table_id.words }
-    requires steps { Steps words.now.shared.key seat.old.me want }
+    requires steps { IsToStep words.now.shared.key seat.old.me want }
     ensures table { seat.new.table_id ≡ seat.old.table_id }
     ensures found { IsFound want result.word }
     ensures told { seat.new.me ≡ (seen seat.old.me.0 (deed_by want result.word), seat.old.me.1) }
-    ensures keeps { Keeps (W.told watch.old) (W.told watch.new) }
+    ensures keeps { KeepsFront (W.told watch.old) (W.told watch.new) }
     ensures shows { result.fine ≡ true → (own : ℕ) → IsSeat own seat.old.me
         → place_of (stands_by words.now.shared.key own (deeds_in seat.old.me.0)) ≡ place
         → Shows words.now.shared.key own (W.told watch.old) (W.told watch.new) seat.old.me seat.new.me }
@@ -96,7 +96,7 @@ pub fn tell<W: Watch>(
 /// Tells a watcher of an event: whether it took it.
 #[inline(always)]
 pub fn hear<W: Watch>(watch: &mut W, event: Event) -> bool
-    ensures keeps { Keeps (W.told watch.old) (W.told watch.new) }
+    ensures keeps { KeepsFront (W.told watch.old) (W.told watch.new) }
     ensures heard { result ≡ true → AppendsList (W.told watch.old) (W.told watch.new) (event ∷ []) }
     ensures refused { result ≡ false → KeepsList (W.told watch.old) (W.told watch.new) }
 {

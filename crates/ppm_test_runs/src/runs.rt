@@ -3,9 +3,9 @@ use ppm_answers::Status;
 use ppm_cells::{Takeover, pools_fit};
 use ppm_cli::RunOptions;
 use ppm_driver::{
-    WATCHERS, answers_are_one, left_words_come_back, resumes_complete, resumes_leave_states,
-    run_command, runs_are_as_programs, runs_complete, runs_in_legs_are_as_programs,
-    runs_leave_states, stopped_runs_go_on, stops_leave_states,
+    WATCHERS, answers_are_one, fronts_decide_resumed, left_words_come_back, resumes_complete,
+    resumes_leave_states, run_command, runs_are_as_programs, runs_complete,
+    runs_in_legs_are_as_programs, runs_leave_states, stopped_runs_go_on, stops_leave_states,
 };
 use ppm_ports::{MemorySink, MemorySource, Silent};
 use ppm_words::Idle;
@@ -327,6 +327,7 @@ fn sources_are_run(rt: HostRuntime) -> Result<(), Fail> {
         shows(&rt, rt.alloc(), options, "none", text, (answer, status))?;
     }
     answers_are_one();
+    fronts_decide_resumed();
     runs_are_as_programs();
     runs_complete();
     runs_in_legs_are_as_programs();

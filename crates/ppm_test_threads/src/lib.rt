@@ -7,6 +7,8 @@
 //! After the rules of plans, of limits and of parking.
 #![tactic(auto)]
 
+mod alone;
+mod bounded;
 #[cfg(test)]
 mod meetings;
 mod obeying;
@@ -19,4 +21,6 @@ mod tables;
 #[cfg(test)]
 mod turns;
 
+pub use alone::record;
+pub use bounded::Bounded;
 pub use obeying::obeys;

@@ -61,7 +61,7 @@ fn obeys_once(
     requires local { IsLocal shape.now code.now local.old }
     ensures local { IsLocal shape.now code.now local.new }
 {
-    if is_over(pace.next) || pace.work > 1_000_000 {
+    if is_over(pace.next) {
         return false;
     }
     if event.step == 7 {

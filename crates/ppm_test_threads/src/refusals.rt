@@ -1,43 +1,17 @@
 //! Watchers that refuse, at each of their turns in turn.
-ghost use Rattle.std.specs.Prelude.{Some};
-
+use crate::bounded::Bounded;
 use crate::obeying::obeys;
 use crate::tables::{WIDE, fork_code, fork_shape, is_right, plan_of, run};
 use ppm_choice::{Idle, Limits};
-use ppm_ports::Watch;
-use ppm_words::{Event, NoMemory};
 use std::alloc::Global;
 use std::process::Abort;
 use std::test::Fail;
-
-/// A watcher that keeps so many events, and refuses the next one.
-#[derive(Drop)]
-struct Bounded {
-    left: u32,
-    events: Vec<Event>,
-}
-
-impl Watch for Bounded {
-    ghost told = { λ b. Some b.events.items };
-
-    fn turn(&mut self, event: Event) -> Result<(), NoMemory> {
-        if self.left == 0 {
-            return Err(NoMemory);
-        }
-        self.events.push(event)?;
-        self.left -= 1;
-        Ok(())
-    }
-}
 
 /// A watcher for each bound.
 fn with_bounds(alloc: Global, bounds: &[u32]) -> Result<Vec<Bounded>, Fail> {
     let mut all = Vec::new(alloc);
     for left in bounds {
-        all.push(Bounded {
-            left: *left,
-            events: Vec::new(alloc),
-        })?;
+        all.push(Bounded::new(alloc, *left))?;
     }
     Ok(all)
 }

@@ -1,81 +1,19 @@
 //! Runs whose watchers refuse nothing: what they are told, and what the words are behind the run.
-ghost use Rattle.std.specs.Prelude.{◌↔◌, IsTrue};
-ghost use Rattle.ppm_core.specs.Acts.{IsActAmong};
-
+use crate::alone::record;
 use crate::obeying::obeys;
 use crate::tables::{
     LOOP, WIDE, fork_code, fork_machine, fork_shape, is_right, plan_of, recorders, run, run_listing,
 };
 use ppm_cells::{Ending, Finish};
-use ppm_choice::{Idle, Limits, Pace, is_over, next_act};
+use ppm_choice::{Idle, Limits};
 use ppm_core::Machine;
-use ppm_plan::{Plan, Victims};
 use ppm_ports::Recorder;
-use ppm_step::{Act, Told, Turn};
 use ppm_table::Closed;
-use ppm_words::Event;
 use std::alloc::Global;
 use std::process::Abort;
 use std::sync::Wait;
 use std::test::Fail;
 use std::thread::Threads;
-
-/// Whether the victim of an act is there.
-fn is_among(processors: u32, act: Act) -> bool
-    ensures { IsTrue result ↔ IsActAmong processors act }
-{
-    match act {
-        Act::Step { victim } => victim < processors,
-        Act::Soft | Act::Hard | Act::Quit(_) => true,
-    }
-}
-
-/// An act of processor 0, if its victim is there: what is told of it, and whether a victim is due
-/// behind it.
-fn take_turn(machine: &mut Machine, act: Act) -> Option<(Told, bool)> {
-    let processors = machine.processors();
-    if processors < 1 || !is_among(processors, act) || machine.turns() > 100_000 {
-        return None;
-    }
-    let told = machine.turn(Turn { processor: 0, act });
-    Some((told, machine.seeks_holder(0)))
-}
-
-/// Makes the next act of processor 0: its event. `None` where it makes none.
-fn act_alone(
-    machine: &mut Machine,
-    pace: &mut Pace,
-    victims: &mut Victims,
-    plan: &Plan,
-    limits: Limits,
-) -> Option<Event> {
-    if is_over(pace.next) || pace.work > 100_000 {
-        return None;
-    }
-    let act = next_act(pace, victims, plan, limits)?;
-    let (told, due) = take_turn(machine, act)?;
-    pace.count(limits, told, due);
-    told.event
-}
-
-/// What processor 0 does alone, one act after the other, where it obeys: its record.
-fn record(
-    alloc: Global,
-    machine: &mut Machine,
-    plan: &Plan,
-    limits: Limits,
-) -> Result<Vec<Event>, Fail> {
-    let mut events = Vec::new(alloc);
-    let mut pace = Pace::first(plan, 0);
-    let mut victims = Victims::new(limits.seed, 0, 1);
-    for _ in 0..3000u32 {
-        match act_alone(machine, &mut pace, &mut victims, plan, limits) {
-            Some(event) => events.push(event)?,
-            None => break,
-        }
-    }
-    Ok(events)
-}
 
 /// Whether these are the words of a machine.
 fn are_words_of(closed: &Closed, machine: &Machine) -> bool {

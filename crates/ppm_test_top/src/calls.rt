@@ -2,7 +2,8 @@
 ghost use Rattle.std.specs.Prelude.{◌<◌};
 
 use ppm_answers::Status;
-use ppm_ports::{MemorySink, MemorySource, Recorder, Silent, Source, Watch};
+use ppm_ports::{Recorder, Silent, Watch};
+use ppm_test_calls::{CALLS, Call, FIRST, Failing, NONE, SUM, Shown};
 use ppm_top::{WATCHERS, ppm};
 use std::alloc::Global;
 use std::process::Abort;
@@ -10,23 +11,11 @@ use std::sync::Wait;
 use std::test::Fail;
 use std::thread::Threads;
 
-/// A source that ends with `a 5 7`.
-pub(crate) const FIRST: &str = "array a[2]; proc main(mut a) { a[0] = 5; a[1] = a[0] + 2; }";
-
 /// A source that ends with `a 6` after 13 turns.
 const LOOP: &str =
     "array a[1]; proc main(mut a) { let i = 0; while i < 3 { i = i + 1; a[0] = a[0] + i; } }";
 
-/// A hundred calls, each in the one before.
-const CALLS: &str =
-    "array a[1]; proc f(mut a, int n) { if n > 0 { call f(a, n - 1); a[0] = a[0] + 1; } } proc main(mut a) { call f(a, 100); }";
-
-/// A sum by halves.
-pub(crate) const SUM: &str =
-    "array a[4]; input a = 1, 2, 3, 4;\nproc sum(mut a) { if len a > 1 { split a at len a / 2 into l, r { fork sum(l) and sum(r); \
-      l[0] = l[0] + r[0]; } } }\nproc main(mut a) { call sum(a); }";
-
-/// The same of eight.
+/// A sum by halves of eight.
 const SUM_OF_EIGHT: &str =
     "array a[8]; input a = 1, 2, 3, 4, 5, 6, 7, 8;\nproc sum(mut a) { if len a > 1 { split a at len a / 2 into l, r { fork sum(l) and \
       sum(r); l[0] = l[0] + r[0]; } } }\nproc main(mut a) { call sum(a); }";
@@ -39,9 +28,6 @@ const FIBONACCI: &str =
 /// Blocks for each element.
 const EACH: &str =
     "array a[5]; array b[5]; input b = 1, 2, 3, 4, 5; proc main(mut a, ref b) { each i, x in a { x[0] = b[i] * b[i] + i; } }";
-
-/// The bytes for which a sink has room.
-const ROOM: usize = 300_000;
 
 /// Words that ask for a run.
 const RUN: &[&str] = &["ppm", "run"];
@@ -60,29 +46,6 @@ const FOUR_SLOTS: &str = "ppm 1\nroot 0\nproc 0 slots 4 entry 0\ncapsule 0 proc 
 
 /// The same with one slot.
 const ONE_SLOT: &str = "ppm 1\nroot 0\nproc 0 slots 1 entry 0\ncapsule 0 proc 0\n";
-
-/// What a call wrote and answered, and how often its source failed.
-#[derive(Drop)]
-pub(crate) struct Shown {
-    pub(crate) status: Status,
-    pub(crate) out: Vec<u8>,
-    pub(crate) err: Vec<u8>,
-    read_faults: u64,
-}
-
-/// The calls that fail, of the source, of out and of err; calls count from 0.
-#[derive(Clone, Copy)]
-pub(crate) struct Failing<'a> {
-    pub(crate) reads: &'a [u64],
-    pub(crate) outs: &'a [u64],
-    pub(crate) errs: &'a [u64],
-}
-
-pub(crate) const NONE: Failing<'static> = Failing {
-    reads: &[],
-    outs: &[],
-    errs: &[],
-};
 
 /// A call over memory whose ports move at most `most` bytes at a time.
 pub(crate) fn ppm_over_memory(
@@ -114,20 +77,17 @@ fn watched_over_memory<R: Threads + Wait + Sync, W: Watch>(
     if watch.len() != WATCHERS {
         return Err(Fail::from("a watcher for each processor"));
     }
-    let mut given = Vec::new(alloc);
-    for word in words {
-        given.push(String::from_str(alloc, word)?)?;
-    }
-    let mut source = MemorySource::new(text.to_vec(alloc)?, most, failing.reads.to_vec(alloc)?);
-    let mut out = sink(alloc, most, failing.outs)?;
-    let mut err = sink(alloc, most, failing.errs)?;
-    let status = ppm(rt, alloc, &given, &mut source, &mut out, &mut err, watch);
-    Ok(Shown {
-        status,
-        out: out.bytes().to_vec(alloc)?,
-        err: err.bytes().to_vec(alloc)?,
-        read_faults: source.faults(),
-    })
+    let mut call = Call::new(alloc, text, words, most, failing)?;
+    let status = ppm(
+        rt,
+        alloc,
+        &call.words,
+        &mut call.source,
+        &mut call.out,
+        &mut call.err,
+        watch,
+    );
+    call.shown(alloc, status)
 }
 
 /// A call over ports that never fail, with these watchers.
@@ -161,14 +121,6 @@ fn is_checked<R: Abort + Threads + Wait + Sync>(
         assert_eq!(rt; got.status, Status::CodeRefused, "{listing}");
     }
     Ok(())
-}
-
-/// A sink whose calls fail as given.
-fn sink(alloc: Global, most: usize, failing: &[u64]) -> Result<MemorySink, Fail>
-    requires { 0 < most }
-{
-    let failing = failing.to_vec(alloc)?;
-    Ok(MemorySink::new(alloc, ROOM, most, failing).map_err(|_| "memory")?)
 }
 
 /// Fails unless words and a text are answered so, over ports that move at most `most` bytes at a

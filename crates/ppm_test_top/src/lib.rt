@@ -20,8 +20,6 @@ mod meaning;
 #[cfg(test)]
 mod programs;
 #[cfg(test)]
-mod resumes;
-#[cfg(test)]
 mod stops;
 #[cfg(test)]
 mod watching;

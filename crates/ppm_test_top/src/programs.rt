@@ -1,18 +1,7 @@
 //! Programs with their answers, and texts that are refused.
 use crate::meaning::TURNS;
 use ppm_answers::Status;
-
-/// Two assignments.
-const FIRST: &str = "array a[2]; proc main(mut a) { a[0] = 5; a[1] = a[0] + 2; }";
-
-/// A sum by halves.
-const SUM_OF_FOUR: &str =
-    "array a[4]; input a = 1, 2, 3, 4;\nproc sum(mut a) { if len a > 1 { split a at len a / 2 into l, r { fork sum(l) and sum(r); \
-      l[0] = l[0] + r[0]; } } }\nproc main(mut a) { call sum(a); }";
-
-/// A hundred calls, each in the one before.
-const CALLS: &str =
-    "array a[1]; proc f(mut a, int n) { if n > 0 { call f(a, n - 1); a[0] = a[0] + 1; } } proc main(mut a) { call f(a, 100); }";
+use ppm_test_calls::{CALLS, FIRST, SUM};
 
 /// A loop.
 const LOOP: &str =
@@ -88,8 +77,8 @@ pub(crate) const PROGRAMS: [(u64, &str, Status, &str); 51] = [
         Status::Trapped,
         "trap divzero line 2\n",
     ),
-    (25, SUM_OF_FOUR, Status::Ended, "a 10 2 7 4\n"),
-    (24, SUM_OF_FOUR, Status::NotWithin, "not within 24 turns\n"),
+    (25, SUM, Status::Ended, "a 10 2 7 4\n"),
+    (24, SUM, Status::NotWithin, "not within 24 turns\n"),
     (
         TURNS,
         "array a[8]; input a = 1, 2, 3, 4, 5, 6, 7, 8;\nproc sum(mut a) { if len a > 1 { split a at len a / 2 into l, r { fork sum(l) \

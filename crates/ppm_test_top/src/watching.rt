@@ -2,7 +2,7 @@
 //! side; and how one that refuses ends the run.
 ghost use Rattle.std.specs.Prelude.{Some};
 
-use crate::calls::{CODE, SUM, call};
+use crate::calls::{CODE, call};
 use ppm_answers::Status;
 use ppm_cells::Shape;
 use ppm_choice::{Idle, Limits};
@@ -10,6 +10,7 @@ use ppm_code::Code;
 use ppm_listing_reader::read_listing;
 use ppm_plan::{Plan, read_plan};
 use ppm_ports::{Silent, Watch};
+use ppm_test_calls::SUM;
 use ppm_test_threads::obeys;
 use ppm_top::WATCHERS;
 use ppm_words::{Event, NoMemory};

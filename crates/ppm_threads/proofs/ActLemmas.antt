@@ -29,14 +29,14 @@ use Rattle.ppm_table.specs.declared.view.Deed.{Deed}
 use Rattle.ppm_table.specs.declared.view.Opening.{Opening}
 use Rattle.ppm_table.specs.Events.{event_found, act_found, HasActed, HasMadeNone}
 use Rattle.ppm_table.specs.Run.{act_by, stands_by, deeds_in, deed_by, deed_of, Mine, IsActAt}
-use Rattle.ppm_threads.specs.declared.way.Way.{Way}
+use Rattle.ppm_threads.specs.declared.act_result.ActResult.{ActResult}
 use Rattle.ppm_table.specs.Shown.{IsOf, deeds_of_processor, opening_of}
 use Rattle.ppm_table.specs.Telling.{event_of_deed, shown}
 use Rattle.ppm_table.proofs.TellingLemmas.{appended}
 use Rattle.ppm_stretch.specs.Rows.{GivesUp, Quits}
 use Rattle.ppm_stretch.specs.Steady.{Lives}
 use Rattle.ppm_stretch.proofs.SteadyLemmas.{goes_both}
-use Rattle.ppm_threads.specs.Going.{Grows, HasMoreDeeds, GaveUp, HasQuit, Obeying, Acting, told_so_far, told_of_deeds, GoesOn, way_of}
+use Rattle.ppm_threads.specs.Going.{TraceGrows, HasMoreDeeds, GaveUp, HasQuit, Obeying, Acting, told_so_far, told_of_deeds, RunsOn, act_result_of}
 use Rattle.ppm_threads.proofs.DrawnLemmas.{is_act_at}
 use Rattle.ppm_threads.proofs.AlongLemmas.{act_told}
 use Rattle.ppm_threads.proofs.GoingLemmas.{obeying_more, grows_more, grows_along, told_along, told_more, follows_along, so_far, quit_behind}
@@ -93,7 +93,7 @@ kept_list None now list h e = absurd (cc)
 kept_list (Some before) None list h e = absurd h
 kept_list (Some before) (Some now) list h e = ap (λ (l : List Event). Some l) h ∙ e
 
-pub grows_still : (before now : Option (List Event)) (told : List Event) → KeepsList before now → Grows before now told told
+pub grows_still : (before now : Option (List Event)) (told : List Event) → KeepsList before now → TraceGrows before now told told
 grows_still before now told h = λ list e. kept_list before now (list ++ told) h e
 
 -- one step shows one event
@@ -198,7 +198,7 @@ module _ (s : Shared) (p q : Processor) (act : Act) (told : Told) (of : IsOf s p
   -- and its watcher was told of it
   pub acts_grow : (plan : Planned) (limits : Limits) (past : Past) (pace : Pace) (victims : Drawing) (before now : Option (List Event)) (event : Event)
       → (a : Acting plan limits k own (deeds_of_processor p) past pace victims act) → told.event ≡ Some event → AppendsList before now (event ∷ [])
-      → Grows before now (told_so_far plan limits k own (deeds_of_processor p) past) (told_of_deeds plan limits k own (deeds_of_processor q))
+      → TraceGrows before now (told_so_far plan limits k own (deeds_of_processor p) past) (told_of_deeds plan limits k own (deeds_of_processor q))
   acts_grow plan limits past pace victims before now event a is heard =
       let event_is : event ≡ event_of_deed k.shape own (stands_by k own (deeds_of_processor p)) deed =
       some_event _ _ (sym is ∙ acted.event) ∙ act_says s.shape s.code own acted.found st act
@@ -232,18 +232,18 @@ module _ (s : Shared) (p q : Processor) (act : Act) (told : Told) (of : IsOf s p
 -- where a processor goes behind an act that its watcher took, or refused
 pub goes_by_act : (plan : Planned) (limits : Limits) (k : Opening) (own : ℕ) (before first now : Option (List Event)) (me me' : Mine) (past : Past)
     (pace' : Pace) (victims : Drawing)
-    → (taken : Bool) (way : Way) → way ≡ way_of taken
-    → Grows before first (told_of_deeds plan limits k own (deeds_in me.0)) (told_so_far plan limits k own (deeds_in me.0) past)
+    → (taken : Bool) (came : ActResult) → came ≡ act_result_of taken
+    → TraceGrows before first (told_of_deeds plan limits k own (deeds_in me.0)) (told_so_far plan limits k own (deeds_in me.0) past)
     → (taken ≡ true → Obeying plan limits k own (deeds_in me'.0) pace' victims
-    × Grows first now (told_so_far plan limits k own (deeds_in me.0) past) (told_of_deeds plan limits k own (deeds_in me'.0)) × HasMoreDeeds 1 me me')
+    × TraceGrows first now (told_so_far plan limits k own (deeds_in me.0) past) (told_of_deeds plan limits k own (deeds_in me'.0)) × HasMoreDeeds 1 me me')
     → (taken ≡ false → HasQuit plan limits k own first now (told_so_far plan limits k own (deeds_in me.0) past) (deeds_in me'.0))
-    → GoesOn plan limits k own before now me me' pace' victims way
-goes_by_act plan limits k own before first now me me' past pace' victims taken way is grew obeys quits =
-    subst (λ (w : Way). GoesOn plan limits k own before now me me' pace' victims w) (sym is) (by taken obeys quits)
+    → RunsOn plan limits k own before now me me' pace' victims came
+goes_by_act plan limits k own before first now me me' past pace' victims taken came is grew obeys quits =
+    subst (λ (w : ActResult). RunsOn plan limits k own before now me me' pace' victims w) (sym is) (by taken obeys quits)
   where
     by : (b : Bool) → (b ≡ true → Obeying plan limits k own (deeds_in me'.0) pace' victims
-        × Grows first now (told_so_far plan limits k own (deeds_in me.0) past) (told_of_deeds plan limits k own (deeds_in me'.0)) × HasMoreDeeds 1 me me')
-        → (b ≡ false → HasQuit plan limits k own first now (told_so_far plan limits k own (deeds_in me.0) past) (deeds_in me'.0)) → GoesOn plan limits k own before now me me' pace' victims (way_of b)
+        × TraceGrows first now (told_so_far plan limits k own (deeds_in me.0) past) (told_of_deeds plan limits k own (deeds_in me'.0)) × HasMoreDeeds 1 me me')
+        → (b ≡ false → HasQuit plan limits k own first now (told_so_far plan limits k own (deeds_in me.0) past) (deeds_in me'.0)) → RunsOn plan limits k own before now me me' pace' victims (act_result_of b)
     by true obeys quits = let o = obeys refl in let one = o.2 in (o.0, λ list e. o.1 list (grew list e), omega (arith, one))
     by false obeys quits =
         quit_behind plan limits k own before first now (told_of_deeds plan limits k own (deeds_in me.0)) (told_so_far plan limits k own (deeds_in me.0) past)

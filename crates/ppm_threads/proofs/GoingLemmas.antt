@@ -22,9 +22,9 @@ use Rattle.ppm_table.specs.Run.{act_by, stood, stands_by, deeds_in, Mine}
 use Rattle.ppm_table.specs.Telling.{event_of_deed, shown, shown_by, Shows}
 use Rattle.ppm_table.proofs.TellingLemmas.{shown_both, since_is}
 use Rattle.ppm_stretch.specs.Steady.{looks_behind, Goes}
-use Rattle.ppm_threads.specs.declared.way.Way.{Way}
-use Rattle.ppm_threads.specs.declared.way.Way.TheVariants.{More, Over, Refused}
-use Rattle.ppm_threads.specs.Going.{acted, acts_of, Grows, HasMoreDeeds, told_of_deeds, told_so_far, Follows, Obeying, Acting, OwnObeys, ObeysSoFar, HasQuit, GoesOn}
+use Rattle.ppm_threads.specs.declared.act_result.ActResult.{ActResult}
+use Rattle.ppm_threads.specs.declared.act_result.ActResult.TheVariants.{More, Over, Refused}
+use Rattle.ppm_threads.specs.Going.{acted, acts_of, TraceGrows, HasMoreDeeds, told_of_deeds, told_so_far, Follows, Obeying, Acting, OwnObeys, ObeysSoFar, HasQuit, RunsOn}
 use Rattle.ppm_threads.proofs.AlongLemmas.{acts_both, past_along, along_acts, along_work, along_looks, along_drawn, steps_obey, not_parked, steps_tell, steps_told}
 
 module _ (plan : Planned) (limits : Limits) (k : Opening) (own : ℕ) where
@@ -138,7 +138,7 @@ module _ (plan : Planned) (limits : Limits) (k : Opening) (own : ℕ) where
   pub grows_along : {exchanged : Bool} → (before now : Option (List Event)) (me me' : Mine) (pace : Pace) (victims : Drawing) (made work looks : ℕ)
       → (o : Obeying plan limits k own (deeds_in me.0) pace victims)
       → Goes k own me me' made work looks exchanged → Shows k own before now me me'
-      → Grows before now (told_of_deeds plan limits k own (deeds_in me.0)) (told_of_deeds plan limits k own (deeds_in me'.0))
+      → TraceGrows before now (told_of_deeds plan limits k own (deeds_in me.0)) (told_of_deeds plan limits k own (deeds_in me'.0))
   grows_along before now me me' pace victims made work looks o g shows = λ list e.
       let st = stands_by k own (deeds_in me.0) in
       let told = told_of_deeds plan limits k own (deeds_in me.0) in
@@ -166,7 +166,7 @@ module _ (plan : Planned) (limits : Limits) (k : Opening) (own : ℕ) where
       subst (λ (l : List Deed). Obeying plan limits k own l pace victims) (sym same) o
 
   -- a processor that has quit, behind what was told before
-  pub quit_behind : (before first now : Option (List Event)) (old mid : List Event) (deeds : List Deed) → Grows before first old mid
+  pub quit_behind : (before first now : Option (List Event)) (old mid : List Event) (deeds : List Deed) → TraceGrows before first old mid
       → HasQuit plan limits k own first now mid deeds → HasQuit plan limits k own before now old deeds
   quit_behind before first now old mid deeds grew h = record {
     obeyed = h.obeyed;
@@ -178,9 +178,9 @@ module _ (plan : Planned) (limits : Limits) (k : Opening) (own : ℕ) where
     grows = λ list e. h.grows list (grew list e);
   }
 
-  pub goes_behind : (before first now : Option (List Event)) (me me' me'' : Mine) (pace : Pace) (victims : Drawing) (way : Way)
-      → Grows before first (told_of_deeds plan limits k own (deeds_in me.0)) (told_of_deeds plan limits k own (deeds_in me'.0)) → HasMoreDeeds 0 me me'
-      → GoesOn plan limits k own first now me' me'' pace victims way → GoesOn plan limits k own before now me me'' pace victims way
+  pub goes_behind : (before first now : Option (List Event)) (me me' me'' : Mine) (pace : Pace) (victims : Drawing) (came : ActResult)
+      → TraceGrows before first (told_of_deeds plan limits k own (deeds_in me.0)) (told_of_deeds plan limits k own (deeds_in me'.0)) → HasMoreDeeds 0 me me'
+      → RunsOn plan limits k own first now me' me'' pace victims came → RunsOn plan limits k own before now me me'' pace victims came
   goes_behind before first now me me' me'' pace victims More grew none g = (
     g.0,
     λ list e. g.1 list (grew list e),
@@ -268,7 +268,7 @@ module _ (plan : Planned) (limits : Limits) (k : Opening) (own : ℕ) where
 
     pub grows_more : (before now : Option (List Event)) → ((list : List Event) → before ≡ Some list
         → now ≡ Some (list ++ event_of_deed k.shape own st deed ∷ []))
-        → Grows before now (told_so_far plan limits k own deeds past) (told_of_deeds plan limits k own deeds')
+        → TraceGrows before now (told_so_far plan limits k own deeds past) (told_of_deeds plan limits k own deeds')
     grows_more before now heard = λ list e.
         let told = told_so_far plan limits k own deeds past in
         heard (list ++ told) e
@@ -299,7 +299,7 @@ module _ (plan : Planned) (limits : Limits) (k : Opening) (own : ℕ) where
 
 -- where it doesn't rest, nothing is told before its act
 pub grows_from : (plan : Planned) (limits : Limits) (k : Opening) (own : ℕ) (deeds : List Deed) (past : Past) (before : Option (List Event))
-    → ¬ Rests plan limits own past (stands_by k own deeds) → Grows before before (told_of_deeds plan limits k own deeds)
+    → ¬ Rests plan limits own past (stands_by k own deeds) → TraceGrows before before (told_of_deeds plan limits k own deeds)
     (told_so_far plan limits k own deeds past)
 grows_from plan limits k own deeds past before none = λ list e.
     e ∙ ap (λ (l : List Event). Some (list ++ l))

@@ -11,7 +11,7 @@ use Rattle.ppm_table.specs.declared.view.Deed.{Deed}
 use Rattle.ppm_table.specs.declared.view.Opening.{Opening}
 use Rattle.ppm_table.specs.Run.{AllTold, start, behind_turns, deeds_in_run}
 use Rattle.ppm_table.specs.Shown.{InOrder, AllNew, AllIn, ClosedRun, deeds_of_processor, opening_of}
-use Rattle.ppm_table.specs.Telling.{Keeps}
+use Rattle.ppm_ports.specs.Told.{KeepsFront}
 use Rattle.ppm_table.proofs.RunLemmas.{lost_length}
 use Rattle.ppm_table.proofs.TellingLemmas.{keeps_still}
 use Rattle.ppm_threads.specs.Going.{OwnObeys, HasQuit, told_of_deeds}
@@ -43,8 +43,8 @@ module _ {W : Type 0} (told : W → Option (List Event)) (plan : Planned) (limit
   abbrev k : Opening
   k = opening_of s
 
-  abbrev Told : List Turn → ℕ → Option (List Event) → Option (List Event) → Type 0
-  Told turns c before now = IsToldOf told plan limits k turns c before now
+  abbrev TurnsTold : List Turn → ℕ → Option (List Event) → Option (List Event) → Type 0
+  TurnsTold turns c before now = IsToldOf told plan limits k turns c before now
 
   abbrev Quit : List Turn → ℕ → Option (List Event) → Option (List Event) → Type 0
   Quit turns c before now = HasQuitIn told plan limits k turns c before now
@@ -122,7 +122,7 @@ module _ {W : Type 0} (told : W → Option (List Event)) (plan : Planned) (limit
   pub keep_still : (ws : List W) → AllKeep told ws ws
   keep_still ws j d = keeps_still told (get_or ws j d) (get_or ws j d) refl
 
-  keep_at : (w v : W) (ws vs : List W) → Keeps (told w) (told v) → AllKeep told ws vs → AllKeep told (w ∷ ws) (v ∷ vs)
+  keep_at : (w v : W) (ws vs : List W) → KeepsFront (told w) (told v) → AllKeep told ws vs → AllKeep told (w ∷ ws) (v ∷ vs)
   keep_at w v ws vs h r zero d = h
   keep_at w v ws vs h r (suc j) d = r j d
 
@@ -141,7 +141,7 @@ module _ {W : Type 0} (told : W → Option (List Event)) (plan : Planned) (limit
     deeds_are : (x : Bool) → Ends told plan limits s x p w q v → deeds_of_processor q ≡ deeds_in_run k c turns
     deeds_are x h = a ∙ ap (λ (m : ℕ). deeds_in_run k m turns) (h.own ∙ i)
 
-    told_one : Ends told plan limits s true p w q v → Told turns c (told w) (told v)
+    told_one : Ends told plan limits s true p w q v → TurnsTold turns c (told w) (told v)
     told_one h =
         let ds = deeds_are true h in (
           obeys_in plan limits k c turns small all
@@ -159,7 +159,7 @@ module _ {W : Type 0} (told : W → Option (List Event)) (plan : Planned) (limit
         (subst (λ (m : ℕ). HasQuit plan limits k m (told w) (told v) (told_of_deeds plan limits k m (deeds_of_processor p)) (deeds_of_processor q)) i (h.quits refl)))
 
   abbrev Fares : (turns : List Turn) (x : Bool) → ℕ → Option (List Event) → Option (List Event) → Type 0
-  Fares turns x c before now = (x ≡ true → Told turns c before now) × (Told turns c before now ⊎ Quit turns c before now)
+  Fares turns x c before now = (x ≡ true → TurnsTold turns c before now) × (TurnsTold turns c before now ⊎ Quit turns c before now)
 
   fares_first : (turns : List Turn) (c : ℕ) (p : Processor) (w : W) (q : Processor) (v : W) (x rest : Bool) → AllTold k.shape k.code (start k) turns
       → p.local.own ≡ c → deeds_of_processor p ≡ [] → deeds_of_processor q ≡ deeds_in_run k q.local.own turns → c < k.shape.processors
@@ -245,7 +245,7 @@ module _ {W : Type 0} (told : W → Option (List Event)) (plan : Planned) (limit
     pub driven : plan.processors ≡ k.shape.processors → AllEnd told plan limits s true ps ws qs vs → length ps ≤ length ws
         → Driven told plan limits k words ws vs
     driven same h enough =
-        let at : (c : ℕ) (d : W) → c < k.shape.processors → Told run.turns c (told (get_or ws c d)) (told (get_or vs c d)) = λ c d less. (fares true h c d less).0 refl in
+        let at : (c : ℕ) (d : W) → c < k.shape.processors → TurnsTold run.turns c (told (get_or ws c d)) (told (get_or vs c d)) = λ c d less. (fares true h c d less).0 refl in
         let obeys : (c : ℕ) → c < k.shape.processors → ObeysIn plan limits c k.shape k.code (start k) run.turns = λ c less. (at c (some_of ws (omega (arith, less, len, enough))) less).0 in
         record {
           turns = run.turns;

@@ -24,7 +24,7 @@ use Rattle.ppm_table.specs.declared.view.Opening.{Opening}
 use Rattle.ppm_table.specs.Run.{stood, stands_by}
 use Rattle.ppm_table.proofs.TellingLemmas.{appended}
 use Rattle.ppm_table.specs.Telling.{event_of_deed}
-use Rattle.ppm_threads.specs.Going.{Grows, GaveUp, HasQuit, told_of_deeds, told_so_far, Resting, Acting}
+use Rattle.ppm_threads.specs.Going.{TraceGrows, GaveUp, HasQuit, told_of_deeds, told_so_far, Resting, Acting}
 use Rattle.ppm_threads.proofs.ActLemmas.{grows_still}
 use Rattle.ppm_threads.proofs.GoingLemmas.{so_far, told_quit}
 
@@ -104,7 +104,7 @@ parks_if Park e = refl
 pub grows_parked : (plan : Planned) (limits : Limits) (k : Opening) (own : ℕ) (deeds : List Deed) (past : Past) (before now : Option (List Event))
     (event : Event)
     → limits.idle ≡ Park → Rests plan limits own past (stands_by k own deeds) → event ≡ parked (stands_by k own deeds) → AppendsList before now (event ∷ [])
-    → Grows before now (told_of_deeds plan limits k own deeds) (told_so_far plan limits k own deeds past)
+    → TraceGrows before now (told_of_deeds plan limits k own deeds) (told_so_far plan limits k own deeds past)
 grows_parked plan limits k own deeds past before now event idle rests is heard = λ list e.
     let told = told_of_deeds plan limits k own deeds in
     appended before now event (list ++ told) heard e

@@ -9,12 +9,12 @@ use Rattle.ppm_table.specs.declared.processor.Processor.{Processor}
 use Rattle.ppm_table.specs.declared.processor.Shared.{Shared}
 use Rattle.ppm_table.specs.declared.view.Opening.{Opening}
 use Rattle.ppm_table.specs.Shown.{IsOf, deeds_of_processor, opening_of}
-use Rattle.ppm_table.specs.Telling.{Keeps}
+use Rattle.ppm_ports.specs.Told.{KeepsFront}
 use Rattle.ppm_table.proofs.TellingLemmas.{keeps_both}
-use Rattle.ppm_threads.specs.declared.way.Way.{Way}
-use Rattle.ppm_threads.specs.declared.way.Way.TheVariants.{More, Over, Refused}
+use Rattle.ppm_threads.specs.declared.act_result.ActResult.{ActResult}
+use Rattle.ppm_threads.specs.declared.act_result.ActResult.TheVariants.{More, Over, Refused}
 use Rattle.ppm_threads.specs.Driven.{Ends}
-use Rattle.ppm_threads.specs.Going.{Grows, Obeying, GoesOn, told_of_deeds}
+use Rattle.ppm_threads.specs.Going.{TraceGrows, Obeying, RunsOn, told_of_deeds}
 use Rattle.ppm_threads.proofs.GoingLemmas.{quit_behind}
 
 module _ {W : Type 0} (told : W → Option (List Event)) (plan : Planned) (limits : Limits) (s : Shared) (p : Processor) (w : W) where
@@ -28,9 +28,9 @@ module _ {W : Type 0} (told : W → Option (List Event)) (plan : Planned) (limit
   pub record Runs (q : Processor) (v : W) (pace : Pace) (victims : Drawing) : Type 0 where
     pub of : IsOf s q
     pub own_is : q.local.own ≡ own
-    pub keeps : Keeps (told w) (told v)
+    pub keeps : KeepsFront (told w) (told v)
     pub obeying : Obeying plan limits k own (deeds_of_processor q) pace victims
-    pub grows : Grows (told w) (told v) (told_of_deeds plan limits k own (deeds_of_processor p)) (told_of_deeds plan limits k own (deeds_of_processor q))
+    pub grows : TraceGrows (told w) (told v) (told_of_deeds plan limits k own (deeds_of_processor p)) (told_of_deeds plan limits k own (deeds_of_processor q))
 
   -- by its own number
   pub obeying_own : (q : Processor) (v : W) (pace : Pace) (victims : Drawing) → Runs q v pace victims
@@ -39,15 +39,15 @@ module _ {W : Type 0} (told : W → Option (List Event)) (plan : Planned) (limit
 
   module _ (q : Processor) (v : W) (pace : Pace) (victims : Drawing) (r : Runs q v pace victims)
       (q' : Processor) (v' : W) (pace' : Pace) (victims' : Drawing) (of : IsOf s q') (same : q'.local.own ≡ q.local.own)
-      (keeps : Keeps (told v) (told v')) where
-    abbrev Goes : Way → Type 0
-    Goes way = GoesOn plan limits k own (told v) (told v') q.seat.me q'.seat.me pace' victims' way
+      (keeps : KeepsFront (told v) (told v')) where
+    abbrev Goes : ActResult → Type 0
+    Goes came = RunsOn plan limits k own (told v) (told v') q.seat.me q'.seat.me pace' victims' came
 
-    goes_own : (way : Way) → GoesOn plan limits k q.local.own (told v) (told v') q.seat.me q'.seat.me pace' victims' way → Goes way
-    goes_own way g = subst (λ (c : ℕ). GoesOn plan limits k c (told v) (told v') q.seat.me q'.seat.me pace' victims' way) r.own_is g
+    goes_own : (came : ActResult) → RunsOn plan limits k q.local.own (told v) (told v') q.seat.me q'.seat.me pace' victims' came → Goes came
+    goes_own came g = subst (λ (c : ℕ). RunsOn plan limits k c (told v) (told v') q.seat.me q'.seat.me pace' victims' came) r.own_is g
 
     -- it goes on
-    pub runs_on : GoesOn plan limits k q.local.own (told v) (told v') q.seat.me q'.seat.me pace' victims' More → Runs q' v' pace' victims'
+    pub runs_on : RunsOn plan limits k q.local.own (told v) (told v') q.seat.me q'.seat.me pace' victims' More → Runs q' v' pace' victims'
     runs_on g = let mine = goes_own More g in record {
       of = of;
       own_is = same ∙ r.own_is;
@@ -57,7 +57,7 @@ module _ {W : Type 0} (told : W → Option (List Event)) (plan : Planned) (limit
     }
 
     -- its acts stop
-    pub runs_over : GoesOn plan limits k q.local.own (told v) (told v') q.seat.me q'.seat.me pace' victims' Over → Ends told plan limits s true p w q' v'
+    pub runs_over : RunsOn plan limits k q.local.own (told v) (told v') q.seat.me q'.seat.me pace' victims' Over → Ends told plan limits s true p w q' v'
     runs_over g = let mine = goes_own Over g in record {
       of = of;
       own = same ∙ r.own_is;
@@ -68,7 +68,7 @@ module _ {W : Type 0} (told : W → Option (List Event)) (plan : Planned) (limit
     }
 
     -- its watcher refuses
-    pub runs_refused : GoesOn plan limits k q.local.own (told v) (told v') q.seat.me q'.seat.me pace' victims' Refused
+    pub runs_refused : RunsOn plan limits k q.local.own (told v) (told v') q.seat.me q'.seat.me pace' victims' Refused
         → Ends told plan limits s false p w q' v'
     runs_refused g = let mine = goes_own Refused g in record {
       of = of;

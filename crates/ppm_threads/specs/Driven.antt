@@ -5,7 +5,7 @@ use Rattle.ppm_cells.specs.Memory.{read}
 use Rattle.ppm_cells.specs.declared.cell.Cell.TheVariants.{FinishWord}
 use Rattle.ppm_cells.specs.declared.finish.Finish.TheVariants.{Stopped}
 use Rattle.ppm_plan.specs.Schedules.{Planned}
-use Rattle.ppm_ports.specs.Told.{AppendsList}
+use Rattle.ppm_ports.specs.Told.{AppendsList, KeepsFront}
 use Rattle.ppm_words.specs.declared.event.Event.{Event}
 use Rattle.ppm_step.specs.declared.turn.Turn.{Turn}
 use Rattle.ppm_choice.specs.declared.limits.Limits.{Limits}
@@ -16,8 +16,7 @@ use Rattle.ppm_table.specs.declared.processor.Shared.{Shared}
 use Rattle.ppm_table.specs.declared.view.Opening.{Opening}
 use Rattle.ppm_table.specs.Run.{start, behind_turns, deeds_in_run}
 use Rattle.ppm_table.specs.Shown.{IsOf, deeds_of_processor, opening_of}
-use Rattle.ppm_table.specs.Telling.{Keeps}
-use Rattle.ppm_threads.specs.Going.{Grows, HasQuit, OwnObeys, told_of_deeds}
+use Rattle.ppm_threads.specs.Going.{TraceGrows, HasQuit, OwnObeys, told_of_deeds}
 
 -- a processor that has done nothing
 abbrev pub Begins : Shared → Processor → Type 0
@@ -30,7 +29,7 @@ AllBegin s (p ∷ ps) = Begins s p × AllBegin s ps
 module _ {W : Type 0} (told : W → Option (List Event)) where
   -- each list keeps what it had in front
   abbrev pub AllKeep : List W → List W → Type 0
-  AllKeep old new = (j : ℕ) (d : W) → Keeps (told (slice_index_or old j d)) (told (slice_index_or new j d))
+  AllKeep old new = (j : ℕ) (d : W) → KeepsFront (told (slice_index_or old j d)) (told (slice_index_or new j d))
 
 module _ {W : Type 0} (told : W → Option (List Event)) (plan : Planned) (limits : Limits) where
   -- a processor before and after, with its watcher: where that refused nothing, what the processor has done obeys, and it was told of it; where it
@@ -38,8 +37,8 @@ module _ {W : Type 0} (told : W → Option (List Event)) (plan : Planned) (limit
   pub record Ends (s : Shared) (taken : Bool) (p : Processor) (w : W) (q : Processor) (v : W) : Type 0 where
     pub of : IsOf s q
     pub own : q.local.own ≡ p.local.own
-    pub keeps : Keeps (told w) (told v)
-    pub grows : taken ≡ true → Grows (told w) (told v) (told_of_deeds plan limits (opening_of s) p.local.own (deeds_of_processor p))
+    pub keeps : KeepsFront (told w) (told v)
+    pub grows : taken ≡ true → TraceGrows (told w) (told v) (told_of_deeds plan limits (opening_of s) p.local.own (deeds_of_processor p))
         (told_of_deeds plan limits (opening_of s) p.local.own (deeds_of_processor q))
     pub obeys : taken ≡ true → OwnObeys plan limits (opening_of s) p.local.own (deeds_of_processor q)
     pub quits : taken ≡ false → HasQuit plan limits (opening_of s) p.local.own (told w) (told v)

@@ -20,8 +20,8 @@ use Rattle.ppm_table.specs.declared.view.Deed.TheVariants.{Quitted}
 use Rattle.ppm_table.specs.declared.view.Opening.{Opening}
 use Rattle.ppm_table.specs.Run.{act_by, behind, stands_by, deeds_in, Mine}
 use Rattle.ppm_table.specs.Telling.{shown_by}
-use Rattle.ppm_threads.specs.declared.way.Way.{Way}
-use Rattle.ppm_threads.specs.declared.way.Way.TheVariants.{More, Over, Refused}
+use Rattle.ppm_threads.specs.declared.act_result.ActResult.{ActResult}
+use Rattle.ppm_threads.specs.declared.act_result.ActResult.TheVariants.{More, Over, Refused}
 
 -- the acts of deeds, each with where the processor stood
 abbrev pub acted : Shape → Standing → Deed → Acted
@@ -32,8 +32,8 @@ acts_of s code own standing [] = []
 acts_of s code own standing (deed ∷ deeds) = acted s standing deed ∷ acts_of s code own (behind s code own standing deed) deeds
 
 -- a known list that had so much at its end has so much there now
-abbrev pub Grows : Option (List Event) → Option (List Event) → (old new : List Event) → Type 0
-Grows before now old new = (list : List Event) → before ≡ Some (list ++ old) → now ≡ Some (list ++ new)
+abbrev pub TraceGrows : Option (List Event) → Option (List Event) → (old new : List Event) → Type 0
+TraceGrows before now old new = (list : List Event) → before ≡ Some (list ++ old) → now ≡ Some (list ++ new)
 
 -- a seat has so many deeds more
 abbrev pub HasMoreDeeds : (made : ℕ) → Mine → Mine → Type 0
@@ -108,27 +108,27 @@ module _ (plan : Planned) (limits : Limits) where
     pub told : List Event
     pub refused : Event
     pub up_to : AreUpTo k own obeyed (told ++ refused ∷ [])
-    pub grows : Grows before now old told
+    pub grows : TraceGrows before now old told
 
   -- behind so many acts, of which its watcher was told; or it refused one
   abbrev pub GoesAhead : Opening → (own : ℕ) → Option (List Event) → Option (List Event) → Mine → Mine → Pace → Drawing → (made : Option ℕ) → Type 0
   GoesAhead k own before now me me' pace victims (Some made) =
       Obeying k own (deeds_in me'.0) pace victims
-      × Grows before now (told_of_deeds k own (deeds_in me.0)) (told_of_deeds k own (deeds_in me'.0))
+      × TraceGrows before now (told_of_deeds k own (deeds_in me.0)) (told_of_deeds k own (deeds_in me'.0))
       × HasMoreDeeds made me me'
   GoesAhead k own before now me me' pace victims None = HasQuit k own before now (told_of_deeds k own (deeds_in me.0)) (deeds_in me'.0)
 
   -- behind its next acts: there was one, and it goes on; or its acts stop; or its watcher has refused
-  abbrev pub GoesOn : Opening → (own : ℕ) → Option (List Event) → Option (List Event) → Mine → Mine → Pace → Drawing → Way → Type 0
-  GoesOn k own before now me me' pace victims More =
+  abbrev pub RunsOn : Opening → (own : ℕ) → Option (List Event) → Option (List Event) → Mine → Mine → Pace → Drawing → ActResult → Type 0
+  RunsOn k own before now me me' pace victims More =
       Obeying k own (deeds_in me'.0) pace victims
-      × Grows before now (told_of_deeds k own (deeds_in me.0)) (told_of_deeds k own (deeds_in me'.0))
+      × TraceGrows before now (told_of_deeds k own (deeds_in me.0)) (told_of_deeds k own (deeds_in me'.0))
       × (length (deeds_in me.0) < length (deeds_in me'.0))
-  GoesOn k own before now me me' pace victims Over =
-      OwnObeys k own (deeds_in me'.0) × Grows before now (told_of_deeds k own (deeds_in me.0)) (told_of_deeds k own (deeds_in me'.0))
-  GoesOn k own before now me me' pace victims Refused = HasQuit k own before now (told_of_deeds k own (deeds_in me.0)) (deeds_in me'.0)
+  RunsOn k own before now me me' pace victims Over =
+      OwnObeys k own (deeds_in me'.0) × TraceGrows before now (told_of_deeds k own (deeds_in me.0)) (told_of_deeds k own (deeds_in me'.0))
+  RunsOn k own before now me me' pace victims Refused = HasQuit k own before now (told_of_deeds k own (deeds_in me.0)) (deeds_in me'.0)
 
 -- where a processor goes behind an act that its watcher took, or refused
-abbrev pub way_of : (taken : Bool) → Way
-way_of true = More
-way_of false = Refused
+abbrev pub act_result_of : (taken : Bool) → ActResult
+act_result_of true = More
+act_result_of false = Refused

@@ -1,5 +1,6 @@
 //! A processor on its way.
-ghost use Rattle.std.specs.Prelude.{◌≡◌, ◌≢◌, ◌<◌, ◌≤◌, ◌^◌, IfSome, true, false};
+ghost use Rattle.std.specs.Prelude.{◌≡◌, ◌≢◌, true, false};
+ghost use Rattle.ppm_ports.specs.Told.{KeepsFront};
 ghost use Rattle.ppm_step.specs.Locals.{standing_of};
 ghost use Rattle.ppm_step.specs.Standings.{Standing, IsDone};
 ghost use Rattle.ppm_step.specs.Told.{place_of};
@@ -9,14 +10,13 @@ ghost use Rattle.ppm_choice.specs.Obeying.{Past, is_park};
 ghost use Rattle.ppm_choice.specs.Tells.{parked};
 ghost use Rattle.ppm_table.specs.Run.{IsActAt};
 ghost use Rattle.ppm_table.specs.Shown.{IsOf, deeds_of_processor, opening_of};
-ghost use Rattle.ppm_table.specs.Telling.{Keeps};
 ghost use Rattle.ppm_threads.specs.Driven.{Begins, Ends};
-ghost use Rattle.ppm_threads.specs.Going.{Obeying, Resting, Acting, Grows, HasMoreDeeds, GoesAhead, GoesOn};
-ghost use Rattle.ppm_threads.specs.Going.{GaveUp, HasQuit, told_of_deeds, told_so_far, way_of};
+ghost use Rattle.ppm_threads.specs.Going.{Obeying, Resting, Acting, TraceGrows, HasMoreDeeds, GoesAhead, RunsOn};
+ghost use Rattle.ppm_threads.specs.Going.{GaveUp, HasQuit, told_of_deeds, told_so_far, act_result_of};
 
+use crate::act_result::ActResult;
 use crate::crew::Crew;
 use crate::parking::{IdleParker, park, wake_all};
-use crate::way::Way;
 use crossbeam_utils::Backoff;
 use ppm_choice::{Idle, Limits, Pace, clear_steps, is_over, next_act};
 use ppm_plan::Victims;
@@ -26,9 +26,6 @@ use ppm_stretch::{is_due, steps};
 use ppm_table::{Processor, hear};
 use ppm_words::Event;
 use std::sync::Wait;
-
-/// More work turns than any limit allows.
-const MOST_WORK: u64 = 1 << 62;
 
 /// So many steps a processor makes at most before it wakes those that have parked, where it has put
 /// a job into a deque.
@@ -56,14 +53,13 @@ fn parked_at(place: u32) -> Event
     }
 }
 
-/// How many steps in a row are made before those are woken that have parked.
-fn most_at_once(limits: Limits) -> u64
-    ensures { result ≤ 2 ^ 62 }
-{
+/// How many steps in a row are made before those are woken that have parked: any number, where none
+/// parks.
+fn most_at_once(limits: Limits) -> u64 {
     if is_park(limits.idle) {
         MOST_UNTOLD
     } else {
-        MOST_WORK
+        u64::MAX
     }
 }
 
@@ -75,15 +71,13 @@ fn go_ahead<W: Watch>(
     watch: &mut W,
 ) -> Option<u64>
     requires of { IsOf crew.now.shared processor.old }
-    requires few { pace.old.work < 2 ^ 62 }
     ensures of { IsOf crew.now.shared processor.new }
     ensures own { processor.new.local.own ≡ processor.old.local.own }
-    ensures keeps { Keeps (W.told watch.old) (W.told watch.new) }
+    ensures keeps { KeepsFront (W.told watch.old) (W.told watch.new) }
     ensures goes { (victims : Drawing)
         → Obeying crew.now.plan.now crew.now.limits (opening_of crew.now.shared) processor.old.local.own (deeds_of_processor processor.old) pace.old victims
         → GoesAhead crew.now.plan.now crew.now.limits (opening_of crew.now.shared) processor.old.local.own (W.told watch.old) (W.told watch.new)
         processor.old.seat.me processor.new.seat.me pace.new victims result }
-    ensures none { IfSome result (λ made. made ≡ 0 → pace.new ≡ pace.old) }
 {
     let most = clear_steps(pace, crew.plan, crew.limits).min(most_at_once(crew.limits));
     let row = steps(processor, &crew.shared, most, watch);
@@ -137,16 +131,15 @@ fn make<W: Watch>(
     act: Act,
 ) -> bool
     requires of { IsOf crew.now.shared processor.old }
-    requires few { pace.old.work < 2 ^ 62 }
     requires lives { standing_of crew.now.shared.shape crew.now.shared.code processor.old.local ≢ IsDone }
     requires may { IsActAt crew.now.shared.shape (standing_of crew.now.shared.shape crew.now.shared.code processor.old.local) act }
     ensures of { IsOf crew.now.shared processor.new }
     ensures own { processor.new.local.own ≡ processor.old.local.own }
-    ensures keeps { Keeps (W.told watch.old) (W.told watch.new) }
+    ensures keeps { KeepsFront (W.told watch.old) (W.told watch.new) }
     ensures obeys { result ≡ true → (plan : Planned) (past : Past) (victims : Drawing)
         → Acting plan crew.now.limits (opening_of crew.now.shared) processor.old.local.own (deeds_of_processor processor.old) past pace.old victims act
         → Obeying plan crew.now.limits (opening_of crew.now.shared) processor.old.local.own (deeds_of_processor processor.new) pace.new victims
-        × Grows (W.told watch.old) (W.told watch.new)
+        × TraceGrows (W.told watch.old) (W.told watch.new)
         (told_so_far plan crew.now.limits (opening_of crew.now.shared) processor.old.local.own (deeds_of_processor processor.old) past)
         (told_of_deeds plan crew.now.limits (opening_of crew.now.shared) processor.old.local.own (deeds_of_processor processor.new))
         × HasMoreDeeds 1 processor.old.seat.me processor.new.seat.me }
@@ -173,10 +166,14 @@ fn make<W: Watch>(
 }
 
 /// Where a processor goes behind an act that its watcher took, or refused.
-fn way_of(taken: bool) -> Way
-    ensures { result ≡ way_of taken }
+fn act_result_of(taken: bool) -> ActResult
+    ensures { result ≡ act_result_of taken }
 {
-    if taken { Way::More } else { Way::Refused }
+    if taken {
+        ActResult::More
+    } else {
+        ActResult::Refused
+    }
 }
 
 /// A processor that rests leaves; or it parks, and makes its next act behind that.
@@ -188,24 +185,23 @@ fn rest_first<W: Watch, R: Wait>(
     pace: &mut Pace,
     victims: &mut Victims,
     watch: &mut W,
-) -> Way
+) -> ActResult
     requires of { IsOf crew.now.shared processor.old }
-    requires few { pace.old.work < 2 ^ 62 }
     requires plan { crew.now.plan.now.processors ≡ crew.now.shared.shape.processors }
     requires resting { Resting crew.now.plan.now crew.now.limits (opening_of crew.now.shared) processor.old.local.own (deeds_of_processor processor.old)
         pace.old victims.old }
     ensures of { IsOf crew.now.shared processor.new }
     ensures own { processor.new.local.own ≡ processor.old.local.own }
-    ensures keeps { Keeps (W.told watch.old) (W.told watch.new) }
-    ensures goes { GoesOn crew.now.plan.now crew.now.limits (opening_of crew.now.shared) processor.old.local.own (W.told watch.old) (W.told watch.new)
+    ensures keeps { KeepsFront (W.told watch.old) (W.told watch.new) }
+    ensures goes { RunsOn crew.now.plan.now crew.now.limits (opening_of crew.now.shared) processor.old.local.own (W.told watch.old) (W.told watch.new)
         processor.old.seat.me processor.new.seat.me pace.new victims.new result }
 {
     if !is_park(crew.limits.idle) {
-        return Way::Over;
+        return ActResult::Over;
     }
     if !hear(watch, parked_at(processor.local.place())) {
         give_way(crew, processor);
-        return Way::Refused;
+        return ActResult::Refused;
     }
     park(rt, parker);
     pace.rest();
@@ -221,7 +217,7 @@ fn rest_first<W: Watch, R: Wait>(
     ) else {
         unreachable!()
     };
-    way_of(make(crew, processor, pace, watch, act))
+    act_result_of(make(crew, processor, pace, watch, act))
 }
 
 /// Makes the next act, if there is one.
@@ -233,25 +229,24 @@ fn act<W: Watch, R: Wait>(
     pace: &mut Pace,
     victims: &mut Victims,
     watch: &mut W,
-) -> Way
+) -> ActResult
     requires of { IsOf crew.now.shared processor.old }
-    requires few { pace.old.work < 2 ^ 62 }
     requires plan { crew.now.plan.now.processors ≡ crew.now.shared.shape.processors }
     requires obeying { Obeying crew.now.plan.now crew.now.limits (opening_of crew.now.shared) processor.old.local.own (deeds_of_processor processor.old)
         pace.old victims.old }
     ensures of { IsOf crew.now.shared processor.new }
     ensures own { processor.new.local.own ≡ processor.old.local.own }
-    ensures keeps { Keeps (W.told watch.old) (W.told watch.new) }
-    ensures goes { GoesOn crew.now.plan.now crew.now.limits (opening_of crew.now.shared) processor.old.local.own (W.told watch.old) (W.told watch.new)
+    ensures keeps { KeepsFront (W.told watch.old) (W.told watch.new) }
+    ensures goes { RunsOn crew.now.plan.now crew.now.limits (opening_of crew.now.shared) processor.old.local.own (W.told watch.old) (W.told watch.new)
         processor.old.seat.me processor.new.seat.me pace.new victims.new result }
 {
     if is_over(pace.next) {
-        return Way::Over;
+        return ActResult::Over;
     }
     let Some(act) = next_act(pace, victims, crew.plan, crew.limits) else {
         return rest_first(rt, crew, parker, processor, pace, victims, watch);
     };
-    way_of(make(crew, processor, pace, watch, act))
+    act_result_of(make(crew, processor, pace, watch, act))
 }
 
 /// Some steps in a row that surely obey, or else the next act.
@@ -263,25 +258,24 @@ fn go_on<W: Watch, R: Wait>(
     pace: &mut Pace,
     victims: &mut Victims,
     watch: &mut W,
-) -> Way
+) -> ActResult
     requires of { IsOf crew.now.shared processor.old }
-    requires few { pace.old.work < 2 ^ 62 }
     requires plan { crew.now.plan.now.processors ≡ crew.now.shared.shape.processors }
     requires obeying { Obeying crew.now.plan.now crew.now.limits (opening_of crew.now.shared) processor.old.local.own (deeds_of_processor processor.old)
         pace.old victims.old }
     ensures of { IsOf crew.now.shared processor.new }
     ensures own { processor.new.local.own ≡ processor.old.local.own }
-    ensures keeps { Keeps (W.told watch.old) (W.told watch.new) }
-    ensures goes { GoesOn crew.now.plan.now crew.now.limits (opening_of crew.now.shared) processor.old.local.own (W.told watch.old) (W.told watch.new)
+    ensures keeps { KeepsFront (W.told watch.old) (W.told watch.new) }
+    ensures goes { RunsOn crew.now.plan.now crew.now.limits (opening_of crew.now.shared) processor.old.local.own (W.told watch.old) (W.told watch.new)
         processor.old.seat.me processor.new.seat.me pace.new victims.new result }
 {
     let Some(made) = go_ahead(crew, processor, pace, watch) else {
-        return Way::Refused;
+        return ActResult::Refused;
     };
     if made == 0 {
         return act(rt, crew, parker, processor, pace, victims, watch);
     }
-    Way::More
+    ActResult::More
 }
 
 /// Lets a processor obey until its acts stop; whether its watcher refused none. It may never return.
@@ -301,13 +295,10 @@ pub(crate) fn run<W: Watch, R: Wait>(
     let mut victims = Victims::new(crew.limits.seed, own, crew.plan.processors());
     let backoff = Backoff::new();
     for _ in rt.forever() {
-        if pace.work >= MOST_WORK {
-            continue;
-        }
         match go_on(rt, crew, parker, processor, &mut pace, &mut victims, watch) {
-            Way::More => stand_back(&pace, &backoff),
-            Way::Over => return true,
-            Way::Refused => return false,
+            ActResult::More => stand_back(&pace, &backoff),
+            ActResult::Over => return true,
+            ActResult::Refused => return false,
         }
     }
     unreachable!()

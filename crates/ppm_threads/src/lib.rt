@@ -9,11 +9,11 @@
 //! are this project's.
 #![tactic(auto)]
 
+mod act_result;
 mod crew;
 mod driving;
 mod going;
 mod parking;
-mod way;
 
 pub use driving::drive;
 pub use parking::{Credit, Gave, IdleParker, IdlePass, IdleUnparker, Tokens, Took, sleep};

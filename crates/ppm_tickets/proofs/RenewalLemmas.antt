@@ -20,7 +20,7 @@ use Rattle.ppm_step.specs.declared.content.Reading.TheVariants.{AsHolder}
 use Rattle.ppm_step.specs.State.{State, opening}
 use Rattle.ppm_tickets.specs.Homes.{Home, Unborn, Pushing, Listed, Popping, Stolen, Inline, Begun}
 use Rattle.ppm_tickets.specs.Lawful.{IsTaken, IsClaim, IsDead, Names, tag, Steals, Carries, Aims, Dooms, Deque, Board, Order, Holding, Closed, Rooted}
-use Rattle.ppm_tickets.specs.Renewal.{IsRenewal, IsLawful, ComesBack, GoesOn, Part, Ran, CameBack, InParts, LawfulInParts}
+use Rattle.ppm_tickets.specs.Renewal.{IsRenewal, IsLawful, ComesBack, StaysLawful, Part, Ran, CameBack, InParts, LawfulInParts}
 use Rattle.ppm_tickets.specs.Saw.{Lives, Sees, IsBidThere, Lawful}
 use Rattle.ppm_tickets.specs.View.{word_as, cell_of, reading_of, is_shown, absent, view, seeking, restart_or, restart_at, kinds, bottoms}
 use Rattle.ppm_tickets.specs.Words.{Word, Held, Number, Spot, Message, Bid, Top, Slot, Holder, Carry, Dead}
@@ -200,7 +200,7 @@ module _ (s : Shape) (places : s.takeover ≡ ByPlaces) (ws saved : List ℕ) (r
 pub resumes : (s : Shape) (code : CodeParts) → ComesBack s code
 resumes s code state saved h f tk places law renewal = (renewal.fit, comes_back s places state.words saved renewal h f tk state.stand law.1)
 
-pub goes_on : (s : Shape) (code : CodeParts) → GoesOn s code
+pub goes_on : (s : Shape) (code : CodeParts) → StaysLawful s code
 goes_on s code state turns h f tk law orderly = run_keeps s code (all_rows s code) turns state h f tk law orderly
 
 in_parts : (s : Shape) (code : CodeParts) → s.takeover ≡ ByPlaces → (parts : List Part) (state : State) (h : ℕ → Home) (f tk : List ℕ) → IsLawful s code state h f tk → InParts s code (IsLawful s code) state h f tk parts

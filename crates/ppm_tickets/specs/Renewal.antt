@@ -31,10 +31,10 @@ Renewed (HolderWord p) old new =
     × (new ≡ holder_word (record { tag = t + 1; processor = p }))
 Renewed cell old new = new ≡ old
 
--- the words `saved` are those of `ws` come back; no holder had the last tag
-pub record IsRenewal (s : Shape) (ws saved : List ℕ) : Type 0 where
-  pub fit : AreWordsOf s saved
-  pub renewed : (c : Cell) → IsCell s c → Renewed c (read s ws c) (read s saved c)
+-- these words come back as those; no holder had the last tag
+pub record IsRenewal (s : Shape) (saved back : List ℕ) : Type 0 where
+  pub fit : AreWordsOf s back
+  pub renewed : (c : Cell) → IsCell s c → Renewed c (read s saved c) (read s back c)
 
 module _ (s : Shape) (code : CodeParts) where
   -- what always holds, of a state
@@ -44,20 +44,20 @@ module _ (s : Shape) (code : CodeParts) where
 
   -- what always holds does of the words that come back, with all processors lost
   abbrev pub ComesBack : Type 0
-  ComesBack = (state : State) (saved : List ℕ) (h : ℕ → Home) (f tk : List ℕ)
-      → s.takeover ≡ ByPlaces → IsLawful state h f tk → IsRenewal s state.words saved
-      → IsLawful (opening saved s.processors) h f tk
+  ComesBack = (state : State) (back : List ℕ) (h : ℕ → Home) (f tk : List ℕ)
+      → s.takeover ≡ ByPlaces → IsLawful state h f tk → IsRenewal s state.words back
+      → IsLawful (opening back s.processors) h f tk
 
   -- and goes on, with either takeover
-  abbrev pub GoesOn : Type 0
-  GoesOn = (state : State) (turns : List Turn) (h : ℕ → Home) (f tk : List ℕ)
+  abbrev pub StaysLawful : Type 0
+  StaysLawful = (state : State) (turns : List Turn) (h : ℕ → Home) (f tk : List ℕ)
       → IsLawful state h f tk → AreOrderly s code state h f turns
       → IsLawful (after s code state turns) (homes s code state h turns) (forked s code state f turns) (taken s code state tk turns)
 
 -- a run in parts: turns, and words that come back
 pub data Part : Type 0 where
   Ran : List Turn → Part
-  CameBack : (saved : List ℕ) → Part
+  CameBack : (back : List ℕ) → Part
 
 module _ (s : Shape) (code : CodeParts) where
   -- what holds at the end, if each part's turns are orderly, and what came back is a renewal of the
@@ -67,8 +67,8 @@ module _ (s : Shape) (code : CodeParts) where
   InParts P state h f tk [] = P state h f tk
   InParts P state h f tk (Ran turns ∷ parts) = AreOrderly s code state h f turns
       → InParts P (after s code state turns) (homes s code state h turns) (forked s code state f turns) (taken s code state tk turns) parts
-  InParts P state h f tk (CameBack saved ∷ parts) = IsRenewal s state.words saved
-      → InParts P (opening saved s.processors) h f tk parts
+  InParts P state h f tk (CameBack back ∷ parts) = IsRenewal s state.words back
+      → InParts P (opening back s.processors) h f tk parts
 
   -- from words that open, whatever the parts, if the turns are orderly
   abbrev pub LawfulInParts : Type 0

@@ -3,7 +3,7 @@ ghost use Rattle.ppm_cells.specs.declared.shape.Shape.{Shape};
 ghost use Rattle.ppm_code.specs.declared.code.CodeParts.{CodeParts};
 ghost use Rattle.ppm_tickets.specs.Entries.{EntriesChangeLawfully, PlacesStayHome};
 ghost use Rattle.ppm_tickets.specs.Heirs.{HeirsFollow, HeirsSee, HeirsTake, NoneComesBack, OneInherits, OneTakes};
-ghost use Rattle.ppm_tickets.specs.Renewal.{ComesBack, GoesOn, LawfulInParts};
+ghost use Rattle.ppm_tickets.specs.Renewal.{ComesBack, StaysLawful, LawfulInParts};
 ghost use Rattle.ppm_tickets.specs.Tickets.{ImagesOpen, InEveryRun, InEveryRunByEntries};
 ghost use Rattle.ppm_tickets.specs.Tickets.{LawfulInEveryRun, OneMoreTurn};
 
@@ -36,7 +36,7 @@ pub fn turns_follow()
 /// of runs in parts, each of orderly turns.
 pub fn resumes()
     ensures back { (s : Shape) (code : CodeParts) → ComesBack s code }
-    ensures on { (s : Shape) (code : CodeParts) → GoesOn s code }
+    ensures on { (s : Shape) (code : CodeParts) → StaysLawful s code }
     ensures parts { (s : Shape) (code : CodeParts) → LawfulInParts s code }
 {}
 

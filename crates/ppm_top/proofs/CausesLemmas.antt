@@ -2,7 +2,7 @@
 use Rattle.std.proofs.Common.{◌≡◌, ℕ, List, Option, Some, None, refl, sym, subst}
 use Rattle.ppm_ports.specs.Outside.{ToldLists, Outside, ports_of}
 use Rattle.ppm_text.specs.Limits.{text_limit}
-use Rattle.ppm_listing_reader.specs.Limits.{text_limit as listing_limit}
+use Rattle.ppm_listing_reader.specs.Limits.{listing_limit}
 use Rattle.ppm_answers.specs.declared.answer.Answer.{Answer}
 use Rattle.ppm_answers.specs.declared.answer.Answer.TheVariants as answers
 use Rattle.ppm_answers.specs.declared.status.Status.{Status}
@@ -24,9 +24,9 @@ use Rattle.ppm_driver.specs.Resumes.{TextHas as ResumeTextHas}
 use Rattle.ppm_stop.specs.Stops.{TextReads as StopTextReads}
 use Rattle.ppm_driver.specs.Runs.{RunTells, TextHas as RunTextHas}
 use Rattle.ppm_loading.proofs.PlannedLemmas as planned
-use Rattle.ppm_driver.proofs.ResumeLemmas.{still_told}
+use Rattle.ppm_driver.proofs.ResumeLemmas.{untold_source}
 use Rattle.ppm_driver.proofs.WatchLemmas.{untold}
-use Rattle.ppm_saved_reader.specs.Rules.{text_limit as saved_limit}
+use Rattle.ppm_saved_reader.specs.Rules.{saved_limit}
 
 -- where nothing was read, out of memory may be the answer, whatever the command is
 pub memory_before : (command : Option Command) (o : Outside) → IsUnread o.source → CommandMay command o answers.NoMemory
@@ -46,12 +46,12 @@ memory_before (Some (commands.Example options)) o h = (h, tt)
 
 -- an answer of the command that the words give answers the words
 pub by_command : (words : List (List ℕ)) (o : Outside) (status : Status) (command : Option Command) → command_of words ≡ command →
-    Answers (CommandMay command o) (CommandTells command) o status → IsAnswered words o status
-by_command words o status command e a = subst (λ c. Answers (CommandMay c o) (CommandTells c) o status) (sym e) a
+    Answers (CommandMay command o) (CommandTells command o) o status → IsAnswered words o status
+by_command words o status command e a = subst (λ c. Answers (CommandMay c o) (CommandTells c o) o status) (sym e) a
 
 -- so does one that was delivered by a command without watchers
 pub by_ports : (words : List (List ℕ)) (o : Outside) (status : Status) (command : Option Command) → command_of words ≡ command →
-    CommandTells command ≡ TellsNothing → o.told_now ≡ o.told_before → DeliversAnswer (CommandMay command o) (ports_of o) status →
+    CommandTells command o ≡ TellsNothing → o.told_now ≡ o.told_before → DeliversAnswer (CommandMay command o) (ports_of o) status →
     IsAnswered words o status
 by_ports words o status command e tells told d =
     by_command words o status command e
@@ -61,18 +61,18 @@ by_ports words o status command e tells told d =
 -- an answer of the example is one of its command, where nothing was read
 pub of_example : (options : SelfOptions) (o : Outside) (status : Status) → IsUnread o.source
     → Answers (ExampleMay options o.told_before o.told_now) (RunTells options.processors) o status
-    → Answers (CommandMay (Some (commands.Example options)) o) (CommandTells (Some (commands.Example options))) o status
+    → Answers (CommandMay (Some (commands.Example options)) o) (CommandTells (Some (commands.Example options)) o) o status
 of_example options o status unread a =
     record { answer = a.answer; cause = (unread, a.cause); delivered = a.delivered; told = a.told }
 
 -- where nobody was told anything, that belongs to each answer
-pub told_nothing : (command : Option Command) (answer : Answer) (lists : ToldLists) → CommandTells command answer lists lists
-told_nothing None answer lists = refl
-told_nothing (Some (commands.Run options plan)) answer lists = untold options.processors answer lists
-told_nothing (Some (commands.Serial options)) answer lists = refl
-told_nothing (Some commands.Code) answer lists = refl
-told_nothing (Some commands.Check) answer lists = refl
-told_nothing (Some (commands.Replay options schedule)) answer lists = refl
-told_nothing (Some (commands.Resume options plan)) answer lists = still_told answer lists
-told_nothing (Some (commands.Stop options schedule)) answer lists = refl
-told_nothing (Some (commands.Example options)) answer lists = untold options.processors answer lists
+pub told_nothing : (command : Option Command) (o : Outside) (answer : Answer) (lists : ToldLists) → CommandTells command o answer lists lists
+told_nothing None o answer lists = refl
+told_nothing (Some (commands.Run options plan)) o answer lists = untold options.processors answer lists
+told_nothing (Some (commands.Serial options)) o answer lists = refl
+told_nothing (Some commands.Code) o answer lists = refl
+told_nothing (Some commands.Check) o answer lists = refl
+told_nothing (Some (commands.Replay options schedule)) o answer lists = refl
+told_nothing (Some (commands.Resume options plan)) o answer lists = untold_source o.source answer lists
+told_nothing (Some (commands.Stop options schedule)) o answer lists = refl
+told_nothing (Some (commands.Example options)) o answer lists = untold options.processors answer lists

@@ -4,7 +4,7 @@ use Rattle.std.proofs.Common.{refl, sym, ◌∙◌, subst, inl, inr}
 use Rattle.ppm_ports.specs.Ports.{Fails, Holds}
 use Rattle.ppm_ports.specs.Outside.{Outside, ports_of}
 use Rattle.ppm_text.specs.Limits.{text_limit}
-use Rattle.ppm_listing_reader.specs.Limits.{text_limit as listing_limit}
+use Rattle.ppm_listing_reader.specs.Limits.{listing_limit}
 use Rattle.ppm_answers.specs.declared.answer.Answer.{Answer}
 use Rattle.ppm_answers.specs.declared.answer.Answer.TheVariants as answers
 use Rattle.ppm_answers.specs.declared.status.Status.{Status}
@@ -46,7 +46,7 @@ use Rattle.ppm_driver.proofs.OfReplay as of_replay
 use Rattle.ppm_driver.proofs.OfResume as of_resume
 use Rattle.ppm_driver.proofs.OfRun as of_run
 use Rattle.ppm_driver.proofs.StoppedLemmas.{saved_left}
-use Rattle.ppm_saved_reader.specs.Rules.{text_limit as saved_limit}
+use Rattle.ppm_saved_reader.specs.Rules.{saved_limit}
 use Rattle.ppm_loading.proofs.PlannedLemmas as planned
 use Rattle.ppm_answers.specs.Reading.{IsUnread, JudgingMay, DeliversAnswer, Answers}
 use Rattle.ppm_answers.proofs.Delivered.{of_answers}
@@ -125,7 +125,7 @@ reports_faults o may status reports a = record {
 -- what was delivered, without what watchers were told
 delivers : (words : List (List ℕ)) (o : Outside) (status : Status) → IsAnswered words o status →
     DeliversAnswer (CommandMay (command_of words) o) (ports_of o) status
-delivers words o status a = of_answers (CommandMay (command_of words) o) (CommandTells (command_of words)) o status a
+delivers words o status a = of_answers (CommandMay (command_of words) o) (CommandTells (command_of words) o) o status a
 
 faults : (words : List (List ℕ)) (o : Outside) (status : Status) → IsAnswered words o status → ReportsFaults o status
 faults words o status a =
@@ -273,8 +273,8 @@ program_rows laws words o status a = record {
   nothing_on_out = delivered.nothing_on_out o.out o.err a.answer status a.delivered;
 } where
   by_example : (options : SelfOptions) → command_of words ≡ Some (commands.Example options)
-      → Answers (CommandMay (Some (commands.Example options)) o) (CommandTells (Some (commands.Example options))) o status
-  by_example options e = subst (λ c. Answers (CommandMay c o) (CommandTells c) o status) e a
+      → Answers (CommandMay (Some (commands.Example options)) o) (CommandTells (Some (commands.Example options)) o) o status
+  by_example options e = subst (λ c. Answers (CommandMay c o) (CommandTells c o) o status) e a
 
   by_words : (command : Option Command) → command_of words ≡ command → DeliversAnswer (CommandMay command o) (ports_of o) status
   by_words command e = subst (λ c. DeliversAnswer (CommandMay c o) (ports_of o) status) e (delivers words o status a)

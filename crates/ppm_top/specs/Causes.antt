@@ -36,17 +36,17 @@ CommandMay (Some (commands.Stop options schedule)) o answer = StopMay options sc
 CommandMay (Some (commands.Example options)) o answer = IsUnread o.source × ExampleMay options o.told_before o.told_now answer
 
 -- what watchers are told with each answer of a command, or of none: a run tells them its turns
-abbrev pub CommandTells : Option Command → Answer → ToldLists → ToldLists → Type 0
-CommandTells None = TellsNothing
-CommandTells (Some (commands.Run options plan)) = RunTells options.processors
-CommandTells (Some (commands.Serial options)) = TellsNothing
-CommandTells (Some commands.Code) = TellsNothing
-CommandTells (Some commands.Check) = TellsNothing
-CommandTells (Some (commands.Replay options schedule)) = TellsNothing
-CommandTells (Some (commands.Resume options plan)) = ResumeTells
-CommandTells (Some (commands.Stop options schedule)) = TellsNothing
-CommandTells (Some (commands.Example options)) = RunTells options.processors
+abbrev pub CommandTells : Option Command → Outside → Answer → ToldLists → ToldLists → Type 0
+CommandTells None o = TellsNothing
+CommandTells (Some (commands.Run options plan)) o = RunTells options.processors
+CommandTells (Some (commands.Serial options)) o = TellsNothing
+CommandTells (Some commands.Code) o = TellsNothing
+CommandTells (Some commands.Check) o = TellsNothing
+CommandTells (Some (commands.Replay options schedule)) o = TellsNothing
+CommandTells (Some (commands.Resume options plan)) o = ResumeTells o.source
+CommandTells (Some (commands.Stop options schedule)) o = TellsNothing
+CommandTells (Some (commands.Example options)) o = RunTells options.processors
 
 -- an answer of the command that the words give was delivered, and watchers were told what belongs to it
 abbrev pub IsAnswered : List (List ℕ) → Outside → Status → Type 0
-IsAnswered words o status = Answers (CommandMay (command_of words) o) (CommandTells (command_of words)) o status
+IsAnswered words o status = Answers (CommandMay (command_of words) o) (CommandTells (command_of words) o) o status

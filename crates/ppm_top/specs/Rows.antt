@@ -24,6 +24,7 @@ use Rattle.ppm_driver.specs.ExampleRows.{ExampleRows}
 use Rattle.ppm_driver.specs.ReplayRows.{ReplayRows}
 use Rattle.ppm_driver.specs.ResumeRows.{ResumeRows, RefusesPlan as RefusesResumed}
 use Rattle.ppm_driver.specs.Resumes.{IsTextLeftBy}
+use Rattle.ppm_driver.specs.Strikes.{scheduled_faults}
 use Rattle.ppm_driver.specs.RunRows.{RunRows}
 use Rattle.ppm_stop.specs.StopRows.{HasRead, StopRows}
 use Rattle.ppm_plan.specs.Forms.{plan_form, schedule_form}
@@ -56,9 +57,11 @@ abbrev pub ResumesByWords : List (List ℕ) → Outside → Status → Type 0
 ResumesByWords words o status = (options : ResumeOptions) (plan : List ℕ) → command_of words ≡ Some (commands.Resume options plan)
     → AreResumed options × ResumeRows options plan o status
 
--- what `stop` saves of the text that was read is the text of a state which that text left; at each status: also where the saved text failed
+-- what `stop` saves of the text that was read is the text of a state which that text left, by no more faults than the schedule has; at each
+-- status: also where the saved text failed
 abbrev pub LeavesStates : StopOptions → (schedule : List ℕ) → Ports → Type 0
-LeavesStates options schedule p = (text : List ℕ) (read : HasRead options schedule p (answers.Saved text)) → IsTextLeftBy read.0 text
+LeavesStates options schedule p = (text : List ℕ) (read : HasRead options schedule p (answers.Saved text))
+    → IsTextLeftBy read.0 (scheduled_faults read.2.items) text
 
 -- the rows of `stop` with such options and such a schedule, and what its texts are
 pub record StopsLeaving (options : StopOptions) (schedule : List ℕ) (p : Ports) (status : Status) : Type 0 where

@@ -1,6 +1,6 @@
 use Rattle.std.proofs.Common.{sym, subst}
 use Rattle.ppm_answers.specs.Reading.{TextMay, JudgingMay}
-use Rattle.ppm_listing_reader.specs.Limits.{text_limit}
+use Rattle.ppm_listing_reader.specs.Limits.{listing_limit}
 use Rattle.ppm_answers.proofs.Judged.{not_read, is_read}
 use Rattle.ppm_commands.specs.Check.{CheckHas}
 use Rattle.ppm_commands.proofs.CheckRows.{no_fault}
@@ -9,12 +9,12 @@ use Rattle.ppm_commands.proofs.check.check_answer.Goals as goal
 -- the text that was read is judged
 pub returns-in-Ok : goal.returns-in-Ok
 returns-in-Ok g c =
-    is_read text_limit CheckHas no_fault _ c.in-Ok.text.items c.text_answer.result
+    is_read listing_limit CheckHas no_fault _ c.in-Ok.text.items c.text_answer.result
     (record { whole = c.in-Ok.ensures.bytes; holds = c.in-Ok.ensures.cause })
     (subst (λ text. TextMay CheckHas text c.text_answer.result) c.deref.ensures.value c.text_answer.ensures)
 
 -- or it was not read whole
 pub returns-in-Err : goal.returns-in-Err
 returns-in-Err g c =
-    subst (JudgingMay text_limit CheckHas _) (sym c.answer_of_read.ensures)
-    (not_read text_limit CheckHas _ c.in-Err.error c.in-Err.ensures.front c.in-Err.ensures.cause)
+    subst (JudgingMay listing_limit CheckHas _) (sym c.answer_of_read.ensures)
+    (not_read listing_limit CheckHas _ c.in-Err.error c.in-Err.ensures.front c.in-Err.ensures.cause)

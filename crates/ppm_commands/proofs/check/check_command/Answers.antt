@@ -1,5 +1,5 @@
 use Rattle.ppm_answers.proofs.Judged.{judging_delivered}
-use Rattle.ppm_listing_reader.specs.Limits.{text_limit}
+use Rattle.ppm_listing_reader.specs.Limits.{listing_limit}
 use Rattle.ppm_commands.specs.Check.{CheckHas}
 use Rattle.ppm_commands.proofs.CheckRows.{check_rows}
 use Rattle.ppm_commands.proofs.check.check_command.Goals as goal
@@ -7,7 +7,7 @@ use Rattle.ppm_commands.proofs.check.check_command.Goals as goal
 -- the answer was delivered, or out of memory in its place, and the rows follow from it
 pub returns : goal.returns
 returns g c = record {
-  delivers = judging_delivered text_limit CheckHas _ _ _ c.check_answer-answer.ensures c.deliver.ensures;
+  delivers = judging_delivered listing_limit CheckHas _ _ _ c.check_answer-answer.ensures c.deliver.ensures;
   rows = check_rows _ c.listings_have_one_answer.ensures.law _
-      (judging_delivered text_limit CheckHas _ _ _ c.check_answer-answer.ensures c.deliver.ensures);
+      (judging_delivered listing_limit CheckHas _ _ _ c.check_answer-answer.ensures c.deliver.ensures);
 }

@@ -13,9 +13,6 @@ returns-clause-undone c = undone_are_planned
 pub returns-clause-law : goal.returns-clause-law
 returns-clause-law c = runs_complete (record {
   runs = c.runs_are_as_programs.ensures.law;
-  within = c.trees_are_within.ensures.law;
-  starts = c.start_with_input.ensures.law;
-  meant = c.end_as_meant.ensures.law;
   plans = c.have_one_answer.ensures.law;
   texts = c.have_one_answer-2.ensures.law;
 })

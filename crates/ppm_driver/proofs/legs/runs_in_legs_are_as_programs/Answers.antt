@@ -17,9 +17,9 @@ returns c =
         runs = c.runs_end_so.ensures.ends;
         once = c.runs_end_so.ensures.once;
         forks = c.runs_end_so.ensures.forks;
-        room = c.room_is_spent.ensures.so;
+        room = c.room_is_spent.ensures.law;
         pools = c.room_is_spent.ensures.within;
-        work = c.work_is_bounded.ensures.within_so;
+        work = c.work_is_bounded.ensures.within;
         whole = c.nothing_breaks.ensures.law;
       };
       legs = c.legs_come_to.ensures.law;

@@ -16,9 +16,9 @@ returns c = record {
     runs = c.runs_end_so.ensures.ends;
     forks = c.runs_end_so.ensures.forks;
     once = c.runs_end_so.ensures.once;
-    room = c.room_is_spent.ensures.so;
+    room = c.room_is_spent.ensures.law;
     pools = c.room_is_spent.ensures.within;
-    work = c.work_is_bounded.ensures.within_so;
+    work = c.work_is_bounded.ensures.within;
     whole = c.nothing_breaks.ensures.law;
   });
 }

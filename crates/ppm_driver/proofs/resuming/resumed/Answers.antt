@@ -1,10 +1,10 @@
-use Rattle.std.proofs.Common.{◌<◌, ◌≤◌, ◌∙◌, refl, sym, subst, arith, length}
+use Rattle.std.proofs.Common.{ℕ, ◌<◌, ◌≤◌, ◌∙◌, refl, sym, subst, arith, length}
 use Rattle.ppm_code.specs.Code.{IsCode}
 use Rattle.ppm_cells.specs.declared.shape.Shape.{Shape}
 use Rattle.ppm_threads.specs.Driven.{OthersStay}
 use Rattle.ppm_driver.specs.Resumes.{state_of}
-use Rattle.ppm_driver.proofs.ResumeLemmas.{renewed_has}
-use Rattle.ppm_driver.proofs.WatchLemmas.{first_of, fronts_stay, keep_fronts}
+use Rattle.ppm_driver.proofs.ResumeLemmas.{renewed_has, table_count}
+use Rattle.ppm_driver.proofs.WatchLemmas.{first_of, fronts_stay, keep_fronts, others_keep, others_still}
 use Rattle.ppm_driver.proofs.resuming.resumed.Goals as goal
 
 -- what is said of the words behind the run, in which all processors obey, and what watchers were told of it
@@ -37,3 +37,34 @@ returns-in_err-closed-clause-kept g c = keep_fronts g.W.Watch.told c.args.watch.
 pub returns-in_err-answer-clause-kept : goal.returns-in_err-answer-clause-kept
 returns-in_err-answer-clause-kept g c = keep_fronts g.W.Watch.told c.args.watch.now.items c.drive.new.watch.items
     (omega (arith, c.in_ok-closed.ensures.kept.0, c.args.watch.now.ok.0, c.drive.new.watch.ok.0)) c.in_ok-closed.ensures.kept.1
+
+-- those of no processor are told nothing
+pub returns-clause-others : goal.returns-clause-others
+returns-clause-others g c =
+    let some : 0 < length c.args.watch.now.items = omega (arith, c.requires.watchers) in
+    others_keep g.W.Watch.told c.args.saved.shape.processors c.args.watch.now.items c.drive.new.watch.items (first_of c.args.watch.now.items some)
+    (omega (arith, c.in_ok-closed.ensures.kept.0, c.args.watch.now.ok.0, c.drive.new.watch.ok.0))
+    (subst (λ (n : ℕ). OthersStay n c.args.watch.now.items c.drive.new.watch.items)
+    (table_count c.args.saved c.keeper.result c.renew-image.result c.in_ok-table.table.0 c.renew-image.ensures c.in_ok-table.ensures.opens)
+    c.in_ok-closed.ensures.others)
+
+pub returns-in_err-table-clause-others : goal.returns-in_err-table-clause-others
+returns-in_err-table-clause-others g c = others_still _ _
+
+pub returns-in_err-closed-clause-others : goal.returns-in_err-closed-clause-others
+returns-in_err-closed-clause-others g c =
+    let some : 0 < length c.args.watch.now.items = omega (arith, c.requires.watchers) in
+    others_keep g.W.Watch.told c.args.saved.shape.processors c.args.watch.now.items c.drive.new.watch.items (first_of c.args.watch.now.items some)
+    (omega (arith, c.in_err-closed.ensures.kept.0, c.args.watch.now.ok.0, c.drive.new.watch.ok.0))
+    (subst (λ (n : ℕ). OthersStay n c.args.watch.now.items c.drive.new.watch.items)
+    (table_count c.args.saved c.keeper.result c.renew-image.result c.in_ok-table.table.0 c.renew-image.ensures c.in_ok-table.ensures.opens)
+    c.in_err-closed.ensures.others)
+
+pub returns-in_err-answer-clause-others : goal.returns-in_err-answer-clause-others
+returns-in_err-answer-clause-others g c =
+    let some : 0 < length c.args.watch.now.items = omega (arith, c.requires.watchers) in
+    others_keep g.W.Watch.told c.args.saved.shape.processors c.args.watch.now.items c.drive.new.watch.items (first_of c.args.watch.now.items some)
+    (omega (arith, c.in_ok-closed.ensures.kept.0, c.args.watch.now.ok.0, c.drive.new.watch.ok.0))
+    (subst (λ (n : ℕ). OthersStay n c.args.watch.now.items c.drive.new.watch.items)
+    (table_count c.args.saved c.keeper.result c.renew-image.result c.in_ok-table.table.0 c.renew-image.ensures c.in_ok-table.ensures.opens)
+    c.in_ok-closed.ensures.others)

@@ -1,8 +1,8 @@
 use Rattle.std.proofs.Common.{sym, subst}
 use Rattle.ppm_loading.specs.Programs.{ProgramMay}
 use Rattle.ppm_driver.specs.Resumes.{StateHas, state_of}
-use Rattle.ppm_driver.proofs.ResumeLemmas.{refused_plan, state_may, still_told}
-use Rattle.ppm_driver.proofs.WatchLemmas.{fronts_stay}
+use Rattle.ppm_driver.proofs.ResumeLemmas.{refused_plan, state_may}
+use Rattle.ppm_driver.proofs.WatchLemmas.{fronts_stay, untold}
 use Rattle.ppm_driver.proofs.resuming.state_answer.Goals as goal
 
 -- the plan is accepted
@@ -18,7 +18,7 @@ returns-in-Err-clause-may g c =
     (refused_plan c.args.options c.args.faults.now _ _ (state_of c.args.saved) c.in-Err.error c.in-Err.ensures.refused)
 
 pub returns-in-Err-clause-told : goal.returns-in-Err-clause-told
-returns-in-Err-clause-told g c = still_told c.refusal_answer.result _
+returns-in-Err-clause-told g c = untold c.args.saved.shape.processors c.refusal_answer.result _
 
 pub returns-in-Err-clause-kept : goal.returns-in-Err-clause-kept
 returns-in-Err-clause-kept g c = fronts_stay _

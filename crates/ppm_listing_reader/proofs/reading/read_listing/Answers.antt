@@ -1,7 +1,7 @@
 use Rattle.std.proofs.Common.{◌∙◌, sym, ap, subst, length, ltb-false}
 use Rattle.ppm_listing.specs.Listing.{listing_of}
 use Rattle.ppm_listing.specs.Correct.{NumbersFit}
-use Rattle.ppm_listing_reader.specs.Limits.{text_limit}
+use Rattle.ppm_listing_reader.specs.Limits.{listing_limit}
 use Rattle.ppm_listing_reader.specs.Correct.{IsRefusal}
 use Rattle.ppm_listing_reader.proofs.FrontLemmas.{found_listing, found_refusal}
 use Rattle.ppm_listing_reader.proofs.reading.read_listing.Goals as goal
@@ -10,7 +10,7 @@ use Rattle.ppm_listing_reader.proofs.reading.read_listing.Goals as goal
 pub returns-in-Some-clause-err : goal.returns-in-Some-clause-err
 returns-in-Some-clause-err c =
     subst (IsRefusal c.args.text.now) (sym c.at.ensures) (found_refusal c.args.text.now c.in_ok-read.read c.in_ok-read.ensures.lines
-    (ltb-false text_limit (length c.args.text.now) (sym c.is_too_long.ensures ∙ c.if-is_too_long.false))
+    (ltb-false listing_limit (length c.args.text.now) (sym c.is_too_long.ensures ∙ c.if-is_too_long.false))
     c.deref.result.now c.deref.ensures.value c.in-Some.fault c.in-Some.line c.in-Some.ensures)
 
 -- no rule is broken, so the parts are a code

@@ -3,12 +3,12 @@ use Rattle.ppm_tree.specs.Tree.{tree_of}
 use Rattle.ppm_tree.specs.Program.{initial_arrays}
 use Rattle.ppm_core.specs.Situation.{Situation}
 use Rattle.ppm_cut_code.specs.Routines.{code_of}
-use Rattle.ppm_loading.specs.Loading.{Opens}
+use Rattle.ppm_loading.specs.Loading.{OpensRun}
 use Rattle.ppm_loading.proofs.LoadingLemmas.{table_opens}
 use Rattle.ppm_loading.proofs.loading.share.Goals as goal
 
 -- the table was told the image's words
 pub returns-clause-opens : goal.returns-clause-opens
 returns-clause-opens c =
-    subst (λ (m : Situation). Opens c.args.sizes (code_of (tree_of c.args.program.now)) (initial_arrays (tree_of c.args.program.now)) c.args.keeper m)
+    subst (λ (m : Situation). OpensRun c.args.sizes (code_of (tree_of c.args.program.now)) (initial_arrays (tree_of c.args.program.now)) c.args.keeper m)
     (table_opens c.in_ok-table.table.0 _ _ c.in_ok-table.ensures.opens c.in_ok-table.ensures.arrays) c.in_ok-opening.ensures

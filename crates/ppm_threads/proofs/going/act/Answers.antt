@@ -64,7 +64,7 @@ returns-clause-goes g c =
     c.in-Some.act o lives next in
     goes_by_act c.args.crew.now.plan.now c.args.crew.now.limits k own (g.W.Watch.told c.args.watch.now) (g.W.Watch.told c.args.watch.now)
     (g.W.Watch.told c.make.new.watch) p.seat.me c.make.new.processor.seat.me
-    o.past c.make.new.pace c.next_act.new.victims c.make.result c.way_of.result c.way_of.ensures
+    o.past c.make.new.pace c.next_act.new.victims c.make.result c.act_result_of.result c.act_result_of.ensures
     (grows_from c.args.crew.now.plan.now c.args.crew.now.limits k own (deeds_of_processor p) o.past (g.W.Watch.told c.args.watch.now) next.0)
     (λ taken. c.make.ensures.obeys taken c.args.crew.now.plan.now o.past c.next_act.new.victims a)
     (λ refused. c.make.ensures.quits refused c.args.crew.now.plan.now o.past c.next_act.new.victims a)

@@ -1,4 +1,4 @@
-use Rattle.std.proofs.Common.{◌∙◌, Some, None, inr, sym, ap, arith}
+use Rattle.std.proofs.Common.{◌∙◌, Some, None, inr, sym, ap}
 use Rattle.ppm_step.specs.Told.{place_of}
 use Rattle.ppm_table.specs.Run.{stands_by}
 use Rattle.ppm_table.specs.Shown.{deeds_of_processor, opening_of}
@@ -43,16 +43,6 @@ unreachable-requires g c =
     c.rest.ensures.number (c.rest.ensures.pace c.args.crew.now.plan.now c.args.crew.now.limits r.obeying.past st r.obeying.pace_is) c.in_default.ensures in
     none_rests c.args.crew.now.plan.now c.args.crew.now.limits p.local.own r.obeying.past st next.0
 
-pub make-requires-clause-few : goal.make-requires-clause-few
-make-requires-clause-few g c =
-    let k = opening_of c.args.crew.now.shared in
-    let p = c.args.processor.now in
-    let o = c.requires.resting.obeying in
-    let new = (c.rest.ensures.pace c.args.crew.now.plan.now c.args.crew.now.limits o.past (stands_by k p.local.own (deeds_of_processor p)) o.pace_is).work in
-    let old = o.pace_is.work in
-    let few = c.requires.few in
-    omega (arith, new, old, few)
-
 pub make-requires-clause-lives : goal.make-requires-clause-lives
 make-requires-clause-lives g c κs within =
     let r = c.requires.resting in λ done.
@@ -71,7 +61,9 @@ make-requires-clause-may g c κs within =
     may_act shared p c.args.crew.now.plan.now c.args.crew.now.limits r.obeying.past c.in-Some.act c.requires.of c.requires.plan next.1
 
 pub returns-clause-keeps : goal.returns-clause-keeps
-returns-clause-keeps g c = keeps_both _ _ _ c.hear.ensures.keeps c.make.ensures.keeps
+returns-clause-keeps g c =
+    keeps_both (g.W.Watch.told c.args.watch.now) (g.W.Watch.told c.hear.new.watch) (g.W.Watch.told c.make.new.watch)
+    c.hear.ensures.keeps c.make.ensures.keeps
 
 pub returns-clause-goes : goal.returns-clause-goes
 returns-clause-goes g c =
@@ -92,7 +84,7 @@ returns-clause-goes g c =
     let event = c.parked_at.ensures st (c.place.ensures shared.shape shared.code ∙ ap place_of c.requires.of.stands) in
     goes_by_act c.args.crew.now.plan.now c.args.crew.now.limits k own (g.W.Watch.told c.args.watch.now) (g.W.Watch.told c.hear.new.watch)
     (g.W.Watch.told c.make.new.watch) p.seat.me c.make.new.processor.seat.me
-    r.obeying.past c.make.new.pace c.next_act.new.victims c.make.result c.way_of.result c.way_of.ensures
+    r.obeying.past c.make.new.pace c.next_act.new.victims c.make.result c.act_result_of.result c.act_result_of.ensures
     (grows_parked c.args.crew.now.plan.now c.args.crew.now.limits k own (deeds_of_processor p) r.obeying.past (g.W.Watch.told c.args.watch.now)
     (g.W.Watch.told c.hear.new.watch) c.parked_at.result idle r.rests event
     (c.hear.ensures.heard c.if-not-hear.false))

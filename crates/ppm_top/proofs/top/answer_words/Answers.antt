@@ -63,5 +63,5 @@ returns-in-Ok-None-clause-answers g c = by_command (map string_bytes c.args.word
 
 -- memory was refused before the words were judged, and nothing was read
 pub returns-in-Err-clause-answers : goal.returns-in-Err-clause-answers
-returns-in-Err-clause-answers g c = fixed_delivered _ _ _ answers.NoMemory _ (told_nothing _ answers.NoMemory _) tt
+returns-in-Err-clause-answers g c = fixed_delivered _ _ _ answers.NoMemory _ (told_nothing _ _ answers.NoMemory _) tt
     (memory_before _ _ (left_alone g.S.Source.left g.S.Source.fault_count c.args.source.now)) c.deliver-in-Err.ensures

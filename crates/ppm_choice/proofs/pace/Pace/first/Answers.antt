@@ -8,7 +8,7 @@ pub returns-clause-pace : goal.returns-clause-pace
 returns-clause-pace c limits = record {
   keeper = is_keeper c.args.plan.now.items c.keeper.result c.args.processor _ refl c.keeper.ensures.keeper;
   acts = refl;
-  work = refl;
+  work = none limits.turns;
   looks = none limits.looks;
   next = refl;
   due = refl;

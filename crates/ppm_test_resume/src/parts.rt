@@ -1,0 +1,76 @@
+//! Runs that are stopped and resumed more than once: the saved text that one part leaves is what the
+//! next one reads.
+ghost use Rattle.std.specs.Prelude.{◌≤◌, ◌^◌};
+
+use crate::texts::stopped;
+use crate::told::{PLAIN, is_run, is_run_alone};
+use ppm_answers::Status;
+use ppm_core::Machine;
+use ppm_following::follow;
+use ppm_plan::read_schedule;
+use ppm_saved::{Renewed, renew, write_saved};
+use ppm_saved_reader::read_saved;
+use ppm_test_calls::{FIRST, SUM};
+use std::alloc::Global;
+use std::test::Fail;
+
+/// The saved text behind so many acts of fresh processors, by a schedule, from the state of a text.
+fn stopped_again(alloc: Global, text: &[u8], schedule: &str, acts: u64) -> Result<Vec<u8>, Fail>
+    requires { acts ≤ 2 ^ 40 }
+{
+    let saved = read_saved(alloc, text).map_err(|_| "no state")?;
+    let processors = saved.shape.processors;
+    let schedule = read_schedule(alloc, schedule.as_bytes(), processors).map_err(
+        |_| "no schedule",
+    )?;
+    let Renewed { image, code, names } = renew(saved, schedule.keeper());
+    let mut machine = Machine::load(alloc, image, code).map_err(|_| "memory")?;
+    follow(&mut machine, &schedule, acts);
+    let text = write_saved(
+        alloc,
+        machine.code(),
+        machine.shape(),
+        &names,
+        machine.words(),
+    )
+    .map_err(|_| "memory")?;
+    Ok(text)
+}
+
+#[test]
+fn what_is_stopped_again_is_resumed(rt: HostRuntime) -> Result<(), Fail> {
+    let alloc = rt.alloc();
+    let first = stopped(&rt, alloc, SUM, "3", "256", "60")?;
+    for acts in [0, 7, 41, 120] {
+        let second = stopped_again(alloc, &first, "0!s,1*5,1!h", acts)?;
+        is_run(
+            &rt,
+            alloc,
+            &second,
+            "0@3s,2@4h",
+            "a 10 2 7 4\n",
+            Status::Ended,
+        )?;
+        let third = stopped_again(alloc, &second, "2*9,0!h,2>1*30", 50)?;
+        is_run(
+            &rt,
+            alloc,
+            &third,
+            "1@0h,0@20h",
+            "a 10 2 7 4\n",
+            Status::Ended,
+        )?;
+    }
+    Ok(())
+}
+
+#[test]
+fn one_is_stopped_after_each_act(rt: HostRuntime) -> Result<(), Fail> {
+    let alloc = rt.alloc();
+    for acts in 0..80u64 {
+        let after = format!(in alloc; "{acts}")?;
+        let text = stopped(&rt, alloc, FIRST, "1", "64", &after)?;
+        is_run_alone(&rt, alloc, &text, PLAIN, "a 5 7\n", Status::Ended)?;
+    }
+    Ok(())
+}
