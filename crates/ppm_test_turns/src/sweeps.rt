@@ -126,7 +126,7 @@ fn flaw_of_sweep(
 /// fewer of more; with a fork in a fork at fewer still. So each processor has its share of the faults.
 fn flaw_of_sweeps(alloc: Global, trial: Trial, apart: u32) -> Result<Option<(u32, Flaw)>, Fail> {
     let often = trial.processors.saturating_sub(1).max(1);
-    let seldom = trial.processors.saturating_mul(8).saturating_sub(1);
+    let seldom = trial.processors.saturating_mul(2).saturating_sub(1);
     for (listing, every) in [(FORK, often), (SUM, seldom)] {
         for by_entries in [false, true] {
             let swept = Trial {
@@ -195,11 +195,11 @@ fn deaths_break_nothing(rt: HostRuntime) -> Result<(), Fail> {
     let alloc = rt.alloc();
     let rows = [
         (2, 4, 1, 0, NEVER),
-        (2, 4, 1, 9, NEVER),
+        (2, 3, 1, 9, NEVER),
         (2, 4, 2, 41, NEVER),
         (3, 4, 1, 0, NEVER),
         (3, 2, 2, 0, 20),
-        (3, 4, 1, 23, 35),
+        (3, 3, 1, 23, 35),
         (4, 4, 3, 0, 55),
     ];
     for (processors, slots, burst, alone, apart) in rows {
