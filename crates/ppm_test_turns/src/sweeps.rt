@@ -8,8 +8,9 @@ use ppm_core::{Act, Machine};
 use std::alloc::Global;
 use std::test::Fail;
 
-/// A machine's listing and sizes, how many steps a processor makes in a row, the act from which on words
-/// are looked at, and a fault that comes in the place of two of the steps.
+/// A machine's listing and sizes, how many steps a processor makes in a row, and the act from which on
+/// words are looked at. From its first act on a processor goes on alone for so many steps, and then it
+/// has a fault; so has the one whose turn it is at the second act.
 #[derive(Clone, Copy)]
 struct Trial {
     listing: &'static str,
@@ -20,14 +21,21 @@ struct Trial {
     from: u32,
     fault: Act,
     first: u32,
+    alone: u32,
     second: u32,
 }
 
 /// The act with a number, of a processor in its turn.
 fn act_at(trial: Trial, at: u32) -> (u32, Act) {
     let processors = trial.processors.max(1);
-    let processor = (at / trial.burst.max(1)) % processors;
-    if at == trial.first || at == trial.second {
+    let fault = trial.first.saturating_add(trial.alone);
+    let turn = if at > fault {
+        at.saturating_sub(trial.alone)
+    } else {
+        at.min(trial.first)
+    };
+    let processor = (turn / trial.burst.max(1)) % processors;
+    if at == fault || at == trial.second {
         return (processor, trial.fault);
     }
     let others = processors.saturating_sub(1).max(1);
@@ -95,7 +103,7 @@ fn flaw_of_sweep(
     let mut from = 0u32;
     for round in 0..20_000u32 {
         let first = round.saturating_mul(every);
-        let second = first.saturating_add(apart);
+        let second = first.saturating_add(trial.alone).saturating_add(apart);
         let faulty = Trial {
             from,
             first,
@@ -118,7 +126,7 @@ fn flaw_of_sweep(
 /// fewer of more; with a fork in a fork at fewer still. So each processor has its share of the faults.
 fn flaw_of_sweeps(alloc: Global, trial: Trial, apart: u32) -> Result<Option<(u32, Flaw)>, Fail> {
     let often = trial.processors.saturating_sub(1).max(1);
-    let seldom = trial.processors.saturating_mul(8).saturating_sub(1);
+    let seldom = trial.processors.saturating_mul(2).saturating_sub(1);
     for (listing, every) in [(FORK, often), (SUM, seldom)] {
         for by_entries in [false, true] {
             let swept = Trial {
@@ -145,6 +153,7 @@ const PLAIN: Trial = Trial {
     from: 0,
     fault: Act::Soft,
     first: 0,
+    alone: 0,
     second: 0,
 };
 
@@ -154,18 +163,28 @@ const NEVER: u32 = 1_000_000;
 #[test]
 fn soft_faults_break_nothing(rt: HostRuntime) -> Result<(), Fail> {
     let alloc = rt.alloc();
-    let rows = [(1, 4, 1), (2, 4, 1), (3, 2, 2), (4, 4, 1)];
-    for (processors, slots, burst) in rows {
+    let rows = [
+        (1, 4, 1, 0),
+        (2, 4, 1, 0),
+        (2, 4, 1, 9),
+        (2, 4, 3, 16),
+        (2, 4, 2, 41),
+        (3, 2, 2, 0),
+        (3, 4, 1, 23),
+        (4, 4, 1, 0),
+    ];
+    for (processors, slots, burst, alone) in rows {
         let trial = Trial {
             processors,
             slots,
             burst,
+            alone,
             ..PLAIN
         };
         assert_eq!(rt;
             flaw_of_sweeps(alloc, trial, 13)?,
             None,
-            "{processors} {slots}"
+            "{processors} {slots} {alone}"
         );
     }
     Ok(())
@@ -175,23 +194,27 @@ fn soft_faults_break_nothing(rt: HostRuntime) -> Result<(), Fail> {
 fn deaths_break_nothing(rt: HostRuntime) -> Result<(), Fail> {
     let alloc = rt.alloc();
     let rows = [
-        (2, 4, 1, NEVER),
-        (3, 4, 1, NEVER),
-        (3, 2, 2, 20),
-        (4, 4, 3, 55),
+        (2, 4, 1, 0, NEVER),
+        (2, 3, 1, 9, NEVER),
+        (2, 4, 2, 41, NEVER),
+        (3, 4, 1, 0, NEVER),
+        (3, 2, 2, 0, 20),
+        (3, 3, 1, 23, 35),
+        (4, 4, 3, 0, 55),
     ];
-    for (processors, slots, burst, apart) in rows {
+    for (processors, slots, burst, alone, apart) in rows {
         let trial = Trial {
             processors,
             slots,
             burst,
+            alone,
             fault: Act::Hard,
             ..PLAIN
         };
         assert_eq!(rt;
             flaw_of_sweeps(alloc, trial, apart)?,
             None,
-            "{processors} {slots} {apart}"
+            "{processors} {slots} {alone} {apart}"
         );
     }
     Ok(())
