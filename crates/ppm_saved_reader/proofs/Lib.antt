@@ -17,5 +17,6 @@ pub mod LengthLemmas
 pub mod StableLemmas
 pub mod CoverLemmas
 pub mod HeadLemmas
+pub mod FrontLemmas
 pub mod LoopLemmas
 pub mod ExitLemmas

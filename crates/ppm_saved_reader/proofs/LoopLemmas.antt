@@ -5,7 +5,7 @@ use Rattle.std.proofs.lemmas.Bool.{eqb-true, eqb-false}
 use Rattle.std.proofs.lemmas.List.{length-replicate, append-nil}
 use Rattle.std.proofs.lemmas.Grind.{flat_map-append}
 use Rattle.ppm_words.specs.Limits.{word_limit}
-use Rattle.ppm_pieces.specs.Pieces.{split, halves_of}
+use Rattle.ppm_pieces.specs.Pieces.{halves_of}
 use Rattle.ppm_code.specs.declared.code.CodeParts.{CodeParts}
 use Rattle.ppm_saved.specs.Names.{lengths_of}
 use Rattle.ppm_saved.specs.Runs.{run, words_of}
@@ -13,12 +13,11 @@ use Rattle.ppm_saved.specs.declared.names.NamedLength.{NamedLength}
 use Rattle.ppm_saved.specs.declared.run.Run.{Run}
 use Rattle.ppm_saved_reader.specs.declared.lines.Sizes.{Sizes}
 use Rattle.ppm_saved_reader.specs.declared.saved_error.Fault.TheVariants as fault
-use Rattle.ppm_saved_reader.specs.Lines.{array_in, run_in}
+use Rattle.ppm_saved_reader.specs.Lines.{first_line, array_in, run_in}
 use Rattle.ppm_saved_reader.specs.Rules.{is_twice, is_past, is_other_count, ends_with, is_last}
 use Rattle.ppm_saved_reader.specs.Places.{AtArrays, AtRuns, Array, Repeated, NoRun, Same, NoWord, BadArray, Twice, TooMany}
 use Rattle.ppm_saved_reader.specs.Correct.{IsRead, AreRunsRead, IsWrongAt, Breaks}
-use Rattle.ppm_saved_reader.proofs.OptionLemmas.{not_both}
-use Rattle.ppm_saved_reader.proofs.LineLemmas.{halves_back, split_some, first_line_some, first_line_none, first_line_missing}
+use Rattle.ppm_saved_reader.proofs.LineLemmas.{halves_back, split_some, first_line_some, first_line_back}
 use Rattle.ppm_saved_reader.proofs.NameLemmas.{sum_more, past_parts}
 use Rattle.ppm_saved_reader.proofs.CountLemmas.{counted_line, counted_end}
 use Rattle.ppm_saved_reader.proofs.PlaceLemmas.{reads_on}
@@ -26,6 +25,9 @@ use Rattle.ppm_saved_reader.proofs.PlaceLemmas.{reads_on}
 -- a line is shorter than the text that it stands in front of, with its line feed
 pub shorter : (t l r : List ℕ) → halves_of 10 t ≡ Some (l, r) → length r < length t
 shorter t l r e = omega (arith, ap (λ (x : List ℕ). length x) (halves_back 10 t l r e), length-append l (10 ∷ r))
+
+pub line_shorter : (t r : List ℕ) (said : Option ℕ × ℕ) → first_line run_in t ≡ Some (said, r) → length r < length t
+line_shorter t r said first = let (line, says, cut) = first_line_back run_in t r said first in shorter t line r cut
 
 -- arrays were read up to a line
 pub record ArraysSoFar (text : List ℕ) (line : ℕ) (arrays : List NamedLength) (words number : ℕ) (left : List ℕ) : Type 0 where
@@ -109,64 +111,52 @@ no_runs text line count h other = record {
 
 module _ {text : List ℕ} {line count : ℕ} {words : List ℕ} {last : Option ℕ} {number : ℕ} {left : List ℕ}
     (h : RunsSoFar text line count words last number left) where
-  module _ (bytes rest : List ℕ) (cut : halves_of 10 left ≡ Some (bytes, rest)) where
-    -- a run has no more words than there are
-    pub run_within : (w : Option ℕ) (n : ℕ) → run_in bytes ≡ Some (w, n) → n ≤ count
-    run_within w n says =
-        omega (arith, h.count_is, (counted_line h.to_come left bytes rest w n (split_some 10 left bytes rest cut) says h.others).within)
+  -- a run has no more words than there are
+  pub run_within : (w : Option ℕ) (n : ℕ) (rest : List ℕ) → first_line run_in left ≡ Some ((w, n), rest) → n ≤ count
+  run_within w n rest first =
+      let (line, says, cut) = first_line_back run_in left rest (w, n) first in
+      omega (arith, h.count_is, (counted_line h.to_come left line rest w n (split_some 10 left line rest cut) says h.others).within)
 
-    -- one run more
-    pub run_more : (w n : ℕ) → run_in bytes ≡ Some (Some w, n) → is_last last w ≡ false
-        → RunsSoFar text line count (words ++ replicate n w) (Some w) (number + 1) rest
-    run_more w n says other =
-        let k = counted_line h.to_come left bytes rest (Some w) n (split_some 10 left bytes rest cut) says h.others in
-        record {
-          rs = h.rs ++ run w n ∷ [];
-          words_are = ap (λ (l : List ℕ). l ++ replicate n w) h.words_are ∙ sym (words_more h.rs w n);
-          last_is = ends_more h.rs w n;
-          to_come = h.to_come - n;
-          count_is = omega (arith, h.count_is, k.within, length-append words (replicate n w), length-replicate n w);
-          others = k.others;
-          bound = omega (arith, h.bound, shorter left bytes rest cut);
-          leads = λ whole z arrays code read.
-              reads_on (h.leads whole z arrays code read) (Repeated (first_line_some run_in left bytes rest (Some w, n) cut says) (h.last_is w ∙ other));
-        }
+  -- one run more
+  pub run_more : (w n : ℕ) (rest : List ℕ) → first_line run_in left ≡ Some ((Some w, n), rest) → is_last last w ≡ false
+      → RunsSoFar text line count (words ++ replicate n w) (Some w) (number + 1) rest
+  run_more w n rest first other =
+      let (bytes, says, cut) = first_line_back run_in left rest (Some w, n) first in
+      let k = counted_line h.to_come left bytes rest (Some w) n (split_some 10 left bytes rest cut) says h.others in
+      record {
+        rs = h.rs ++ run w n ∷ [];
+        words_are = ap (λ (l : List ℕ). l ++ replicate n w) h.words_are ∙ sym (words_more h.rs w n);
+        last_is = ends_more h.rs w n;
+        to_come = h.to_come - n;
+        count_is = omega (arith, h.count_is, k.within, length-append words (replicate n w), length-replicate n w);
+        others = k.others;
+        bound = omega (arith, h.bound, shorter left bytes rest cut);
+        leads = λ whole z arrays code read. reads_on (h.leads whole z arrays code read) (Repeated first (h.last_is w ∙ other));
+      }
 
-    -- or the line is wrong
-    pub run_same : (w n : ℕ) → run_in bytes ≡ Some (Some w, n) → is_last last w ≡ true
-        → (whole : List ℕ) (z : Sizes) (arrays : List NamedLength) (code : CodeParts) → IsRead whole (AtRuns z arrays code []) line text
-        → IsWrongAt whole fault.NoSuchForm number
-    run_same w n says same whole z arrays code read =
-        Breaks (h.leads whole z arrays code read) (Same (first_line_some run_in left bytes rest (Some w, n) cut says) (h.last_is w ∙ same))
-
-    pub run_large : (n : ℕ) → run_in bytes ≡ Some (None, n)
-        → (whole : List ℕ) (z : Sizes) (arrays : List NamedLength) (code : CodeParts) → IsRead whole (AtRuns z arrays code []) line text
-        → IsWrongAt whole fault.OutOfRange number
-    run_large n says whole z arrays code read =
-        Breaks (h.leads whole z arrays code read) (NoWord (first_line_some run_in left bytes rest (None, n) cut says))
-
-    pub run_none : run_in bytes ≡ None
-        → (whole : List ℕ) (z : Sizes) (arrays : List NamedLength) (code : CodeParts) → IsRead whole (AtRuns z arrays code []) line text
-        → IsWrongAt whole fault.NoSuchForm number
-    run_none says whole z arrays code read =
-        Breaks (h.leads whole z arrays code read) (NoRun (some_bytes left cut) (first_line_none run_in left bytes rest cut says))
-      where
-        some_bytes : (t : List ℕ) → halves_of 10 t ≡ Some (bytes, rest) → t ≡ [] → ⊥
-        some_bytes t c e = not_both refl (ap (halves_of 10) (sym e) ∙ c)
-
-  -- bytes that are no line
-  pub run_unended : left ≢ [] → halves_of 10 left ≡ None
+  -- or the line is wrong
+  pub run_same : (w n : ℕ) (rest : List ℕ) → first_line run_in left ≡ Some ((Some w, n), rest) → is_last last w ≡ true
       → (whole : List ℕ) (z : Sizes) (arrays : List NamedLength) (code : CodeParts) → IsRead whole (AtRuns z arrays code []) line text
       → IsWrongAt whole fault.NoSuchForm number
-  run_unended some none whole z arrays code read =
-      Breaks (h.leads whole z arrays code read) (NoRun some (first_line_missing run_in left none))
+  run_same w n rest first same whole z arrays code read = Breaks (h.leads whole z arrays code read) (Same first (h.last_is w ∙ same))
+
+  pub run_large : (n : ℕ) (rest : List ℕ) → first_line run_in left ≡ Some ((None, n), rest)
+      → (whole : List ℕ) (z : Sizes) (arrays : List NamedLength) (code : CodeParts) → IsRead whole (AtRuns z arrays code []) line text
+      → IsWrongAt whole fault.OutOfRange number
+  run_large n rest first whole z arrays code read = Breaks (h.leads whole z arrays code read) (NoWord first)
+
+  -- also where bytes are no line
+  pub run_none : left ≢ [] → first_line run_in left ≡ None
+      → (whole : List ℕ) (z : Sizes) (arrays : List NamedLength) (code : CodeParts) → IsRead whole (AtRuns z arrays code []) line text
+      → IsWrongAt whole fault.NoSuchForm number
+  run_none some none whole z arrays code read = Breaks (h.leads whole z arrays code read) (NoRun some none)
 
   -- nothing is left
-  pub runs_end : left ≡ [] → split 10 left ≡ left ∷ [] → AreRunsRead text line count words
-  runs_end none one = record {
+  pub runs_end : left ≡ [] → AreRunsRead text line count words
+  runs_end none = record {
     runs = h.rs;
     last = number;
     words_are = h.words_are;
-    many = omega (arith, h.count_is, counted_end h.to_come left one h.others);
+    many = omega (arith, h.count_is, counted_end h.to_come [] refl (subst (λ (l : List ℕ). is_other_count h.to_come l ≡ false) none h.others));
     leads = λ whole z arrays code read. subst (λ (l : List ℕ). IsRead whole (AtRuns z arrays code h.rs) number l) none (h.leads whole z arrays code read);
   }

@@ -9,6 +9,7 @@
 //! After the readers of listings; the form and its faults are this project's.
 #![tactic(auto)]
 
+mod first_run;
 mod heading;
 mod laws;
 mod lines;

@@ -9,7 +9,8 @@ ghost use Rattle.ppm_saved_reader.specs.Rules.{is_last as last_is};
 ghost use Rattle.ppm_saved_reader.specs.Places.{AtWords, AtRuns};
 ghost use Rattle.ppm_saved_reader.specs.Correct.{IsRead, AreRunsRead, IsRefusal};
 
-use crate::lines::{Sizes, count_in, run_in};
+use crate::first_run::first_run;
+use crate::lines::{Sizes, count_in};
 use crate::rules::is_other_count;
 use crate::saved_error::SavedError;
 use ppm_pieces::split_once;
@@ -47,6 +48,10 @@ fn push_run(words: &mut Vec<u64>, word: u64, times: u64) -> Result<(), SavedErro
     ensures ok { OnOk result (words.new.items ≡ words.old.items ++ replicate times word) }
     ensures err { IfErr result (λ e. e ≡ NoMemory) }
 {
+    if times == 1 {
+        words.push(word)?;
+        return Ok(());
+    }
     let length = words.len() + times as usize;
     words.resize(length, word)?;
     Ok(())
@@ -80,10 +85,7 @@ pub(crate) fn read_runs(
     let mut last: Option<u64> = None;
     let mut number = line;
     let mut left = text;
-    while let Some((bytes, rest)) = split_once(left, b'\n') {
-        let Some((read, times)) = run_in(bytes) else {
-            return Err(SavedError::NoSuchForm(number));
-        };
+    while let Some(((read, times), rest)) = first_run(left) {
         let Some(word) = read else {
             return Err(SavedError::OutOfRange(number));
         };

@@ -6,7 +6,8 @@ ghost use Rattle.ppm_saved_reader.specs.Rules.{is_from_to as from_to, sizes_fit 
 ghost use Rattle.ppm_saved_reader.specs.Rules.{is_twice as twice, is_past as past};
 ghost use Rattle.ppm_saved_reader.specs.Rules.{is_other_count as other_count};
 
-use crate::lines::{Sizes, run_in};
+use crate::first_run::first_run;
+use crate::lines::Sizes;
 use ppm_pieces::{same_bytes, split_once};
 use ppm_saved::NamedLength;
 use ppm_words::{ARRAY_LIMIT, WORD_LIMIT};
@@ -62,15 +63,16 @@ pub(crate) fn is_other_count(count: u64, text: &[u8]) -> bool
 {
     let mut left = text;
     let mut rest_count = count;
-    while let Some((line, rest)) = split_once(left, b'\n') {
-        let Some((_, times)) = run_in(line) else {
-            return false;
-        };
+    while let Some(((_, times), rest)) = first_run(left) {
         if times > rest_count {
             return true;
         }
         rest_count -= times;
         left = rest;
     }
-    rest_count > 0
+    // A line that is no run ends the count.
+    match split_once(left, b'\n') {
+        Some(_) => false,
+        None => rest_count > 0,
+    }
 }

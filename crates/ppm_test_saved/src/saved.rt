@@ -132,6 +132,33 @@ fn texts_have_their_faults(rt: HostRuntime) -> Result<(), Fail> {
     Ok(())
 }
 
+/// What stands in place of line 29, a word with the most digits, with the fault as above.
+const WORDS: [(&'static str, u32, u32); 12] = [
+    ("1844674407370955140", 0, 0),
+    ("1844674407370955141", 0, 0),
+    ("18446744073709551409", 0, 0),
+    ("18446744073709551410", 0, 0),
+    ("18446744073709551614", 0, 0),
+    ("28446744073709551615", 2, 29),
+    ("184467440737095516150", 2, 29),
+    ("018446744073709551615", 1, 29),
+    ("05", 1, 29),
+    ("", 1, 29),
+    ("5 ", 1, 29),
+    ("5\n5/", 1, 30),
+];
+
+#[test]
+fn lines_of_a_word_have_their_faults(rt: HostRuntime) -> Result<(), Fail> {
+    let alloc = rt.alloc();
+    for (with, number, line) in WORDS {
+        let text = changed(alloc, 29, with)?;
+        let found = fault(alloc, &text)?;
+        assert_eq!(rt; found, (number, line), "{with:?}");
+    }
+    Ok(())
+}
+
 #[test]
 fn texts_that_are_cut_short_have_theirs(rt: HostRuntime) -> Result<(), Fail> {
     let alloc = rt.alloc();

@@ -1,21 +1,28 @@
 use Rattle.std.proofs.Common.{◌∙◌, sym}
+use Rattle.ppm_saved_reader.specs.Lines.{run_in}
 use Rattle.ppm_saved_reader.proofs.CountLemmas.{count_line, count_past, count_none}
+use Rattle.ppm_saved_reader.proofs.FrontLemmas.{no_run}
+use Rattle.ppm_saved_reader.proofs.LineLemmas.{split_some, first_line_back}
 use Rattle.ppm_saved_reader.proofs.rules.is_other_count.Goals as goal
 
--- a line that is no run ends the count
-pub returns-in_default-run_in : goal.returns-in_default-run_in
-returns-in_default-run_in c =
-    sym (sym c.loop-line.invariant ∙ count_none c.loop-line.rest_count c.loop-line.left.now c.in-Some.line.now c.in-Some.rest.now c.in-Some.ensures.pieces
-    (sym c.in_default-run_in.ensures))
-
--- so does a run that is too long
+-- a run that is too long ends the count
 pub returns-then-times-rest_count : goal.returns-then-times-rest_count
 returns-then-times-rest_count c =
-    sym (sym c.loop-line.invariant ∙ count_past c.loop-line.rest_count c.loop-line.left.now c.in-Some.line.now c.in-Some.rest.now
-    c.in-Some-run_in.field-0-0 c.in-Some-run_in.times c.in-Some.ensures.pieces (sym c.in-Some-run_in.ensures) c.if-times-rest_count.true)
+    let (line, says, cut) = first_line_back run_in c.loop-times.left.now c.in-Some.rest.now (c.in-Some.field-0-0-0, c.in-Some.times) c.in-Some.ensures.says in
+    sym (sym c.loop-times.invariant ∙ count_past c.loop-times.rest_count c.loop-times.left.now line c.in-Some.rest.now
+    c.in-Some.field-0-0-0 c.in-Some.times (split_some 10 c.loop-times.left.now line c.in-Some.rest.now cut) says c.if-times-rest_count.true)
 
 -- behind another one there is the rest
-pub loop-line-preserved : goal.loop-line-preserved
-loop-line-preserved c =
-    sym (count_line c.loop-line.rest_count c.loop-line.left.now c.in-Some.line.now c.in-Some.rest.now c.in-Some-run_in.field-0-0 c.in-Some-run_in.times
-    c.in-Some.ensures.pieces (sym c.in-Some-run_in.ensures) c.if-times-rest_count.false) ∙ c.loop-line.invariant
+pub loop-times-preserved : goal.loop-times-preserved
+loop-times-preserved c =
+    let (line, says, cut) = first_line_back run_in c.loop-times.left.now c.in-Some.rest.now (c.in-Some.field-0-0-0, c.in-Some.times) c.in-Some.ensures.says in
+    sym (count_line c.loop-times.rest_count c.loop-times.left.now line c.in-Some.rest.now c.in-Some.field-0-0-0 c.in-Some.times
+    (split_some 10 c.loop-times.left.now line c.in-Some.rest.now cut) says c.if-times-rest_count.false) ∙ c.loop-times.invariant
+
+-- a line that is no run ends the count
+pub returns-in-Some-split_once : goal.returns-in-Some-split_once
+returns-in-Some-split_once c =
+    let line = c.in-Some-split_once.field-0.0.now in
+    let rest = c.in-Some-split_once.field-0.1.now in
+    sym (sym c.loop-times.invariant ∙ count_none c.loop-times.rest_count c.loop-times.left.now line rest c.in-Some-split_once.ensures.pieces
+    (no_run c.loop-times.left.now line rest c.in_default.ensures.says c.in-Some-split_once.ensures.halves))
