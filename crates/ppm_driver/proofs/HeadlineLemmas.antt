@@ -23,7 +23,7 @@ module _ (options : RunOptions) (watching : ℕ) (plan : List ℕ) (o : Outside)
   -- the run that an answer of the text that was read is of
   abbrev made_by : (text : List ℕ) → Reads text_limit o.source text → (items : List PlanItem) → IsAccepted plan_form plan options.processors items
       → (t : ProgramTree) → HasProgram text t → (a : Answer) (h : ProgramHas options watching o.told_before o.told_now items t a)
-      → NoneIsTakenTwice h.start h.run.turns → Made options watching plan o
+      → NoneIsTakenTwice h.start h.run.turns → Made options watching plan o a
   made_by text read items accepted t has a h once = record {
     text = text;
     read = read;
@@ -32,10 +32,13 @@ module _ (options : RunOptions) (watching : ℕ) (plan : List ℕ) (o : Outside)
     items = items;
     accepted = accepted;
     keeper = h.keeper;
+    spared = h.spared;
     start = h.start;
     opens = h.opens;
     turns = h.run.turns;
     obey = h.run.obey;
+    finished = h.run.finished;
+    says = h.run.says;
     told = h.run.told;
     once = once;
   }

@@ -119,7 +119,7 @@ module _ (law : StopsLeaveStates) (program : RunsInLegsAreAsPrograms) (comes : L
         let own = subst (λ (s : Shape). length (along run.start.shape run.start.code work_of run.start.state run.run.turns) ≤ s.processors * options.turns)
         (ap (λ (x : Situation). x.shape) run.goes_on.loads)
         (obeyed_work run.start.shape run.start.code (plan_of l.state b.read.2.has.items) (limits_of options) run.start.state run.run.turns run.run.obey all) in
-        let most = mul-le l.state.shape.processors options.turns 16 268435456 l.few resumed.0.1 in
+        let most = mul-le l.state.shape.processors options.turns 16 268435456 l.small resumed.0.1 in
         let late = made.1 in
         let work = l.work in
         omega (arith, late, split, own, work, most)
@@ -148,7 +148,7 @@ module _ (law : StopsLeaveStates) (program : RunsInLegsAreAsPrograms) (comes : L
     pub goes_on : ResumesStopped w options plan o
     goes_on = record {
       left = λ text same. subst (IsTextLeftBy source faults) (sym same) text_left;
-      taken = λ fault same. text_left.taken fault.0 (subst (λ (l : List ℕ). IsNoText l fault.0) same fault.1.2);
+      accepted = λ fault same. text_left.accepted fault.0 (subst (λ (l : List ℕ). IsNoText l fault.0) same fault.1.2);
       unbroken = unbroken;
       ended = ended;
       trapped = trapped;

@@ -24,14 +24,14 @@ module _ (law : FaultsTellSavedTexts) (text : List ℕ) (z : SavedState) (is : I
 
   pub text_left : (source : List ℕ) (faults : ℕ) (left : IsLeftBy source z) → left.legs ≡ [] → worked_in_all left.start left.legs left.turns ≤ turn_limit
       → struck_in_all left.start left.legs left.turns ≤ faults → z.shape.processors ≤ 16 → IsTextLeftBy source faults text
-  text_left source faults left alone work struck few = record {
+  text_left source faults left alone work struck small = record {
     state = z;
     is = record { short = law.short text z.shape z.arrays z.code z.words is; saved = is };
-    taken = λ r refused. never_refused refused.error refused.of_text refused.refused;
+    accepted = λ r refused. never_refused refused.error refused.of_text refused.refused;
     one = one_state;
     by = left;
     alone = alone;
     work = work;
     struck = struck;
-    few = few;
+    small = small;
   }

@@ -86,9 +86,9 @@ module _ (m : Situation) (legs : List Leg) (turns : List Turn) where
 
   -- What holds behind them. No branch is taken twice. Where the finish word says an outcome the run ends as the program does, with the arrays
   -- of the words then, or this trap; where it says that a pool is full, it is that of a place, and the program takes more words. All work turns
-  -- are fewer than 256 for each capsule of the program's code, each fault that strikes a row of work, and each fresh processor; no more faults
-  -- strike one than turns are faults. No place has given out more of its pool than that run takes. The finish word stands for a finish; that words
-  -- are broken it says only behind more than 2^34 work turns, where words came back at most 2^50 times.
+  -- are fewer than 256 for each capsule that the program's code runs depth first, if that run ends, each fault that strikes a row of work, and each
+  -- fresh processor; no more faults strike one than turns are faults. No place has given out more of its pool than that run takes. The finish word
+  -- stands for a finish; that words are broken it says only behind more than 2^34 work turns, where words came back at most 2^50 times.
   pub record IsAsProgramInAll (t : ProgramTree) : Type 0 where
     pub once : NoneIsTakenTwiceInAll
     pub ended : finish_of finish_at_last ≡ Some finishes.Ended

@@ -102,8 +102,9 @@ module _ (m : Situation) (turns : List Turn) where
 
   -- What holds behind these turns. No branch is taken twice. Where the finish word says an outcome the run ends as the program does, with the
   -- arrays of the words then, or this trap; where it says that a pool is full, it is that of a place, and the program takes more words. That words
-  -- are broken it says only behind more than 2^34 work turns. All work turns are fewer than 256 for each capsule of the program's code and each fault
-  -- that undoes work; no more do so than turns are faults. No place has given out more of its pool than that run takes.
+  -- are broken it says only behind more than 2^34 work turns. All work turns are fewer than 256 for each capsule that the program's code runs depth
+  -- first, if that run ends, and each fault that undoes work; no more do so than turns are faults. No place has given out more of its pool than that
+  -- run takes.
   pub record IsAsProgram (t : ProgramTree) : Type 0 where
     pub once : NoneIsTakenTwice
     pub ended : finish_of (finish_behind m turns) ≡ Some finishes.Ended

@@ -89,8 +89,8 @@ module _ (options : ResumeOptions) (plan : List ℕ) (o : Outside) where
 
   -- A processor has made exactly as many work turns as it may make, in this run, and err got exactly the line that says so. So many are too
   -- few for each program that left the state, and no branch of it was taken twice. No more faults of this run struck a row of work than the plan
-  -- has. So where the text is one that `stop` wrote, they are fewer than 256 for each capsule of the program's code, each fault of the schedule
-  -- then and of this plan, and each processor.
+  -- has. So where the text is one that `stop` wrote, they are fewer than 256 for each capsule that the program's code runs depth first, if that run
+  -- ends, each fault of the schedule then and of this plan, and each processor.
   pub record WritesOutOfTurns : Type 0 where
     pub processor : ℕ
     pub read : HasRead (answers.OutOfTurns processor)

@@ -233,13 +233,13 @@ ResumesLeaveStates = (source : List ℕ) (z : SavedState) (left : IsLeftBy sourc
 pub record IsTextLeftBy (source : List ℕ) (faults : ℕ) (text : List ℕ) : Type 0 where
   pub state : SavedState
   pub is : IsTextOf text state
-  pub taken : (r : SavedRefusal) → ¬ IsNoText text r
+  pub accepted : (r : SavedRefusal) → ¬ IsNoText text r
   pub one : (z : SavedState) → IsTextOf text z → z ≡ state
   pub by : IsLeftBy source state
   pub alone : by.legs ≡ []
   pub work : worked_in_all by.start by.legs by.turns ≤ turn_limit
   pub struck : struck_in_all by.start by.legs by.turns ≤ faults
-  pub few : state.shape.processors ≤ 16
+  pub small : state.shape.processors ≤ 16
 
 -- What `stop` writes of a text's program, by the items of a schedule that is accepted, with options in their ranges: the text of a state which that
 -- text left, by no more faults than the schedule has.

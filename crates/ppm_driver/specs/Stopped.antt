@@ -33,7 +33,7 @@ pub record IsOutcomeOf (source : List ℕ) (o : Outcome) : Type 0 where
 pub record ResumesStopped {stop : StopOptions} {schedule : List ℕ} {p : Ports} (w : WritesSaved stop schedule p) (options : ResumeOptions) (plan : List ℕ)
     (o : Outside) : Type 0 where
   pub left : (text : List ℕ) → text ≡ w.text → IsTextLeftBy w.read.0 (scheduled_faults w.read.2.items) text
-  pub taken : (fault : WritesFault options plan o) → fault.1.0 ≡ w.text → ⊥
+  pub accepted : (fault : WritesFault options plan o) → fault.1.0 ≡ w.text → ⊥
   pub unbroken : AreResumed options → (b : WritesBroken options plan o) → b.read.0 ≡ w.text → ⊥
   pub ended : (a : WritesArrays options plan o) → a.read.0 ≡ w.text → IsOutcomeOf w.read.0 (outcome.Ended a.arrays)
   pub trapped : (k : WritesTrap options plan o) → k.read.0 ≡ w.text → IsOutcomeOf w.read.0 (outcome.Trapped k.trap k.line)

@@ -5,6 +5,7 @@ use Rattle.ppm_strands.specs.Tree.{Words, Tree}
 use Rattle.ppm_strands.specs.Calm.{Calm}
 use Rattle.ppm_words.specs.declared.named_array.NamedArray.{NamedArray}
 use Rattle.ppm_cells.specs.Cells.{pool_at}
+use Rattle.ppm_cells.specs.declared.cell.Cell.TheVariants.{CarryWord}
 use Rattle.ppm_cells.specs.declared.shape.Shape.{Shape}
 use Rattle.ppm_cells.specs.declared.shape.Takeover.TheVariants.{ByPlaces, ByEntries}
 use Rattle.ppm_capsules.specs.Strand.{Frame}
@@ -16,12 +17,19 @@ use Rattle.ppm_layout.specs.Correct.{Opens}
 use Rattle.ppm_layout.specs.Root.{root_strand}
 use Rattle.ppm_layout.specs.declared.images.Image.{Image}
 use Rattle.ppm_step.specs.Among.{IsTurnAmong}
+use Rattle.ppm_step.specs.Frames.{Loads, Stores, Full, Installs, Breaks}
+use Rattle.ppm_step.specs.Standings.{Standing, IsLost, IsPlaced, IsAt, IsWithin, IsRunning, IsBroken, IsDone}
 use Rattle.ppm_step.specs.State.{State as RunState, stand_of, happens, after, opening, along, forks_of, takes_of}
+use Rattle.ppm_step.specs.declared.row.Row.TheVariants.{Now, Store, Exchange}
+use Rattle.ppm_step.specs.declared.turn.Act.{Act}
+use Rattle.ppm_step.specs.declared.turn.Act.TheVariants.{Step, Soft, Hard, Quit}
 use Rattle.ppm_step.specs.declared.turn.Turn.{Turn}
-use Rattle.ppm_tickets.specs.Along.{by_act, homes, forked as forked_in, taken as taken_in, IsOrderly, AreOrderly}
+use Rattle.ppm_tickets.specs.Along.{by_act, homes, forked as forked_in, taken as taken_in, IsOrderlyAt, IsOrderly, AreOrderly}
+use Rattle.ppm_tickets.specs.Entries.{IsPooledAt, IsPooledBy, ArePooled}
 use Rattle.ppm_tickets.specs.Homes.{Home, Unborn}
 use Rattle.ppm_tickets.specs.Words.{has}
 use Rattle.ppm_tickets.proofs.ImageLemmas.{images_open}
+use Rattle.ppm_tickets.proofs.PlaceLemmas.{places_stay_home}
 use Rattle.ppm_tickets.proofs.ListLemmas.{forked_onto, has_same, orderly_as}
 use Rattle.ppm_tickets.proofs.Theorem.{in_every_run, in_every_run_by_entries}
 use Rattle.ppm_frames.specs.Views.{view}
@@ -78,6 +86,35 @@ legs_are_orderly code input s keeper im places fair opens calm legs are turns al
     let run = legs_stay code input s keeper im places fair opens calm legs are [] tt in
     all_by_places s code fair (root_strand code input) (arrays_at (view s im.words)) places (state_then s code im.words legs) (homes_then s code im.words legs) (forked_then s code im.words legs) (taken_then s code im.words legs) run.0 turns all run.1
 
+-- an orderly turn changes block words of pools alone
+pooled_at : (s : Shape) (words : List ℕ) (x : Standing) (h : ℕ → Home) (f : List ℕ) → IsOrderlyAt s words x h f → IsPooledAt s x
+pooled_at s words (IsWithin seat (Store cell content next)) h f k = k
+pooled_at s words (IsWithin seat (Exchange cell old new next)) h f k = k
+pooled_at s words (IsWithin seat (Now next)) h f k = tt
+pooled_at s words (IsRunning seat (Stores cell content rest)) h f k = k
+pooled_at s words (IsRunning seat (Loads cell go)) h f k = tt
+pooled_at s words (IsRunning seat Full) h f k = tt
+pooled_at s words (IsRunning seat (Installs kind)) h f k = tt
+pooled_at s words (IsRunning seat Breaks) h f k = tt
+pooled_at s words IsLost h f k = tt
+pooled_at s words (IsPlaced p) h f k = tt
+pooled_at s words (IsAt p restart) h f k = tt
+pooled_at s words (IsBroken p) h f k = tt
+pooled_at s words IsDone h f k = tt
+
+pooled_by : (s : Shape) (words : List ℕ) (act : Act) (x : Standing) (h : ℕ → Home) (f : List ℕ) → IsOrderly s words act x h f → IsPooledBy s act x
+pooled_by s words (Step victim) x h f k = pooled_at s words x h f k.1
+pooled_by s words Soft x h f k = tt
+pooled_by s words Hard x h f k = tt
+pooled_by s words (Quit why) x h f k = tt
+
+all_pooled : (s : Shape) (code : CodeParts) (state : RunState) (h : ℕ → Home) (f : List ℕ) (turns : List Turn) → AreOrderly s code state h f turns → ArePooled s code state turns
+all_pooled s code state h f [] k = tt
+all_pooled s code state h f (turn ∷ more) k = (
+  pooled_by s state.words turn.act (stand_of state turn.processor) h f k.0,
+  all_pooled s code (happens s code state turn) (by_act s state.words turn.act (stand_of state turn.processor) h) (forks_of state turn ++ f) more k.1,
+)
+
 module _ (code : CodeParts) (input : List NamedArray) (s : Shape) (keeper : ℕ) (im : Image) (fair : IsFair code) (opens : Opens code input s keeper im)
     (calm : Calm (strands s code) (root_strand code input) (arrays_at (view s im.words))) (turns : List Turn) (all : AllByRecursion (IsTurnAmong s.processors) turns) where
   abbrev first : RunState
@@ -118,5 +155,20 @@ tickets_by_places code input s keeper im places fair opens calm turns all =
 pub tickets_by_entries : TicketsByEntries
 tickets_by_entries code input s keeper im ih fair opens calm turns all =
     let ticket = images_open code input s keeper im opens.image_is in
-    let once = in_every_run_by_entries s code keeper (pool_at s keeper) im.words turns ih ticket.1 ticket.0 (runs_are_orderly code input s keeper im fair opens calm turns all) in
-    (once, λ turn among v i. once.changes turn (next_is_orderly code input s keeper im fair opens calm turns all turn among) v i)
+    let first : RunState = opening im.words s.processors in
+    let last : RunState = after s code first turns in
+    let orderly = runs_are_orderly code input s keeper im fair opens calm turns all in
+    let once = in_every_run_by_entries s code keeper (pool_at s keeper) im.words turns ih ticket.1 ticket.0 orderly in
+    let home = places_stay_home s code im.words turns ih ticket.0.fit (λ c lt. ticket.0.opened (CarryWord c) lt) (all_pooled s code first (λ r. Unborn) [] turns orderly) in
+    let pooled = λ (turn : Turn) (among : IsTurnAmong s.processors turn).
+    pooled_by s last.words turn.act (stand_of last turn.processor) (homes s code first (λ r. Unborn) turns) (along s code forks_of first turns)
+    (next_is_orderly code input s keeper im fair opens calm turns all turn among) in (
+      once,
+      λ turn among v i. once.changes turn (next_is_orderly code input s keeper im fair opens calm turns all turn among) v i,
+      record {
+        carries = home.carries;
+        holders = home.holders;
+        others = λ turn among. home.others turn (pooled turn among);
+        done = λ turn among. home.closed turn (pooled turn among);
+      },
+    )

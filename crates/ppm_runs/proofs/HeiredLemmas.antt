@@ -54,6 +54,7 @@ use Rattle.ppm_runs.specs.Follow.{IsHalves, CarriesOn, LooksOnly}
 use Rattle.ppm_runs.specs.Joint.{IsCapped, AreJoint, StepsAlone}
 use Rattle.ppm_runs.specs.Entries.{IsHeired, HeirsLeadOn, RunsStayHeired, OnceByEntries, RunsEndByEntries, HalvesStay, OnceInEachRun, RunsEndSo}
 use Rattle.ppm_runs.proofs.ShownLemmas.{halves, within}
+use Rattle.ppm_runs.proofs.LeftLemmas.{shows}
 use Rattle.ppm_runs.proofs.OrderlyLemmas.{halves_owe, how_or}
 use Rattle.ppm_runs.proofs.OpenLemmas.{runs_open}
 use Rattle.ppm_runs.proofs.BrokenLemmas.{broken_stays}
@@ -271,6 +272,7 @@ runs_end_by_entries code input s keeper im ih fair opens calm turns all finish s
       run.1,
       record {
         answer = answer;
+        shown = shows s code (root_strand code input) (arrays_at (view s im.words)) (reached s code im.words turns) h forked taken run.0 run.1 run.2.halves;
         all = λ r. same_lists h forked taken counts r (elim (none_is_left (InPlace answer.place) Over answer.frame answer.slots (λ r. fate_of (h r)) agrees r) [
           | inl e ↦ inl (unborn_is (h r) e)
           | inr e ↦ inr (begun_is (h r) e)
@@ -296,6 +298,6 @@ once_in_each_run code input s keeper im fair opens calm turns all = elim (how_or
 pub runs_end_so : RunsEndSo
 runs_end_so code input s keeper im fair opens calm turns all finish says out = elim (how_or s.takeover) [
   | inl places ↦ let a = runs_come_to code input s keeper im places fair opens calm turns all finish says out in
-      (a.0, record { answer = a.1.answer; all = a.1.all; forked_once = a.1.forked_once; taken_once = a.1.taken_once })
+      (a.0, record { answer = a.1.answer; shown = a.1.shown; all = a.1.all; forked_once = a.1.forked_once; taken_once = a.1.taken_once })
   | inr ih ↦ runs_end_by_entries code input s keeper im ih fair opens calm turns all finish says out
 ]

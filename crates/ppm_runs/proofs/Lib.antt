@@ -14,12 +14,14 @@
 -- (`WellCapsules`, `WellTurns`, `HeirWell`). Half of the work turns at most raise a tag (`RaisedLemmas`), and
 -- `UnbrokenLemmas` has all of it in whole runs. Who holds a place changes by bids alone (`BidLemmas`), so tags
 -- of holders stay low over legs (`TagLemmas`), and what is sound is so again behind each (`LegSound`).
--- So each run is one of orderly turns (`EveryRunLemmas`), the words show a tree that is ahead of the root
--- (`TreeLemmas`), and who runs a right branch was counted (`RunnerLemmas`).
+-- So each run is one of orderly turns (`EveryRunLemmas`), the words show a tree (`LeftLemmas`) that is ahead of the
+-- root (`TreeLemmas`), who runs a right branch was counted (`RunnerLemmas`), and who seeks work has no strand
+-- (`SeekLemmas`).
 
 pub mod TameLemmas
 pub mod StandLemmas
 pub mod ShownLemmas
+pub mod LeftLemmas
 pub mod OrderlyLemmas
 pub mod TakerLemmas
 pub mod CameLemmas
@@ -53,6 +55,7 @@ pub mod LegForks
 pub mod EveryRunLemmas
 pub mod TreeLemmas
 pub mod RunnerLemmas
+pub mod SeekLemmas
 pub mod SoundRows
 pub mod CheckRows
 pub mod BidLemmas

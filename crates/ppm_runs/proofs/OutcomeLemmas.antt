@@ -1,5 +1,5 @@
 -- At an outcome of the root all is as the depth-first run has it.
-use Rattle.std.proofs.Common.{◌≡◌, ◌⊎◌, ℕ, Bool, true, false, List, Option, Some, None, inl, inr, refl, sym, ◌∙◌, subst}
+use Rattle.std.proofs.Common.{◌≡◌, ◌⊎◌, ℕ, Bool, true, false, List, [], Option, Some, None, inl, inr, refl, sym, ◌∙◌, subst}
 use Rattle.ppm_cells.specs.Fields.{number_of}
 use Rattle.ppm_cells.specs.Finish.{finish_of, finish_word}
 use Rattle.ppm_cells.specs.declared.finish.Finish.{Finish}
@@ -17,6 +17,8 @@ use Rattle.ppm_kept.proofs.FateLemmas.{none_is_left}
 use Rattle.ppm_kept.proofs.RoomLemmas.{room_is_bounded}
 use Rattle.ppm_runs.specs.Run.{setting, fate_of}
 use Rattle.ppm_runs.specs.Outcomes.{RunsEnd}
+use Rattle.ppm_runs.proofs.LeftLemmas.{shows}
+use Rattle.ppm_runs.proofs.ShownLemmas.{halves}
 
 -- a branch of which nothing has come, or that was begun, is so in the deques too
 pub unborn_is : (x : Home) → fate_of x ≡ fates.Unborn → x ≡ Unborn
@@ -55,6 +57,7 @@ runs_end s code root input state h forked taken t run finish says out =
     let counts = run.lawful.1.counts in
     let agrees = subst (λ (w : Skeleton). Agrees w (λ r. fate_of (h r))) answer.alone run.agrees in record {
       answer = answer;
+      shown = shows s code root input state h forked taken [] t (halves run);
       all = λ r. same_lists h forked taken counts r (elim (none_is_left (InPlace answer.place) Over answer.frame answer.slots (λ r. fate_of (h r)) agrees r) [
         | inl e ↦ inl (unborn_is (h r) e)
         | inr e ↦ inr (begun_is (h r) e)

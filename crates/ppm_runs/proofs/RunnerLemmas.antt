@@ -51,7 +51,7 @@ use Rattle.ppm_runs.proofs.LegLemmas.{legs_stay}
 use Rattle.ppm_runs.proofs.MomentLemmas.{turns_lead_on, runs_stay}
 use Rattle.ppm_runs.proofs.OrderlyLemmas.{how_or}
 use Rattle.ppm_runs.proofs.ShownLemmas.{halves}
-use Rattle.ppm_runs.proofs.TreeLemmas.{in_tree, open_away}
+use Rattle.ppm_runs.proofs.LeftLemmas.{in_tree, open_away}
 
 module _ (s : Shape) (code : CodeParts) (fair : IsFair code) (root : Tree (Frame FrameWord Point) Result) (input : Words) (state : RunState) (h : ℕ → Home) (forked taken : List ℕ) (l : List Followed) (t : Skeleton)
     (run : IsHalves s code root input state h forked taken l t) (agrees : Agrees t (λ r. fate_of (h r))) (r : ℕ) (was : has forked r ≡ true) where

@@ -37,6 +37,7 @@ use Rattle.ppm_runs.specs.Run.{setting}
 use Rattle.ppm_runs.specs.Follow.{IsHalves}
 use Rattle.ppm_runs.specs.Joint.{AreJoint}
 use Rattle.ppm_runs.specs.Moments.{AreOnce}
+use Rattle.ppm_runs.specs.Shown.{Shows}
 
 -- what holds of a run's state, with those places left out: what `IsRun` says of one by places
 pub record IsHeired (s : Shape) (code : CodeParts) (root : Tree (Frame FrameWord Point) Result) (input : Words) (state : RunState) (h : ℕ → Home) (forked taken : List ℕ) (l : List Followed) (t : Skeleton) : Type 0 where
@@ -72,10 +73,11 @@ OnceByEntries = (code : CodeParts) (input : List NamedArray) (s : Shape) (keeper
     → (turns : List Turn) → AllByRecursion (IsTurnAmong s.processors) turns
     → AreOnce (forked_in s code (opening image.words s.processors) [] turns) (taken_in s code (opening image.words s.processors) [] turns)
 
--- the depth-first run of the root ends so, with the words of the arrays as they are; each right branch that
--- was forked was taken, and none was forked or taken twice
+-- the depth-first run of the root ends so, with the words of the arrays as they are; the tree that the words show is one
+-- leaf, the root's strand, which is over; each right branch that was forked was taken, and none was forked or taken twice
 pub record EndsAsRun (s : Shape) (code : CodeParts) (root : Tree (Frame FrameWord Point) Result) (input : Words) (state : RunState) (forked taken : List ℕ) (t : Skeleton) (finish : Finish) : Type 0 where
   pub answer : AnswersSo (setting s code) root input state t finish
+  pub shown : Shows s code state.words t
   pub all : (r : ℕ) → has forked r ≡ has taken r
   pub forked_once : Once forked
   pub taken_once : Once taken

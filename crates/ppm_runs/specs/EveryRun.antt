@@ -1,10 +1,12 @@
 -- Whole runs owe the tickets nothing: from an image of a sound code the turns of a run are orderly, whatever they are and
 -- whatever the takeover. So what the tickets say of runs of orderly turns holds of each, with no premise on turns but
 -- that their processors and victims are there.
-use Rattle.std.specs.Prelude.{◌≡◌, ◌⊎◌, ℕ, List, []}
+use Rattle.std.specs.Prelude.{◌≡◌, ◌≢◌, ◌⊎◌, ◌<◌, ℕ, List, []}
 use Rattle.std.specs.List.{AllByRecursion}
 use Rattle.ppm_strands.specs.Calm.{Calm}
 use Rattle.ppm_words.specs.declared.named_array.NamedArray.{NamedArray}
+use Rattle.ppm_cells.specs.Memory.{read}
+use Rattle.ppm_cells.specs.declared.cell.Cell.TheVariants.{CarryWord, RestartWord, MessageWord, HolderWord}
 use Rattle.ppm_cells.specs.declared.shape.Shape.{Shape}
 use Rattle.ppm_cells.specs.declared.shape.Takeover.TheVariants.{ByPlaces, ByEntries}
 use Rattle.ppm_code.specs.declared.code.CodeParts.{CodeParts}
@@ -12,7 +14,8 @@ use Rattle.ppm_layout.specs.Correct.{Opens}
 use Rattle.ppm_layout.specs.Root.{root_strand}
 use Rattle.ppm_layout.specs.declared.images.Image.{Image}
 use Rattle.ppm_step.specs.Among.{IsTurnAmong}
-use Rattle.ppm_step.specs.State.{State as RunState, happens, opening, along, forks_of, takes_of}
+use Rattle.ppm_step.specs.Standings.{IsDone}
+use Rattle.ppm_step.specs.State.{State as RunState, stand_of, happens, opening, along, forks_of, takes_of}
 use Rattle.ppm_step.specs.declared.turn.Turn.{Turn}
 use Rattle.ppm_tickets.specs.Along.{AreOrderly, reached, homes_by}
 use Rattle.ppm_tickets.specs.Homes.{Unborn}
@@ -57,7 +60,19 @@ TicketsByPlaces = (code : CodeParts) (input : List NamedArray) (s : Shape) (keep
     (along s code forks_of (opening image.words s.processors) turns) (along s code takes_of (opening image.words s.processors) turns)
     × EntriesGoOn s code (reached s code image.words turns)
 
--- and so by entries, where a closed place's strand comes to one heir, once
+-- With takeover by entries each place is its own processor's. That one carries it, and holder words are as they were. The next
+-- turn, whosever it is, changes the restart word and the message of its processor's place alone, and not once that is done.
+pub record PlacesAreOwn (s : Shape) (code : CodeParts) (words : List ℕ) (state : RunState) : Type 0 where
+  pub carries : (c : ℕ) → c < s.processors → read s state.words (CarryWord c) ≡ c
+  pub holders : (p : ℕ) → p < s.processors → read s state.words (HolderWord p) ≡ read s words (HolderWord p)
+  pub others : (turn : Turn) → IsTurnAmong s.processors turn → (q : ℕ) → q < s.processors → q ≢ turn.processor
+      → (read s (happens s code state turn).words (RestartWord q) ≡ read s state.words (RestartWord q))
+      × (read s (happens s code state turn).words (MessageWord q) ≡ read s state.words (MessageWord q))
+  pub done : (turn : Turn) → IsTurnAmong s.processors turn → (q : ℕ) → q < s.processors → stand_of state q ≡ IsDone
+      → (read s (happens s code state turn).words (RestartWord q) ≡ read s state.words (RestartWord q))
+      × (read s (happens s code state turn).words (MessageWord q) ≡ read s state.words (MessageWord q))
+
+-- and so by entries, where each place is its processor's own, and a closed place's strand comes to one heir, once
 abbrev pub TicketsByEntries : Type 0
 TicketsByEntries = (code : CodeParts) (input : List NamedArray) (s : Shape) (keeper : ℕ) (image : Image)
     → s.takeover ≡ ByEntries → IsFair code → Opens code input s keeper image
@@ -66,3 +81,4 @@ TicketsByEntries = (code : CodeParts) (input : List NamedArray) (s : Shape) (kee
     → AtMostOnceByEntries s code (reached s code image.words turns) (homes_by s code image.words turns)
     (along s code forks_of (opening image.words s.processors) turns) (along s code takes_of (opening image.words s.processors) turns)
     × EntriesGoOn s code (reached s code image.words turns)
+    × PlacesAreOwn s code image.words (reached s code image.words turns)

@@ -1,6 +1,7 @@
 pub mod Run
 pub mod Laws
 pub mod Openings
+pub mod Shown
 pub mod Outcomes
 pub mod Whole
 pub mod Moments

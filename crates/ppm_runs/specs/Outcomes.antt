@@ -21,12 +21,14 @@ use Rattle.ppm_kept.specs.Answers.{AnswersSo}
 use Rattle.ppm_kept.specs.Kept.{start, ceiling}
 use Rattle.ppm_kept.specs.Places.{kinds_of}
 use Rattle.ppm_runs.specs.Run.{setting, IsRun}
+use Rattle.ppm_runs.specs.Shown.{Shows}
 
--- The depth-first run of the root ends so, with the words of the arrays as they are; each right branch
--- that was forked was taken, and none was forked or taken twice; and no place has given out more of its
--- pool than that run takes of all.
+-- The depth-first run of the root ends so, with the words of the arrays as they are; the tree that the words show is
+-- one leaf, the root's strand, which is over; each right branch that was forked was taken, and none was forked or taken
+-- twice; and no place has given out more of its pool than that run takes of all.
 pub record EndsWell (s : Shape) (code : CodeParts) (root : Tree (Frame FrameWord Point) Result) (input : Words) (state : RunState) (forked taken : List ℕ) (t : Skeleton) (finish : Finish) : Type 0 where
   pub answer : AnswersSo (setting s code) root input state t finish
+  pub shown : Shows s code state.words t
   pub all : (r : ℕ) → has forked r ≡ has taken r
   pub forked_once : Once forked
   pub taken_once : Once taken

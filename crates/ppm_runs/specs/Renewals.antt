@@ -42,7 +42,8 @@ RunsComeBack = (s : Shape) (code : CodeParts) → s.takeover ≡ ByPlaces → Is
 
 -- What holds behind a run in parts: turns among the processors, whatever they are, and words that come
 -- back, which are a renewal of those before, with a finish word that says no outcome. Homes and lists
--- go on from part to part.
+-- go on from part to part. Legs (`specs/Legs`) are such parts in which words come back as `renew` gives
+-- them, where the finish word stays or becomes 0; here it may be any that says no outcome.
 abbrev pub BehindParts : (s : Shape) (code : CodeParts) (P : RunState → (ℕ → Home) → List ℕ → List ℕ → Type 0)
     → RunState → (ℕ → Home) → (forked taken : List ℕ) → List Part → Type 0
 BehindParts s code P state h f tk [] = P state h f tk

@@ -1,6 +1,6 @@
 -- At each moment of a run the words show a tree of strands, and what is left of it ends exactly as the depth-first run
 -- of the root does; and who runs a right branch of it was counted.
-use Rattle.std.specs.Prelude.{◌≡◌, ◌⊎◌, ◌≤◌, ℕ, true, false, List, [], length}
+use Rattle.std.specs.Prelude.{◌≡◌, ◌⊎◌, ℕ, true, false, List, [], length}
 use Rattle.std.specs.List.{AllByRecursion}
 use Rattle.ppm_strands.specs.Tree.{Words, Tree}
 use Rattle.ppm_strands.specs.Run.{Counts}
@@ -8,8 +8,8 @@ use Rattle.ppm_strands.specs.Ahead.{Ahead}
 use Rattle.ppm_strands.specs.Calm.{Calm}
 use Rattle.ppm_words.specs.declared.named_array.NamedArray.{NamedArray}
 use Rattle.ppm_cells.specs.declared.cell.Cell.TheVariants.{BlockWord}
-use Rattle.ppm_cells.specs.declared.link.LinkKind.TheVariants.{Root, Branch}
-use Rattle.ppm_cells.specs.declared.restart.RestartKind.TheVariants.{Run}
+use Rattle.ppm_cells.specs.declared.link.LinkKind.TheVariants.{Branch}
+use Rattle.ppm_cells.specs.declared.restart.RestartKind.TheVariants.{Run, Seek}
 use Rattle.ppm_cells.specs.declared.shape.Shape.{Shape}
 use Rattle.ppm_cells.specs.declared.shape.Takeover.TheVariants.{ByPlaces}
 use Rattle.ppm_cells.specs.declared.side.Side.TheVariants.{Right}
@@ -22,33 +22,25 @@ use Rattle.ppm_layout.specs.Root.{root_strand}
 use Rattle.ppm_layout.specs.declared.images.Image.{Image}
 use Rattle.ppm_step.specs.Among.{IsTurnAmong}
 use Rattle.ppm_step.specs.Laws.{reached}
-use Rattle.ppm_step.specs.State.{happens, opening, takes_of}
+use Rattle.ppm_step.specs.State.{stand_of, happens, opening, takes_of, next_of}
+use Rattle.ppm_step.specs.declared.turn.Next.TheVariants.{Seek as Seeks}
 use Rattle.ppm_step.specs.declared.turn.Turn.{Turn}
 use Rattle.ppm_tickets.specs.Along.{homes_by, forked as forked_in, taken as taken_in}
 use Rattle.ppm_tickets.specs.Homes.{Home, Once}
 use Rattle.ppm_tickets.specs.Lawful.{Closed}
 use Rattle.ppm_tickets.specs.View as spots
-use Rattle.ppm_tickets.specs.Words.{has}
+use Rattle.ppm_tickets.specs.Words.{has, Number, Carry}
 use Rattle.ppm_frames.specs.Views.{view}
 use Rattle.ppm_frames.specs.Seen.{arrays_at}
-use Rattle.ppm_frames.specs.Skeletons.{Fresh, Skeleton, tree_of, count, at}
-use Rattle.ppm_frames.specs.Good.{link_at, Good}
+use Rattle.ppm_frames.specs.Skeletons.{Fresh, Skeleton, tree_of, at}
+use Rattle.ppm_frames.specs.Good.{link_at}
 use Rattle.ppm_kept.specs.Running.{IsFair, strands}
 use Rattle.ppm_kept.specs.Fates.{Agrees}
-use Rattle.ppm_kept.specs.Kept.{carried}
 use Rattle.ppm_kept.specs.Places.{kinds_of}
 use Rattle.ppm_kept.specs.Unruns.{HasUnrun}
 use Rattle.ppm_runs.specs.Run.{fate_of}
 use Rattle.ppm_runs.specs.Legs.{Leg, AreLegs, last_state, all_homes, all_forked, all_taken}
-
--- The words show the tree of this skeleton: its frames and blocks stand in them, and no address is two words of it. A
--- place has no more leaves in it than its restart kind has strands, one or none; and as many, but for a place that is
--- closed, with whose strand another may have gone on.
-pub record Shows (s : Shape) (code : CodeParts) (words : List ℕ) (t : Skeleton) : Type 0 where
-  pub good : Good code (view s words) (kinds_of s words) Root t
-  pub apart : (x : ℕ) → count Root t x ≤ 1
-  pub most : (p : ℕ) → at p t ≤ carried (view s words) (kinds_of s words p)
-  pub each : (p : ℕ) → (Closed s.takeover (spots.view s words) p → ⊥) → at p t ≡ carried (view s words) (kinds_of s words p)
+use Rattle.ppm_runs.specs.Shown.{Shows}
 
 -- as many forks are counted as there are blocks that were forked, or whose right branches nobody has pushed
 pub record CountsForks (forked : List ℕ) (t : Skeleton) (counts : Counts) : Type 0 where
@@ -128,3 +120,28 @@ BeginnersAreCounted = (code : CodeParts) (input : List NamedArray) (s : Shape) (
     → has (taken_in s code (opening image.words s.processors) [] turns) r ≡ false
     → IsInRight s (happens s code (reached s code image.words turns) turn).words r
     → has (takes_of (reached s code image.words turns) turn) r ≡ true
+
+-- it carries a place without a strand: the restart word there is Seek, and no tree that the words show has a leaf of it
+pub record IsIdle (s : Shape) (code : CodeParts) (words : List ℕ) (processor : ℕ) : Type 0 where
+  pub place : ℕ
+  pub carried : spots.view s words (Carry processor) ≡ Number place
+  pub seeks : kinds_of s words place ≡ Seek
+  pub none : (t : Skeleton) → Shows s code words t → at place t ≡ 0
+
+-- so does each processor that would seek work next, at each moment, whatever the takeover. Who parks or leaves does so there alone.
+abbrev pub SeekersAreIdle : Type 0
+SeekersAreIdle = (code : CodeParts) (input : List NamedArray) (s : Shape) (keeper : ℕ) (image : Image)
+    → IsFair code → Opens code input s keeper image
+    → Calm (strands s code) (root_strand code input) (arrays_at (view s image.words))
+    → (turns : List Turn) → AllByRecursion (IsTurnAmong s.processors) turns
+    → (processor : ℕ) → next_of (stand_of (reached s code image.words turns) processor) ≡ Seeks
+    → IsIdle s code (reached s code image.words turns).words processor
+
+-- so with takeover by places, over legs
+abbrev pub SeekersAreIdleOverLegs : Type 0
+SeekersAreIdleOverLegs = (code : CodeParts) (input : List NamedArray) (s : Shape) (keeper : ℕ) (image : Image)
+    → s.takeover ≡ ByPlaces → IsFair code → Opens code input s keeper image
+    → Calm (strands s code) (root_strand code input) (arrays_at (view s image.words))
+    → (legs : List Leg) → AreLegs s code image.words legs → (turns : List Turn) → AllByRecursion (IsTurnAmong s.processors) turns
+    → (processor : ℕ) → next_of (stand_of (last_state s code image.words legs turns) processor) ≡ Seeks
+    → IsIdle s code (last_state s code image.words legs turns).words processor

@@ -24,4 +24,4 @@ pub use laws::{
 pub use legs::{
     legs_come_to, nothing_breaks_over_legs, room_over_legs, tags_stay_low, work_over_legs,
 };
-pub use moments::{runners_are_counted, runs_are_orderly, what_is_left_ends_so};
+pub use moments::{runners_are_counted, runs_are_orderly, seekers_are_idle, what_is_left_ends_so};

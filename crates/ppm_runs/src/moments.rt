@@ -2,13 +2,14 @@
 //! the turns, faults among them; and with takeover by places over legs.
 ghost use Rattle.ppm_runs.specs.EveryRun.{LegsAreOrderly, RunsAreOrderly, TicketsByEntries, TicketsByPlaces};
 ghost use Rattle.ppm_runs.specs.Trees.{BeginnersAreCounted, RunnersAreCounted, RunnersAreCountedOverLegs};
+ghost use Rattle.ppm_runs.specs.Trees.{SeekersAreIdle, SeekersAreIdleOverLegs};
 ghost use Rattle.ppm_runs.specs.Trees.{WhatIsLeftEndsSo, WhatIsLeftOverLegs};
 
 /// The turns of each run are orderly, so what the tickets say of such runs holds of each. With takeover by
 /// places the deques have their shape, no two living processors carry one place, and each right branch that
 /// was forked and not taken is at one place, or left to the strand of its left branch; it is taken at most
-/// once. By entries so it is but for places that were followed, and a closed place's strand comes to one heir,
-/// once. Each next turn leaves an entry as it is, or changes it lawfully.
+/// once. By entries so it is but for places that were followed, each place is its own processor's, and a closed
+/// place's strand comes to one heir, once. Each next turn leaves an entry as it is, or changes it lawfully.
 pub fn runs_are_orderly()
     ensures law { RunsAreOrderly }
     ensures by_places { TicketsByPlaces }
@@ -31,4 +32,11 @@ pub fn runners_are_counted()
     ensures law { RunnersAreCounted }
     ensures begins { BeginnersAreCounted }
     ensures over_legs { RunnersAreCountedOverLegs }
+{}
+
+/// Where a processor would seek work next, the place that it carries has no strand: so who parks or leaves
+/// strands nothing.
+pub fn seekers_are_idle()
+    ensures law { SeekersAreIdle }
+    ensures over_legs { SeekersAreIdleOverLegs }
 {}

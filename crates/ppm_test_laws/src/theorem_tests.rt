@@ -16,9 +16,9 @@ use ppm_paces::{capsules_are_short, looks_are_free, rows_are_paid, rows_keep_pac
 use ppm_runs::{
     births_follow, heirs_lead, joints_stay, legs_come_to, nothing_breaks, nothing_breaks_over_legs,
     room_is_spent, room_over_legs, runners_are_counted, runs_are_orderly, runs_come_back,
-    runs_come_to, runs_end, runs_end_so, runs_open, runs_stay, runs_stay_heired, tags_stay_low,
-    takers_have, turns_are_orderly, turns_go_on, what_is_left_ends_so, work_is_bounded,
-    work_over_legs,
+    runs_come_to, runs_end, runs_end_so, runs_open, runs_stay, runs_stay_heired, seekers_are_idle,
+    tags_stay_low, takers_have, turns_are_orderly, turns_go_on, what_is_left_ends_so,
+    work_is_bounded, work_over_legs,
 };
 use ppm_slots::{frames_stay_trim, writes_are_slots};
 use ppm_tickets::{
@@ -131,4 +131,5 @@ fn the_laws_of_runs_are_called() {
     runs_are_orderly();
     what_is_left_ends_so();
     runners_are_counted();
+    seekers_are_idle();
 }
