@@ -6,6 +6,7 @@
 -- puts others in front.
 
 pub mod SteadyLemmas
+mod WidthLemmas
 mod EnteringLemmas
 mod RoundLemmas
 mod RowLemmas

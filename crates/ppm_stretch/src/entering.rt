@@ -1,6 +1,6 @@
 //! The steps with which a capsule of a frame begins and goes round, each an atomic step of the
 //! table.
-ghost use Rattle.std.specs.Prelude.{◌≡◌, ◌≤◌, ◌<◌, slice_get, IfSome, Some, true, false};
+ghost use Rattle.std.specs.Prelude.{◌≡◌, ◌≤◌, ◌<◌, replicate, slice_get, take, IfSome, Some, true, false};
 ghost use Rattle.ppm_cells.specs.Cells.{word_count};
 ghost use Rattle.ppm_cells.specs.declared.restart.RestartKind.TheVariants.{Run};
 ghost use Rattle.ppm_step.specs.Locals.{IsHeaderOf};
@@ -13,6 +13,7 @@ ghost use Rattle.ppm_stretch.specs.Entering.{HasBegun, HasTurned, Circled, WentA
 ghost use Rattle.ppm_ports.specs.Told.{KeepsList};
 ghost use Rattle.ppm_stretch.specs.declared.way.RoundEnd.TheVariants.{Refused, Round};
 ghost use Rattle.ppm_table.specs.Run.{stands_by, deeds_in, IsAtCode, IsAtTable, IsSeat};
+ghost use Rattle.ppm_table.specs.Widths.{AreWidths};
 ghost use Rattle.ppm_stretch.specs.Steady.{Goes, Moves};
 
 use crate::capsule::go_along;
@@ -209,6 +210,23 @@ pub(crate) fn begin<W: Watch>(
     }
 }
 
+/// So many registers are set to 0 at once, where a capsule reads no more.
+const FEW: u8 = 8;
+
+/// Sets to 0 the registers that a capsule of this width reads, and maybe more.
+#[inline(always)]
+fn clear(registers: &mut [u64; 64], width: u8)
+    ensures { take width registers.new ≡ take width (replicate 64 0) }
+{
+    if width > FEW {
+        *registers = [0; 64];
+        return;
+    }
+    for index in 0..usize::from(FEW) {
+        registers[index] = 0;
+    }
+}
+
 /// Goes through the capsule with this number, from registers of 0, at most so many steps, up to its
 /// end; `None` where there is no such capsule.
 #[inline(always)]
@@ -216,6 +234,7 @@ pub(crate) fn capsule_along<W: Watch>(
     words: &Words,
     shape: &Shape,
     code: &Code,
+    widths: &[u8],
     mine: &mut Seat<(), View>,
     watch: &mut W,
     place: &Place,
@@ -225,6 +244,7 @@ pub(crate) fn capsule_along<W: Watch>(
     most: u64,
 ) -> Option<Stretch>
     requires table { IsAtTable mine.old.table_id words.now.shared.table_id words.now.shared.key shape.now }
+    requires widths { AreWidths code.now widths.now }
     requires home { IsHome home.now }
     requires block { home.now.block ≡ 0 }
     requires sits { IsSeat place.now.own mine.old.me }
@@ -240,7 +260,7 @@ pub(crate) fn capsule_along<W: Watch>(
     }
     let found = code.capsule(number as u32)?;
     let _ = found.procedure;
-    *registers = [0; 64];
+    clear(registers, widths[number as usize]);
     Some(go_along(
         words,
         shape,
@@ -263,6 +283,7 @@ pub(crate) fn round<W: Watch>(
     words: &Words,
     shape: &Shape,
     code: &Code,
+    widths: &[u8],
     mine: &mut Seat<(), View>,
     watch: &mut W,
     place: &Place,
@@ -272,6 +293,7 @@ pub(crate) fn round<W: Watch>(
     most: u64,
 ) -> Circuit
     requires table { IsAtCode mine.old.table_id words.now.shared.table_id words.now.shared.key shape.now code.now }
+    requires widths { AreWidths code.now widths.now }
     requires most { 2 ≤ most }
     requires sits { IsSeat place.now.own mine.old.me }
     requires header { IsHeaderOf shape.now place.now header }
@@ -301,6 +323,7 @@ pub(crate) fn round<W: Watch>(
         words,
         shape,
         code,
+        widths,
         mine,
         watch,
         place,

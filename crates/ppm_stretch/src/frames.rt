@@ -6,6 +6,7 @@ ghost use Rattle.ppm_step.specs.Facts.{IsEnd, IsHome, IsSeat as IsPlace};
 ghost use Rattle.ppm_step.specs.Frames.{ending};
 ghost use Rattle.ppm_step.specs.Standings.{IsAt, running};
 ghost use Rattle.ppm_table.specs.Run.{stands_by, deeds_in, IsAtCode, IsSeat};
+ghost use Rattle.ppm_table.specs.Widths.{AreWidths};
 ghost use Rattle.ppm_stretch.specs.Entering.{looks_at};
 ghost use Rattle.ppm_stretch.specs.Rows.{Makes, GivesUpIfRefused};
 
@@ -30,11 +31,13 @@ pub(crate) fn rounds<W: Watch>(
     watch: &mut W,
     shape: &Shape,
     code: &Code,
+    widths: &[u8],
     place: u32,
     restart: Restart,
     most: u64,
 ) -> Steps
     requires table { IsAtCode mine.old.table_id words.now.shared.table_id words.now.shared.key shape.now code.now }
+    requires widths { AreWidths code.now widths.now }
     requires own { local.old.own < shape.now.processors }
     requires sits { IsSeat local.old.own mine.old.me }
     requires place { place < shape.now.processors }
@@ -49,6 +52,8 @@ pub(crate) fn rounds<W: Watch>(
     ensures holds { IsLocal shape.now code.now local.new }
     ensures own_stays { local.new.own ≡ local.old.own }
 {
+    // A copy that no word step may change, so that what is worked out of it is worked out once.
+    let sizes = *shape;
     let own = local.own;
     let mut at = restart;
     let mut made = 0;
@@ -63,7 +68,7 @@ pub(crate) fn rounds<W: Watch>(
             wait_at(local, shape, code, place, at);
             return row(made, work, 0, false);
         };
-        let Some(header) = header_of(shape, seat) else {
+        let Some(header) = header_of(&sizes, seat) else {
             wait_at(local, shape, code, place, at);
             return row(made, work, 0, false);
         };
@@ -74,8 +79,9 @@ pub(crate) fn rounds<W: Watch>(
         };
         let circuit = round(
             words,
-            shape,
+            &sizes,
             code,
+            widths,
             mine,
             watch,
             &seat,
@@ -162,10 +168,11 @@ pub(crate) fn ends<W: Watch>(
         restart: under_way.seat.restart,
     };
     let home = under_way.home;
+    let sizes = *shape;
     let mut n = from;
     let mut made = 0;
     while made < most {
-        match end_at(words, shape, code, mine, watch, &seat, &home, end, n) {
+        match end_at(words, &sizes, code, mine, watch, &seat, &home, end, n) {
             EndStep::Stored => {
                 n += 1;
                 made += 1;

@@ -10,6 +10,7 @@ ghost use Rattle.ppm_step.specs.Told.{is_work_next};
 ghost use Rattle.ppm_step.specs.declared.turn.Next.TheVariants.{Seek};
 ghost use Rattle.ppm_table.specs.Run.{stands_by, deed_by, deeds_in, IsAtCode, IsSeat};
 ghost use Rattle.ppm_table.specs.Shown.{IsOf, opening_of};
+ghost use Rattle.ppm_table.specs.Widths.{AreWidths};
 ghost use Rattle.ppm_stretch.specs.Rows.{IsChoosing, IsFree, Makes, GivesUpIfRefused};
 ghost use Rattle.ppm_stretch.specs.Steady.{Moves, Refuses, is_exchange, looks_behind};
 
@@ -103,9 +104,11 @@ fn frame_steps<W: Watch>(
     watch: &mut W,
     shape: &Shape,
     code: &Code,
+    widths: &[u8],
     most: u64,
 ) -> Steps
     requires table { IsAtCode mine.old.table_id words.now.shared.table_id words.now.shared.key shape.now code.now }
+    requires widths { AreWidths code.now widths.now }
     requires most { 0 < most }
     requires local { IsLocal shape.now code.now local.old }
     requires sits { IsSeat local.old.own mine.old.me }
@@ -123,7 +126,9 @@ fn frame_steps<W: Watch>(
     if let Stand::At { place, restart } = local.stand {
         if let Some(restart) = restart {
             if is_of_frame(restart.kind) && most >= 2 {
-                return rounds(local, words, mine, watch, shape, code, place, restart, most);
+                return rounds(
+                    local, words, mine, watch, shape, code, widths, place, restart, most,
+                );
             }
         }
     }
@@ -156,6 +161,12 @@ fn is_any(steps: Steps) -> bool
     steps.made > 0
 }
 
+/// Whether a processor stands within a row, and so in no capsule of a frame.
+#[inline(always)]
+fn is_in_row(local: &Local) -> bool {
+    matches!(local.stand, Stand::Within { .. })
+}
+
 /// Goes on by the capsules of frames before which the processor stands, by the stores of an end, or
 /// by one step for which nothing is to be chosen; where it is to choose, by none.
 #[inline(always)]
@@ -166,9 +177,11 @@ fn some_steps<W: Watch>(
     watch: &mut W,
     shape: &Shape,
     code: &Code,
+    widths: &[u8],
     most: u64,
 ) -> Steps
     requires table { IsAtCode mine.old.table_id words.now.shared.table_id words.now.shared.key shape.now code.now }
+    requires widths { AreWidths code.now widths.now }
     requires most { 0 < most }
     requires local { IsLocal shape.now code.now local.old }
     requires sits { IsSeat local.old.own mine.old.me }
@@ -183,7 +196,10 @@ fn some_steps<W: Watch>(
     ensures holds { IsLocal shape.now code.now local.new }
     ensures own_stays { local.new.own ≡ local.old.own }
 {
-    let framed = frame_steps(local, words, mine, watch, shape, code, most);
+    if is_in_row(local) {
+        return other_step(local, words, mine, watch, shape, code);
+    }
+    let framed = frame_steps(local, words, mine, watch, shape, code, widths, most);
     if is_any(framed) {
         return framed;
     }
@@ -285,9 +301,11 @@ pub(crate) fn steps_along<W: Watch>(
     watch: &mut W,
     shape: &Shape,
     code: &Code,
+    widths: &[u8],
     most: u64,
 ) -> Steps
     requires table { IsAtCode mine.old.table_id words.now.shared.table_id words.now.shared.key shape.now code.now }
+    requires widths { AreWidths code.now widths.now }
     requires local { IsLocal shape.now code.now local.old }
     requires sits { IsSeat local.old.own mine.old.me }
     requires stands { standing_of shape.now code.now local.old ≡ stands_by words.now.shared.key local.old.own (deeds_in mine.old.me.0) }
@@ -306,7 +324,7 @@ pub(crate) fn steps_along<W: Watch>(
     let mut looks = 0;
     let mut exchanged = false;
     while made < most {
-        let more = some_steps(local, words, mine, watch, shape, code, most - made);
+        let more = some_steps(local, words, mine, watch, shape, code, widths, most - made);
         if more.refused {
             return REFUSED;
         }
@@ -365,6 +383,7 @@ pub fn steps<W: Watch>(
         watch,
         &shared.shape,
         &shared.code,
+        shared.widths.as_slice(),
         most,
     )
 }

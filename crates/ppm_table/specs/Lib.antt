@@ -1,4 +1,5 @@
 pub mod Padding
+pub mod Widths
 pub mod Run
 pub mod Events
 pub mod Telling

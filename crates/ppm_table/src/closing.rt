@@ -63,6 +63,7 @@ impl Shared {
             shape,
             code: _,
             lengths,
+            widths: _,
         } = self;
         let Some(last) = processors.pop() else {
             unreachable!()

@@ -15,6 +15,7 @@ mod processor;
 mod touching;
 mod turning;
 mod view;
+mod widths;
 
 pub use closed::Closed;
 pub use padded::Padded;

@@ -8,10 +8,12 @@ ghost use Rattle.ppm_code.specs.declared.code.CodeParts.{CodeParts};
 ghost use Rattle.ppm_step.specs.Locals.{IsLocal, standing_of};
 ghost use Rattle.ppm_step.specs.Standings.{IsLost};
 ghost use Rattle.ppm_table.specs.Run.{maker, padding, seated};
+ghost use Rattle.ppm_table.specs.Widths.{AreWidths};
 
 use crate::padded::Padded;
 use crate::processor::{Processor, Shared};
 use crate::view::{Halves, Opening, View, Words};
+use crate::widths::widths;
 use atomic_table::{Seat, Table};
 use ppm_cells::Shape;
 use ppm_code::Code;
@@ -32,9 +34,16 @@ fn split(words: &Words, seat: &mut Seat<(), View>, number: u32) -> Seat<(), View
     words.shared.split_seat::<Halves>(seat)
 }
 
-fn shared_over(words: Words, shape: Shape, code: Code, lengths: Items<u32>) -> Shared
+fn shared_over(
+    words: Words,
+    shape: Shape,
+    code: Code,
+    lengths: Items<u32>,
+    widths: Items<u8>,
+) -> Shared
     requires key { (words.shared.key.shape ≡ shape) × (words.shared.key.code ≡ code) }
     requires opened { AreWordsOf shape words.shared.key.words }
+    requires widths { AreWidths code widths }
     requires arrays { sum lengths ≡ shape.arrays }
     requires wide { words.shared.table_id.words ≡ padding + word_count shape }
     requires flat { words.shared.table_id.slots ≡ 0 }
@@ -46,6 +55,7 @@ fn shared_over(words: Words, shape: Shape, code: Code, lengths: Items<u32>) -> S
         shape,
         code,
         lengths,
+        widths,
     }
 }
 
@@ -80,6 +90,7 @@ impl Shared {
         ensures arrays { IfOk result (λ r. r.0.lengths ≡ image.lengths) }
         ensures processors { IfOk result (λ r. AreNewOf r.0 r.1.items) }
     {
+        let widths = widths(alloc, &code)?;
         let about = Opening {
             shape: image.shape,
             code,
@@ -91,7 +102,7 @@ impl Shared {
             code,
             words: _,
         } = about;
-        let shared = shared_over(table, shape, code, image.lengths);
+        let shared = shared_over(table, shape, code, image.lengths, widths);
         let mut processors = Vec::new(alloc);
         for own in 0..shape.processors {
             let seat = split(&shared.words, &mut maker, own);

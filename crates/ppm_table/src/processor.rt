@@ -4,6 +4,7 @@ ghost use Rattle.std.specs.List.{sum};
 ghost use Rattle.ppm_cells.specs.Cells.{word_count};
 ghost use Rattle.ppm_cells.specs.Memory.{AreWordsOf};
 ghost use Rattle.ppm_table.specs.Run.{padding, IsSeat};
+ghost use Rattle.ppm_table.specs.Widths.{AreWidths};
 
 use crate::view::{View, Words};
 use atomic_table::Seat;
@@ -20,8 +21,11 @@ pub struct Shared {
     pub code: Code,
     /// The lengths of the arrays, which lie one after the other.
     pub lengths: Items<u32>,
+    /// How many registers each capsule reads, by its number.
+    pub widths: Items<u8>,
     pub ghost told: { (words.shared.key.shape ≡ shape) × (words.shared.key.code ≡ code) },
     pub ghost opened: { AreWordsOf shape words.shared.key.words },
+    pub ghost widths_are: { AreWidths code widths },
     pub ghost arrays_are: { sum lengths ≡ shape.arrays },
     pub ghost wide: { words.shared.table_id.words ≡ padding + word_count shape },
     pub ghost flat: { words.shared.table_id.slots ≡ 0 },

@@ -2,7 +2,8 @@
 use crate::alone::record;
 use crate::obeying::obeys;
 use crate::tables::{
-    LOOP, WIDE, fork_code, fork_machine, fork_shape, is_right, plan_of, recorders, run, run_listing,
+    CLEAR, LOOP, WIDE, fork_code, fork_machine, fork_shape, is_right, plan_of, recorders, run,
+    run_listing,
 };
 use ppm_cells::{Ending, Finish};
 use ppm_choice::{Idle, Limits};
@@ -44,6 +45,18 @@ fn one_does_what_it_does_on_a_machine(rt: HostRuntime) -> Result<(), Fail> {
         assert!(&rt; told.events() == want.as_slice(), "{faults}");
         assert!(&rt; want.len() > 50, "{faults}");
     }
+    Ok(())
+}
+
+#[test]
+fn each_capsule_begins_with_registers_of_0(rt: HostRuntime) -> Result<(), Fail> {
+    let alloc = rt.alloc();
+    let mut watch = recorders(alloc, 1)?;
+    let closed = run_listing(&rt, alloc, CLEAR, "none", WIDE, 1, &mut watch)?.ok_or("no memory")?;
+    assert!(&rt; closed.outcome() == Ending::With(Finish::Ended));
+    assert_eq!(&rt; closed.arrays(), 1);
+    let array = closed.array(alloc, 0)?;
+    assert_eq!(&rt; array.as_slice(), [0, 0, 0, 4].as_slice());
     Ok(())
 }
 
