@@ -2,6 +2,7 @@
 -- that its watcher was told of them (`Shows`), and where the processor stands by its deeds; `moves_then`
 -- of `SteadyLemmas` joins two. Only at the end is a `Local` built that stands there
 -- (`WaitingLemmas`), so the loops carry registers and numbers alone.
+-- A capsule goes alike from registers that are alike up to its width (`WidthLemmas`).
 -- Where a watcher refuses, `Refuses` says that it was told of all steps but that one; `refuses_then`
 -- puts others in front.
 

@@ -29,7 +29,7 @@ use Rattle.ppm_step.specs.declared.frame.Home.{Home}
 use Rattle.ppm_step.specs.declared.row.Seat.{Seat}
 use Rattle.ppm_step.specs.Frames.{rest_of}
 use Rattle.ppm_step.specs.Standings.{Standing, enters, running}
-use Rattle.ppm_table.specs.Widths.{AreWidths, up_to, up_to_both, read_by, width_of}
+use Rattle.ppm_table.specs.Widths.{AreWidths, up_to, up_to_both, instr_width, width_of}
 
 -- a store of a register leaves two files alike that are alike up to there
 set_same : (n : ℕ) (g h : List ℕ) → take n g ≡ take n h → (i v : ℕ) → take n (slice_set g i v) ≡ take n (slice_set h i v)
@@ -40,9 +40,11 @@ set_same n g h same i v = by_bool (ltb i n) refl
     by_bool false more = take-set-le n g i v (ltb-false i n more) ∙ same ∙ sym (take-set-le n h i v (ltb-false i n more))
 
 module _ (n : ℕ) (g h : List ℕ) (same : take n g ≡ take n h) where
+  -- a register up to there holds the same in both
   held_same : (r : Register) → up_to r ≤ n → held g r ≡ held h r
   held_same r few = sym (get_or-take n g r.index 0 (omega (arith, few))) ∙ ap (λ (l : List ℕ). get_or l r.index 0) same ∙ get_or-take n h r.index 0 (omega (arith, few))
 
+  -- likewise each of two
   left_same : (a b : Register) → up_to_both a b ≤ n → held g a ≡ held h a
   left_same a b few = held_same a (omega (arith, few, le-max_left (up_to a) (up_to b)))
 
@@ -50,7 +52,7 @@ module _ (n : ℕ) (g h : List ℕ) (same : take n g ≡ take n h) where
   right_same a b few = held_same b (omega (arith, few, le-max_right (up_to a) (up_to b)))
 
   -- so an instruction does the same
-  does_same : (array_words : ℕ) (i : Instr) → read_by i ≤ n → does array_words i g ≡ does array_words i h
+  does_same : (array_words : ℕ) (i : Instr) → instr_width i ≤ n → does array_words i g ≡ does array_words i h
   does_same aw (Const d v) few = refl
   does_same aw (Move d a) few = λ i. Sets d (held_same a few i)
   does_same aw (Add d a b line) few = λ i. whole line d (value_of (left_same a b few i) +ℤ value_of (right_same a b few i))
@@ -83,6 +85,7 @@ module _ (n : ℕ) (g h : List ℕ) (same : take n g ≡ take n h) where
 abbrev GoesAlike : (n : ℕ) → (ℕ → List ℕ → Capsule Where End) → Type 0
 GoesAlike n go = (t : ℕ) (g h : List ℕ) → take n g ≡ take n h → go t g ≡ go t h
 
+-- a step that is alike in both goes on alike, and so does any act
 step_same : (n next : ℕ) (go : ℕ → List ℕ → Capsule Where End) → GoesAlike n go → (step : Step) (g h : List ℕ) → take n g ≡ take n h
     → at_step go next step g ≡ at_step go next step h
 step_same n next go alike (Loads l d) g h same = λ i. Reads (location_of l) (λ v. alike next (slice_set g d.index v) (slice_set h d.index v) (set_same n g h same d.index v) i)
@@ -97,14 +100,15 @@ act_same n next go alike (Jumps t) g h same = alike (max t next) g h same
 act_same n next go alike (Steps s) g h same = step_same n next go alike s g h same
 act_same n next go alike (Stops e) g h same = refl
 
+-- so does what is left of a capsule that reads no register past there
 capsule_same : (n array_words here skip : ℕ) (is : List Instr) → width_of is ≤ n → (g h : List ℕ) → take n g ≡ take n h
     → capsule_from array_words here skip is g ≡ capsule_from array_words here skip is h
 capsule_same n aw here skip [] few g h same = refl
-capsule_same n aw here (suc skip) (i ∷ is) few g h same = capsule_same n aw (here + 1) skip is (omega (arith, few, le-max_right (read_by i) (width_of is))) g h same
+capsule_same n aw here (suc skip) (i ∷ is) few g h same = capsule_same n aw (here + 1) skip is (omega (arith, few, le-max_right (instr_width i) (width_of is))) g h same
 capsule_same n aw here zero (i ∷ is) few g h same =
     let go : ℕ → List ℕ → Capsule Where End = λ t l. capsule_from aw (here + 1) (t - (here + 1)) is l in
-    let rest : width_of is ≤ n = omega (arith, few, le-max_right (read_by i) (width_of is)) in
-    ap (λ (act : Act). at_act go (here + 1) act g) (does_same n g h same aw i (omega (arith, few, le-max_left (read_by i) (width_of is))))
+    let rest : width_of is ≤ n = omega (arith, few, le-max_right (instr_width i) (width_of is)) in
+    ap (λ (act : Act). at_act go (here + 1) act g) (does_same n g h same aw i (omega (arith, few, le-max_left (instr_width i) (width_of is))))
     ∙ act_same n (here + 1) go (λ t l m alike. capsule_same n aw (here + 1) (t - (here + 1)) is rest l m alike) (does aw i h) g h same
 
 -- so a capsule begins as with 0 in all registers where those hold 0 that it reads
@@ -113,11 +117,11 @@ pub begins_same : (array_words : ℕ) (is : List Instr) (g : List ℕ) → take 
 begins_same aw is g same = sym (capsule_same (width_of is) aw 0 0 is (omega arith) g (replicate 64 0) same)
 
 -- a capsule that a frame enters stands at its first instruction, where the registers hold 0 that it reads
-pub enters_cleared : (s : Shape) (code : CodeParts) (seat : Seat) (home : Home) (capsule : Coded) (instrs : List Instr) (g : List ℕ) (standing : Standing)
+pub enters_with_zeros : (s : Shape) (code : CodeParts) (seat : Seat) (home : Home) (capsule : Coded) (instrs : List Instr) (g : List ℕ) (standing : Standing)
     → standing ≡ enters s code seat (Run home.frame home.copy) (Some capsule) → home.block ≡ 0 → instrs ≡ capsule.instrs
     → take (width_of capsule.instrs) g ≡ take (width_of capsule.instrs) (replicate 64 0)
     → standing ≡ running s seat (rest_of s code seat.place home (capsule_from s.arrays 0 0 instrs g))
-enters_cleared s code seat home capsule instrs g standing at none is same =
+enters_with_zeros s code seat home capsule instrs g standing at none is same =
     at
     ∙ (λ i. running s seat (rest_of s code seat.place (record { frame = home.frame; copy = home.copy; block = sym none i }) (begins_same s.arrays capsule.instrs g same i)))
     ∙ ap (λ (list : List Instr). running s seat (rest_of s code seat.place home (capsule_from s.arrays 0 0 list g))) (sym is)

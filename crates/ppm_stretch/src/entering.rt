@@ -210,24 +210,25 @@ pub(crate) fn begin<W: Watch>(
     }
 }
 
-/// So many registers are set to 0 at once, where a capsule reads no more.
-const FEW: u8 = 8;
+/// Where a capsule reads no register past these many, they alone are set to 0.
+const NARROW: u8 = 8;
 
 /// Sets to 0 the registers that a capsule of this width reads, and maybe more.
 #[inline(always)]
-fn clear(registers: &mut [u64; 64], width: u8)
+fn set_to_0(registers: &mut [u64; 64], width: u8)
     ensures { take width registers.new ≡ take width (replicate 64 0) }
 {
-    if width > FEW {
+    if width > NARROW {
         *registers = [0; 64];
         return;
     }
-    for index in 0..usize::from(FEW) {
+    for index in 0..usize::from(NARROW) {
         registers[index] = 0;
     }
 }
 
-/// Goes through the capsule with this number, from registers of 0, at most so many steps, up to its
+/// Goes through the capsule with this number, from registers that hold 0 where it
+/// reads them, at most so many steps, up to its
 /// end; `None` where there is no such capsule.
 #[inline(always)]
 pub(crate) fn capsule_along<W: Watch>(
@@ -260,7 +261,7 @@ pub(crate) fn capsule_along<W: Watch>(
     }
     let found = code.capsule(number as u32)?;
     let _ = found.procedure;
-    clear(registers, widths[number as usize]);
+    set_to_0(registers, widths[number as usize]);
     Some(go_along(
         words,
         shape,

@@ -52,7 +52,8 @@ pub(crate) fn rounds<W: Watch>(
     ensures holds { IsLocal shape.now code.now local.new }
     ensures own_stays { local.new.own ≡ local.old.own }
 {
-    // A copy that no word step may change, so that what is worked out of it is worked out once.
+    // By a copy: behind an atomic step the compiler reads anew what lies behind a reference, and
+    // would work out addresses anew.
     let sizes = *shape;
     let own = local.own;
     let mut at = restart;
@@ -168,6 +169,7 @@ pub(crate) fn ends<W: Watch>(
         restart: under_way.seat.restart,
     };
     let home = under_way.home;
+    // As in `rounds`.
     let sizes = *shape;
     let mut n = from;
     let mut made = 0;

@@ -161,9 +161,10 @@ fn is_any(steps: Steps) -> bool
     steps.made > 0
 }
 
-/// Whether a processor stands within a row, and so in no capsule of a frame.
+/// Whether a processor stands within the row of a restart kind, where `frame_steps` makes no step.
+/// For speed alone: either answer is right.
 #[inline(always)]
-fn is_in_row(local: &Local) -> bool {
+fn stands_within(local: &Local) -> bool {
     matches!(local.stand, Stand::Within { .. })
 }
 
@@ -196,7 +197,7 @@ fn some_steps<W: Watch>(
     ensures holds { IsLocal shape.now code.now local.new }
     ensures own_stays { local.new.own ≡ local.old.own }
 {
-    if is_in_row(local) {
+    if stands_within(local) {
         return other_step(local, words, mine, watch, shape, code);
     }
     let framed = frame_steps(local, words, mine, watch, shape, code, widths, most);

@@ -21,7 +21,7 @@ pub struct Shared {
     pub code: Code,
     /// The lengths of the arrays, which lie one after the other.
     pub lengths: Items<u32>,
-    /// How many registers each capsule reads, by its number.
+    /// For each capsule, by its number: one more than the highest register that it reads, or 0.
     pub widths: Items<u8>,
     pub ghost told: { (words.shared.key.shape ≡ shape) × (words.shared.key.code ≡ code) },
     pub ghost opened: { AreWordsOf shape words.shared.key.words },

@@ -1,28 +1,29 @@
-//! How many registers the capsules of a code read, so that no more are set to 0 as one begins.
+//! Up to which register the capsules of a code read, so that few are set to 0 where few may be
+//! read.
 ghost use Rattle.std.specs.Prelude.{◌≡◌, IfOk};
-ghost use Rattle.ppm_table.specs.Widths.{AreWidths, read_by, up_to, up_to_both, width_of};
+ghost use Rattle.ppm_table.specs.Widths.{AreWidths, instr_width, up_to, up_to_both, width_of};
 
 use ppm_code::{Code, Instr, Register};
 use ppm_words::{Items, NoMemory};
 use std::alloc::Global;
 
-/// So many registers, from the first on, as there are up to this one.
+/// How many registers there are up to this one, itself counted.
 fn up_to(register: Register) -> u8
     ensures { result ≡ up_to register }
 {
     register.index + 1
 }
 
-/// The same up to both of them.
+/// How many there are up to the later of two.
 fn up_to_both(one: Register, other: Register) -> u8
     ensures { result ≡ up_to_both one other }
 {
     up_to(one).max(up_to(other))
 }
 
-/// The same up to the last one that an instruction reads.
-fn read_by(instr: &Instr) -> u8
-    ensures { result ≡ read_by instr.now }
+/// How many there are up to the last one that an instruction reads.
+fn instr_width(instr: &Instr) -> u8
+    ensures { result ≡ instr_width instr.now }
 {
     match *instr {
         Instr::Const { .. } | Instr::LoadSlot { .. } | Instr::Room { .. } | Instr::Ends(_) => 0,
@@ -54,14 +55,14 @@ fn read_by(instr: &Instr) -> u8
     }
 }
 
-/// The same up to the last one that any of them reads.
+/// The width of a capsule of these instructions.
 fn width_of(instrs: &[Instr]) -> u8
     ensures { result ≡ width_of instrs.now }
 {
     let mut width = 0;
     let mut left = instrs;
     while let [first, rest @ ..] = left {
-        width = width.max(read_by(first));
+        width = width.max(instr_width(first));
         left = rest;
     }
     width

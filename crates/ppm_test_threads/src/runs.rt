@@ -2,7 +2,7 @@
 use crate::alone::record;
 use crate::obeying::obeys;
 use crate::tables::{
-    CLEAR, LOOP, WIDE, fork_code, fork_machine, fork_shape, is_right, plan_of, recorders, run,
+    LOOP, WIDE, ZEROS, fork_code, fork_machine, fork_shape, is_right, plan_of, recorders, run,
     run_listing,
 };
 use ppm_cells::{Ending, Finish};
@@ -52,11 +52,11 @@ fn one_does_what_it_does_on_a_machine(rt: HostRuntime) -> Result<(), Fail> {
 fn each_capsule_begins_with_registers_of_0(rt: HostRuntime) -> Result<(), Fail> {
     let alloc = rt.alloc();
     let mut watch = recorders(alloc, 1)?;
-    let closed = run_listing(&rt, alloc, CLEAR, "none", WIDE, 1, &mut watch)?.ok_or("no memory")?;
+    let closed = run_listing(&rt, alloc, ZEROS, "none", WIDE, 1, &mut watch)?.ok_or("no memory")?;
     assert!(&rt; closed.outcome() == Ending::With(Finish::Ended));
     assert_eq!(&rt; closed.arrays(), 1);
     let array = closed.array(alloc, 0)?;
-    assert_eq!(&rt; array.as_slice(), [0, 0, 0, 4].as_slice());
+    assert_eq!(&rt; array.as_slice(), [0, 0, 0, 0].as_slice());
     Ok(())
 }
 

@@ -41,12 +41,13 @@ capsule 5 proc 1\nloadslot r0 1\nloadslot r1 2\nconst r2 0\nget r3 r0 r2 1\nget 
 storecur 3 r3\nnext 6\n\
 capsule 6 proc 1\nloadslot r0 1\nconst r1 0\nloadslot r2 3\nput r0 r1 r2 1\nend\n";
 
-/// Sets three registers in a capsule; then puts what they hold in later ones, which begin with 0,
-/// into its array.
-pub(crate) const CLEAR: &str = "ppm 1\nroot 0 0\nproc 0 slots 1 entry 0\n\
-capsule 0 proc 0\nconst r7 5\nconst r8 6\nconst r63 8\nnext 1\n\
-capsule 1 proc 0\nloadslot r0 0\nconst r1 0\nput r0 r1 r7 1\nnext 2\n\
-capsule 2 proc 0\nloadslot r0 0\nconst r1 1\nput r0 r1 r8 1\nconst r1 2\nput r0 r1 r63 1\nend\n";
+/// Sets registers to other than 0, and puts what later capsules find in them into its array. These
+/// read registers up to r7, the last that is set to 0 by itself; up to r8, the next; and up to r63.
+pub(crate) const ZEROS: &str = "ppm 1\nroot 0 0\nproc 0 slots 1 entry 0\n\
+capsule 0 proc 0\nconst r0 3\nconst r7 5\nconst r8 6\nnext 1\n\
+capsule 1 proc 0\nloadslot r1 0\nconst r2 2\nput r1 r2 r0 1\nconst r2 3\nput r1 r2 r7 1\nnext 2\n\
+capsule 2 proc 0\nloadslot r0 0\nconst r1 0\nput r0 r1 r8 1\nconst r63 8\nnext 3\n\
+capsule 3 proc 0\nloadslot r0 0\nconst r1 1\nput r0 r1 r63 1\nend\n";
 
 /// Goes round for ever.
 pub(crate) const LOOP: &str = "ppm 1\nroot 0\nproc 0 slots 0 entry 0\ncapsule 0 proc 0\nnext 0\n";
