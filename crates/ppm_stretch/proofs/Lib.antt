@@ -2,7 +2,8 @@
 -- that its watcher was told of them (`Shows`), and where the processor stands by its deeds; `moves_then`
 -- of `SteadyLemmas` joins two. Only at the end is a `Local` built that stands there
 -- (`WaitingLemmas`), so the loops carry registers and numbers alone.
--- A capsule goes alike from registers that are alike up to its width (`WidthLemmas`).
+-- A capsule that a frame enters goes as from 0 in all registers, where those hold 0 that it reads
+-- (`WidthLemmas`, over those of `ppm_widths`).
 -- Where a watcher refuses, `Refuses` says that it was told of all steps but that one; `refuses_then`
 -- puts others in front.
 

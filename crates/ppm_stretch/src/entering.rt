@@ -1,6 +1,6 @@
 //! The steps with which a capsule of a frame begins and goes round, each an atomic step of the
 //! table.
-ghost use Rattle.std.specs.Prelude.{◌≡◌, ◌≤◌, ◌<◌, replicate, slice_get, take, IfSome, Some, true, false};
+ghost use Rattle.std.specs.Prelude.{◌≡◌, ◌≤◌, ◌<◌, slice_get, IfSome, Some, true, false};
 ghost use Rattle.ppm_cells.specs.Cells.{word_count};
 ghost use Rattle.ppm_cells.specs.declared.restart.RestartKind.TheVariants.{Run};
 ghost use Rattle.ppm_step.specs.Locals.{IsHeaderOf};
@@ -13,7 +13,7 @@ ghost use Rattle.ppm_stretch.specs.Entering.{HasBegun, HasTurned, Circled, WentA
 ghost use Rattle.ppm_ports.specs.Told.{KeepsList};
 ghost use Rattle.ppm_stretch.specs.declared.way.RoundEnd.TheVariants.{Refused, Round};
 ghost use Rattle.ppm_table.specs.Run.{stands_by, deeds_in, IsAtCode, IsAtTable, IsSeat};
-ghost use Rattle.ppm_table.specs.Widths.{AreWidths};
+ghost use Rattle.ppm_widths.specs.Widths.{AreWidths};
 ghost use Rattle.ppm_stretch.specs.Steady.{Goes, Moves};
 
 use crate::capsule::go_along;
@@ -24,6 +24,7 @@ use ppm_code::{Code, End, Reached};
 use ppm_ports::Watch;
 use ppm_step::{Home, Running, Seat as Place, Stage, Want};
 use ppm_table::{Found, View, Words, tell};
+use ppm_widths::set_to_0;
 
 /// Loads the finish word, before a capsule of a frame whose header is at this address.
 #[inline(always)]
@@ -207,23 +208,6 @@ pub(crate) fn begin<W: Watch>(
         Begun::Entered(number.word)
     } else {
         Begun::Refused(true)
-    }
-}
-
-/// Where a capsule reads no register past these many, they alone are set to 0.
-const NARROW: u8 = 8;
-
-/// Sets to 0 the registers that a capsule of this width reads, and maybe more.
-#[inline(always)]
-fn set_to_0(registers: &mut [u64; 64], width: u8)
-    ensures { take width registers.new ≡ take width (replicate 64 0) }
-{
-    if width > NARROW {
-        *registers = [0; 64];
-        return;
-    }
-    for index in 0..usize::from(NARROW) {
-        registers[index] = 0;
     }
 }
 

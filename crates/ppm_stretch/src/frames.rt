@@ -6,7 +6,7 @@ ghost use Rattle.ppm_step.specs.Facts.{IsEnd, IsHome, IsSeat as IsPlace};
 ghost use Rattle.ppm_step.specs.Frames.{ending};
 ghost use Rattle.ppm_step.specs.Standings.{IsAt, running};
 ghost use Rattle.ppm_table.specs.Run.{stands_by, deeds_in, IsAtCode, IsSeat};
-ghost use Rattle.ppm_table.specs.Widths.{AreWidths};
+ghost use Rattle.ppm_widths.specs.Widths.{AreWidths};
 ghost use Rattle.ppm_stretch.specs.Entering.{looks_at};
 ghost use Rattle.ppm_stretch.specs.Rows.{Makes, GivesUpIfRefused};
 

@@ -10,7 +10,7 @@ ghost use Rattle.ppm_step.specs.Told.{is_work_next};
 ghost use Rattle.ppm_step.specs.declared.turn.Next.TheVariants.{Seek};
 ghost use Rattle.ppm_table.specs.Run.{stands_by, deed_by, deeds_in, IsAtCode, IsSeat};
 ghost use Rattle.ppm_table.specs.Shown.{IsOf, opening_of};
-ghost use Rattle.ppm_table.specs.Widths.{AreWidths};
+ghost use Rattle.ppm_widths.specs.Widths.{AreWidths};
 ghost use Rattle.ppm_stretch.specs.Rows.{IsChoosing, IsFree, Makes, GivesUpIfRefused};
 ghost use Rattle.ppm_stretch.specs.Steady.{Moves, Refuses, is_exchange, looks_behind};
 

@@ -1,5 +1,4 @@
 pub mod Padding
-pub mod Widths
 pub mod Run
 pub mod Events
 pub mod Telling

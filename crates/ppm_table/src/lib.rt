@@ -2,8 +2,8 @@
 //! Model: a run of the machine, of which each processor's seat keeps what it did (`specs/Run`).
 //! Contract: a turn is one atomic step of the run; when all processors are back, the closed words
 //! and what each did are one run.
-//! Stands on `ppm_step`, `ppm_layout` and the kit's `atomic_table`; steps in a row and the driver
-//! of the threads stand on it.
+//! Stands on `ppm_step`, `ppm_layout`, `ppm_widths` and the kit's `atomic_table`; steps in a row and
+//! the driver of the threads stand on it.
 //! After the parallel persistent memory of Blelloch et al., SPAA 2018.
 #![tactic(auto)]
 
@@ -15,7 +15,6 @@ mod processor;
 mod touching;
 mod turning;
 mod view;
-mod widths;
 
 pub use closed::Closed;
 pub use padded::Padded;

@@ -8,17 +8,17 @@ ghost use Rattle.ppm_code.specs.declared.code.CodeParts.{CodeParts};
 ghost use Rattle.ppm_step.specs.Locals.{IsLocal, standing_of};
 ghost use Rattle.ppm_step.specs.Standings.{IsLost};
 ghost use Rattle.ppm_table.specs.Run.{maker, padding, seated};
-ghost use Rattle.ppm_table.specs.Widths.{AreWidths};
+ghost use Rattle.ppm_widths.specs.Widths.{AreWidths};
 
 use crate::padded::Padded;
 use crate::processor::{Processor, Shared};
 use crate::view::{Halves, Opening, View, Words};
-use crate::widths::widths;
 use atomic_table::{Seat, Table};
 use ppm_cells::Shape;
 use ppm_code::Code;
 use ppm_layout::Image;
 use ppm_step::Local;
+use ppm_widths::widths;
 use ppm_words::{Items, NoMemory};
 use std::alloc::Global;
 

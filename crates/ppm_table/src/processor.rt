@@ -4,7 +4,7 @@ ghost use Rattle.std.specs.List.{sum};
 ghost use Rattle.ppm_cells.specs.Cells.{word_count};
 ghost use Rattle.ppm_cells.specs.Memory.{AreWordsOf};
 ghost use Rattle.ppm_table.specs.Run.{padding, IsSeat};
-ghost use Rattle.ppm_table.specs.Widths.{AreWidths};
+ghost use Rattle.ppm_widths.specs.Widths.{AreWidths};
 
 use crate::view::{View, Words};
 use atomic_table::Seat;

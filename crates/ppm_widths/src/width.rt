@@ -1,7 +1,7 @@
 //! Up to which register the capsules of a code read, so that few are set to 0 where few may be
 //! read.
 ghost use Rattle.std.specs.Prelude.{◌≡◌, IfOk};
-ghost use Rattle.ppm_table.specs.Widths.{AreWidths, instr_width, up_to, up_to_both, width_of};
+ghost use Rattle.ppm_widths.specs.Widths.{AreWidths, instr_width, up_to, up_to_both, width_of};
 
 use ppm_code::{Code, Instr, Register};
 use ppm_words::{Items, NoMemory};
@@ -69,7 +69,7 @@ fn width_of(instrs: &[Instr]) -> u8
 }
 
 /// The widths of the capsules of a code, by their numbers. `Err` only where memory is refused.
-pub(crate) fn widths(alloc: Global, code: &Code) -> Result<Items<u8>, NoMemory>
+pub fn widths(alloc: Global, code: &Code) -> Result<Items<u8>, NoMemory>
     ensures { IfOk result (AreWidths code.now) }
 {
     let mut widths = Vec::new(alloc);

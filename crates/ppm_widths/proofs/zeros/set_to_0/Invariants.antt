@@ -1,5 +1,5 @@
 use Rattle.std.proofs.Common.{◌≡◌, length, replicate, take}
-use Rattle.ppm_stretch.proofs.entering.set_to_0.Given as goal
+use Rattle.ppm_widths.proofs.zeros.set_to_0.Given as goal
 
 -- those so far hold 0
 abbrev pub invariant-loop-index : goal.invariant-loop-index

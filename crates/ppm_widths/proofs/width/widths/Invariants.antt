@@ -1,7 +1,7 @@
 use Rattle.std.proofs.Common.{◌≡◌, ◌++◌, length, map}
 use Rattle.ppm_code.specs.declared.code.Capsule.{Capsule}
-use Rattle.ppm_table.specs.Widths.{width_of}
-use Rattle.ppm_table.proofs.widths.widths.Given as goal
+use Rattle.ppm_widths.specs.Widths.{width_of}
+use Rattle.ppm_widths.proofs.width.widths.Given as goal
 
 -- the widths so far, and those of the capsules that are left
 abbrev pub invariant-loop-left : goal.invariant-loop-left

@@ -1,6 +1,6 @@
 use Rattle.std.proofs.Common.{◌≡◌, length, max}
-use Rattle.ppm_table.specs.Widths.{width_of}
-use Rattle.ppm_table.proofs.widths.width_of.Given as goal
+use Rattle.ppm_widths.specs.Widths.{width_of}
+use Rattle.ppm_widths.proofs.width.width_of.Given as goal
 
 -- those so far, and those that are left
 abbrev pub invariant-loop-left : goal.invariant-loop-left
