@@ -11,3 +11,6 @@ pub mod RunLemmas
 pub mod TurnLemmas
 pub mod MomentLemmas
 pub mod StepsLemmas
+pub mod WaitingLemmas
+pub mod CapsuleLemmas
+pub mod WidthLemmas

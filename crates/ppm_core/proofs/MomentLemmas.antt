@@ -94,7 +94,7 @@ module _ (s : Shape) (code : CodeParts) (own : ℕ) where
   }
 
   -- a step in a capsule of a frame
-  in_capsule : (seat : Seat) (rest : Rest) (words words' : List ℕ) (stand : Standing) → read s words FinishWord ≡ 0
+  pub in_capsule : (seat : Seat) (rest : Rest) (words words' : List ℕ) (stand : Standing) → read s words FinishWord ≡ 0
       → words' ≡ words_after words (wanted_rest s seat rest)
       → stand ≡ went_rest s seat (found_in words (wanted_rest s seat rest)) rest
       → StepsTo s code own 1 1 (moment words (IsRunning seat rest)) (moment words' stand)
@@ -115,7 +115,7 @@ module _ (s : Shape) (code : CodeParts) (own : ℕ) where
       ∙ ap (moment words) begins_with
 
   -- the two before it
-  in_front : (seat : Seat) (header : ℕ) (words : List ℕ) (stand : Standing) → IsHeaderOf s seat header → own ≡ seat.own
+  pub in_front : (seat : Seat) (header : ℕ) (words : List ℕ) (stand : Standing) → IsHeaderOf s seat header → own ≡ seat.own
       → read s words FinishWord ≡ 0
       → stand ≡ enters s code seat seat.restart.kind (slice_get code.capsules (slice_index words header))
       → StepsTo s code own 2 1 (moment words (IsAt seat.place (Some seat.restart))) (moment words stand)

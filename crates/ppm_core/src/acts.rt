@@ -1,6 +1,7 @@
 //! What an act of one processor does.
 ghost use Rattle.std.specs.Prelude.{◌≡◌, ◌<◌, ℕ, List, if◌then◌else◌};
-ghost use Rattle.ppm_cells.specs.Memory.{AreWordsOf};
+ghost use Rattle.ppm_cells.specs.Memory.{AreWordsOf, read};
+ghost use Rattle.ppm_cells.specs.declared.cell.Cell.TheVariants.{FinishWord};
 ghost use Rattle.ppm_cells.specs.declared.shape.Shape.{Shape};
 ghost use Rattle.ppm_code.specs.declared.code.CodeParts.{CodeParts};
 ghost use Rattle.ppm_core.specs.Acts.{IsActAmong, is_done_at, forks_at, takes_at};
@@ -152,6 +153,15 @@ pub(crate) fn found_by(words: &Vec<u64>, shape: &Shape, want: Want) -> u64
         Want::Loads(at) => words[at as usize],
         Want::Stores(..) | Want::Exchanges(..) | Want::Nothing => 0,
     }
+}
+
+/// The finish word.
+#[inline(always)]
+pub(crate) fn finish_word(words: &Vec<u64>, shape: &Shape) -> u64
+    requires { AreWordsOf shape.now words.now.items }
+    ensures { result ≡ read shape.now words.now.items FinishWord }
+{
+    found_by(words, shape, Want::Loads(shape.address(Cell::FinishWord)))
 }
 
 /// Stores what a word step stores.

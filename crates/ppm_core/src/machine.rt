@@ -19,7 +19,8 @@ use ppm_cells::{Cell, Ending, Shape};
 use ppm_code::{Code, End, Step};
 use ppm_layout::Image;
 use ppm_step::{Act, Local, Next, Point, Row, Running, Stage, Stand, Then, Told, Turn};
-use ppm_words::NoMemory;
+use ppm_widths::widths;
+use ppm_words::{Items, NoMemory};
 use std::alloc::Global;
 use std::marker::Model;
 
@@ -30,6 +31,7 @@ pub struct Machine {
     shape: Shape,
     code: Code,
     array_lengths: Vec<u32>,
+    widths: Items<u8>,
     words: Vec<u64>,
     locals: Vec<Local>,
     forks: u64,
@@ -40,6 +42,7 @@ pub struct Machine {
 
 impl Model for Machine {
     ghost use Rattle.ppm_core.specs.Machine.{Holding, AreLocals, AreCounts, AreStores};
+    ghost use Rattle.ppm_widths.specs.Widths.{AreWidths};
 
     ghost Value = { Holding };
 
@@ -56,7 +59,7 @@ impl Model for Machine {
     } };
 
     ghost invariant = { λ m. AreStores m.shape m.array_lengths.items m.words.items × AreLocals m.shape m.code m.locals.items
-        × AreCounts m.forks m.takes m.work m.turns };
+        × AreCounts m.forks m.takes m.work m.turns × AreWidths m.code m.widths };
 }
 
 /// All processors of a machine, each lost.
@@ -95,10 +98,12 @@ impl Machine {
     {
         let shape = image.shape;
         let locals = lost_locals(alloc, &shape, &code)?;
+        let widths = widths(alloc, &code)?;
         Ok(Machine {
             shape,
             code,
             array_lengths: image.lengths.into_vec(),
+            widths,
             words: image.words.into_vec(),
             locals,
             forks: 0,
@@ -220,7 +225,15 @@ impl Machine {
         ensures no_further { GoesNoFurther (seen self.new) processor (most - result) }
     {
         let local = &mut self.locals[processor as usize];
-        let steps = step_along(local, &mut self.words, &self.shape, &self.code, most);
+        let widths = self.widths.as_slice();
+        let steps = step_along(
+            local,
+            &mut self.words,
+            &self.shape,
+            &self.code,
+            widths,
+            most,
+        );
         self.work += steps.work;
         self.turns += steps.made;
         steps.made

@@ -7,10 +7,9 @@ use Rattle.ppm_step.specs.declared.row.Point.TheVariants.{Header}
 use Rattle.ppm_step.specs.declared.row.Row.TheVariants.{Now}
 use Rattle.ppm_step.specs.declared.row.Seat.{Seat}
 use Rattle.ppm_step.specs.declared.row.Then.TheVariants.{Load}
-use Rattle.ppm_cells.specs.declared.restart.Restart.{Restart}
 use Rattle.ppm_step.specs.declared.ask.Want.TheVariants.{Stores as WantsStore}
 use Rattle.ppm_step.specs.declared.frame.Home.{Home}
-use Rattle.ppm_step.specs.Frames.{Rest, Full, other_copy, rest_of}
+use Rattle.ppm_step.specs.Frames.{Rest, Full, rest_of}
 use Rattle.ppm_code.specs.Capsules.{capsule_from, reached}
 use Rattle.ppm_code.specs.declared.code.Capsule.{Capsule}
 use Rattle.ppm_stretch.specs.declared.way.Stretch.{Stretch}
@@ -25,7 +24,8 @@ use Rattle.ppm_stretch.specs.declared.way.Turned.TheVariants as turned
 use Rattle.ppm_stretch.specs.declared.way.Begun.{Begun}
 use Rattle.ppm_stretch.specs.declared.way.Begun.TheVariants as begun
 use Rattle.ppm_words.specs.declared.event.Event.{Event}
-use Rattle.ppm_stretch.specs.Steady.{Moves, Refuses, LedTo, HasReached}
+use Rattle.ppm_core.specs.Capsules.{HasReached, goes_round}
+use Rattle.ppm_stretch.specs.Steady.{Moves, Refuses, LedTo}
 use Rattle.ppm_step.specs.Standings.{Standing, IsDone, IsBroken, enters, IsAt, IsWithin, IsRunning, running, wanted_rest}
 use Rattle.ppm_table.specs.declared.view.Opening.{Opening}
 use Rattle.ppm_table.specs.Run.{stands_by, deeds_in, Mine}
@@ -76,10 +76,6 @@ HaltsAt s code seat home registers (halts.Stopped number next what) standing =
     × (standing ≡ running s seat (rest_of s code seat.place home (reached s.arrays capsule.instrs next what registers))))
 HaltsAt s code seat home registers (halts.Full number) standing =
     (capsule : Capsule) × (slice_get code.capsules number ≡ Some capsule) × (standing ≡ running s seat Full)
-
--- the frame goes on with the other copy of its header
-abbrev pub goes_round : Seat → Home → Restart
-goes_round seat home = record { kind = Run home.frame (other_copy home.copy); bottom = seat.restart.bottom }
 
 module _ {W : Type 0} (told : W → Option (List Event)) where
   -- what came of the beginning of a capsule of a frame: the finish word was set, or the capsule with a number is entered with registers of 0, if it

@@ -16,6 +16,7 @@ use Rattle.ppm_step.specs.declared.frame.Home.{Home}
 use Rattle.ppm_step.specs.declared.row.Seat.{Seat}
 use Rattle.ppm_step.specs.declared.turn.Act.TheVariants.{Step}
 use Rattle.ppm_step.specs.declared.turn.Next.TheVariants.{Seek}
+use Rattle.ppm_core.specs.Capsules.{HasReached}
 use Rattle.ppm_step.specs.Frames.{Rest, Loads, Stores, rest_of}
 use Rattle.ppm_step.specs.Standings.{Standing, IsDone, IsBroken, running}
 use Rattle.ppm_step.specs.State.{seeks_holder, next_of}
@@ -91,10 +92,6 @@ StandsIn k s code seat home left me = stands_by k seat.own (deeds_in me.0) ≡ r
 -- before an instruction
 abbrev pub StandsAt : Opening → Shape → CodeParts → Seat → Home → List Instr → (at : ℕ) → List ℕ → Mine → Type 0
 StandsAt k s code seat home instrs at registers me = StandsIn k s code seat home (capsule_from s.arrays 0 at instrs registers) me
-
--- register work has come there
-abbrev pub HasReached : Shape → List Instr → (next : ℕ) → Reached → List ℕ → Type 0
-HasReached s instrs next what registers = (from : ℕ) × (before : List ℕ) × (capsule_from s.arrays 0 from instrs before ≡ reached s.arrays instrs next what registers)
 
 -- before a step or an end that register work has come to
 abbrev pub StandsReached : Opening → Shape → CodeParts → Seat → Home → List Instr → (next : ℕ) → Reached → List ℕ → Mine → Type 0

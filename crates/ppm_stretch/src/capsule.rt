@@ -1,42 +1,22 @@
 //! The steps that a processor makes in a row in a capsule of a frame, each an atomic step of the
 //! table.
-ghost use Rattle.std.specs.Prelude.{◌≡◌, ◌≤◌, ◌<◌, ℕ, true};
-ghost use Rattle.ppm_cells.specs.Cells.{address, word_count};
+ghost use Rattle.std.specs.Prelude.{◌≡◌, ◌≤◌, ◌<◌, ℕ};
 ghost use Rattle.ppm_code.specs.Locations.{location_of};
 ghost use Rattle.ppm_step.specs.Facts.{IsHome};
 ghost use Rattle.ppm_step.specs.Frames.{Rest, Loads, Stores, cell_of};
 ghost use Rattle.ppm_step.specs.Standings.{running};
-ghost use Rattle.ppm_step.specs.There.{is_there};
 ghost use Rattle.ppm_step.specs.declared.content.Content.TheVariants.{ANumber};
 ghost use Rattle.ppm_table.specs.Run.{stands_by, deeds_in, IsAtTable, IsSeat};
 ghost use Rattle.ppm_stretch.specs.Steady.{StandsAt, CameTo, LedTo, HasLoaded, HasStored, IsLoading, IsStoring};
 
 use crate::way::{Load, Store, Stretch, Way};
 use atomic_table::Seat;
-use ppm_cells::{Cell, Shape};
-use ppm_code::{Code, FrameWord, Instr, Location, Reached, Step, reach};
+use ppm_cells::Shape;
+use ppm_code::{Code, Instr, Location, Reached, Step, reach};
+use ppm_core::address_of;
 use ppm_ports::Watch;
 use ppm_step::{Home, Seat as Place, Want, location_is_there};
 use ppm_table::{View, Words, tell};
-
-/// The address of a location that is there.
-#[inline(always)]
-fn address_of(shape: &Shape, home: &Home, location: Location) -> u32
-    requires home { IsHome home.now }
-    requires there { is_there shape.now (cell_of home.now (location_of location)) ≡ true }
-    ensures value { result ≡ address shape.now (cell_of home.now (location_of location)) }
-    ensures within { result < word_count shape.now }
-{
-    let _ = shape.slots;
-    match location {
-        Location::Frame(FrameWord::Slot(slot)) => home.frame + 6 + slot,
-        Location::Frame(FrameWord::Value) => home.frame + 4,
-        Location::New(offset) => home.block + offset,
-        Location::Array(index) => shape.address(Cell::ArrayWord {
-            index: index as u32,
-        }),
-    }
-}
 
 /// Loads the word of a location, whatever comes behind that; and tells the watcher.
 #[inline(always)]

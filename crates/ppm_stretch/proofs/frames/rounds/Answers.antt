@@ -9,7 +9,7 @@ use Rattle.ppm_stretch.specs.Entering.{Circled, looks_at}
 use Rattle.ppm_stretch.specs.Steady.{Lives}
 use Rattle.ppm_stretch.proofs.RoundLemmas.{looks_few}
 use Rattle.ppm_stretch.proofs.SteadyLemmas.{moves_then, refuses_then, row_few, row_makes, row_stops, from_none}
-use Rattle.ppm_stretch.proofs.WaitingLemmas.{goes_round_fits}
+use Rattle.ppm_core.proofs.WaitingLemmas.{goes_round_fits}
 use Rattle.ppm_stretch.proofs.frames.rounds.Goals as goal
 
 pub loop-made-preserved : goal.loop-made-preserved

@@ -21,6 +21,7 @@ invariant_of-self c =
         takes_at_most = omega (arith, c.self.invariant.2.takes_at_most, c.takes_by-takes.ensures.bound);
         work_at_most = omega (arith, c.self.invariant.2.work_at_most, c.count_of-works.ensures.bound);
       },
+      c.self.invariant.3,
     )
 
 -- the machine is that after the turn

@@ -23,6 +23,7 @@ invariant_of-self c =
         takes_at_most = omega (arith, c.self.invariant.2.takes_at_most);
         work_at_most = omega (arith, c.self.invariant.2.work_at_most, c.step_along-steps.ensures.few.1);
       },
+      c.self.invariant.3,
     )
 
 -- the machine is that after so many turns

@@ -3,7 +3,7 @@ use Rattle.ppm_cells.specs.Memory.{AreWordsOf}
 use Rattle.ppm_core.specs.Moments.{moment, StepsTo}
 use Rattle.ppm_step.specs.Stages.{IsUnderWay, rest_at}
 use Rattle.ppm_step.specs.Standings.{IsRunning}
-use Rattle.ppm_core.proofs.steps.run_capsule.Given as goal
+use Rattle.ppm_core.proofs.steps.go_through.Given as goal
 
 -- the steps so far, each of them work, lead to the capsule as it is under way
 abbrev pub invariant-loop-made : goal.invariant-loop-made

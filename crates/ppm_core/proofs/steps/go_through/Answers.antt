@@ -1,6 +1,6 @@
 use Rattle.std.proofs.Common.{◌∙◌, sym, arith}
 use Rattle.ppm_core.proofs.MomentLemmas.{further, goes_on, holds_on}
-use Rattle.ppm_core.proofs.steps.run_capsule.Goals as goal
+use Rattle.ppm_core.proofs.steps.go_through.Goals as goal
 
 -- a step more, behind which the capsule goes on
 pub loop-made-preserved : goal.loop-made-preserved

@@ -1,0 +1,138 @@
+-- One processor goes through a capsule of a frame, and on to the next one.
+use Rattle.std.specs.Prelude.{◌≡◌, ◌≤◌, ℕ, Bool, true, false, List, Option, Some, None, slice_get}
+use Rattle.ppm_cells.specs.Memory.{read, write}
+use Rattle.ppm_cells.specs.declared.cell.Cell.{Cell}
+use Rattle.ppm_cells.specs.declared.restart.Restart.{Restart}
+use Rattle.ppm_cells.specs.declared.restart.RestartKind.TheVariants.{Run}
+use Rattle.ppm_cells.specs.declared.shape.Shape.{Shape}
+use Rattle.ppm_capsules.specs.Capsule.{Capsule}
+use Rattle.ppm_code.specs.Capsules.{capsule_from, reached}
+use Rattle.ppm_code.specs.Locations.{Where}
+use Rattle.ppm_code.specs.declared.act.End.{End}
+use Rattle.ppm_code.specs.declared.act.End.TheVariants.{Next}
+use Rattle.ppm_code.specs.declared.code.Capsule.{Capsule as Coded}
+use Rattle.ppm_code.specs.declared.code.CodeParts.{CodeParts}
+use Rattle.ppm_code.specs.declared.instr.Instr.{Instr}
+use Rattle.ppm_code.specs.declared.work.Reached.{Reached}
+use Rattle.ppm_code.specs.declared.work.Reached.TheVariants.{Before, AtEnd}
+use Rattle.ppm_step.specs.declared.frame.Home.{Home}
+use Rattle.ppm_step.specs.declared.row.Seat.{Seat}
+use Rattle.ppm_step.specs.declared.running.Stage.{Stage}
+use Rattle.ppm_step.specs.declared.running.Stage.TheVariants as stages
+use Rattle.ppm_step.specs.Facts.{IsHome, IsSeat}
+use Rattle.ppm_step.specs.Frames.{ending, other_copy, rest_of}
+use Rattle.ppm_step.specs.Standings.{Standing, IsAt, IsBroken, enters, running}
+use Rattle.ppm_step.specs.There.{is_there}
+use Rattle.ppm_core.specs.declared.capsule.Turned.{Turned}
+use Rattle.ppm_core.specs.declared.capsule.Turned.TheVariants as turned
+use Rattle.ppm_core.specs.declared.capsule.Stretch.{Stretch}
+use Rattle.ppm_core.specs.declared.capsule.Way.{Way}
+use Rattle.ppm_core.specs.declared.capsule.Way.TheVariants.{Made, Stops, Breaks}
+use Rattle.ppm_core.specs.declared.steps.Begun.{Begun}
+use Rattle.ppm_core.specs.declared.steps.RoundEnd.{RoundEnd}
+use Rattle.ppm_core.specs.declared.steps.RoundEnd.TheVariants.{Round, Left}
+use Rattle.ppm_core.specs.Moments.{moment, NoFurther, StepsTo}
+
+-- the stage of what register work has come to
+abbrev pub stage_of : Reached → Stage
+stage_of (Before step) = stages.Before step
+stage_of (AtEnd end) = stages.Ending end 0
+
+-- the word of a cell was found, or the cell isn't there
+abbrev pub HasFound : Shape → (words : List ℕ) → Cell → Option ℕ → Type 0
+HasFound s words cell None = is_there s cell ≡ false
+HasFound s words cell (Some found) = (is_there s cell ≡ true) × (found ≡ read s words cell)
+
+-- a word was stored in a cell, or the cell isn't there
+abbrev pub HasPut : Shape → (words words' : List ℕ) → Cell → (word : ℕ) → Bool → Type 0
+HasPut s words words' cell word true = (is_there s cell ≡ true) × (words' ≡ write s words cell word)
+HasPut s words words' cell word false = (is_there s cell ≡ false) × (words' ≡ words)
+
+-- register work has come there
+abbrev pub HasReached : Shape → List Instr → (next : ℕ) → Reached → List ℕ → Type 0
+HasReached s instrs next what registers = (from : ℕ) × (before : List ℕ) × (capsule_from s.arrays 0 from instrs before ≡ reached s.arrays instrs next what registers)
+
+-- the frame goes on with the other copy of its header
+abbrev pub goes_round : Seat → Home → Restart
+goes_round seat home = record { kind = Run home.frame (other_copy home.copy); bottom = seat.restart.bottom }
+
+-- how many steps lead this way from an instruction
+abbrev pub steps_by : Way → ℕ
+steps_by (Made next) = 1
+steps_by (Stops next what) = 0
+steps_by Breaks = 0
+
+module _ (s : Shape) (code : CodeParts) (seat : Seat) (home : Home) where
+  -- a processor stands within a capsule of a frame, with this left of it; where what comes next isn't there, at broken words
+  abbrev pub stands_in : Capsule Where End → Standing
+  stands_in left = running s seat (rest_of s code seat.place home left)
+
+  -- before an instruction
+  abbrev pub stands_before : List Instr → (at : ℕ) → List ℕ → Standing
+  stands_before instrs at registers = stands_in (capsule_from s.arrays 0 at instrs registers)
+
+  -- where a capsule goes on this way
+  abbrev pub stands_behind : List Instr → List ℕ → Way → Standing
+  stands_behind instrs registers (Made next) = stands_before instrs next registers
+  stands_behind instrs registers (Stops next what) = stands_in (reached s.arrays instrs next what registers)
+  stands_behind instrs registers Breaks = IsBroken seat.place
+
+  -- where it stops, register work has come there
+  abbrev pub HasStopped : List Instr → List ℕ → Way → Type 0
+  HasStopped instrs registers (Made next) = Unit {0}
+  HasStopped instrs registers (Stops next what) = HasReached s instrs next what registers
+  HasStopped instrs registers Breaks = Unit {0}
+
+  -- so many steps led this way from an instruction
+  pub record LedTo (instrs : List Instr) (from : ℕ) (registers registers' words words' : List ℕ) (made : ℕ) (way : Way) : Type 0 where
+    pub steps : StepsTo s code seat.own made made (moment words (stands_before instrs from registers)) (moment words' (stands_behind instrs registers' way))
+    pub stopped : HasStopped instrs registers' way
+
+  -- what came of the stores with which a frame goes round
+  abbrev pub TurnedTo : (capsule : ℕ) (words words' : List ℕ) → Turned → Type 0
+  TurnedTo capsule words words' (turned.Breaks made) =
+      (made ≤ 1) × StepsTo s code seat.own made made (moment words (running s seat (ending code home (Next capsule) 0))) (moment words' (IsBroken seat.place))
+  TurnedTo capsule words words' turned.Round =
+      StepsTo s code seat.own 2 2 (moment words (running s seat (ending code home (Next capsule) 0))) (moment words' (IsAt seat.place (Some (goes_round seat home))))
+
+module _ (s : Shape) (code : CodeParts) (seat : Seat) where
+  -- a seat's frame enters the capsule with a number
+  abbrev pub stands_at : Begun → Standing
+  stands_at begun = enters s code seat (Run begun.home.frame begun.home.copy) (slice_get code.capsules begun.number)
+
+  -- the two steps that lead there, while the finish word is 0
+  pub record IsBegun (words : List ℕ) (begun : Begun) : Type 0 where
+    pub seat_is : IsSeat s seat
+    pub home : IsHome begun.home
+    pub block : begun.home.block ≡ 0
+    pub kind : seat.restart.kind ≡ Run begun.home.frame begun.home.copy
+    pub steps : StepsTo s code seat.own 2 1 (moment words (IsAt seat.place (Some seat.restart))) (moment words (stands_at begun))
+
+  -- none do
+  abbrev pub HasBegun : List ℕ → Option Begun → Type 0
+  HasBegun words None = (left : ℕ) → NoFurther s code seat.own left (moment words (IsAt seat.place (Some seat.restart)))
+  HasBegun words (Some begun) = IsBegun words begun
+
+  -- there is no capsule with this number, or it was gone through so far
+  abbrev pub WentAlong : Begun → (registers' words words' : List ℕ) → Option Stretch → Type 0
+  WentAlong begun registers' words words' None = (words' ≡ words) × (stands_at begun ≡ IsBroken seat.place)
+  WentAlong begun registers' words words' (Some stretch) =
+      (capsule : Coded) × (slice_get code.capsules begun.number ≡ Some capsule) × (registers : List ℕ)
+      × (stands_at begun ≡ stands_before s code seat begun.home capsule.instrs 0 registers)
+      × LedTo s code seat begun.home capsule.instrs 0 registers registers' words words' stretch.made stretch.way
+
+  -- where a processor stands whose round has left its capsule this way
+  abbrev pub IsLeftAt : Begun → List ℕ → Way → Standing → Type 0
+  IsLeftAt begun registers (Made at) standing =
+      (capsule : Coded) × (slice_get code.capsules begun.number ≡ Some capsule) × (standing ≡ stands_before s code seat begun.home capsule.instrs at registers)
+  IsLeftAt begun registers (Stops next what) standing =
+      (capsule : Coded) × (slice_get code.capsules begun.number ≡ Some capsule)
+      × (HasReached s capsule.instrs next what registers × (standing ≡ stands_in s code seat begun.home (reached s.arrays capsule.instrs next what registers)))
+  IsLeftAt begun registers Breaks standing = standing ≡ IsBroken seat.place
+
+  -- what came of a round of so many steps
+  abbrev pub Circled : Begun → (registers' words words' : List ℕ) → (made : ℕ) → RoundEnd → Type 0
+  Circled begun registers' words words' made Round =
+      StepsTo s code seat.own made made (moment words (stands_at begun)) (moment words' (IsAt seat.place (Some (goes_round seat begun.home))))
+  Circled begun registers' words words' made (Left way) =
+      (standing : Standing) × IsLeftAt begun registers' way standing × StepsTo s code seat.own made made (moment words (stands_at begun)) (moment words' standing)
