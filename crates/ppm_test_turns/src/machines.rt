@@ -31,6 +31,13 @@ capsule 5 proc 1\nloadslot r0 1\nloadslot r1 2\nconst r2 0\nget r3 r0 r2 1\nget 
 storecur 3 r3\nnext 6\n\
 capsule 6 proc 1\nloadslot r0 1\nconst r1 0\nloadslot r2 3\nput r0 r1 r2 1\nend\n";
 
+/// Each capsule behind the first puts a register into its array that an earlier one has set and it
+/// has not: first one of the few that all capsules set to 0, then one past these.
+const HELD: &str = "ppm 1\nroot 0 0\nproc 0 slots 1 entry 0\n\
+capsule 0 proc 0\nconst r3 5\nconst r9 6\nnext 1\n\
+capsule 1 proc 0\nloadslot r0 0\nconst r1 2\nput r0 r1 r3 1\nnext 2\n\
+capsule 2 proc 0\nloadslot r0 0\nconst r1 3\nput r0 r1 r9 1\nend\n";
+
 /// A machine's sizes, and an act that comes in the place of a step: whose, at which turn, and what.
 #[derive(Clone, Copy)]
 struct Trial {
@@ -216,11 +223,41 @@ fn steps_in_a_row_are_turns(rt: HostRuntime) -> Result<(), Fail> {
         let mut machine = fork_machine(alloc, 1, false)?;
         let in_rows = run_in_rows(&mut machine, most);
         assert_eq!(rt; in_rows, want);
-        assert!(rt; machine.words() == turn_by_turn.words());
-        assert_eq!(rt; machine.turns(), turn_by_turn.turns());
-        assert_eq!(rt; machine.work(), turn_by_turn.work());
-        assert_eq!(rt; machine.forks(), turn_by_turn.forks());
-        assert_eq!(rt; machine.takes(), turn_by_turn.takes());
+        assert!(rt; are_alike(&machine, &turn_by_turn));
+    }
+    Ok(())
+}
+
+/// Whether two machines have the same words and have counted the same.
+fn are_alike(one: &Machine, other: &Machine) -> bool {
+    one.words() == other.words()
+        && one.turns() == other.turns()
+        && one.work() == other.work()
+        && one.forks() == other.forks()
+        && one.takes() == other.takes()
+}
+
+#[test]
+fn rows_of_any_length_are_turns(rt: HostRuntime) -> Result<(), Fail> {
+    let alloc = rt.alloc();
+    let rows = [
+        (FORK, [1, 2, 7, 4]),
+        (SUM, [11, 0, 11, 4]),
+        (HELD, [0, 0, 0, 0]),
+    ];
+    for (listing, want) in rows {
+        let mut turn_by_turn = machine_of(alloc, listing, 1, 4, false)?;
+        run(&mut turn_by_turn, ALONE);
+        assert_eq!(rt; turn_by_turn.outcome(), Ending::With(Finish::Ended));
+        for most in [1, 2, 3, 4, 5, 7, 1000] {
+            let mut machine = machine_of(alloc, listing, 1, 4, false)?;
+            run_in_rows(&mut machine, most);
+            assert!(rt; are_alike(&machine, &turn_by_turn), "{most}");
+            assert!(rt; machine.arrays() == 1);
+            if machine.arrays() == 1 {
+                assert!(rt; machine.array(0) == want.as_slice(), "{most}");
+            }
+        }
     }
     Ok(())
 }
