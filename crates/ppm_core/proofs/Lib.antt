@@ -3,7 +3,9 @@
 -- Steps in a row: a moment is the words and where the processor stands, and one record (`StepsTo`)
 -- says that so many steps lead from one to another. Functions of a loop answer that record, one
 -- lemma (`both`) joins two, and only at the end is it turned into the machine's own `run_on`
--- (`StepsLemmas`).
+-- (`StepsLemmas`). A round of a frame is such steps too, with registers alone between them
+-- (`CapsuleLemmas`); it enters a capsule as from 0 in all registers, where those hold 0 that it reads
+-- (`WidthLemmas`), and where it halts a `Local` is built that stands there (`WaitingLemmas`).
 
 pub mod ListLemmas
 pub mod LocalLemmas

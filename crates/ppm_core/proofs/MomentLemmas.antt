@@ -1,6 +1,5 @@
 -- Steps of one processor in a row, from moment to moment.
-use Rattle.std.proofs.Common.{◌≡◌, ◌∙◌, ℕ, zero, suc, ◌+◌, true, false, if◌then◌else◌, List, slice_index, Some, refl, sym, ap, subst, arith}
-use Rattle.std.specs.Prelude.{slice_get}
+use Rattle.std.proofs.Common.{◌≡◌, ◌∙◌, ℕ, zero, suc, ◌+◌, true, false, List, Some, refl, sym, ap, subst, arith}
 use Rattle.ppm_cells.specs.Memory.{read}
 use Rattle.ppm_cells.specs.declared.cell.Cell.TheVariants.{FinishWord}
 use Rattle.ppm_cells.specs.declared.restart.RestartKind.{RestartKind}
@@ -9,19 +8,14 @@ use Rattle.ppm_cells.specs.declared.shape.Shape.{Shape}
 use Rattle.ppm_code.specs.declared.code.CodeParts.{CodeParts}
 use Rattle.ppm_step.specs.declared.going.Going.{Going}
 use Rattle.ppm_step.specs.declared.going.Going.TheVariants.{Went, Installed}
-use Rattle.ppm_step.specs.declared.row.Point.TheVariants.{Header}
-use Rattle.ppm_step.specs.declared.row.Row.TheVariants.{Now}
 use Rattle.ppm_step.specs.declared.row.Seat.{Seat}
-use Rattle.ppm_step.specs.declared.row.Then.TheVariants.{Load}
 use Rattle.ppm_step.specs.declared.running.Running.{Running}
-use Rattle.ppm_step.specs.declared.turn.Next.TheVariants.{Work}
 use Rattle.ppm_step.specs.Frames.{Rest}
-use Rattle.ppm_step.specs.Locals.{HasNoHeader, IsHeaderOf}
+use Rattle.ppm_step.specs.Locals.{HasNoHeader}
 use Rattle.ppm_step.specs.Stages.{IsUnderWay, WentOn, rest_at, went_on}
-use Rattle.ppm_step.specs.Standings.{Standing, IsAt, IsWithin, IsRunning, IsBroken, at_finish, begins, enters, wanted_rest, went_rest}
-use Rattle.ppm_step.specs.State.{found_in, words_after, next_of, step_of, before_kind}
-use Rattle.ppm_step.specs.Told.{is_work_next}
-use Rattle.ppm_core.specs.Moments.{Moment, moment, moved, moved_by, Moves, AllMove, work_at, work_in, LastWorks, StepsTo}
+use Rattle.ppm_step.specs.Standings.{Standing, IsAt, IsRunning, at_finish, begins, wanted_rest, went_rest}
+use Rattle.ppm_step.specs.State.{found_in, words_after}
+use Rattle.ppm_core.specs.Moments.{Moment, moment, moved, moved_by, AllMove, work_in, LastWorks, StepsTo}
 use Rattle.ppm_core.specs.Moments.{MovesOn, NoFurther, is_under_way}
 use Rattle.ppm_core.specs.Steps.{is_in_capsule, is_of_frame}
 
@@ -114,34 +108,6 @@ module _ (s : Shape) (code : CodeParts) (own : ℕ) where
       ∙ ap (λ o. moment words (at_finish s code o seat.place (Some seat.restart) 0)) same
       ∙ ap (moment words) begins_with
 
-  -- the two before it
-  pub in_front : (seat : Seat) (header : ℕ) (words : List ℕ) (stand : Standing) → IsHeaderOf s seat header → own ≡ seat.own
-      → read s words FinishWord ≡ 0
-      → stand ≡ enters s code seat seat.restart.kind (slice_get code.capsules (slice_index words header))
-      → StepsTo s code own 2 1 (moment words (IsAt seat.place (Some seat.restart))) (moment words stand)
-  in_front seat header words stand h same finish stands =
-      let t : Moment = moment words (IsAt seat.place (Some seat.restart)) in
-      let u : Moment = moment words (IsWithin seat (Now (Load (Header h.frame h.copy)))) in
-      let behind_finish : moved s code own t ≡ u = behind_finish_word seat words _ same finish (h.begins_with code) in
-      let look : work_at s code own t ≡ 0 = ap (λ k. if is_work_next s code (before_kind k) then 1 else 0) h.kind in
-      let work : work_at s code own u ≡ 1 = ap (λ k. if is_work_next s code (step_of k) then 1 else 0) h.kind in
-      let works : next_of u.stand ≡ Work = ap step_of h.kind in
-      record {
-        moves = (
-          record { finish = finish; lives = refl; seeks_none = refl; no_fork = refl; no_take = refl },
-          (
-            subst (Moves s code own) (sym behind_finish)
-                (record { finish = finish; lives = refl; seeks_none = refl; no_fork = refl; no_take = refl }),
-            tt,
-          ),
-        );
-        comes_to =
-            ap (moment words) (stands ∙ ap (λ a. enters s code seat seat.restart.kind (slice_get code.capsules (slice_index words a))) h.is_at)
-            ∙ ap (moved s code own) (sym behind_finish);
-        works = omega (arith, look, work, ap (work_at s code own) behind_finish);
-        ends = subst (λ (v : Moment). next_of v.stand ≡ Work) (sym behind_finish) works;
-      }
-
   -- a step more in the capsule
   pub further : {made : ℕ} {t : Moment} {seat : Seat} {old new : Running} {registers registers' words words' : List ℕ} {going : Going}
       → StepsTo s code own made made t (moment words (IsRunning seat (rest_at s code old old.stage registers))) → read s words FinishWord ≡ 0
@@ -169,24 +135,6 @@ module _ (s : Shape) (code : CodeParts) (own : ℕ) where
       → WentOn s code running registers going → IsUnderWay s code running registers
   holds_on {running} {registers} going goes holds = subst (λ g. WentOn s code running registers g) (going_is going goes) holds refl
 
-  -- a capsule more, with its two steps in front
-  pub capsule_more : {n w : ℕ} {first : Moment} (seat : Seat) (header : ℕ) (words : List ℕ) (stand : Standing) (last : Moment) (made : ℕ)
-      → StepsTo s code own n w first (moment words (IsAt seat.place (Some seat.restart)))
-      → IsHeaderOf s seat header → own ≡ seat.own → read s words FinishWord ≡ 0
-      → stand ≡ enters s code seat seat.restart.kind (slice_get code.capsules (slice_index words header))
-      → StepsTo s code own made made (moment words stand) last
-      → StepsTo s code own (n + made + 2) (w + made + 1) first last
-  capsule_more {n} {w} {first} seat header words stand last made so_far h same finish stands more =
-      subst (λ v. StepsTo s code own (n + made + 2) v first last) one
-      (subst (λ k. StepsTo s code own k (w + (1 + made)) first last) two
-      (both so_far (both (in_front seat header words stand h same finish stands) more)))
-    where
-      one : w + (1 + made) ≡ w + made + 1
-      one = omega arith
-
-      two : n + (2 + made) ≡ n + made + 2
-      two = omega arith
-
   -- where a frame's header isn't there, no capsule is entered
   pub no_header : (seat : Seat) (words : List ℕ) (left : ℕ) → own ≡ seat.own → HasNoHeader s seat
       → NoFurther s code own left (moment words (IsAt seat.place (Some seat.restart)))
@@ -197,14 +145,3 @@ module _ (s : Shape) (code : CodeParts) (own : ℕ) where
       of_kind (Run frame copy) is finish of_frame =
           ap (λ (t : Moment). is_in_capsule (moved s code own t).stand) (behind_finish_word seat words _ same finish (none code frame copy is))
       of_kind other is finish of_frame = cc
-
-  -- nor where it names none, or one whose first word isn't there
-  pub not_entered : (seat : Seat) (header : ℕ) (words : List ℕ) (left : ℕ) → own ≡ seat.own → IsHeaderOf s seat header
-      → enters s code seat seat.restart.kind (slice_get code.capsules (slice_index words header)) ≡ IsBroken seat.place
-      → NoFurther s code own left (moment words (IsAt seat.place (Some seat.restart)))
-  not_entered seat header words left same h broken = record {
-    inside = λ some finish. refl;
-    before = λ some finish of_frame.
-        ap (λ (t : Moment). is_in_capsule (moved s code own t).stand) (behind_finish_word seat words _ same finish (h.begins_with code))
-        ∙ ap is_in_capsule (sym (ap (λ a. enters s code seat seat.restart.kind (slice_get code.capsules (slice_index words a))) h.is_at) ∙ broken);
-  }

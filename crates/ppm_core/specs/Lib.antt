@@ -4,4 +4,4 @@ pub mod Machine
 pub mod Laws
 pub mod Steps
 pub mod Moments
-pub mod Capsules
+pub mod Rounds

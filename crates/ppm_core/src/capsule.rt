@@ -5,7 +5,7 @@ ghost use Rattle.ppm_cells.specs.Cells.{address, word_count};
 ghost use Rattle.ppm_cells.specs.Memory.{AreWordsOf, read};
 ghost use Rattle.ppm_cells.specs.declared.cell.Cell.TheVariants.{FinishWord};
 ghost use Rattle.ppm_code.specs.Locations.{location_of};
-ghost use Rattle.ppm_core.specs.Capsules.{HasFound, HasPut, LedTo, TurnedTo, steps_by};
+ghost use Rattle.ppm_core.specs.Rounds.{HasFound, HasPut, LedTo, TurnedTo, steps_by};
 ghost use Rattle.ppm_step.specs.Facts.{IsHome, IsSeat};
 ghost use Rattle.ppm_step.specs.Frames.{cell_of};
 ghost use Rattle.ppm_step.specs.There.{is_there};

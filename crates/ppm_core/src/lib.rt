@@ -10,6 +10,7 @@
 
 mod acts;
 mod capsule;
+mod frames;
 mod laws;
 mod machine;
 mod steps;

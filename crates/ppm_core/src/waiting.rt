@@ -3,14 +3,14 @@
 //! the processor there at their end.
 ghost use Rattle.std.specs.Prelude.{◌≡◌, ◌<◌, Some, length, slice_get};
 ghost use Rattle.ppm_cells.specs.Restart.{IsRestart};
-ghost use Rattle.ppm_code.specs.Capsules.{capsule_from, reached};
+ghost use Rattle.ppm_code.specs.Capsules.{reached};
 ghost use Rattle.ppm_code.specs.declared.code.Capsule.{Capsule};
 ghost use Rattle.ppm_step.specs.Facts.{IsEnd, IsHome, IsSeat};
-ghost use Rattle.ppm_step.specs.Frames.{Full, ending, rest_of};
+ghost use Rattle.ppm_step.specs.Frames.{Full, ending};
 ghost use Rattle.ppm_step.specs.Locals.{IsLocal, standing_of};
 ghost use Rattle.ppm_step.specs.Standings.{IsAt, IsBroken, running, rest_is_there};
 ghost use Rattle.ppm_step.specs.Stages.{IsStage, rest_at};
-ghost use Rattle.ppm_core.specs.Capsules.{stage_of, HasReached};
+ghost use Rattle.ppm_core.specs.Rounds.{HasReached, stage_of, stands_before, stands_in};
 
 use ppm_cells::{Restart, Shape};
 use ppm_code::{Code, End, Reached, Step};
@@ -62,7 +62,7 @@ pub fn wait_midway(
     requires home { IsHome home }
     requires is { (capsule : Capsule) × (slice_get code.now.capsules number ≡ Some capsule) }
     ensures stands { (capsule : Capsule) → slice_get code.now.capsules number ≡ Some capsule
-        → standing_of shape.now code.now local.new ≡ running shape.now seat (rest_of shape.now code.now seat.place home (capsule_from shape.now.arrays 0 at capsule.instrs local.old.registers)) }
+        → standing_of shape.now code.now local.new ≡ stands_before shape.now code.now seat home capsule.instrs at local.old.registers }
     ensures holds { IsLocal shape.now code.now local.new }
     ensures own_stays { local.new.own ≡ local.old.own }
 {
@@ -115,7 +115,7 @@ pub fn wait_stopped(
     requires home { IsHome home }
     requires is { (capsule : Capsule) × (slice_get code.now.capsules number ≡ Some capsule) × HasReached shape.now capsule.instrs next what local.old.registers }
     ensures stands { (capsule : Capsule) → slice_get code.now.capsules number ≡ Some capsule
-        → standing_of shape.now code.now local.new ≡ running shape.now seat (rest_of shape.now code.now seat.place home (reached shape.now.arrays capsule.instrs next what local.old.registers)) }
+        → standing_of shape.now code.now local.new ≡ stands_in shape.now code.now seat home (reached shape.now.arrays capsule.instrs next what local.old.registers) }
     ensures holds { IsLocal shape.now code.now local.new }
     ensures own_stays { local.new.own ≡ local.old.own }
 {

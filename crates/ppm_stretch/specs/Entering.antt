@@ -9,8 +9,8 @@ use Rattle.ppm_step.specs.declared.row.Seat.{Seat}
 use Rattle.ppm_step.specs.declared.row.Then.TheVariants.{Load}
 use Rattle.ppm_step.specs.declared.ask.Want.TheVariants.{Stores as WantsStore}
 use Rattle.ppm_step.specs.declared.frame.Home.{Home}
-use Rattle.ppm_step.specs.Frames.{Rest, Full, rest_of}
-use Rattle.ppm_code.specs.Capsules.{capsule_from, reached}
+use Rattle.ppm_step.specs.Frames.{Rest, Full}
+use Rattle.ppm_code.specs.Capsules.{reached}
 use Rattle.ppm_code.specs.declared.code.Capsule.{Capsule}
 use Rattle.ppm_stretch.specs.declared.way.Stretch.{Stretch}
 use Rattle.ppm_stretch.specs.declared.way.Halt.{Halt}
@@ -24,7 +24,7 @@ use Rattle.ppm_stretch.specs.declared.way.Turned.TheVariants as turned
 use Rattle.ppm_stretch.specs.declared.way.Begun.{Begun}
 use Rattle.ppm_stretch.specs.declared.way.Begun.TheVariants as begun
 use Rattle.ppm_words.specs.declared.event.Event.{Event}
-use Rattle.ppm_core.specs.Capsules.{HasReached, goes_round}
+use Rattle.ppm_core.specs.Rounds.{HasReached, goes_round, stands_before, stands_in}
 use Rattle.ppm_stretch.specs.Steady.{Moves, Refuses, LedTo}
 use Rattle.ppm_step.specs.Standings.{Standing, IsDone, IsBroken, enters, IsAt, IsWithin, IsRunning, running, wanted_rest}
 use Rattle.ppm_table.specs.declared.view.Opening.{Opening}
@@ -69,11 +69,11 @@ HaltsAt s code seat home registers halts.Done standing = standing ≡ IsDone
 HaltsAt s code seat home registers halts.Broken standing = standing ≡ IsBroken seat.place
 HaltsAt s code seat home registers (halts.Midway number at) standing =
     (capsule : Capsule) × (slice_get code.capsules number ≡ Some capsule)
-    × (standing ≡ running s seat (rest_of s code seat.place home (capsule_from s.arrays 0 at capsule.instrs registers)))
+    × (standing ≡ stands_before s code seat home capsule.instrs at registers)
 HaltsAt s code seat home registers (halts.Stopped number next what) standing =
     (capsule : Capsule) × (slice_get code.capsules number ≡ Some capsule)
     × (HasReached s capsule.instrs next what registers
-    × (standing ≡ running s seat (rest_of s code seat.place home (reached s.arrays capsule.instrs next what registers))))
+    × (standing ≡ stands_in s code seat home (reached s.arrays capsule.instrs next what registers)))
 HaltsAt s code seat home registers (halts.Full number) standing =
     (capsule : Capsule) × (slice_get code.capsules number ≡ Some capsule) × (standing ≡ running s seat Full)
 

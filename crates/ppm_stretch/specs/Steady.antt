@@ -16,8 +16,8 @@ use Rattle.ppm_step.specs.declared.frame.Home.{Home}
 use Rattle.ppm_step.specs.declared.row.Seat.{Seat}
 use Rattle.ppm_step.specs.declared.turn.Act.TheVariants.{Step}
 use Rattle.ppm_step.specs.declared.turn.Next.TheVariants.{Seek}
-use Rattle.ppm_core.specs.Capsules.{HasReached}
-use Rattle.ppm_step.specs.Frames.{Rest, Loads, Stores, rest_of}
+use Rattle.ppm_core.specs.Rounds.{HasReached, stands_in}
+use Rattle.ppm_step.specs.Frames.{Rest, Loads, Stores}
 use Rattle.ppm_step.specs.Standings.{Standing, IsDone, IsBroken, running}
 use Rattle.ppm_step.specs.State.{seeks_holder, next_of}
 use Rattle.ppm_step.specs.Told.{is_work_next}
@@ -87,7 +87,7 @@ pub record Goes (k : Opening) (own : ℕ) (me me' : Mine) (made work looks : ℕ
 
 -- a processor stands within a capsule of a frame, with this left of it; where what comes next isn't there, at broken words
 abbrev pub StandsIn : Opening → Shape → CodeParts → Seat → Home → Capsule Where End → Mine → Type 0
-StandsIn k s code seat home left me = stands_by k seat.own (deeds_in me.0) ≡ running s seat (rest_of s code seat.place home left)
+StandsIn k s code seat home left me = stands_by k seat.own (deeds_in me.0) ≡ stands_in s code seat home left
 
 -- before an instruction
 abbrev pub StandsAt : Opening → Shape → CodeParts → Seat → Home → List Instr → (at : ℕ) → List ℕ → Mine → Type 0

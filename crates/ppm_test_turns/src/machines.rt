@@ -31,12 +31,12 @@ capsule 5 proc 1\nloadslot r0 1\nloadslot r1 2\nconst r2 0\nget r3 r0 r2 1\nget 
 storecur 3 r3\nnext 6\n\
 capsule 6 proc 1\nloadslot r0 1\nconst r1 0\nloadslot r2 3\nput r0 r1 r2 1\nend\n";
 
-/// Each capsule behind the first puts a register into its array that an earlier one has set and it
-/// has not: first one of the few that all capsules set to 0, then one past these.
+/// Each capsule behind the first puts a register into its array that the first one has set and it
+/// has not: the last of the eight that all capsules set to 0, then the first behind them.
 const HELD: &str = "ppm 1\nroot 0 0\nproc 0 slots 1 entry 0\n\
-capsule 0 proc 0\nconst r3 5\nconst r9 6\nnext 1\n\
-capsule 1 proc 0\nloadslot r0 0\nconst r1 2\nput r0 r1 r3 1\nnext 2\n\
-capsule 2 proc 0\nloadslot r0 0\nconst r1 3\nput r0 r1 r9 1\nend\n";
+capsule 0 proc 0\nconst r7 5\nconst r8 6\nnext 1\n\
+capsule 1 proc 0\nloadslot r0 0\nconst r1 2\nput r0 r1 r7 1\nnext 2\n\
+capsule 2 proc 0\nloadslot r0 0\nconst r1 3\nput r0 r1 r8 1\nend\n";
 
 /// A machine's sizes, and an act that comes in the place of a step: whose, at which turn, and what.
 #[derive(Clone, Copy)]
@@ -253,7 +253,7 @@ fn rows_of_any_length_are_turns(rt: HostRuntime) -> Result<(), Fail> {
             let mut machine = machine_of(alloc, listing, 1, 4, false)?;
             run_in_rows(&mut machine, most);
             assert!(rt; are_alike(&machine, &turn_by_turn), "{most}");
-            assert!(rt; machine.arrays() == 1);
+            assert_eq!(rt; machine.arrays(), 1, "{most}");
             if machine.arrays() == 1 {
                 assert!(rt; machine.array(0) == want.as_slice(), "{most}");
             }

@@ -4,8 +4,8 @@
 //! Contract: `widths` answers those of all capsules of a code, by their numbers; behind `set_to_0`
 //! registers hold 0 up to a width, and a capsule of that width goes from them as from 0 in all 64
 //! (`begins_same` of `proofs/WidthLemmas`).
-//! Stands on `ppm_code`; the table that threads share keeps the widths of its code, and steps in a
-//! row set registers to 0 by them.
+//! Stands on `ppm_code`; machine and table keep the widths of their code, and steps in a row set
+//! registers to 0 by them.
 //! After the capsules of Blelloch et al., SPAA 2018; widths are this project's.
 #![tactic(auto)]
 

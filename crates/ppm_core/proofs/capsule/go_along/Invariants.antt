@@ -1,6 +1,6 @@
 use Rattle.std.proofs.Common.{◌≤◌, ◌-◌}
 use Rattle.ppm_cells.specs.Memory.{AreWordsOf}
-use Rattle.ppm_core.specs.Capsules.{LedTo}
+use Rattle.ppm_core.specs.Rounds.{LedTo}
 use Rattle.ppm_core.specs.declared.capsule.Way.TheVariants.{Made}
 use Rattle.ppm_core.proofs.capsule.go_along.Given as goal
 

@@ -1,15 +1,11 @@
-use Rattle.std.proofs.Common.{◌≡◌, ◌∙◌, ℕ, sym, ap, arith}
+use Rattle.std.proofs.Common.{◌≡◌, ◌∙◌, sym, ap, arith}
 use Rattle.ppm_cells.specs.Restart.{restart_word}
-use Rattle.ppm_cells.specs.declared.cell.Cell.TheVariants.{BlockWord}
 use Rattle.ppm_cells.specs.declared.restart.Restart.{Restart}
-use Rattle.ppm_core.specs.Capsules.{goes_round}
+use Rattle.ppm_core.specs.Rounds.{goes_round}
 use Rattle.ppm_core.specs.Moments.{moment}
-use Rattle.ppm_core.proofs.CapsuleLemmas.{none, turned_back, turned_once, turned_twice, finish_stays}
+use Rattle.ppm_core.proofs.CapsuleLemmas.{block_same, none, turned_back, turned_once, turned_twice, finish_stays}
 use Rattle.ppm_core.proofs.MomentLemmas.{both}
 use Rattle.ppm_core.proofs.capsule.go_round.Goals as goal
-
-block_same : (a b : ℕ) → BlockWord a ≡ BlockWord b → a ≡ b
-block_same a b e = cc
 
 pub returns-then-not-next_is_there-clause-turned : goal.returns-then-not-next_is_there-clause-turned
 returns-then-not-next_is_there-clause-turned c =

@@ -1,6 +1,6 @@
 use Rattle.std.proofs.Common.{refl}
 use Rattle.ppm_core.proofs.MomentLemmas.{no_header}
-use Rattle.ppm_core.proofs.steps.begin.Goals as goal
+use Rattle.ppm_core.proofs.frames.begin.Goals as goal
 
 -- no header is there, and so no capsule is entered
 pub returns-in_default : goal.returns-in_default

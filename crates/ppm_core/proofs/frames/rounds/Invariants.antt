@@ -3,7 +3,7 @@ use Rattle.ppm_cells.specs.Memory.{AreWordsOf}
 use Rattle.ppm_cells.specs.Restart.{IsRestart}
 use Rattle.ppm_core.specs.Moments.{moment, StepsTo}
 use Rattle.ppm_step.specs.Standings.{IsAt}
-use Rattle.ppm_core.proofs.steps.rounds.Given as goal
+use Rattle.ppm_core.proofs.frames.rounds.Given as goal
 
 -- the capsules so far lead to the place with this restart
 abbrev pub invariant-loop-steps : goal.invariant-loop-steps

@@ -1,4 +1,4 @@
--- One processor goes through a capsule of a frame, and on to the next one.
+-- Rounds of a frame: one processor goes through a capsule, and on to the next one.
 use Rattle.std.specs.Prelude.{◌≡◌, ◌≤◌, ℕ, Bool, true, false, List, Option, Some, None, slice_get}
 use Rattle.ppm_cells.specs.Memory.{read, write}
 use Rattle.ppm_cells.specs.declared.cell.Cell.{Cell}
@@ -28,9 +28,9 @@ use Rattle.ppm_core.specs.declared.capsule.Turned.TheVariants as turned
 use Rattle.ppm_core.specs.declared.capsule.Stretch.{Stretch}
 use Rattle.ppm_core.specs.declared.capsule.Way.{Way}
 use Rattle.ppm_core.specs.declared.capsule.Way.TheVariants.{Made, Stops, Breaks}
-use Rattle.ppm_core.specs.declared.steps.Begun.{Begun}
-use Rattle.ppm_core.specs.declared.steps.RoundEnd.{RoundEnd}
-use Rattle.ppm_core.specs.declared.steps.RoundEnd.TheVariants.{Round, Left}
+use Rattle.ppm_core.specs.declared.frames.NextCapsule.{NextCapsule}
+use Rattle.ppm_core.specs.declared.frames.RoundEnd.{RoundEnd}
+use Rattle.ppm_core.specs.declared.frames.RoundEnd.TheVariants.{Round, Halts}
 use Rattle.ppm_core.specs.Moments.{moment, NoFurther, StepsTo}
 
 -- the stage of what register work has come to
@@ -56,7 +56,7 @@ HasReached s instrs next what registers = (from : ℕ) × (before : List ℕ) ×
 abbrev pub goes_round : Seat → Home → Restart
 goes_round seat home = record { kind = Run home.frame (other_copy home.copy); bottom = seat.restart.bottom }
 
--- how many steps lead this way from an instruction
+-- 1 if the way is a step, else 0
 abbrev pub steps_by : Way → ℕ
 steps_by (Made next) = 1
 steps_by (Stops next what) = 0
@@ -97,42 +97,42 @@ module _ (s : Shape) (code : CodeParts) (seat : Seat) (home : Home) where
 
 module _ (s : Shape) (code : CodeParts) (seat : Seat) where
   -- a seat's frame enters the capsule with a number
-  abbrev pub stands_at : Begun → Standing
-  stands_at begun = enters s code seat (Run begun.home.frame begun.home.copy) (slice_get code.capsules begun.number)
+  abbrev pub stands_at : NextCapsule → Standing
+  stands_at coming = enters s code seat (Run coming.home.frame coming.home.copy) (slice_get code.capsules coming.number)
 
-  -- the two steps that lead there, while the finish word is 0
-  pub record IsBegun (words : List ℕ) (begun : Begun) : Type 0 where
+  -- the seat's frame, and two steps that lead to its capsule while the finish word is 0
+  pub record IsComing (words : List ℕ) (coming : NextCapsule) : Type 0 where
     pub seat_is : IsSeat s seat
-    pub home : IsHome begun.home
-    pub block : begun.home.block ≡ 0
-    pub kind : seat.restart.kind ≡ Run begun.home.frame begun.home.copy
-    pub steps : StepsTo s code seat.own 2 1 (moment words (IsAt seat.place (Some seat.restart))) (moment words (stands_at begun))
+    pub home : IsHome coming.home
+    pub block : coming.home.block ≡ 0
+    pub kind : seat.restart.kind ≡ Run coming.home.frame coming.home.copy
+    pub steps : StepsTo s code seat.own 2 1 (moment words (IsAt seat.place (Some seat.restart))) (moment words (stands_at coming))
 
-  -- none do
-  abbrev pub HasBegun : List ℕ → Option Begun → Type 0
+  -- or no capsule is entered, however many steps are left
+  abbrev pub HasBegun : List ℕ → Option NextCapsule → Type 0
   HasBegun words None = (left : ℕ) → NoFurther s code seat.own left (moment words (IsAt seat.place (Some seat.restart)))
-  HasBegun words (Some begun) = IsBegun words begun
+  HasBegun words (Some coming) = IsComing words coming
 
-  -- there is no capsule with this number, or it was gone through so far
-  abbrev pub WentAlong : Begun → (registers' words words' : List ℕ) → Option Stretch → Type 0
-  WentAlong begun registers' words words' None = (words' ≡ words) × (stands_at begun ≡ IsBroken seat.place)
-  WentAlong begun registers' words words' (Some stretch) =
-      (capsule : Coded) × (slice_get code.capsules begun.number ≡ Some capsule) × (registers : List ℕ)
-      × (stands_at begun ≡ stands_before s code seat begun.home capsule.instrs 0 registers)
-      × LedTo s code seat begun.home capsule.instrs 0 registers registers' words words' stretch.made stretch.way
+  -- there is no capsule with this number, and the place has met broken words; or it was gone through so far
+  abbrev pub WentAlong : NextCapsule → (registers' words words' : List ℕ) → Option Stretch → Type 0
+  WentAlong coming registers' words words' None = (words' ≡ words) × (stands_at coming ≡ IsBroken seat.place)
+  WentAlong coming registers' words words' (Some stretch) =
+      (capsule : Coded) × (slice_get code.capsules coming.number ≡ Some capsule) × (registers : List ℕ)
+      × (stands_at coming ≡ stands_before s code seat coming.home capsule.instrs 0 registers)
+      × LedTo s code seat coming.home capsule.instrs 0 registers registers' words words' stretch.made stretch.way
 
-  -- where a processor stands whose round has left its capsule this way
-  abbrev pub IsLeftAt : Begun → List ℕ → Way → Standing → Type 0
-  IsLeftAt begun registers (Made at) standing =
-      (capsule : Coded) × (slice_get code.capsules begun.number ≡ Some capsule) × (standing ≡ stands_before s code seat begun.home capsule.instrs at registers)
-  IsLeftAt begun registers (Stops next what) standing =
-      (capsule : Coded) × (slice_get code.capsules begun.number ≡ Some capsule)
-      × (HasReached s capsule.instrs next what registers × (standing ≡ stands_in s code seat begun.home (reached s.arrays capsule.instrs next what registers)))
-  IsLeftAt begun registers Breaks standing = standing ≡ IsBroken seat.place
+  -- where a processor stands whose round ended in its capsule
+  abbrev pub HaltsAt : NextCapsule → List ℕ → Way → Standing → Type 0
+  HaltsAt coming registers (Made at) standing =
+      (capsule : Coded) × (slice_get code.capsules coming.number ≡ Some capsule) × (standing ≡ stands_before s code seat coming.home capsule.instrs at registers)
+  HaltsAt coming registers (Stops next what) standing =
+      (capsule : Coded) × (slice_get code.capsules coming.number ≡ Some capsule)
+      × (HasReached s capsule.instrs next what registers × (standing ≡ stands_in s code seat coming.home (reached s.arrays capsule.instrs next what registers)))
+  HaltsAt coming registers Breaks standing = standing ≡ IsBroken seat.place
 
   -- what came of a round of so many steps
-  abbrev pub Circled : Begun → (registers' words words' : List ℕ) → (made : ℕ) → RoundEnd → Type 0
-  Circled begun registers' words words' made Round =
-      StepsTo s code seat.own made made (moment words (stands_at begun)) (moment words' (IsAt seat.place (Some (goes_round seat begun.home))))
-  Circled begun registers' words words' made (Left way) =
-      (standing : Standing) × IsLeftAt begun registers' way standing × StepsTo s code seat.own made made (moment words (stands_at begun)) (moment words' standing)
+  abbrev pub Circled : NextCapsule → (registers' words words' : List ℕ) → (made : ℕ) → RoundEnd → Type 0
+  Circled coming registers' words words' made Round =
+      StepsTo s code seat.own made made (moment words (stands_at coming)) (moment words' (IsAt seat.place (Some (goes_round seat coming.home))))
+  Circled coming registers' words words' made (Halts way) =
+      (standing : Standing) × HaltsAt coming registers' way standing × StepsTo s code seat.own made made (moment words (stands_at coming)) (moment words' standing)

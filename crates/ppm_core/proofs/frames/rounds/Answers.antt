@@ -2,12 +2,12 @@ use Rattle.std.proofs.Common.{◌≡◌, ◌+◌, sym, ap, subst, arith, Some}
 use Rattle.ppm_cells.specs.declared.restart.RestartKind.{RestartKind}
 use Rattle.ppm_step.specs.declared.row.Seat.{Seat}
 use Rattle.ppm_step.specs.Standings.{Standing, IsAt}
-use Rattle.ppm_core.specs.Capsules.{Circled, goes_round}
-use Rattle.ppm_core.specs.declared.steps.RoundEnd.{RoundEnd}
+use Rattle.ppm_core.specs.Rounds.{Circled, goes_round}
+use Rattle.ppm_core.specs.declared.frames.RoundEnd.{RoundEnd}
 use Rattle.ppm_core.specs.Moments.{moment, StepsTo, NoFurther}
 use Rattle.ppm_core.proofs.CapsuleLemmas.{round_more}
 use Rattle.ppm_core.proofs.WaitingLemmas.{goes_round_fits}
-use Rattle.ppm_core.proofs.steps.rounds.Goals as goal
+use Rattle.ppm_core.proofs.frames.rounds.Goals as goal
 
 -- a round more, behind which the place goes on with a restart
 pub loop-steps-preserved : goal.loop-steps-preserved
@@ -16,16 +16,16 @@ loop-steps-preserved c =
     let code = c.args.code.now in
     let inv = c.loop-steps.invariant in
     let seat : Seat = record { own = c.args.local.now.own; place = c.args.place; restart = c.loop-steps.at } in
-    let begun = c.in-Some.begun in
+    let coming = c.in-Some.coming in
     let new = c.round-circuit.new in
     let made = c.round-circuit.result.made in
-    let circled = subst (λ (end : RoundEnd). Circled s code seat begun new.registers c.loop-steps.words.items new.words.items made end) c.in-Round.is c.round-circuit.ensures.circled in
-    let last : IsAt c.args.place (Some (goes_round seat begun.home)) ≡ IsAt c.args.place (Some (record { kind = c.goes_round.result; bottom = c.loop-steps.at.bottom })) =
+    let circled = subst (λ (end : RoundEnd). Circled s code seat coming new.registers c.loop-steps.words.items new.words.items made end) c.in-Round.is c.round-circuit.ensures.circled in
+    let last : IsAt c.args.place (Some (goes_round seat coming.home)) ≡ IsAt c.args.place (Some (record { kind = c.goes_round.result; bottom = c.loop-steps.at.bottom })) =
     ap (λ (kind : RestartKind). IsAt c.args.place (Some (record { kind = kind; bottom = c.loop-steps.at.bottom }))) (sym c.goes_round.ensures) in (
       subst
           (λ (st : Standing). StepsTo s code seat.own (c.loop-steps.steps.made + made + 2) (c.loop-steps.steps.work + made + 1) (moment c.args.words.now.items (IsAt c.args.place (Some c.args.restart))) (moment new.words.items st))
-          last (round_more s code seat c.loop-steps.words.items begun inv.0 c.in-Some.ensures circled),
-      goes_round_fits c.loop-steps.at begun.home.frame begun.home.copy c.goes_round.result c.in-Some.ensures.kind c.goes_round.ensures inv.1,
+          last (round_more s code seat c.loop-steps.words.items coming inv.0 c.in-Some.ensures circled),
+      goes_round_fits c.loop-steps.at coming.home.frame coming.home.copy c.goes_round.result c.in-Some.ensures.kind c.goes_round.ensures inv.1,
       c.round-circuit.ensures.count,
       inv.3,
       omega (arith, c.loop-steps-test.true, c.round-circuit.ensures.few, inv.4),
@@ -39,25 +39,25 @@ returns-in_default-clause-no_further c = λ made.
     (c.in_default.ensures c.args.most)
 
 -- a round more, in which the capsule is left
-pub wait_left-requires-clause-left : goal.wait_left-requires-clause-left
-wait_left-requires-clause-left c =
+pub wait_halted-requires-clause-left : goal.wait_halted-requires-clause-left
+wait_halted-requires-clause-left c =
     let seat : Seat = record { own = c.args.local.now.own; place = c.args.place; restart = c.loop-steps.at } in
-    let circled = subst (λ (end : RoundEnd). Circled c.args.shape.now c.args.code.now seat c.in-Some.begun c.round-circuit.new.registers c.loop-steps.words.items c.round-circuit.new.words.items c.round-circuit.result.made end)
-    c.in-Left.is c.round-circuit.ensures.circled in
+    let circled = subst (λ (end : RoundEnd). Circled c.args.shape.now c.args.code.now seat c.in-Some.coming c.round-circuit.new.registers c.loop-steps.words.items c.round-circuit.new.words.items c.round-circuit.result.made end)
+    c.in-Halts.is c.round-circuit.ensures.circled in
     (circled.0, circled.1)
 
-pub returns-in-Left-clause-leads : goal.returns-in-Left-clause-leads
-returns-in-Left-clause-leads c =
+pub returns-in-Halts-clause-leads : goal.returns-in-Halts-clause-leads
+returns-in-Halts-clause-leads c =
     let s = c.args.shape.now in
     let code = c.args.code.now in
     let seat : Seat = record { own = c.args.local.now.own; place = c.args.place; restart = c.loop-steps.at } in
-    let begun = c.in-Some.begun in
+    let coming = c.in-Some.coming in
     let new = c.round-circuit.new in
     let made = c.round-circuit.result.made in
-    let circled = subst (λ (end : RoundEnd). Circled s code seat begun new.registers c.loop-steps.words.items new.words.items made end) c.in-Left.is c.round-circuit.ensures.circled in
+    let circled = subst (λ (end : RoundEnd). Circled s code seat coming new.registers c.loop-steps.words.items new.words.items made end) c.in-Halts.is c.round-circuit.ensures.circled in
     subst
     (λ (st : Standing). StepsTo s code seat.own (c.loop-steps.steps.made + made + 2) (c.loop-steps.steps.work + made + 1) (moment c.args.words.now.items (IsAt c.args.place (Some c.args.restart))) (moment new.words.items st))
-    (sym (c.wait_left.ensures.stands circled.0 circled.1)) (round_more s code seat c.loop-steps.words.items begun c.loop-steps.invariant.0 c.in-Some.ensures circled.2)
+    (sym (c.wait_halted.ensures.stands circled.0 circled.1)) (round_more s code seat c.loop-steps.words.items coming c.loop-steps.invariant.0 c.in-Some.ensures circled.2)
 
-pub returns-in-Left-clause-no_further : goal.returns-in-Left-clause-no_further
-returns-in-Left-clause-no_further c = λ none. absurd (omega (arith, none))
+pub returns-in-Halts-clause-no_further : goal.returns-in-Halts-clause-no_further
+returns-in-Halts-clause-no_further c = λ none. absurd (omega (arith, none))
