@@ -138,9 +138,9 @@ pub(crate) fn push_words(alloc: Global, text: &mut Vec<u8>, words: &[u64]) -> Re
 
 /// The saved text of a state: its code, the sizes of its machine, its arrays and its words by their
 /// addresses. Only a machine that takes over by places has one: `renew` lets fresh processors go on
-/// by places, and from words of a run by entries they may run one strand twice. `Err` only where memory is refused, which is taken in
-/// proportion to the text. All numbers of the state fit 64 bits, so no other state has this text
-/// (`saved_texts_tell_states`).
+/// by places, and from words of a run by entries they may run one strand twice. `Err` only where
+/// memory is refused, which is taken in proportion to the text. All numbers of the state fit 64
+/// bits, so no other state has this text (`saved_texts_tell_states`).
 pub fn write_saved(
     alloc: Global,
     code: &Code,
