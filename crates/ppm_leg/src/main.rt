@@ -1,7 +1,7 @@
 //! The program that adds a leg to a history: fresh processors go on from the state of a saved text by
 //! a schedule, for so many acts, and the text of the state then is written.
 //! Model: none; it is a row of calls, of which each has its contract.
-//! Contract: none beyond theirs. It is a tool for `examples/stops`, as no command saves a state that
+//! Contract: none beyond theirs. It is a tool for `trials/stops`, as no command saves a state that
 //! `resume` has left.
 //! Stands on `ppm_saved_reader`, `ppm_saved`, `ppm_core` and `ppm_following`; nothing stands on it.
 //! The words of its command line are this project's.
