@@ -8,6 +8,7 @@
 #![tactic(auto)]
 
 ghost use Rattle.std.specs.Prelude.{◌≡◌};
+ghost use Rattle.ppm_cells.specs.declared.shape.Takeover.TheVariants.{ByPlaces};
 
 use ppm_answers::{Answer, SavedRefusal, answer_of_read, deliver};
 use ppm_core::Machine;
@@ -82,7 +83,8 @@ fn words_answer<S: Source>(alloc: Global, words: &[String], source: &mut S) -> A
 
 /// The saved text behind so many acts of fresh processors.
 fn leg(alloc: Global, saved: Saved, schedule: &Schedule, acts: u32) -> Result<Vec<u8>, NoMemory>
-    requires { schedule.now.processors ≡ saved.shape.processors }
+    requires by_places { saved.shape.takeover ≡ ByPlaces }
+    requires processors { schedule.now.processors ≡ saved.shape.processors }
 {
     let Renewed { image, code, names } = renew(saved, schedule.keeper());
     let mut machine = Machine::load(alloc, image, code)?;

@@ -20,10 +20,11 @@ pub load-requires-clause-sizes : goal.load-requires-clause-sizes
 load-requires-clause-sizes c = subst AreSizes (sym c.sizes_of.ensures) (stopped_sizes c.args.options c.requires.options)
 
 -- the machine takes over by places
-pub write_saved-requires-clause-by_places : goal.write_saved-requires-clause-by_places
-write_saved-requires-clause-by_places c =
-    takes_over_by_places c.args.options _ _ _ _ _ _ c.args.schedule.now.items c.args.options.after _ c.sizes_of.ensures c.in_ok-machine.ensures
-    c.follow.ensures c.shape.ensures
+pub write_saved-requires : goal.write_saved-requires
+write_saved-requires c = record {
+  by_places = takes_over_by_places c.args.options _ _ _ _ _ _ c.args.schedule.now.items c.args.options.after _ c.sizes_of.ensures
+      c.in_ok-machine.ensures c.follow.ensures c.shape.ensures;
+}
 
 -- the text is that of the machine behind the run, and is read back
 pub returns : goal.returns
