@@ -22,4 +22,6 @@ mod programs;
 #[cfg(test)]
 mod stops;
 #[cfg(test)]
+mod wakes;
+#[cfg(test)]
 mod watching;

@@ -34,7 +34,7 @@ struct Meeting<'a> {
 }
 
 /// Whether the other one comes so far, in a time that is long enough.
-fn comes(there: &AtomicU64, count: u64) -> bool {
+pub(crate) fn comes(there: &AtomicU64, count: u64) -> bool {
     for _ in 0..100_000_000u64 {
         if there.load(Ordering::SeqCst) >= count {
             return true;
