@@ -14,7 +14,7 @@ use ppm_test_calls::{FIRST, SUM};
 use std::alloc::Global;
 use std::test::Fail;
 
-/// The saved text behind so many acts of fresh processors, by a schedule, from the state of a text.
+/// The saved text after so many acts of fresh processors, by a schedule, from the state of a text.
 fn stopped_again(alloc: Global, text: &[u8], schedule: &str, acts: u64) -> Result<Vec<u8>, Fail>
     requires { acts ≤ 2 ^ 40 }
 {
