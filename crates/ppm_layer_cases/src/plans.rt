@@ -1,5 +1,4 @@
-//! Plans and schedules: who keeps the run, which faults and items there are, and which item is
-//! refused.
+//! Plans and schedules: their keeper, their faults and items, and which item is refused.
 ghost use Rattle.std.specs.Prelude.{IfOk};
 ghost use Rattle.std.specs.Int.{IsInRange};
 

@@ -44,7 +44,7 @@ const OF_ONE: &[&str] = &[
     "4096",
 ];
 
-/// The same on three processors.
+/// Words that ask three processors for it.
 const OF_THREE: &[&str] = &[
     "ppm",
     "self",

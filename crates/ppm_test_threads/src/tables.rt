@@ -104,7 +104,7 @@ pub(crate) fn run<W: Watch, R: Threads + Wait + Sync>(
     run_listing(rt, alloc, FORK, faults, limits, processors, watch)
 }
 
-/// The same of any listing.
+/// A listing on so many threads; `None` where memory was refused, or by a watcher.
 pub(crate) fn run_listing<W: Watch, R: Threads + Wait + Sync>(
     rt: &R,
     alloc: Global,
