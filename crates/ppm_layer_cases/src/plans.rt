@@ -23,12 +23,14 @@ fn processors(call: &Call) -> Result<u32, Fault>
 
 /// The plan that a call reads, or why it is none.
 fn plan_of(alloc: Global, call: &Call) -> Result<Result<Plan, PlanError>, Fault> {
-    Ok(read_plan(alloc, &call.input, processors(call)?))
+    let count = processors(call)?;
+    Ok(read_plan(alloc, &call.input, count))
 }
 
 /// The schedule that a call reads, or why it is none.
 fn schedule_of(alloc: Global, call: &Call) -> Result<Result<Schedule, PlanError>, Fault> {
-    Ok(read_schedule(alloc, &call.input, processors(call)?))
+    let count = processors(call)?;
+    Ok(read_schedule(alloc, &call.input, count))
 }
 
 /// What is said of a plan or a schedule that is refused: the number, and the error.
