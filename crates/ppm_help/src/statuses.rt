@@ -28,8 +28,12 @@ pub(crate) fn print_statuses(rt: &impl Print) -> io::Result<()> {
     for status in &STATUSES {
         println!(rt; "  {:>3}  {}", status.number(), meaning_of(*status))?;
     }
-    println!(rt; "  125  the script ./ppm has no program to run, and err says why")?;
-    println!(rt; "  130  the build was interrupted (143: ended)")
+    println!(rt;
+        "  125  the script ./ppm has no program to run, or no rt for the gate; err says why"
+    )?;
+    println!(rt;
+        "  130  the build or the gate was interrupted (143: ended); else `gate` ends as `rt ci`"
+    )
 }
 
 /// What a status says.

@@ -6,6 +6,7 @@ Ppm: a small fork-join language, its capsules, and the machine that runs them wh
 
   ./ppm COMMAND [OPTIONS] < INPUT      the proved program, proved and built first where it is not
   ./ppm try COMMAND [OPTIONS] < INPUT  the same words unproved, in a minute or two
+  ./ppm gate                           all proofs and tests, by `rt ci`; its program then serves
   ./ppm help [COMMAND]                 this page, or what it says of a command; also --help and -h
   ./ppm --version                      the kit, the sum of the sources, and whether they are built
 

@@ -1,13 +1,14 @@
 //! The program that adds a leg to a history: fresh processors go on from the state of a saved text by
 //! a schedule, for so many acts, and the text of the state then is written.
 //! Model: none; it is a row of calls, of which each has its contract.
-//! Contract: none beyond theirs. It is a tool for `examples/stops`, as no command saves a state that
+//! Contract: none beyond theirs. It is a tool for `trials/stops`, as no command saves a state that
 //! `resume` has left.
 //! Stands on `ppm_saved_reader`, `ppm_saved`, `ppm_core` and `ppm_following`; nothing stands on it.
 //! The words of its command line are this project's.
 #![tactic(auto)]
 
 ghost use Rattle.std.specs.Prelude.{◌≡◌};
+ghost use Rattle.ppm_cells.specs.declared.shape.Takeover.TheVariants.{ByPlaces};
 
 use ppm_answers::{Answer, SavedRefusal, answer_of_read, deliver};
 use ppm_core::Machine;
@@ -82,7 +83,8 @@ fn words_answer<S: Source>(alloc: Global, words: &[String], source: &mut S) -> A
 
 /// The saved text behind so many acts of fresh processors.
 fn leg(alloc: Global, saved: Saved, schedule: &Schedule, acts: u32) -> Result<Vec<u8>, NoMemory>
-    requires { schedule.now.processors ≡ saved.shape.processors }
+    requires by_places { saved.shape.takeover ≡ ByPlaces }
+    requires processors { schedule.now.processors ≡ saved.shape.processors }
 {
     let Renewed { image, code, names } = renew(saved, schedule.keeper());
     let mut machine = Machine::load(alloc, image, code)?;

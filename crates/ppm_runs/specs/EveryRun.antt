@@ -26,7 +26,7 @@ use Rattle.ppm_tickets.specs.Words.{Slot}
 use Rattle.ppm_frames.specs.Views.{view}
 use Rattle.ppm_frames.specs.Seen.{arrays_at}
 use Rattle.ppm_kept.specs.Running.{IsFair, strands}
-use Rattle.ppm_runs.specs.Legs.{Leg, AreLegs, state_then, homes_then, forked_then}
+use Rattle.ppm_runs.specs.Legs.{Leg, AreLegs, GoOn, state_then, homes_then, forked_then, last_state, all_homes, all_forked, all_taken}
 
 -- from an image of a sound code the turns of a run are orderly, with either takeover
 abbrev pub RunsAreOrderly : Type 0
@@ -59,6 +59,23 @@ TicketsByPlaces = (code : CodeParts) (input : List NamedArray) (s : Shape) (keep
     → AtMostOnce s code (reached s code image.words turns) (homes_by s code image.words turns)
     (along s code forks_of (opening image.words s.processors) turns) (along s code takes_of (opening image.words s.processors) turns)
     × EntriesGoOn s code (reached s code image.words turns)
+
+-- words that come back after these have each entry as it was
+abbrev pub EntriesComeBack : Shape → (words : List ℕ) → Type 0
+EntriesComeBack s words = (back : List ℕ) → GoOn s words back → (v i : ℕ)
+    → spots.view s back (Slot v i) ≡ spots.view s words (Slot v i)
+
+-- With takeover by places, at each moment of a run in legs, each branch is at one place and is taken at most once. What was forked and what was
+-- taken is told of all legs together; the processors that may live are those of the leg under way. The next turn changes entries lawfully, if at all.
+abbrev pub TicketsOverLegs : Type 0
+TicketsOverLegs = (code : CodeParts) (input : List NamedArray) (s : Shape) (keeper : ℕ) (image : Image)
+    → s.takeover ≡ ByPlaces → IsFair code → Opens code input s keeper image
+    → Calm (strands s code) (root_strand code input) (arrays_at (view s image.words))
+    → (legs : List Leg) → AreLegs s code image.words legs → (turns : List Turn) → AllByRecursion (IsTurnAmong s.processors) turns
+    → AtMostOnce s code (last_state s code image.words legs turns) (all_homes s code image.words legs turns)
+    (all_forked s code image.words legs turns) (all_taken s code image.words legs turns)
+    × EntriesGoOn s code (last_state s code image.words legs turns)
+    × EntriesComeBack s (last_state s code image.words legs turns).words
 
 -- With takeover by entries each place is its own processor's. That one carries it, and holder words are as they were. The next
 -- turn, whosever it is, changes the restart word and the message of its processor's place alone, and not once that is done.

@@ -1,6 +1,7 @@
 //! Each moment of each run, shown by calls that do nothing. From an image of a sound code, whatever the takeover and
 //! the turns, faults among them; and with takeover by places over legs.
-ghost use Rattle.ppm_runs.specs.EveryRun.{LegsAreOrderly, RunsAreOrderly, TicketsByEntries, TicketsByPlaces};
+ghost use Rattle.ppm_runs.specs.EveryRun.{LegsAreOrderly, RunsAreOrderly};
+ghost use Rattle.ppm_runs.specs.EveryRun.{TicketsByEntries, TicketsByPlaces, TicketsOverLegs};
 ghost use Rattle.ppm_runs.specs.Trees.{BeginnersAreCounted, RunnersAreCounted, RunnersAreCountedOverLegs};
 ghost use Rattle.ppm_runs.specs.Trees.{SeekersAreIdle, SeekersAreIdleOverLegs};
 ghost use Rattle.ppm_runs.specs.Trees.{WhatIsLeftEndsSo, WhatIsLeftOverLegs};
@@ -10,11 +11,14 @@ ghost use Rattle.ppm_runs.specs.Trees.{WhatIsLeftEndsSo, WhatIsLeftOverLegs};
 /// was forked and not taken is at one place, or left to the strand of its left branch; it is taken at most
 /// once. By entries so it is but for places that were followed, each place is its own processor's, and a closed
 /// place's strand comes to one heir, once. Each next turn leaves an entry as it is, or changes it lawfully.
+/// By places the same holds at each moment of a run in legs. Forks and takes are then those of all legs, and
+/// the processors that live are those of the leg under way. Words that come back leave each entry as it is.
 pub fn runs_are_orderly()
     ensures law { RunsAreOrderly }
     ensures by_places { TicketsByPlaces }
     ensures by_entries { TicketsByEntries }
     ensures over_legs { LegsAreOrderly }
+    ensures tickets_over_legs { TicketsOverLegs }
 {}
 
 /// At each moment, also where the run was stopped, the words show a tree of strands, with one leaf for each

@@ -1,6 +1,7 @@
 //! Writes saved texts.
 ghost use Rattle.std.specs.Prelude.{◌≡◌, ◌++◌, length, IfOk, OnOk};
 ghost use Rattle.std.specs.List.{flat_map, AllByRecursion};
+ghost use Rattle.ppm_cells.specs.declared.shape.Takeover.TheVariants.{ByPlaces};
 ghost use Rattle.ppm_saved.specs.Correct.{IsWord, LengthFits, RunFits, StateFits};
 ghost use Rattle.ppm_saved.specs.Runs.{runs_of};
 ghost use Rattle.ppm_saved.specs.Text.{shape_line, array_line as line_of_array, run_line};
@@ -136,9 +137,10 @@ pub(crate) fn push_words(alloc: Global, text: &mut Vec<u8>, words: &[u64]) -> Re
 }
 
 /// The saved text of a state: its code, the sizes of its machine, its arrays and its words by their
-/// addresses. The takeover is not in it. `Err` only where memory is refused, which is taken in
-/// proportion to the text. All numbers of the state fit 64 bits, so no other state has this text
-/// (`saved_texts_tell_states`).
+/// addresses. Only a machine that takes over by places has one: `renew` lets fresh processors go on
+/// by places, and from words of a run by entries they may run one strand twice. `Err` only where
+/// memory is refused, which is taken in proportion to the text. All numbers of the state fit 64
+/// bits, so no other state has this text (`saved_texts_tell_states`).
 pub fn write_saved(
     alloc: Global,
     code: &Code,
@@ -146,6 +148,7 @@ pub fn write_saved(
     names: &Names,
     words: &[u64],
 ) -> Result<Vec<u8>, NoMemory>
+    requires by_places { shape.takeover ≡ ByPlaces }
     ensures text { IfOk result (λ text. text.items
         ≡ saved_text shape names.now code.now words.now) }
     ensures fits { OnOk result (StateFits names.now code.now words.now) }

@@ -3,6 +3,7 @@ use Rattle.std.proofs.Common.{◌≡◌, ℕ, List, refl, sym, ap, ◌∙◌, su
 use Rattle.std.proofs.lemmas.Nat.{mul-le}
 use Rattle.ppm_words.specs.declared.named_array.NamedArray.{NamedArray}
 use Rattle.ppm_cells.specs.declared.shape.Shape.{Shape}
+use Rattle.ppm_cells.specs.declared.shape.Takeover.TheVariants.{ByPlaces}
 use Rattle.ppm_code.specs.declared.code.CodeParts.{CodeParts}
 use Rattle.ppm_core.specs.Situation.{Situation}
 use Rattle.ppm_plan.specs.declared.schedule_item.ScheduleItem.{ScheduleItem}
@@ -52,6 +53,17 @@ kinds = record { no_refusal = λ r k. k; no_fault = λ k. k; no_memory = λ k. k
 same_saved : (s z : Shape) (ns ms : List NamedLength) (c d : CodeParts) (ws vs : List ℕ) → s ≡ z → ns ≡ ms → c ≡ d → ws ≡ vs
     → saved_text s ns c ws ≡ saved_text z ms d vs
 same_saved s z ns ms c d ws vs shapes names codes words = λ i. saved_text (shapes i) (names i) (codes i) (words i)
+
+-- a machine with the sizes of `stop` takes over by places, also after the acts of a schedule
+pub takes_over_by_places : (options : StopOptions) (sizes : Sizes) (code : CodeParts) (input : List NamedArray) (keeper : ℕ) (start m : Situation)
+    (items : List ScheduleItem) (acts : ℕ) (s : Shape) → sizes ≡ sizes_of options → OpensRun sizes code input keeper start
+    → m ≡ followed start items acts → s ≡ m.shape → s.takeover ≡ ByPlaces
+takes_over_by_places options sizes code input keeper start m items acts s is_sizes opens follows is_shape =
+    ap (λ (x : Shape). x.takeover) is_shape
+    ∙ ap (λ (x : Situation). x.shape.takeover) follows
+    ∙ ap (λ (x : Situation). x.shape.takeover) opens.loads
+    ∙ opens.sized.takeover
+    ∙ ap (λ (x : Sizes). x.takeover) is_sizes
 
 module _ (options : StopOptions) (items : List ScheduleItem) where
   -- an answer of a program is of no other kind

@@ -1,7 +1,7 @@
 //! The program `ppm` with watchers that count: what it is told it does as `ppm` does, and behind a
 //! run it says on the error stream what its processors met.
 //! Model: none; each count is of events that a watcher is told (`Counts`).
-//! Contract: none beyond that of `ppm_top`. It is a tool for `examples/storm`.
+//! Contract: none beyond that of `ppm_top`. It is a tool for `trials/storm`.
 //! Stands on `ppm_top`, and on `ppm_cells` for what words stand for; nothing stands on it.
 //! After the steals and takeovers of Blelloch et al., SPAA 2018; the counts are this project's.
 #![tactic(auto)]

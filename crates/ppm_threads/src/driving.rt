@@ -5,7 +5,7 @@ ghost use Rattle.ppm_table.specs.Shown.{AreNewOf, opening_of};
 ghost use Rattle.ppm_threads.specs.Driven.{Begins, AllBegin, AllEnd, AllKeep, OthersStay, Driven, WasRefused, HasFinished};
 
 use crate::crew::Crew;
-use crate::going::run;
+use crate::going::{is_park, run};
 use crate::parking::{IdleParker, parkers, unparkers};
 use ppm_choice::Limits;
 use ppm_plan::Plan;
@@ -67,8 +67,10 @@ fn run_all<W: Watch, R: Threads + Wait + Sync>(
     both(x, y)
 }
 
-/// The same of two parts, side by side, each for itself. Where the system makes no thread, the keeper's part runs
-/// before the other one: it alone ends the run.
+/// Runs the processors of two parts side by side. Where the system makes no thread, one part runs after the other.
+/// Where idle processors park, the keeper's part comes first: without the keeper the others would park for ever.
+/// Where they leave, the keeper's part comes last: each of the others works off what its place has and leaves, and
+/// the keeper, which never leaves, does what is left.
 #[cycle(halves)]
 fn both_halves<W: Watch, R: Threads + Wait + Sync>(
     rt: &R,
@@ -102,7 +104,7 @@ fn both_halves<W: Watch, R: Threads + Wait + Sync>(
             b.exit.now v.exit.now }
     { run_all(rt, crew, b, q, v) };
     // The second of them begins at once, on this thread.
-    if keeper_is_in_front {
+    if keeper_is_in_front == is_park(crew.limits.idle) {
         let (y, x) = join_mut(rt, &mut back, &mut front);
         return (x, y);
     }

@@ -32,7 +32,7 @@ use std::sync::Wait;
 const MOST_UNTOLD: u64 = 1 << 12;
 
 /// Whether a processor that rests parks.
-fn is_park(idle: Idle) -> bool
+pub(crate) fn is_park(idle: Idle) -> bool
     ensures { result ≡ is_park idle }
 {
     match idle {

@@ -6,7 +6,7 @@ use Rattle.ppm_loading.specs.Loading.{AreSizes}
 use Rattle.ppm_stop.specs.Stops.{names_of}
 use Rattle.ppm_stop.proofs.NamesLemmas.{names_are}
 use Rattle.ppm_stop.proofs.ReadBackLemmas.{CodeLaws, read_back}
-use Rattle.ppm_stop.proofs.StopLemmas.{program_reads, stopped_sizes}
+use Rattle.ppm_stop.proofs.StopLemmas.{program_reads, stopped_sizes, takes_over_by_places}
 use Rattle.ppm_stop.proofs.stop.stopped.Goals as goal
 
 -- an admitted program within the limits names its arrays so
@@ -18,6 +18,13 @@ names_of-requires-clause-names c =
 -- the options say sizes of a machine
 pub load-requires-clause-sizes : goal.load-requires-clause-sizes
 load-requires-clause-sizes c = subst AreSizes (sym c.sizes_of.ensures) (stopped_sizes c.args.options c.requires.options)
+
+-- the machine takes over by places
+pub write_saved-requires : goal.write_saved-requires
+write_saved-requires c = record {
+  by_places = takes_over_by_places c.args.options _ _ _ _ _ _ c.args.schedule.now.items c.args.options.after _ c.sizes_of.ensures
+      c.in_ok-machine.ensures c.follow.ensures c.shape.ensures;
+}
 
 -- the text is that of the machine behind the run, and is read back
 pub returns : goal.returns
