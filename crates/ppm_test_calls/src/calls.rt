@@ -1,89 +1,68 @@
-//! Calls over memory.
-ghost use Rattle.std.specs.Prelude.{◌<◌};
-
+//! The top call over memory.
 use ppm_answers::Status;
-use ppm_ports::{MemorySink, MemorySource, Source};
+use ppm_ports::{MemorySink, MemorySource, Watch};
+use ppm_top::{WATCHERS, ppm};
 use std::alloc::Global;
+use std::sync::Wait;
 use std::test::Fail;
+use std::thread::Threads;
 
 /// The bytes for which a sink has room.
 const ROOM: usize = 300_000;
 
-/// The calls that fail, of the source, of out and of err; calls count from 0.
-#[derive(Clone, Copy)]
-pub struct Failing<'a> {
-    pub reads: &'a [u64],
-    pub outs: &'a [u64],
-    pub errs: &'a [u64],
-}
+/// The most bytes that a port moves at a time.
+const MOST: usize = 4096;
 
-/// No call fails.
-pub const NONE: Failing<'static> = Failing {
-    reads: &[],
-    outs: &[],
-    errs: &[],
-};
+/// Words that ask for the code of a source.
+pub const CODE: &[&str] = &["ppm", "code"];
 
-/// The words and the ports of a call.
-#[derive(Drop)]
-pub struct Call {
-    pub words: Vec<String>,
-    pub source: MemorySource,
-    pub out: MemorySink,
-    pub err: MemorySink,
-}
-
-/// What a call wrote and answered, and how often its source failed.
+/// What a call wrote and answered.
 #[derive(Drop)]
 pub struct Shown {
     pub status: Status,
     pub out: Vec<u8>,
     pub err: Vec<u8>,
-    pub read_faults: u64,
 }
 
-impl Call {
-    /// A call with these words, whose source gives this text, and whose ports move at most `most`
-    /// bytes at a time.
-    pub fn new(
-        alloc: Global,
-        text: &[u8],
-        words: &[&str],
-        most: usize,
-        failing: Failing,
-    ) -> Result<Self, Fail>
-        requires { 0 < most }
-    {
-        let mut given = Vec::new(alloc);
-        for word in words {
-            given.push(String::from_str(alloc, word)?)?;
-        }
-        let source = MemorySource::new(text.to_vec(alloc)?, most, failing.reads.to_vec(alloc)?);
-        let out = sink(alloc, most, failing.outs)?;
-        let err = sink(alloc, most, failing.errs)?;
-        Ok(Call {
-            words: given,
-            source,
-            out,
-            err,
-        })
-    }
-
-    /// What it wrote, behind an answer with this status.
-    pub fn shown(&self, alloc: Global, status: Status) -> Result<Shown, Fail> {
-        Ok(Shown {
-            status,
-            out: self.out.bytes().to_vec(alloc)?,
-            err: self.err.bytes().to_vec(alloc)?,
-            read_faults: self.source.faults(),
-        })
-    }
+/// A call of these words over ports that never fail, with these watchers. `Err` unless there is one
+/// for each processor.
+pub fn call<R: Threads + Wait + Sync, W: Watch>(
+    rt: &R,
+    alloc: Global,
+    words: &[&str],
+    text: &str,
+    watch: &mut Vec<W>,
+) -> Result<Shown, Fail> {
+    call_over(rt, alloc, words, text.as_bytes(), watch)
 }
 
-/// A sink whose calls fail as given.
-fn sink(alloc: Global, most: usize, failing: &[u64]) -> Result<MemorySink, Fail>
-    requires { 0 < most }
-{
-    let failing = failing.to_vec(alloc)?;
-    Ok(MemorySink::new(alloc, ROOM, most, failing).map_err(|_| "memory")?)
+/// A call that reads bytes, as a saved text is written.
+pub fn call_over<R: Threads + Wait + Sync, W: Watch>(
+    rt: &R,
+    alloc: Global,
+    words: &[&str],
+    text: &[u8],
+    watch: &mut Vec<W>,
+) -> Result<Shown, Fail> {
+    if watch.len() != WATCHERS {
+        return Err(Fail::from("a watcher for each processor"));
+    }
+    let mut given = Vec::new(alloc);
+    for word in words {
+        given.push(String::from_str(alloc, word)?)?;
+    }
+    let mut source = MemorySource::new(text.to_vec(alloc)?, MOST, Vec::new(alloc));
+    let mut out = sink(alloc)?;
+    let mut err = sink(alloc)?;
+    let status = ppm(rt, alloc, &given, &mut source, &mut out, &mut err, watch);
+    Ok(Shown {
+        status,
+        out: out.bytes().to_vec(alloc)?,
+        err: err.bytes().to_vec(alloc)?,
+    })
+}
+
+/// A sink that never fails.
+fn sink(alloc: Global) -> Result<MemorySink, Fail> {
+    Ok(MemorySink::new(alloc, ROOM, MOST, Vec::new(alloc)).map_err(|_| "memory")?)
 }

@@ -3,10 +3,6 @@
 /// A source that ends with `a 5 7`.
 pub const FIRST: &str = "array a[2]; proc main(mut a) { a[0] = 5; a[1] = a[0] + 2; }";
 
-/// A hundred calls, each in the one before.
-pub const CALLS: &str =
-    "array a[1]; proc f(mut a, int n) { if n > 0 { call f(a, n - 1); a[0] = a[0] + 1; } } proc main(mut a) { call f(a, 100); }";
-
 /// A sum by halves.
 pub const SUM: &str =
     "array a[4]; input a = 1, 2, 3, 4;\nproc sum(mut a) { if len a > 1 { split a at len a / 2 into l, r { fork sum(l) and sum(r); \

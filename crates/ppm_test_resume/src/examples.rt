@@ -1,5 +1,4 @@
-//! Trials of `self`: its largest example, and what its watchers are told.
-use crate::calls::{unwatched, watched};
+//! Trials of `self`: what its watchers are told.
 use crate::told::{are_silent, is_shown, watchers};
 use ppm_answers::Status;
 use ppm_cells::{Shape, Takeover};
@@ -9,9 +8,10 @@ use ppm_core::Machine;
 use ppm_listing_reader::read_listing;
 use ppm_loading::{Sizes, load, read_program};
 use ppm_plan::{make_source, seeded_plan};
-use ppm_ports::MemorySource;
-use ppm_test_calls::NONE;
+use ppm_ports::{MemorySource, Silent};
+use ppm_test_calls::{CODE, call, call_over};
 use ppm_test_threads::{obeys, record};
+use ppm_top::WATCHERS;
 use ppm_words::Event;
 use std::alloc::Global;
 use std::process::Abort;
@@ -44,7 +44,7 @@ const OF_ONE: &[&str] = &[
     "4096",
 ];
 
-/// The same on three processors.
+/// Words that ask three processors for it.
 const OF_THREE: &[&str] = &[
     "ppm",
     "self",
@@ -90,7 +90,8 @@ fn alone(alloc: Global) -> Result<Vec<Event>, Fail> {
 /// The code of the example.
 fn code<R: Threads + Wait + Sync>(rt: &R, alloc: Global) -> Result<Code, Fail> {
     let text = make_source(alloc, 4, 7).map_err(|_| "memory")?;
-    let got = unwatched(rt, alloc, &text, &["ppm", "code"])?;
+    let mut silent = vec![in alloc; Silent; WATCHERS]?;
+    let got = call_over(rt, alloc, CODE, &text, &mut silent)?;
     Ok(read_listing(alloc, got.out.as_slice()).map_err(|_| "no listing")?)
 }
 
@@ -100,7 +101,7 @@ fn one_is_told_what_it_does(rt: HostRuntime) -> Result<(), Fail> {
     let want = alone(alloc)?;
     assert!(&rt; want.iter().any(|event| event.step == 4), "no fault");
     let mut watch = watchers(alloc, MANY)?;
-    let shown = watched(&rt, alloc, b"", OF_ONE, 4096, NONE, &mut watch)?;
+    let shown = call(&rt, alloc, OF_ONE, "", &mut watch)?;
     is_shown(&rt, &shown, SUMS, Status::Ended)?;
     let only = watch.first().ok_or("a first")?;
     assert!(&rt; only.events.as_slice() == want.as_slice());
@@ -113,7 +114,7 @@ fn one_that_refuses_ends_the_example(rt: HostRuntime) -> Result<(), Fail> {
     let want = alone(alloc)?;
     for room in [0u32, 1, 7, 30, 200] {
         let mut watch = watchers(alloc, room)?;
-        let shown = watched(&rt, alloc, b"", OF_ONE, 4096, NONE, &mut watch)?;
+        let shown = call(&rt, alloc, OF_ONE, "", &mut watch)?;
         is_shown(&rt, &shown, "out of memory\n", Status::NoMemory)?;
         let only = watch.first().ok_or("a first")?;
         assert_eq!(&rt; only.events.len(), room as usize);
@@ -130,7 +131,7 @@ fn three_are_told_of_what_they_do(rt: HostRuntime) -> Result<(), Fail> {
     let code = code(&rt, alloc)?;
     let plan = seeded_plan(alloc, 7, 3, 4096).map_err(|_| "memory")?;
     let mut watch = watchers(alloc, MANY)?;
-    let shown = watched(&rt, alloc, b"", OF_THREE, 4096, NONE, &mut watch)?;
+    let shown = call(&rt, alloc, OF_THREE, "", &mut watch)?;
     is_shown(&rt, &shown, SUMS, Status::Ended)?;
     let mut own = 0u32;
     for told in &watch {
@@ -149,35 +150,4 @@ fn three_are_told_of_what_they_do(rt: HostRuntime) -> Result<(), Fail> {
         own = own.saturating_add(1);
     }
     are_silent(&rt, &watch, 3)
-}
-
-#[test]
-fn words_that_are_refused_tell_nobody_anything(rt: HostRuntime) -> Result<(), Fail> {
-    let alloc = rt.alloc();
-    let refused: [&[&str]; 3] = [
-        &["ppm", "self", "--size", "0"],
-        &["ppm", "self", "--processors", "17"],
-        &["ppm", "self", "--count", "4097"],
-    ];
-    for words in refused {
-        let mut watch = watchers(alloc, MANY)?;
-        let shown = watched(&rt, alloc, b"", words, 4096, NONE, &mut watch)?;
-        is_shown(&rt, &shown, "words refused\n", Status::WordsRefused)?;
-        are_silent(&rt, &watch, 0)?;
-    }
-    Ok(())
-}
-
-#[test]
-fn four_thousand_values_are_summed(rt: HostRuntime) -> Result<(), Fail> {
-    let alloc = rt.alloc();
-    let words = [
-        "ppm", "self", "--size", "4096", "--seed", "7", "--count", "50",
-    ];
-    for _ in 0..2u32 {
-        let got = unwatched(&rt, alloc, b"", &words)?;
-        let wanted = "size 4096 forks 4095 sum 2046032 last 952\n";
-        is_shown(&rt, &got, wanted, Status::Ended)?;
-    }
-    Ok(())
 }

@@ -1,14 +1,16 @@
 //! Saved texts.
-use crate::calls::unwatched;
 use ppm_answers::Status;
+use ppm_ports::Silent;
+use ppm_test_calls::call;
+use ppm_top::WATCHERS;
 use std::alloc::Global;
 use std::process::Abort;
 use std::sync::Wait;
 use std::test::Fail;
 use std::thread::Threads;
 
-/// What `stop` writes of a source behind so many acts of so many processors, whose places have so
-/// many words of room.
+/// What `stop` writes of a source after so many acts of so many processors, whose places have so many
+/// words of room.
 pub(crate) fn stopped<R: Abort + Threads + Wait + Sync>(
     rt: &R,
     alloc: Global,
@@ -29,7 +31,8 @@ pub(crate) fn stopped<R: Abort + Threads + Wait + Sync>(
         "--after",
         after,
     ];
-    let got = unwatched(rt, alloc, source.as_bytes(), &words)?;
+    let mut silent = vec![in alloc; Silent; WATCHERS]?;
+    let got = call(rt, alloc, &words, source, &mut silent)?;
     assert_eq!(rt; got.status, Status::Ended, "{after}");
     Ok(got.out)
 }

@@ -1,14 +1,13 @@
 //! What watchers are told where words are resumed: exactly what one processor does alone, of several
 //! what they are told that obey; and how one that refuses ends the run.
-use crate::calls::watched;
-use crate::texts::stopped;
+use crate::texts::{changed, stopped};
 use ppm_answers::Status;
 use ppm_choice::{Idle, Limits};
 use ppm_core::Machine;
 use ppm_plan::read_plan;
 use ppm_saved::{Renewed, renew};
 use ppm_saved_reader::read_saved;
-use ppm_test_calls::{FIRST, NONE, SUM, Shown};
+use ppm_test_calls::{FIRST, SUM, Shown, call_over};
 use ppm_test_threads::{Bounded, obeys, record};
 use ppm_top::WATCHERS;
 use ppm_words::Event;
@@ -21,7 +20,7 @@ use std::thread::Threads;
 /// More events than any watcher is told here.
 const MANY: u32 = 1_000_000;
 
-/// The limits by which all are resumed here, but for the turns: who seeks twice leaves.
+/// The limits by which all are resumed here, but for the turns: a processor that seeks twice leaves.
 pub(crate) const FEW_LOOKS: Limits = Limits {
     turns: 1_000_000,
     looks: 2,
@@ -64,7 +63,7 @@ fn resumed<R: Threads + Wait + Sync>(
     let words = [
         "ppm", "resume", "--turns", &turns, "--looks", "2", "--seed", "7", "--faults", way.faults,
     ];
-    watched(rt, alloc, text, &words, 4096, NONE, watch)
+    call_over(rt, alloc, &words, text, watch)
 }
 
 /// What the only processor of a text's state does alone where it goes on so.
@@ -129,21 +128,6 @@ pub(crate) fn is_run_alone<R: Abort + Threads + Wait + Sync>(
     are_silent(rt, &watch, 1)
 }
 
-/// Fails unless a text is answered so, and nobody is told anything.
-pub(crate) fn is_not_run<R: Abort + Threads + Wait + Sync>(
-    rt: &R,
-    alloc: Global,
-    text: &[u8],
-    way: Way,
-    answer: &str,
-    status: Status,
-) -> Result<(), Fail> {
-    let mut watch = watchers(alloc, MANY)?;
-    let shown = resumed(rt, alloc, text, way, &mut watch)?;
-    is_shown(rt, &shown, answer, status)?;
-    are_silent(rt, &watch, 0)
-}
-
 /// Fails unless each list is what that processor of a text's state is told which obeys a plan, or a
 /// front of it where the run was stopped; and all that are not of the state were told nothing.
 fn obey<R: Abort>(
@@ -193,34 +177,66 @@ pub(crate) fn is_run<R: Abort + Threads + Wait + Sync>(
     obey(rt, alloc, text, faults, &watch, false)
 }
 
-/// Sources and words of stops, and their statuses.
-const STOPS: [(&str, &[&str], Status); 5] = [
-    (SUM, &["ppm", "stop", "--after", "400"], Status::Ended),
-    (
-        SUM,
-        &[
-            "ppm",
-            "stop",
-            "--processors",
-            "1",
-            "--after",
-            "9",
-            "--schedule",
-            "0!s",
-        ],
-        Status::Ended,
-    ),
-    ("proc main(", &["ppm", "stop"], Status::SourceRefused),
-    (
-        SUM,
-        &["ppm", "stop", "--schedule", "4"],
-        Status::WordsRefused,
-    ),
-    (SUM, &["ppm", "stop", "--after", "x"], Status::WordsRefused),
-];
-
 /// The plans by which three go on.
 const PLANS: [&'static str; 4] = ["none", "1@30h", "0@5s,1@9h", "0@5s,2@12h,0@40s"];
+
+/// A line of the text of one processor, what stands there in its place, and what is answered.
+const ENDS: [(u32, &str, &str, Status); 9] = [
+    (0, "", "a 7\n", Status::Ended),
+    // The finish word: it had ended, in a trap, out of turns, out of room, stopped or broken.
+    (11, "1\n0*2", "a 7\n", Status::Ended),
+    (11, "90\n0*2", "trap index line 1\n", Status::Trapped),
+    (11, "3\n0*2", "a 7\n", Status::Ended),
+    (11, "4\n0*2", "out of room: place 0\n", Status::OutOfRoom),
+    (11, "6\n0*2", "a 7\n", Status::Ended),
+    (
+        11,
+        "71\n0*2",
+        "saved words broken: place 0\n",
+        Status::Broken,
+    ),
+    // A restart word that stands for nothing, and the outcome of the root, which is a trap.
+    (12, "1", "saved words broken: place 0\n", Status::Broken),
+    (19, "90", "trap index line 1\n", Status::Trapped),
+];
+
+#[test]
+fn one_is_told_what_it_does_to_each_end(rt: HostRuntime) -> Result<(), Fail> {
+    let alloc = rt.alloc();
+    for (at, with, answer, status) in ENDS {
+        let text = changed(alloc, at, with)?;
+        is_run_alone(&rt, alloc, &text, PLAIN, answer, status)?;
+    }
+    Ok(())
+}
+
+/// With soft faults of processor 0 here and there.
+const FAULTS: Way = Way {
+    turns: 1_000_000,
+    faults: "0@0s,0@1s,0@3s,0@7s,0@20s",
+};
+
+#[test]
+fn one_is_told_what_it_does_through_faults(rt: HostRuntime) -> Result<(), Fail> {
+    let alloc = rt.alloc();
+    for after in ["0", "77", "100000"] {
+        let text = stopped(&rt, alloc, SUM, "1", "256", after)?;
+        is_run_alone(&rt, alloc, &text, FAULTS, "a 10 2 7 4\n", Status::Ended)?;
+    }
+    Ok(())
+}
+
+#[test]
+fn one_is_told_what_it_does_until_turns_are_out(rt: HostRuntime) -> Result<(), Fail> {
+    let alloc = rt.alloc();
+    let way = Way {
+        turns: 50,
+        faults: "0@0s,0@9s",
+    };
+    let text = stopped(&rt, alloc, SUM, "1", "256", "77")?;
+    let answer = "out of turns: processor 0\n";
+    is_run_alone(&rt, alloc, &text, way, answer, Status::OutOfTurns)
+}
 
 #[test]
 fn three_are_told_of_what_they_do(rt: HostRuntime) -> Result<(), Fail> {
@@ -268,16 +284,4 @@ fn each_event_of_one_is_refused(rt: HostRuntime) -> Result<(), Fail> {
         room = room.saturating_add(1);
     }
     is_run_alone(&rt, alloc, &text, PLAIN, "a 5 7\n", Status::Ended)
-}
-
-#[test]
-fn a_stop_tells_nobody_anything(rt: HostRuntime) -> Result<(), Fail> {
-    let alloc = rt.alloc();
-    for (text, words, status) in STOPS {
-        let mut watch = watchers(alloc, 0)?;
-        let shown = watched(&rt, alloc, text.as_bytes(), words, 4096, NONE, &mut watch)?;
-        assert_eq!(&rt; shown.status, status, "{words:?}");
-        are_silent(&rt, &watch, 0)?;
-    }
-    Ok(())
 }

@@ -9,6 +9,7 @@
 
 mod alone;
 mod bounded;
+mod meeting;
 #[cfg(test)]
 mod meetings;
 mod obeying;
@@ -23,4 +24,5 @@ mod turns;
 
 pub use alone::record;
 pub use bounded::Bounded;
+pub use meeting::{Meeting, comes};
 pub use obeying::obeys;

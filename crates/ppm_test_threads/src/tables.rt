@@ -1,7 +1,6 @@
 //! What the trials run: listings, over an array of four words.
-ghost use Rattle.std.specs.Prelude.{◌≡◌, ◌<◌, ◌↔◌, IfOk, IsTrue, length};
+ghost use Rattle.std.specs.Prelude.{◌≡◌, ◌<◌, IfOk};
 ghost use Rattle.std.specs.List.{All};
-ghost use Rattle.ppm_words.specs.Inputs.{value_count};
 ghost use Rattle.ppm_table.specs.Shown.{AreNewOf};
 
 use ppm_cells::{Ending, Finish, Shape};
@@ -9,37 +8,15 @@ use ppm_choice::{Idle, Limits};
 use ppm_code::Code;
 use ppm_core::Machine;
 use ppm_layout::{Image, image};
-use ppm_listing_reader::read_listing;
 use ppm_plan::{Plan, read_plan};
 use ppm_ports::{Recorder, Watch};
 use ppm_table::{Closed, Processor, Shared};
+use ppm_test_turns::{FORK, FORKED, code_of, four_words};
 use ppm_threads::drive;
-use ppm_words::{Input, Items, Name, NamedArray};
 use std::alloc::Global;
 use std::sync::Wait;
 use std::test::Fail;
 use std::thread::Threads;
-
-/// Cuts its array behind the first element, and puts 1 and 2 into the first elements of the parts,
-/// side by side.
-const FORK: &str = "ppm 1\nroot 0 0\nproc 0 slots 1 entry 0\nproc 1 slots 2 entry 2\n\
-capsule 0 proc 0\nroom 21\nloadslot r0 0\nconst r1 1\nconst r2 2\ncutl r3 r0 r1 1\ncutr r4 r0 r1 1\n\
-storenew 11 r3\nstorenew 12 r1\nstorenew 19 r4\nstorenew 20 r2\nfork 1 1 1\ncapsule 1 proc 0\nend\n\
-capsule 2 proc 1\nloadslot r0 0\nconst r1 0\nloadslot r2 1\nput r0 r1 r2 1\nend\n";
-
-/// The words of the array with which it begins.
-const FORKED: [i64; 4] = [0, 0, 7, 4];
-
-/// Adds up its array in a tree of forks: the first word of each part becomes its sum.
-pub(crate) const SUM: &str = "ppm 1\nroot 0 0\nproc 0 slots 1 entry 0\nproc 1 slots 5 entry 2\n\
-capsule 0 proc 0\nroom 11\nloadslot r0 0\nstorenew 6 r0\ncall 1 1\ncapsule 1 proc 0\nend\n\
-capsule 2 proc 1\nloadslot r0 0\nlen r1 r0\nconst r2 1\nlt r3 r2 r1\nbranchz r3 6\nnext 3\nend\n\
-capsule 3 proc 1\nloadslot r0 0\nlen r1 r0\nconst r2 2\ndiv r1 r1 r2 1\ncutl r3 r0 r1 1\ncutr r4 r0 r1 1\n\
-storecur 1 r3\nstorecur 2 r4\nnext 4\n\
-capsule 4 proc 1\nroom 27\nloadslot r0 1\nloadslot r1 2\nstorenew 11 r0\nstorenew 22 r1\nfork 1 1 5\n\
-capsule 5 proc 1\nloadslot r0 1\nloadslot r1 2\nconst r2 0\nget r3 r0 r2 1\nget r4 r1 r2 1\nadd r3 r3 r4 1\n\
-storecur 3 r3\nnext 6\n\
-capsule 6 proc 1\nloadslot r0 1\nconst r1 0\nloadslot r2 3\nput r0 r1 r2 1\nend\n";
 
 /// Sets registers to other than 0, and puts what later capsules find in them into its array. These
 /// read registers up to r7, the last that is set to 0 by itself; up to r8, the next; and up to r63.
@@ -60,45 +37,11 @@ pub(crate) const WIDE: Limits = Limits {
     idle: Idle::Leave,
 };
 
-/// Whether a code's root names the first array alone.
-fn names_first(code: &Code) -> bool
-    ensures { IsTrue result ↔ All (λ array. array < 1) code.now.arrays }
-{
-    code.parts()
-        .arrays
-        .as_slice()
-        .iter()
-        .all(|array| *array < 1)
-}
-
-/// The code of a listing, if its root names the first array alone.
-fn code_of(alloc: Global, listing: &str) -> Result<Code, Fail>
-    ensures { IfOk result (λ code. All (λ array. array < 1) code.arrays) }
-{
-    let code = read_listing(alloc, listing.as_bytes()).map_err(|_| "no listing")?;
-    if !names_first(&code) {
-        return Err("another root")?;
-    }
-    Ok(code)
-}
-
 /// The code of the listing that forks.
 pub(crate) fn fork_code(alloc: Global) -> Result<Code, Fail>
     ensures { IfOk result (λ code. All (λ array. array < 1) code.arrays) }
 {
     code_of(alloc, FORK)
-}
-
-/// An array of four words.
-fn four_words(alloc: Global, words: [i64; 4]) -> Result<Input, Fail>
-    ensures one { IfOk result (λ input. length input ≡ 1) }
-    ensures four { IfOk result (λ input. value_count input ≡ 4) }
-{
-    let array = NamedArray {
-        name: Name::from_bytes(vec![in alloc; b'a']?),
-        values: Items::from_vec(vec![in alloc; words[0], words[1], words[2], words[3]]?),
-    };
-    Ok(Input::from_vec(vec![in alloc; array]?))
 }
 
 /// The sizes of a machine for the listings and their array.
@@ -161,7 +104,7 @@ pub(crate) fn run<W: Watch, R: Threads + Wait + Sync>(
     run_listing(rt, alloc, FORK, faults, limits, processors, watch)
 }
 
-/// A listing that is run on so many threads; `None` where memory was refused, or by a watcher.
+/// A listing on so many threads; `None` where memory was refused, or by a watcher.
 pub(crate) fn run_listing<W: Watch, R: Threads + Wait + Sync>(
     rt: &R,
     alloc: Global,
@@ -191,7 +134,7 @@ pub(crate) fn is_right(alloc: Global, closed: &Closed) -> Result<bool, Fail> {
     Ok(array.as_slice() == [1, 2, 7, 4].as_slice())
 }
 
-/// Watchers that keep what they are told, as many as asked for.
+/// So many watchers that keep what they are told.
 pub(crate) fn recorders(alloc: Global, count: u32) -> Result<Vec<Recorder>, Fail> {
     let mut all = Vec::new(alloc);
     for _ in 0..count {

@@ -6,11 +6,12 @@ ghost use Rattle.ppm_step.specs.declared.turn.Act.TheVariants.{Step};
 ghost use Rattle.ppm_table.specs.Run.{IsActAt};
 ghost use Rattle.ppm_table.specs.Shown.{InOrder, IsOf};
 
-use crate::tables::{SUM, table_of};
+use crate::tables::table_of;
 use ppm_cells::{Cell, Ending, Finish};
 use ppm_step::{Act, Local};
 use ppm_stretch::is_due;
 use ppm_table::{Closed, Processor, Shared, is_done};
+use ppm_test_turns::SUM;
 use ppm_words::Event;
 use std::alloc::Global;
 use std::test::Fail;

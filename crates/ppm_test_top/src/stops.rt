@@ -143,8 +143,8 @@ const FOUR_SLOTS: &str = "ppm 1\nroot 0\nproc 0 slots 4 entry 0\ncapsule 0 proc 
 
 const ONE_SLOT: &str = "ppm 1\nroot 0\nproc 0 slots 1 entry 0\ncapsule 0 proc 0\n";
 
-/// What follows the first of these: five listings of this table's own, then those of the table of
-/// `ppm_listing_reader` that `check` accepts.
+/// What follows the first of these: five listings of this table's own, then those of
+/// `listings.txt` of `ppm_layer_cases` that `check` accepts.
 const OF_FOUR_SLOTS: [&'static str; 23] = [
     "loadslot r0 3\nbranchz r0 4\nconst r1 -1\nadd r0 r0 r1 1\nstorecur 2 r0\nnext 1\ncapsule 1 proc 0\nloadslot r0 2\nstorecur 3 r0\nend\n",
     "loadslot r1 0\nput r1 r2 r0 1\nget r0 r1 r2 1\nstorecur 1 r0\nend\n",
@@ -171,7 +171,7 @@ const OF_FOUR_SLOTS: [&'static str; 23] = [
     "next 0\n",
 ];
 
-/// Likewise what follows the second.
+/// What follows the second.
 const OF_ONE_SLOT: [&'static str; 5] = [
     "room 7\ncall 0 0\n",
     "give r0\nend\n",
@@ -180,7 +180,7 @@ const OF_ONE_SLOT: [&'static str; 5] = [
     "room 19\nforkto 0 0 0 0 -\n",
 ];
 
-/// Likewise whole listings.
+/// Whole listings.
 const WHOLE: [&'static str; 4] = [
     "ppm 1\nroot 0\nproc 0 slots 25 entry 0\ncapsule 0 proc 0\nend\n",
     "ppm 1\nroot 0 63\nproc 0 slots 4 entry 0\ncapsule 0 proc 0\nconst r0 7\nstorecur 3 r0\nloadslot r1 3\nstorecur 3 r1\nend\n",

@@ -1,67 +1,22 @@
 //! What the watchers of a run are told through the top call, where several processors act side by
 //! side; and how one that refuses ends the run.
-ghost use Rattle.std.specs.Prelude.{Some};
-
-use crate::calls::{CODE, call};
 use ppm_answers::Status;
 use ppm_cells::Shape;
 use ppm_choice::{Idle, Limits};
 use ppm_code::Code;
 use ppm_listing_reader::read_listing;
 use ppm_plan::{Plan, read_plan};
-use ppm_ports::{Silent, Watch};
-use ppm_test_calls::SUM;
-use ppm_test_threads::obeys;
+use ppm_ports::Silent;
+use ppm_test_calls::{CODE, SUM, call};
+use ppm_test_threads::{Meeting, obeys};
 use ppm_top::WATCHERS;
-use ppm_words::{Event, NoMemory};
+use ppm_words::Event;
 use std::alloc::Global;
 use std::process::Abort;
 use std::sync::Wait;
 use std::sync::atomic::{AtomicU64, Ordering};
 use std::test::Fail;
-use std::thread;
 use std::thread::Threads;
-
-/// A watcher that keeps its events. Before each of its first ones it waits until another watcher has
-/// as many, and it refuses the one behind the last for which it has room.
-#[derive(Drop)]
-struct Meeting<'a> {
-    here: &'a AtomicU64,
-    there: &'a AtomicU64,
-    meetings: u64,
-    room: usize,
-    events: Vec<Event>,
-}
-
-/// Whether the other one comes so far, in a time that is long enough.
-pub(crate) fn comes(there: &AtomicU64, count: u64) -> bool {
-    for _ in 0..100_000_000u64 {
-        if there.load(Ordering::SeqCst) >= count {
-            return true;
-        }
-        thread::yield_now();
-    }
-    false
-}
-
-impl<'a> Watch for Meeting<'a> {
-    ghost told = { λ m. Some m.events.items };
-
-    fn turn(&mut self, event: Event) -> Result<(), NoMemory> {
-        let next = self.events.len() as u64;
-        if next < self.meetings {
-            self.here.store(next + 1, Ordering::SeqCst);
-            if !comes(self.there, next + 1) {
-                return Err(NoMemory);
-            }
-        }
-        if self.events.len() >= self.room {
-            return Err(NoMemory);
-        }
-        self.events.push(event)?;
-        Ok(())
-    }
-}
 
 /// Watchers for a run, of which the first two meet so often, and the first has room for so many
 /// events.

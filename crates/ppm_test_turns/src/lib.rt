@@ -18,6 +18,7 @@ mod flaws;
 mod holders;
 #[cfg(test)]
 mod known;
+mod listings;
 #[cfg(test)]
 mod machines;
 #[cfg(test)]
@@ -26,3 +27,5 @@ mod refusals;
 mod sweeps;
 #[cfg(test)]
 mod trees;
+
+pub use listings::{FORK, FORKED, SUM, code_of, four_words};

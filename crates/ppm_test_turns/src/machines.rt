@@ -1,38 +1,16 @@
 //! Machines over listings: alone, with faults, and two beside one another.
-ghost use Rattle.std.specs.Prelude.{◌≡◌, ◌<◌, ◌↔◌, IfOk, IfSome, IsTrue, length};
-ghost use Rattle.std.specs.List.{All};
-ghost use Rattle.ppm_words.specs.Inputs.{value_count};
+ghost use Rattle.std.specs.Prelude.{◌↔◌, IfSome, IsTrue};
 ghost use Rattle.ppm_core.specs.Acts.{IsActAmong, IsTurnAmong};
 
+use crate::listings::{FORK, FORKED, code_of, four_words};
 use ppm_cells::{Ending, Finish, Shape};
-use ppm_code::Code;
 use ppm_core::{Act, Machine, Next, Told, Turn, Why, done_is_done, turns_follow_on, turns_tell_on};
 use ppm_layout::image;
-use ppm_listing_reader::read_listing;
-use ppm_words::{Input, Items, Name, NamedArray};
 use std::alloc::Global;
 use std::test::Fail;
 
-/// Cuts its array behind the first element, and puts 1 and 2 into the first elements of the parts,
-/// side by side.
-pub(crate) const FORK: &str = "ppm 1\nroot 0 0\nproc 0 slots 1 entry 0\nproc 1 slots 2 entry 2\n\
-capsule 0 proc 0\nroom 21\nloadslot r0 0\nconst r1 1\nconst r2 2\ncutl r3 r0 r1 1\ncutr r4 r0 r1 1\n\
-storenew 11 r3\nstorenew 12 r1\nstorenew 19 r4\nstorenew 20 r2\nfork 1 1 1\ncapsule 1 proc 0\nend\n\
-capsule 2 proc 1\nloadslot r0 0\nconst r1 0\nloadslot r2 1\nput r0 r1 r2 1\nend\n";
-
-/// Adds up its array in a tree of forks, by a call: the first word of each part becomes its sum.
-pub(crate) const SUM: &str = "ppm 1\nroot 0 0\nproc 0 slots 1 entry 0\nproc 1 slots 5 entry 2\n\
-capsule 0 proc 0\nroom 11\nloadslot r0 0\nstorenew 6 r0\ncall 1 1\ncapsule 1 proc 0\nend\n\
-capsule 2 proc 1\nloadslot r0 0\nlen r1 r0\nconst r2 1\nlt r3 r2 r1\nbranchz r3 6\nnext 3\nend\n\
-capsule 3 proc 1\nloadslot r0 0\nlen r1 r0\nconst r2 2\ndiv r1 r1 r2 1\ncutl r3 r0 r1 1\ncutr r4 r0 r1 1\n\
-storecur 1 r3\nstorecur 2 r4\nnext 4\n\
-capsule 4 proc 1\nroom 27\nloadslot r0 1\nloadslot r1 2\nstorenew 11 r0\nstorenew 22 r1\nfork 1 1 5\n\
-capsule 5 proc 1\nloadslot r0 1\nloadslot r1 2\nconst r2 0\nget r3 r0 r2 1\nget r4 r1 r2 1\nadd r3 r3 r4 1\n\
-storecur 3 r3\nnext 6\n\
-capsule 6 proc 1\nloadslot r0 1\nconst r1 0\nloadslot r2 3\nput r0 r1 r2 1\nend\n";
-
-/// Each capsule behind the first puts a register into its array that the first one has set and it
-/// has not: the last of the eight that all capsules set to 0, then the first behind them.
+/// Each capsule after the first puts a register into its array that the first one has set and it
+/// has not: the last of the eight that all capsules set to 0, then the first after them.
 const HELD: &str = "ppm 1\nroot 0 0\nproc 0 slots 1 entry 0\n\
 capsule 0 proc 0\nconst r7 5\nconst r8 6\nnext 1\n\
 capsule 1 proc 0\nloadslot r0 0\nconst r1 2\nput r0 r1 r7 1\nnext 2\n\
@@ -48,40 +26,6 @@ struct Trial {
     act: Act,
 }
 
-/// Whether a code's root names the first array alone.
-fn names_first(code: &Code) -> bool
-    ensures { IsTrue result ↔ All (λ array. array < 1) code.now.arrays }
-{
-    code.parts()
-        .arrays
-        .as_slice()
-        .iter()
-        .all(|array| *array < 1)
-}
-
-/// The code of a listing, if its root names the first array alone.
-fn code_of(alloc: Global, listing: &str) -> Result<Code, Fail>
-    ensures { IfOk result (λ code. All (λ array. array < 1) code.arrays) }
-{
-    let code = read_listing(alloc, listing.as_bytes()).map_err(|_| "no listing")?;
-    if !names_first(&code) {
-        return Err("another root")?;
-    }
-    Ok(code)
-}
-
-/// An array of four words.
-fn four_words(alloc: Global) -> Result<Input, Fail>
-    ensures one { IfOk result (λ input. length input ≡ 1) }
-    ensures four { IfOk result (λ input. value_count input ≡ 4) }
-{
-    let array = NamedArray {
-        name: Name::from_bytes(vec![in alloc; b'a']?),
-        values: Items::from_vec(vec![in alloc; 0i64, 0i64, 7i64, 4i64]?),
-    };
-    Ok(Input::from_vec(vec![in alloc; array]?))
-}
-
 /// A machine for a listing and this array, with so many slots.
 pub(crate) fn machine_of(
     alloc: Global,
@@ -91,7 +35,7 @@ pub(crate) fn machine_of(
     by_entries: bool,
 ) -> Result<Machine, Fail> {
     let code = code_of(alloc, listing)?;
-    let input = four_words(alloc)?;
+    let input = four_words(alloc, FORKED)?;
     let mut shape = Shape::new(processors, 128, slots, 4).ok_or("within the limits")?;
     if by_entries {
         shape = shape.stealing();

@@ -2,7 +2,8 @@
 use crate::changes::{goes_on, may_become, store};
 use crate::flaws::{Flaw, flaw_of};
 use crate::known::{Fate, Known};
-use crate::machines::{FORK, machine_of};
+use crate::listings::FORK;
+use crate::machines::machine_of;
 use crate::sweeps::acts_lawfully;
 use crate::trees::TreeFlaw;
 use ppm_cells::Entry;

@@ -2,7 +2,8 @@
 use crate::changes::{Counts, learn};
 use crate::flaws::{Flaw, flaw_of};
 use crate::known::Known;
-use crate::machines::{FORK, SUM, machine_of, take_turn};
+use crate::listings::{FORK, SUM};
+use crate::machines::{machine_of, take_turn};
 use ppm_cells::{Ending, Finish};
 use ppm_core::{Act, Machine};
 use std::alloc::Global;

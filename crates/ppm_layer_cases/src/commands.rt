@@ -1,0 +1,86 @@
+//! The commands that words ask for, as lines with all their options.
+use crate::said::Said;
+use ppm_cells::Takeover;
+use ppm_cli::{Command, read_words};
+use ppm_sheets::Fault;
+use ppm_words::Idle;
+use std::alloc::Global;
+
+/// The word of a way to take over.
+fn takeover_word(takeover: Takeover) -> &'static str {
+    match takeover {
+        Takeover::ByPlaces => "place",
+        Takeover::ByEntries => "entry",
+    }
+}
+
+/// The word of what is done where there is no work.
+fn idle_word(idle: Idle) -> &'static str {
+    match idle {
+        Idle::Leave => "leave",
+        Idle::Park => "park",
+    }
+}
+
+/// The command of these words, or that they are refused.
+pub(crate) fn command(alloc: Global, words: &[String]) -> Result<Said, Fault> {
+    match read_words(alloc, words) {
+        Ok(Some(command)) => Ok(Said::Out(line_of(alloc, &command)?)),
+        Ok(None) => Ok(Said::Refused(String::from_str(alloc, "words refused\n")?)),
+        Err(_) => Err(Fault::NoMemory),
+    }
+}
+
+/// The line of a command: its name and its options, the plan or the schedule last.
+fn line_of(alloc: Global, command: &Command) -> Result<Vec<u8>, Fault> {
+    let mut plan: &[u8] = b"";
+    let mut front = "";
+    let line = match command {
+        Command::Run(it, faults) => {
+            front = " faults=";
+            plan = faults.as_slice();
+            let (takeover, idle) = (takeover_word(it.takeover), idle_word(it.idle));
+            format!(in alloc;
+                "run processors {} turns {} room {} slots {} looks {} seed {} takeover {takeover} idle {idle}",
+                it.processors, it.turns, it.room, it.slots, it.looks, it.seed
+            )?
+        }
+        Command::Serial(it) => format!(in alloc; "serial turns {}", it.turns)?,
+        Command::Code => String::from_str(alloc, "code")?,
+        Command::Check => String::from_str(alloc, "check")?,
+        Command::Replay(it, schedule) => {
+            front = " schedule=";
+            plan = schedule.as_slice();
+            let takeover = takeover_word(it.takeover);
+            format!(in alloc;
+                "replay processors {} turns {} room {} slots {} takeover {takeover}",
+                it.processors, it.turns, it.room, it.slots
+            )?
+        }
+        Command::Example(it) => format!(in alloc;
+            "self processors {} size {} seed {} count {}",
+            it.processors, it.size, it.seed, it.count
+        )?,
+        Command::Stop(it, schedule) => {
+            front = " schedule=";
+            plan = schedule.as_slice();
+            format!(in alloc;
+                "stop processors {} after {} room {} slots {}",
+                it.processors, it.after, it.room, it.slots
+            )?
+        }
+        Command::Resume(it, faults) => {
+            front = " faults=";
+            plan = faults.as_slice();
+            format!(in alloc;
+                "resume turns {} looks {} seed {}",
+                it.turns, it.looks, it.seed
+            )?
+        }
+    };
+    let mut text = line.as_bytes().to_vec(alloc)?;
+    text.extend_from_slice(front.as_bytes())?;
+    text.extend_from_slice(plan)?;
+    text.push(b'\n')?;
+    Ok(text)
+}

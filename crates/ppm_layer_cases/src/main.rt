@@ -1,0 +1,26 @@
+//! The program that tries single layers: words, plans, schedules, draws, texts, trees, listings, saved
+//! texts and answers, by the cases of the folder data/.
+//! Model: none; what is wanted stands in the sheets (`ppm_sheets`).
+//! Contract: none beyond those of the layers. The gate runs it and compares what it prints with the
+//! file `stdout`, in which all cases of each sheet are as wanted.
+//! Stands on the layers and on `ppm_sheets`; nothing stands on it.
+//! The form of a sheet is this project's; `docs/CASES.md` has it.
+#![tactic(auto)]
+
+mod answers;
+mod commands;
+mod draws;
+mod layers;
+mod listings;
+mod plans;
+mod said;
+mod texts;
+mod trees;
+
+use crate::layers::Layers;
+use ppm_sheets::judge_sheets;
+use std::process::ExitCode;
+
+fn main(rt: HostRuntime) -> ExitCode {
+    judge_sheets(&rt, &Layers)
+}

@@ -1,0 +1,32 @@
+//! Why a sheet was not judged to its end.
+use std::alloc::{AllocError, AllocFailed};
+use std::io;
+
+/// Why a sheet was not judged to its end.
+#[derive(Debug, Drop)]
+pub enum Fault {
+    /// Memory was refused.
+    NoMemory,
+    /// The sheet can't be read, or nothing more can be printed.
+    File,
+    /// A line that a sheet can't have there, and why.
+    Line(&'static str),
+}
+
+impl<T: Drop> From<AllocFailed<T>> for Fault {
+    fn from(_: AllocFailed<T>) -> Self {
+        Fault::NoMemory
+    }
+}
+
+impl From<AllocError> for Fault {
+    fn from(_: AllocError) -> Self {
+        Fault::NoMemory
+    }
+}
+
+impl From<io::Error> for Fault {
+    fn from(_: io::Error) -> Self {
+        Fault::File
+    }
+}
