@@ -35,7 +35,7 @@ struct Meeting<'a> {
 
 /// Whether the other one comes so far, in a time that is long enough.
 pub(crate) fn comes(there: &AtomicU64, count: u64) -> bool {
-    for _ in 0..100_000_000u64 {
+    for _ in 0..10_000_000u64 {
         if there.load(Ordering::SeqCst) >= count {
             return true;
         }
