@@ -1,6 +1,6 @@
 use Rattle.std.proofs.Common.{map}
 use Rattle.ppm_tree.specs.Tree.{tree_of}
-use Rattle.ppm_driver.proofs.ExampleLemmas.{none_may, program_may}
+use Rattle.ppm_driver.proofs.ExampleLemmas.{example_tells, none_may, program_may}
 use Rattle.ppm_driver.proofs.WatchLemmas.{fronts_stay, untold}
 use Rattle.ppm_driver.proofs.example.example_answer.Goals as goal
 
@@ -8,6 +8,11 @@ use Rattle.ppm_driver.proofs.example.example_answer.Goals as goal
 pub returns-in-Ok-clause-may : goal.returns-in-Ok-clause-may
 returns-in-Ok-clause-may g c =
     program_may c.args.options (map g.W.Watch.told c.args.watch.now.items) (map g.W.Watch.told c.sums_answer.new.watch.items) (tree_of c.in-Ok.program) c.in-Ok.ensures.program c.sums_answer.result c.sums_answer.ensures.may
+
+pub returns-in-Ok-clause-told : goal.returns-in-Ok-clause-told
+returns-in-Ok-clause-told g c =
+    example_tells c.args.options (map g.W.Watch.told c.args.watch.now.items) (map g.W.Watch.told c.sums_answer.new.watch.items) (tree_of c.in-Ok.program)
+    c.in-Ok.ensures.program c.sums_answer.result c.sums_answer.ensures.told
 
 -- there is no program, and nobody was told anything
 pub returns-in-Err-clause-may : goal.returns-in-Err-clause-may

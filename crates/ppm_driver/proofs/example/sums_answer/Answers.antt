@@ -13,4 +13,4 @@ returns-in-Ok-clause-told g c =
 
 -- memory was wanting
 pub returns-in-Err-clause-told : goal.returns-in-Err-clause-told
-returns-in-Err-clause-told g c = (c.in-Err.ensures.kept, c.in-Err.ensures.others)
+returns-in-Err-clause-told g c = (c.in-Err.ensures.kept, c.in-Err.ensures.others, c.in-Err.ensures.wants)

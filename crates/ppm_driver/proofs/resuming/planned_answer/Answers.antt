@@ -14,11 +14,11 @@ returns-in-Ok-clause-told g c =
 
 -- the saved finish word stands for nothing
 pub returns-then-is_none-clause-told : goal.returns-then-is_none-clause-told
-returns-then-is_none-clause-told g c = (tt, others_still c.args.saved.shape.processors _)
+returns-then-is_none-clause-told g c = (tt, others_still c.args.saved.shape.processors _, tt)
 
 pub returns-then-is_none-clause-kept : goal.returns-then-is_none-clause-kept
 returns-then-is_none-clause-kept g c = fronts_stay _
 
 -- memory was wanting
 pub returns-in-Err-clause-told : goal.returns-in-Err-clause-told
-returns-in-Err-clause-told g c = (c.in-Err.ensures.kept, c.in-Err.ensures.others)
+returns-in-Err-clause-told g c = (c.in-Err.ensures.kept, c.in-Err.ensures.others, c.in-Err.ensures.wants)
