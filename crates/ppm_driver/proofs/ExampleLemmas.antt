@@ -62,14 +62,14 @@ module _ (o : SelfOptions) (before now : ToldLists) (t : ProgramTree) where
   sums_may a h = h
 
   -- watchers were told what its causes say
-  pub sums_tell : {T : Type 0} → (a : Answer) → ProgramSums o before now t a → OthersKeep o.processors before now → RunTold o.processors T a before now
-  sums_tell (answers.Summed sums) h others = (tt, others, tt)
-  sums_tell (answers.Trapped trap line) h others = (tt, others, tt)
-  sums_tell (answers.OutOfTurns processor) h others = (tt, others, tt)
-  sums_tell (answers.OutOfRoom place) h others = (tt, others, tt)
-  sums_tell (answers.Broken place) h others = (tt, others, tt)
-  sums_tell (answers.Ended arrays) h others = absurd h
-  sums_tell a h others = absurd (kind a h)
+  pub sums_tell : (T : Type 0) (a : Answer) → ProgramSums o before now t a → OthersKeep o.processors before now → RunTold o.processors T a before now
+  sums_tell T (answers.Summed sums) h others = (tt, others, tt)
+  sums_tell T (answers.Trapped trap line) h others = (tt, others, tt)
+  sums_tell T (answers.OutOfTurns processor) h others = (tt, others, tt)
+  sums_tell T (answers.OutOfRoom place) h others = (tt, others, tt)
+  sums_tell T (answers.Broken place) h others = (tt, others, tt)
+  sums_tell T (answers.Ended arrays) h others = absurd h
+  sums_tell T a h others = absurd (kind a h)
 
   -- of a run by a plan that is the example's
   pub wants_by_plan : (items : List PlanItem) → items ≡ items_of o → runs.ProgramWants (run_options_of o) o.processors before now items t
@@ -85,7 +85,7 @@ module _ (o : SelfOptions) (before now : ToldLists) (t : ProgramTree) where
       lifted : ProgramWants o before now t → ExampleWants o before now
       lifted w =
           map_want (λ (r : ProgramRefused (run_options_of o) before now (items_of o) t). (t, has, r))
-          (λ (r : (a : Answer) × HasRun o before now t a). (r.0, t, has, r.1)) w
+          (λ (r : (a : Answer) × HasRun o before now t a). (r.0, (t, has, r.1))) w
 
   -- an answer of the program is one of the example
   pub program_may : HasProgram (text_of o) t → (a : Answer) → ProgramMay (ProgramSums o before now t) a → ExampleMay o before now a
@@ -103,9 +103,9 @@ none_may o before now a h = absurd h.2
 pub wants : (o : SelfOptions) (before now : ToldLists) (a : Answer) → ExampleMay o before now a → ExampleTells o a before now → ExampleWants o before now
 wants o before now answers.NoMemory h told = told.2
 wants o before now (answers.SourceRefused r) h told = ToldNothing told.0
-wants o before now (answers.Summed sums) h told = ToldWhole (answers.Ended h.2.arrays, h.0, h.1, h.2.has)
+wants o before now (answers.Summed sums) h told = ToldWhole (answers.Ended h.2.arrays, (h.0, h.1, h.2.has))
 wants o before now (answers.Ended arrays) h told = absurd h.2
-wants o before now a h told = ToldWhole (a, h.0, h.1, h.2)
+wants o before now a h told = ToldWhole (a, (h.0, h.1, h.2))
 
 -- the code is tidy, and the forks that are counted are its
 module _ (t : ProgramTree) (code : CodeParts) (is : code ≡ code_of t) where

@@ -16,16 +16,16 @@ use Rattle.ppm_answers.proofs.WholeText.{whole_read}
 use Rattle.ppm_cli.specs.declared.run.RunOptions.{RunOptions}
 use Rattle.ppm_loading.specs.Programs.{ReadsProgram}
 use Rattle.ppm_driver.specs.Runs.{ProgramHas, ProgramRefused, ProgramWants, OfSource, RunMade, RunMay, RunTold, RunTells, RunWants}
-use Rattle.ppm_driver.specs.Watchers.{ToldInWant, ToldNothing, ToldWhole}
+use Rattle.ppm_driver.specs.Watchers.{ToldAtWant, ToldNothing, ToldWhole}
 use Rattle.ppm_driver.proofs.WantLemmas.{map_want, map_wanting}
 
 -- a text with a program is short, so it is all that the source has
-whole_text : (source : Port) (text : List ℕ) → Reads text_limit source text → (t : ProgramTree) → HasProgram text t
+pub whole_text : (source : Port) (text : List ℕ) → Reads text_limit source text → (t : ProgramTree) → HasProgram text t
     → (all : List ℕ) → source.before ≡ Some all → text ≡ all
 whole_text source text read t has all e =
     sym (whole_read text_limit all source.now text (subst (λ l. ReadsTo text_limit l source.now text) e read.whole) has.admitted.tree.lexed.short)
 
-pub of_source : (options : RunOptions) (plan : List ℕ) (source : Port) (Run : List PlanItem → ProgramTree → Type 0)
+abbrev pub of_source : (options : RunOptions) (plan : List ℕ) (source : Port) (Run : List PlanItem → ProgramTree → Type 0)
     → (text : List ℕ) → Reads text_limit source text → (t : ProgramTree) → HasProgram text t
     → (items : List PlanItem) → IsAccepted plan_form plan options.processors items → Run items t → OfSource options plan source Run
 of_source options plan source Run text read t has items accepted ran = record {
@@ -51,9 +51,9 @@ source_tells options watching before now items t source r plan accepted a told =
         map_want
         (λ (x : ProgramRefused options before now items t). of_source options plan source (ProgramRefused options before now) r.0 r.1 t r.2 items accepted x)
         (λ (x : (a : Answer) × ProgramHas options watching before now items t a). (
-      x.0,
-      of_source options plan source (λ items t. ProgramHas options watching before now items t x.0) r.0 r.1 t r.2 items accepted x.1,
-    )) w
+          x.0,
+          of_source options plan source (λ items t. ProgramHas options watching before now items t x.0) r.0 r.1 t r.2 items accepted x.1,
+        )) w
 
 module _ (options : RunOptions) (watching : ℕ) (plan : List ℕ) (before now : ToldLists) (source : Port) where
   abbrev May : Answer → Type 0

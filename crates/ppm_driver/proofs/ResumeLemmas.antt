@@ -58,7 +58,7 @@ use Rattle.ppm_table.specs.declared.view.Opening.{Opening}
 use Rattle.ppm_threads.specs.Driven.{Driven, OthersStay, WasRefused}
 use Rattle.ppm_driver.specs.RunOf.{words_behind, finish_behind, RefusedRun}
 use Rattle.ppm_driver.specs.Runs.{IsSaid, RunTold}
-use Rattle.ppm_driver.specs.Watchers.{AreTold, OthersKeep, ToldNothing, ToldWhole}
+use Rattle.ppm_driver.specs.Watchers.{AreTold, OthersKeep, ToldNothing, ToldRefused, ToldWhole}
 use Rattle.ppm_driver.specs.Resumes.{SavedState, saved_finish, IsTextOf, named, limits_of, plan_of, ResumedHas, ResumedRefused, IsBrokenBefore, OfState, ByItems, ItemsHave, ItemsWant, StateHas, StateWants, TextHas, TextWants, TextTells, ResumeMay, ResumeWants, ResumeTells, FrontsDecideResumed, refusal_of, state_of}
 use Rattle.ppm_driver.proofs.RunLemmas.{not_spent, room_finish, proposed_of, spent_ending, spent_answer}
 use Rattle.ppm_driver.proofs.WatchLemmas.{are_told, if_wanting, told_none}
@@ -318,14 +318,14 @@ module _ (options : ResumeOptions) (before now : ToldLists) (items : List PlanIt
   items_kind a h = has_kind a h
 
 -- what watchers were told belongs to an answer of a run
-pub run_tells : {T : Type 0} → (processors : ℕ) (a : Answer) (before now : ToldLists) → IsOfResumed a → OthersKeep processors before now
+pub run_tells : (processors : ℕ) (T : Type 0) (a : Answer) (before now : ToldLists) → IsOfResumed a → OthersKeep processors before now
     → RunTold processors T a before now
-run_tells processors (answers.Ended arrays) before now h others = (tt, others, tt)
-run_tells processors (answers.Trapped t line) before now h others = (tt, others, tt)
-run_tells processors (answers.OutOfTurns processor) before now h others = (tt, others, tt)
-run_tells processors (answers.OutOfRoom place) before now h others = (tt, others, tt)
-run_tells processors (answers.Broken place) before now h others = (tt, others, tt)
-run_tells processors a before now h others = absurd h
+run_tells processors T (answers.Ended arrays) before now h others = (tt, others, tt)
+run_tells processors T (answers.Trapped t line) before now h others = (tt, others, tt)
+run_tells processors T (answers.OutOfTurns processor) before now h others = (tt, others, tt)
+run_tells processors T (answers.OutOfRoom place) before now h others = (tt, others, tt)
+run_tells processors T (answers.Broken place) before now h others = (tt, others, tt)
+run_tells processors T a before now h others = absurd h
 
 module _ (options : ResumeOptions) (before now : ToldLists) where
   -- what was told of a run by items was told of one by the plan
@@ -356,16 +356,16 @@ module _ (options : ResumeOptions) (before now : ToldLists) where
 
   pub source_tells : (plan : List ℕ) (source : Port) (text : List ℕ) → Reads saved_limit source text → (a : Answer)
       → TextTells options plan text a before now → ResumeTells options plan source a before now
-  source_tells plan source text read a told = (
+  source_tells plan source text reads a told = (
     told.0,
-    elim told.1 [ inl still ↦ inl still | inr of ↦ inr (text, read, of) ],
+    elim told.1 [ inl still ↦ inl still | inr of ↦ inr (text, reads, of) ],
     map_wanting {T = TextWants options plan before now text} {S = ResumeWants options plan before now source} lifted a told.2,
   )
     where
       lifted : TextWants options plan before now text → ResumeWants options plan before now source
       lifted w =
-          map_want (λ (r : OfState (ByItems plan (ResumedRefused options before now)) text). (text, read, r))
-          (λ (r : (a : Answer) × OfState (ByItems plan (λ items z. ResumedHas options before now items z a)) text). (r.0, text, read, r.1)) w
+          map_want (λ (r : OfState (ByItems plan (ResumedRefused options before now)) text). (text, reads, r))
+          (λ (r : (a : Answer) × OfState (ByItems plan (λ items z. ResumedHas options before now items z a)) text). (r.0, (text, reads, r.1))) w
 
   -- where an answer may come, want of memory may, with what was told of it
   pub wants : (plan : List ℕ) (source : Port) (a : Answer) → ResumeMay options plan before now source a
@@ -383,16 +383,14 @@ module _ (options : ResumeOptions) (before now : ToldLists) where
       broken : (IsBrokenBefore before now h.2.state × (place ≡ unknown_place)) ⊎ ResumedHas options before now h.2.has.items h.2.state (answers.Broken place)
           → ResumeWants options plan before now source
       broken (inl k) = ToldNothing k.0.still
-      broken (inr r) = ToldWhole (answers.Broken place, h.0, h.1, record {
-        state = h.2.state;
-        is = h.2.is;
-        has = record { items = h.2.has.items; accepted = h.2.has.accepted; has = r };
-      })
-  wants plan source a h told = ToldWhole (a, h.0, h.1, record {
-    state = h.2.state;
-    is = h.2.is;
-    has = record { items = h.2.has.items; accepted = h.2.has.accepted; has = h.2.has.has };
-  })
+      broken (inr r) = ToldWhole (
+        answers.Broken place,
+        (h.0, h.1, record { state = h.2.state; is = h.2.is; has = record { items = h.2.has.items; accepted = h.2.has.accepted; has = r } }),
+      )
+  wants plan source a h told = ToldWhole (
+    a,
+    (h.0, h.1, record { state = h.2.state; is = h.2.is; has = record { items = h.2.has.items; accepted = h.2.has.accepted; has = h.2.has.has } }),
+  )
 
 -- and so it is where nobody was told anything
 pub untold_text : (options : ResumeOptions) (plan text : List ℕ) (a : Answer) (lists : ToldLists) → TextTells options plan text a lists lists
@@ -574,19 +572,24 @@ module _ {W : Type 0} (told : W → Option (List Event)) (options : ResumeOption
         subst (λ (o : Opening). Driven told plan (limits_of options) o behind old new) opening_is
         (subst (λ (l : Limits). Driven told plan l (opening_of shared) behind old new) limits_are d)
 
-    pub renewed_refused : WasRefused told plan limits (opening_of shared) old new → ResumedRefused options (map told old) (map told new) plan.items z
-    renewed_refused refused =
-        state_refused stands keeper r.image.words old new w words_renewed code_there same spared below many enough
+    -- where a drive met want of memory
+    pub renewed_wanting : (new ≡ old) ⊎ WasRefused told plan limits (opening_of shared) old new
+        → ItemsWant options (map told old) (map told new) plan.items z
+    renewed_wanting (inl still) = ToldNothing (ap (λ (ws : List W). map told ws) still)
+    renewed_wanting (inr refused) = ToldRefused
+        (state_refused stands keeper r.image.words old new w words_renewed code_there same spared below many enough
         (subst (λ (o : Opening). WasRefused told plan (limits_of options) o old new) opening_is
-        (subst (λ (l : Limits). WasRefused told plan l (opening_of shared) old new) limits_are refused))
+        (subst (λ (l : Limits). WasRefused told plan l (opening_of shared) old new) limits_are refused)))
 
+    -- where there was no memory for the answer of a whole run
     pub renewed_whole : (behind : List ℕ) → OthersStay (opening_of shared).shape.processors old new
-        → Driven told plan limits (opening_of shared) behind old new → (a : Answer) × ResumedHas options (map told old) (map told new) plan.items z a
+        → Driven told plan limits (opening_of shared) behind old new → ItemsWant options (map told old) (map told new) plan.items z
     renewed_whole behind others d =
         let some = state_some stands keeper r.image.words old new w words_renewed code_there same spared below many enough behind
         (others_there others) (driven_there behind d) in
-        (some.0, some.2)
+        ToldWhole (some.0, some.2)
 
+    -- its answer
     pub renewed_has : (closed : Closing) (names : List NamedLength) (a : Answer) → shared.lengths ≡ r.image.lengths
         → closed.shape ≡ (opening_of shared).shape → closed.array_lengths ≡ shared.lengths
         → OthersStay (opening_of shared).shape.processors old new → Driven told plan limits (opening_of shared) closed.words old new → names ≡ r.names

@@ -40,9 +40,9 @@ use Rattle.ppm_table.specs.Closed.{Closing}
 use Rattle.ppm_table.specs.Shown.{opening_of}
 use Rattle.ppm_table.specs.declared.processor.Shared.{Shared}
 use Rattle.ppm_threads.specs.Driven.{Driven, OthersStay, WasRefused}
-use Rattle.ppm_driver.specs.Runs.{plan_of, limits_of, sizes_of, IsSaid, ProgramHas, ProgramRefused, RunTold, TextHas, RunHas}
+use Rattle.ppm_driver.specs.Runs.{plan_of, limits_of, sizes_of, IsSaid, ProgramHas, ProgramRefused, ProgramWants, RunTold, TextHas, RunHas}
 use Rattle.ppm_loading.specs.Planned.{PlannedHas, HasByItems}
-use Rattle.ppm_driver.specs.Watchers.{AreTold, OthersKeep}
+use Rattle.ppm_driver.specs.Watchers.{AreTold, OthersKeep, ToldNothing, ToldRefused, ToldWhole}
 use Rattle.ppm_driver.proofs.EndLemmas.{unset_opened, has_finished}
 use Rattle.ppm_loading.proofs.LoadingLemmas.{opens_processors}
 use Rattle.ppm_loading.proofs.ProgramLemmas.{AreKinds}
@@ -315,7 +315,7 @@ module _ {W : Type 0} (told : W → Option (List Event)) (options : RunOptions) 
     count = opens_processors (sizes_of options) (code_of t) (initial_arrays t) keeper (opened_by shared) begins
 
     -- of a run in which a watcher refused
-    pub program_refused : WasRefused told plan limits (opening_of shared) old new → ProgramRefused options (map told old) (map told new) plan.items t
+    program_refused : WasRefused told plan limits (opening_of shared) old new → ProgramRefused options (map told old) (map told new) plan.items t
     program_refused r =
         let lists = lists_refused told plan limits (opening_of shared) old new w many (omega (arith, enough, count)) r in
         record {
@@ -327,9 +327,15 @@ module _ {W : Type 0} (told : W → Option (List Event)) (options : RunOptions) 
               (subst (λ (l : Limits). RefusedRun plan l (opened_by shared) (map told old) (map told new)) limits_are lists);
         }
 
+    -- where a drive met want of memory
+    pub program_wanting : (new ≡ old) ⊎ WasRefused told plan limits (opening_of shared) old new
+        → ProgramWants options options.processors (map told old) (map told new) plan.items t
+    program_wanting (inl still) = ToldNothing (ap (λ (ws : List W). map told ws) still)
+    program_wanting (inr r) = ToldRefused (program_refused r)
+
     -- of a whole run
     module _ (words : List ℕ) (others : OthersStay (opening_of shared).shape.processors old new) (d : Driven told plan limits (opening_of shared) words old new) where
-      pub program_some : (a : Answer)
+      program_some : (a : Answer)
           × IsSaid (opened_by shared).shape (opened_by shared).array_lengths (initial_arrays t) (words_behind (opened_by shared) d.turns) a
           × ProgramHas options options.processors (map told old) (map told new) plan.items t a
       program_some =
@@ -343,8 +349,9 @@ module _ {W : Type 0} (told : W → Option (List Event)) (options : RunOptions) 
           (subst (λ (l : Limits). ListsTold plan l m d.turns old new) limits_are are) in
           some_run options plan.items t (map told old) (map told new) keeper m d.turns spared begins is obey lists
 
-      pub program_whole : (a : Answer) × ProgramHas options options.processors (map told old) (map told new) plan.items t a
-      program_whole = (program_some.0, program_some.2)
+      -- where there was no memory for its answer
+      pub program_whole : ProgramWants options options.processors (map told old) (map told new) plan.items t
+      program_whole = ToldWhole (program_some.0, program_some.2)
 
       -- its answer is the one that is said of the words
       pub program_has : (closed : Closing) (arrays : List NamedArray) (a : Answer) → closed.words ≡ words
@@ -360,11 +367,11 @@ module _ {W : Type 0} (told : W → Option (List Event)) (options : RunOptions) 
           subst (ProgramHas options options.processors (map told old) (map told new) plan.items t) (sym (said program_some.0 program_some.1)) program_some.2
 
 -- an answer of a run is one of which watchers were told what its causes say
-pub run_tells : {T : Type 0} → (processors : ℕ) (a : Answer) (before now : ToldLists) → IsOfProgram processors a → OthersKeep processors before now
+pub run_tells : (processors : ℕ) (T : Type 0) (a : Answer) (before now : ToldLists) → IsOfProgram processors a → OthersKeep processors before now
     → RunTold processors T a before now
-run_tells processors (answers.Ended arrays) before now h others = (tt, others, tt)
-run_tells processors (answers.Trapped t line) before now h others = (tt, others, tt)
-run_tells processors (answers.OutOfTurns processor) before now h others = (tt, others, tt)
-run_tells processors (answers.OutOfRoom place) before now h others = (tt, others, tt)
-run_tells processors (answers.Broken place) before now h others = (tt, others, tt)
-run_tells processors a before now h others = absurd h
+run_tells processors T (answers.Ended arrays) before now h others = (tt, others, tt)
+run_tells processors T (answers.Trapped t line) before now h others = (tt, others, tt)
+run_tells processors T (answers.OutOfTurns processor) before now h others = (tt, others, tt)
+run_tells processors T (answers.OutOfRoom place) before now h others = (tt, others, tt)
+run_tells processors T (answers.Broken place) before now h others = (tt, others, tt)
+run_tells processors T a before now h others = absurd h

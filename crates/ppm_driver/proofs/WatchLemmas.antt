@@ -16,7 +16,7 @@ use Rattle.ppm_answers.specs.declared.answer.Answer.{Answer}
 use Rattle.ppm_answers.specs.declared.answer.Answer.TheVariants as answers
 use Rattle.ppm_answers.specs.Reading.{TellsOfRun}
 use Rattle.ppm_driver.specs.Runs.{RunTold}
-use Rattle.ppm_driver.specs.Watchers.{AreTold, OthersKeep, ToldInWant, ToldNothing, IfWanting}
+use Rattle.ppm_driver.specs.Watchers.{AreTold, OthersKeep, ToldAtWant, ToldNothing, IfWanting}
 
 -- a list stays as it is
 pub stays : (l : Option (List Event)) → KeepsList l l
@@ -64,8 +64,8 @@ pub if_wanting : {T : Type 0} → T → (a : Answer) → IfWanting T a
 if_wanting t answers.NoMemory = t
 if_wanting t a = tt
 
-pub untold : {R V : Type 0} → (watching : ℕ) (a : Answer) (lists : ToldLists) → RunTold watching (ToldInWant R V lists lists) a lists lists
-untold {R = R} {V = V} watching a lists = (told_none a lists, others_still watching lists, if_wanting {T = ToldInWant R V lists lists} (ToldNothing refl) a)
+pub untold : (watching : ℕ) (R V : Type 0) (a : Answer) (lists : ToldLists) → RunTold watching (ToldAtWant R V lists lists) a lists lists
+untold watching R V a lists = (told_none a lists, others_still watching lists, if_wanting {T = ToldAtWant R V lists lists} (ToldNothing refl) a)
 
 -- the first watcher of some
 pub first_of : {W : Type 0} (ws : List W) → 0 < length ws → W

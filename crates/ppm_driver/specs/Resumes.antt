@@ -52,7 +52,7 @@ use Rattle.ppm_driver.specs.Legs.{words_at_last, worked_in_all, struck_in_all}
 use Rattle.ppm_driver.specs.RunOf.{RunOf, RefusedRun, words_behind}
 use Rattle.ppm_driver.specs.Runs.{IsSaid, TellsOfTurns}
 use Rattle.ppm_driver.specs.Strikes.{scheduled_faults}
-use Rattle.ppm_driver.specs.Watchers.{AreTold, OthersKeep, ToldInWant, IfWanting}
+use Rattle.ppm_driver.specs.Watchers.{AreTold, OthersKeep, ToldAtWant, IfWanting}
 
 -- what a saved text tells: sizes, arrays without their values, code and words
 pub record SavedState : Type 0 where
@@ -179,7 +179,7 @@ OthersOfSourceKeep before now source =
 
 -- what watchers were told where memory is wanting, where this says of which runs from a state
 abbrev pub WantsOf : ResumeOptions → (before now : ToldLists) → ((List PlanItem → SavedState → Type 0) → Type 0) → Type 0
-WantsOf options before now Of = ToldInWant (Of (ResumedRefused options before now)) ((a : Answer) × Of (λ items z. ResumedHas options before now items z a))
+WantsOf options before now Of = ToldAtWant (Of (ResumedRefused options before now)) ((a : Answer) × Of (λ items z. ResumedHas options before now items z a))
     before now
 
 -- of one by these items, of one by a plan, of one of the state of a text, and of one of the text that was read

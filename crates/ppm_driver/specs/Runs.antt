@@ -30,7 +30,7 @@ use Rattle.ppm_loading.specs.Planned.{PlannedHas, PlannedMay}
 use Rattle.ppm_loading.specs.Programs as programs
 use Rattle.ppm_driver.specs.RunOf.{RunOf, RefusedRun}
 use Rattle.ppm_loading.specs.Says.{IsOfWords, IsTheOne}
-use Rattle.ppm_driver.specs.Watchers.{AreTold, OthersKeep, ToldInWant, IfWanting}
+use Rattle.ppm_driver.specs.Watchers.{AreTold, OthersKeep, ToldAtWant, IfWanting}
 
 -- the machine's sizes and the limits, as the options say them
 abbrev pub sizes_of : RunOptions → Sizes
@@ -106,7 +106,7 @@ RunMade options watching plan before now source answer =
 
 -- what watchers were told where memory is wanting, where this says of which runs of a program
 abbrev pub WantsOf : RunOptions → (watching : ℕ) → (before now : ToldLists) → ((List PlanItem → ProgramTree → Type 0) → Type 0) → Type 0
-WantsOf options watching before now Of = ToldInWant (Of (ProgramRefused options before now))
+WantsOf options watching before now Of = ToldAtWant (Of (ProgramRefused options before now))
     ((a : Answer) × Of (λ items t. ProgramHas options watching before now items t a)) before now
 
 -- of one by these items, and of one of the program of the text that was read
@@ -121,10 +121,11 @@ RunWants options watching plan before now source = WantsOf options watching befo
 abbrev pub TellsOfTurns : Answer → ToldLists → ToldLists → Type 0
 TellsOfTurns answer before now = TellsOfRun (λ answer before now. ⊤) answer before now
 
--- so it is, where this was told in want of memory; and those from the first so many on were told nothing
+-- and where memory is wanting this; those behind the first so many were told nothing
 abbrev pub RunTold : (watching : ℕ) → (Wanting : Type 0) → Answer → ToldLists → ToldLists → Type 0
 RunTold watching Wanting answer before now = TellsOfTurns answer before now × OthersKeep watching before now × IfWanting Wanting answer
 
+-- that of a run of the text that was read
 abbrev pub RunTells : RunOptions → (watching : ℕ) → (plan : List ℕ) → Port → Answer → ToldLists → ToldLists → Type 0
 RunTells options watching plan source answer before now =
     RunTold watching (RunWants options watching plan before now source) answer before now

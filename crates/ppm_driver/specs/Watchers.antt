@@ -28,10 +28,10 @@ pub record AreTold (watching : ℕ) (plan : Planned) (limits : Limits) (before n
 
 -- What watchers were told where memory is wanting. Nothing; or such a run in which one of them refused; or such a whole run, for whose answer, or
 -- for the texts of it, there was no memory.
-pub data ToldInWant (Refused Whole : Type 0) (before now : ToldLists) : Type 0 where
-  ToldNothing : now ≡ before → ToldInWant Refused Whole before now
-  ToldRefused : Refused → ToldInWant Refused Whole before now
-  ToldWhole : Whole → ToldInWant Refused Whole before now
+pub data ToldAtWant (Refused Whole : Type 0) (before now : ToldLists) : Type 0 where
+  ToldNothing : now ≡ before → ToldAtWant Refused Whole before now
+  ToldRefused : Refused → ToldAtWant Refused Whole before now
+  ToldWhole : Whole → ToldAtWant Refused Whole before now
 
 -- that, where the answer is want of memory
 abbrev pub IfWanting : (Told : Type 0) → Answer → Type 0

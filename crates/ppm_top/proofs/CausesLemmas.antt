@@ -68,11 +68,11 @@ of_example options o status unread a =
 -- where nobody was told anything, that belongs to each answer
 pub told_nothing : (command : Option Command) (o : Outside) (answer : Answer) (lists : ToldLists) → CommandTells command o answer lists lists
 told_nothing None o answer lists = refl
-told_nothing (Some (commands.Run options plan)) o answer lists = untold options.processors answer lists
+told_nothing (Some (commands.Run options plan)) o answer lists = untold options.processors _ _ answer lists
 told_nothing (Some (commands.Serial options)) o answer lists = refl
 told_nothing (Some commands.Code) o answer lists = refl
 told_nothing (Some commands.Check) o answer lists = refl
 told_nothing (Some (commands.Replay options schedule)) o answer lists = refl
 told_nothing (Some (commands.Resume options plan)) o answer lists = untold_source options plan o.source answer lists
 told_nothing (Some (commands.Stop options schedule)) o answer lists = refl
-told_nothing (Some (commands.Example options)) o answer lists = untold options.processors answer lists
+told_nothing (Some (commands.Example options)) o answer lists = untold options.processors _ _ answer lists

@@ -19,7 +19,7 @@ pub returns-in-Err-clause-may : goal.returns-in-Err-clause-may
 returns-in-Err-clause-may g c = none_may c.args.options (map g.W.Watch.told c.args.watch.now.items) (map g.W.Watch.told c.args.watch.now.items) c.in-Err.answer c.in-Err.ensures.none
 
 pub returns-in-Err-clause-told : goal.returns-in-Err-clause-told
-returns-in-Err-clause-told g c = untold c.args.options.processors c.in-Err.answer _
+returns-in-Err-clause-told g c = untold c.args.options.processors _ _ c.in-Err.answer _
 
 pub returns-in-Err-clause-kept : goal.returns-in-Err-clause-kept
 returns-in-Err-clause-kept g c = fronts_stay _

@@ -34,9 +34,9 @@ pub returns-in_err-answer-clause-wants : goal.returns-in_err-answer-clause-wants
 returns-in_err-answer-clause-wants g c =
     let before = map g.W.Watch.told c.args.watch.now.items in
     let now = map g.W.Watch.told c.ran.new.watch.items in
-    wants_by_plan c.args.options before now (tree_of c.args.program.now) c.args.plan.now.items c.requires.plan.1
+    at_err (wants_by_plan c.args.options before now (tree_of c.args.program.now) c.args.plan.now.items c.requires.plan.1
     (subst (λ (r : RunOptions). runs.ProgramWants r r.processors before now c.args.plan.now.items (tree_of c.args.program.now))
-    c.run_options.ensures.value c.in_err-answer.ensures.wants)
+    c.run_options.ensures.value c.in_err-answer.ensures.wants)) _
 
 -- the watchers of no processor are told nothing
 pub returns-clause-others : goal.returns-clause-others

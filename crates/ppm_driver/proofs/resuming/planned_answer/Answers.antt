@@ -9,7 +9,7 @@ returns-in-Ok-clause-may g c = items_may c.args.options _ _ c.args.plan.now.item
 
 pub returns-in-Ok-clause-told : goal.returns-in-Ok-clause-told
 returns-in-Ok-clause-told g c =
-    run_tells c.args.saved.shape.processors c.in-Ok.answer _ _
+    run_tells c.args.saved.shape.processors _ c.in-Ok.answer _ _
     (has_kind c.args.options _ _ c.args.plan.now.items (state_of c.args.saved) c.in-Ok.answer c.in-Ok.ensures.has) c.in-Ok.ensures.others
 
 -- the saved finish word stands for nothing

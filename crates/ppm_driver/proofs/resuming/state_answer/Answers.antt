@@ -23,7 +23,7 @@ returns-in-Err-clause-may g c =
     (refused_plan c.args.options c.args.faults.now _ _ (state_of c.args.saved) c.in-Err.error c.in-Err.ensures.refused)
 
 pub returns-in-Err-clause-told : goal.returns-in-Err-clause-told
-returns-in-Err-clause-told g c = untold c.args.saved.shape.processors c.refusal_answer.result _
+returns-in-Err-clause-told g c = untold c.args.saved.shape.processors _ _ c.refusal_answer.result _
 
 pub returns-in-Err-clause-kept : goal.returns-in-Err-clause-kept
 returns-in-Err-clause-kept g c = fronts_stay _

@@ -23,7 +23,7 @@ returns-in-Err-clause-may g c =
     none_may (ProgramHas c.args.options c.args.options.processors _ _ c.args.plan.now.items) _ c.in-Err.answer c.in-Err.ensures.none
 
 pub returns-in-Err-clause-told : goal.returns-in-Err-clause-told
-returns-in-Err-clause-told g c = λ text accepted. untold c.args.options.processors c.in-Err.answer _
+returns-in-Err-clause-told g c = λ text accepted. untold c.args.options.processors _ _ c.in-Err.answer _
 
 pub returns-in-Err-clause-kept : goal.returns-in-Err-clause-kept
 returns-in-Err-clause-kept g c = fronts_stay _

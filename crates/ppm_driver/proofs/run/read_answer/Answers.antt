@@ -32,7 +32,7 @@ returns-in-Err-clause-may g c =
     c.in-Err.ensures.refused _ (left_alone g.S.Source.left g.S.Source.fault_count c.args.source.now))
 
 pub returns-in-Err-clause-told : goal.returns-in-Err-clause-told
-returns-in-Err-clause-told g c = untold c.args.options.processors c.refusal_answer.result _
+returns-in-Err-clause-told g c = untold c.args.options.processors _ _ c.refusal_answer.result _
 
 pub returns-in-Err-clause-kept : goal.returns-in-Err-clause-kept
 returns-in-Err-clause-kept g c = fronts_stay _
