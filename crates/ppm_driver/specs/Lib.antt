@@ -8,6 +8,8 @@ pub mod Headline
 pub mod RunRows
 pub mod Replays
 pub mod ReplayRows
+pub mod Stops
+pub mod StopRows
 pub mod Legs
 pub mod Resumes
 pub mod ResumeCompleteness

@@ -12,7 +12,7 @@ ghost use Rattle.ppm_driver.specs.Replays.{ProgramHas, ReplayMay, TextHas, sizes
 ghost use Rattle.ppm_driver.specs.ReplayRows.{IsReplayed};
 
 use crate::meant::runs_are_as_programs;
-use crate::one_replay::have_one_answer;
+use crate::one_replay::replays_have_one_answer;
 use crate::saying::replay_answer;
 use ppm_answers::{Answer, Status, deliver};
 use ppm_cli::ReplayOptions;
@@ -42,7 +42,7 @@ pub fn replay_command<S: Source, K: Sink, E: Sink>(
         (port K.written K.fault_count out.old out.new) (port E.written E.fault_count err.old err.new)) result }
 {
     // The rows rest on these laws; the calls do nothing.
-    have_one_answer();
+    replays_have_one_answer();
     schedules_have_one_answer();
     runs_are_as_programs();
     let answer = read_answer(alloc, options, schedule, source);

@@ -39,8 +39,8 @@ use Rattle.ppm_driver.specs.Resumes.{TextHas as ResumeTextHas, LeftWordsComeBack
 use Rattle.ppm_driver.specs.ResumeCompleteness.{ResumesComplete}
 use Rattle.ppm_driver.specs.ResumeRows.{RefusesPlan as RefusesResumed}
 use Rattle.ppm_driver.specs.Runs.{TextHas as RunTextHas, AnswersAreOne, FrontsDecideAnswers}
-use Rattle.ppm_stop.specs.Stops.{TextReads as StopTextReads, HaveOneAnswer as StopsHaveOneAnswer}
-use Rattle.ppm_stop.proofs.OfStop as of_stop
+use Rattle.ppm_driver.specs.Stops.{TextReads as StopTextReads, HaveOneAnswer as StopsHaveOneAnswer}
+use Rattle.ppm_driver.proofs.OfStop as of_stop
 use Rattle.ppm_driver.proofs.OfExample as of_example
 use Rattle.ppm_driver.proofs.OfReplay as of_replay
 use Rattle.ppm_driver.proofs.OfResume as of_resume

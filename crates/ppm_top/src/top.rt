@@ -14,14 +14,13 @@ use ppm_commands::{
     listings_have_one_answer, outcomes_have_one_answer, serial_command,
 };
 use ppm_driver::{
-    answers_are_one as runs_have_one_answer, examples_sum_up,
-    have_one_answer as replays_have_one_answer, left_words_come_back, replay_command,
-    resume_command, resumes_complete, run_command, runs_are_as_programs, runs_complete,
-    runs_in_legs_are_as_programs, self_command, stops_leave_states,
+    answers_are_one as runs_have_one_answer, examples_sum_up, left_words_come_back, replay_command,
+    replays_have_one_answer, resume_command, resumes_complete, run_command, runs_are_as_programs,
+    runs_complete, runs_in_legs_are_as_programs, self_command, stop_command, stops_have_one_answer,
+    stops_leave_states,
 };
 use ppm_plan::have_one_answer as plans_have_one_answer;
 use ppm_ports::{Sink, Source, Watch};
-use ppm_stop::{have_one_answer as stops_have_one_answer, stop_command};
 use ppm_words::NoMemory;
 use std::alloc::Global;
 use std::sync::Wait;

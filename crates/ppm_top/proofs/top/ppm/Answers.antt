@@ -18,6 +18,6 @@ returns-clause-rows g c = program_rows (record {
   faithful = c.codes_are_faithful.ensures.law;
   listings = c.listings_have_one_answer.ensures.law;
   plans = c.have_one_answer.ensures.law;
-  replays = c.have_one_answer-2.ensures.law;
-  stops = c.have_one_answer-3.ensures.law;
+  replays = c.replays_have_one_answer.ensures.law;
+  stops = c.stops_have_one_answer.ensures.law;
 }) _ _ _ c.answer_words.ensures.answers

@@ -1,8 +1,8 @@
 use Rattle.std.proofs.Common.{◌≡◌, ◌++◌, ◌≤◌, length}
 use Rattle.ppm_words.specs.Inputs.{value_count}
 use Rattle.ppm_words.specs.Limits.{word_limit}
-use Rattle.ppm_stop.specs.Stops.{names_of}
-use Rattle.ppm_stop.proofs.names.names_of.Given as goal
+use Rattle.ppm_driver.specs.Stops.{names_of}
+use Rattle.ppm_driver.proofs.names.names_of.Given as goal
 
 -- the arrays so far, and those that are left
 abbrev pub invariant-loop-left : goal.invariant-loop-left

@@ -24,7 +24,7 @@ use Rattle.ppm_regions.proofs.Faultless.{IsFaultless, faultless_left, declares_n
 use Rattle.ppm_regions.proofs.Inputs.{input_fits}
 use Rattle.ppm_saved.specs.Names.{AreNames, IsArrayName, lengths_of}
 use Rattle.ppm_saved.specs.declared.names.NamedLength.{NamedLength}
-use Rattle.ppm_stop.specs.Stops.{names_of}
+use Rattle.ppm_driver.specs.Stops.{names_of}
 
 -- bytes that are none of the spellings of rows are spelled by none
 not_spelled : {K : Type 0} (bytes : List ℕ) (rows : List (List ℕ × K)) → AllByRecursion (λ w. w ≢ bytes) (map (λ r. r.0) rows) → spelled rows bytes ≡ None

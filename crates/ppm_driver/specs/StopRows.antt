@@ -15,7 +15,7 @@ use Rattle.ppm_cli.specs.declared.stop.StopOptions.{StopOptions}
 use Rattle.ppm_following.specs.Followed.{followed}
 use Rattle.ppm_loading.specs.MachineRows as machine
 use Rattle.ppm_loading.specs.Planned.{IsRefusedBy, HasByItems}
-use Rattle.ppm_stop.specs.Stops.{StopHas, StopMay, TextReads, IsReadBack, text_of}
+use Rattle.ppm_driver.specs.Stops.{StopHas, StopMay, TextReads, IsReadBack, text_of}
 
 module _ (options : StopOptions) (schedule : List ℕ) (o : Ports) where
   -- the text that was read has this answer, with these options and this schedule

@@ -3,11 +3,11 @@ use Rattle.ppm_tree.specs.Tree.{tree_of}
 use Rattle.ppm_tree.specs.Limits.{IsWithin}
 use Rattle.ppm_saved.specs.Names.{AreNames}
 use Rattle.ppm_loading.specs.Loading.{AreSizes}
-use Rattle.ppm_stop.specs.Stops.{names_of}
-use Rattle.ppm_stop.proofs.NamesLemmas.{names_are}
-use Rattle.ppm_stop.proofs.ReadBackLemmas.{CodeLaws, read_back}
-use Rattle.ppm_stop.proofs.StopLemmas.{program_reads, stopped_sizes, takes_over_by_places}
-use Rattle.ppm_stop.proofs.stop.stopped.Goals as goal
+use Rattle.ppm_driver.specs.Stops.{names_of}
+use Rattle.ppm_driver.proofs.NamesLemmas.{names_are}
+use Rattle.ppm_driver.proofs.ReadBackLemmas.{CodeLaws, read_back}
+use Rattle.ppm_driver.proofs.StopLemmas.{program_reads, stopped_sizes, takes_over_by_places}
+use Rattle.ppm_driver.proofs.stop.stopped.Goals as goal
 
 -- an admitted program within the limits names its arrays so
 pub names_of-requires-clause-names : goal.names_of-requires-clause-names

@@ -21,9 +21,9 @@ use Rattle.ppm_following.specs.Followed.{followed}
 use Rattle.ppm_loading.specs.MachineRows.{RefusesPlan}
 use Rattle.ppm_loading.specs.Planned.{IsRefusedBy, HasByItems}
 use Rattle.ppm_loading.proofs.PlannedLemmas as planned
-use Rattle.ppm_stop.specs.Stops.{TextHas, TextReads, StopReads, StopHas, StopMay, HaveOneAnswer, text_of}
-use Rattle.ppm_stop.specs.StopRows.{StopSays, StopRows}
-use Rattle.ppm_stop.proofs.StopLemmas.{of_reading, same_text}
+use Rattle.ppm_driver.specs.Stops.{TextHas, TextReads, StopReads, StopHas, StopMay, HaveOneAnswer, text_of}
+use Rattle.ppm_driver.specs.StopRows.{StopSays, StopRows}
+use Rattle.ppm_driver.proofs.StopLemmas.{of_reading, same_text}
 
 module _ (options : StopOptions) (schedule : List ℕ) (o : Ports) where
   abbrev Read : Port → Answer → Type 0

@@ -1,7 +1,7 @@
 use Rattle.ppm_loading.proofs.ProgramLemmas.{program_may, none_may}
-use Rattle.ppm_stop.specs.Stops.{ProgramReads}
-use Rattle.ppm_stop.proofs.StopLemmas.{kinds, of_reading}
-use Rattle.ppm_stop.proofs.stop.planned_answer.Goals as goal
+use Rattle.ppm_driver.specs.Stops.{ProgramReads}
+use Rattle.ppm_driver.proofs.StopLemmas.{kinds, of_reading}
+use Rattle.ppm_driver.proofs.stop.planned_answer.Goals as goal
 
 -- the saved text of the program's run
 pub returns-in-Ok : goal.returns-in-Ok

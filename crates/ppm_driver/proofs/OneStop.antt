@@ -28,8 +28,8 @@ use Rattle.ppm_loading.specs.Loading.{OpensRun}
 use Rattle.ppm_loading.proofs.LoadingLemmas.{one_opening, some_opening}
 use Rattle.ppm_loading.proofs.PlannedLemmas.{IsSteady, planned_one, planned_front, some_answer}
 use Rattle.ppm_loading.proofs.ProgramLemmas.{text_one, text_front, of_text, plain}
-use Rattle.ppm_stop.specs.Stops.{sizes_of, text_of, ProgramHas, ProgramReads, TextHas, TextReads, HaveOneAnswer}
-use Rattle.ppm_stop.proofs.StopLemmas.{stopped_sizes, kinds, of_program, of_reading, some_has}
+use Rattle.ppm_driver.specs.Stops.{sizes_of, text_of, ProgramHas, ProgramReads, TextHas, TextReads, HaveOneAnswer}
+use Rattle.ppm_driver.proofs.StopLemmas.{stopped_sizes, kinds, of_program, of_reading, some_has}
 
 -- what the crates below show of every text, every image and every schedule
 pub record Laws : Type 0 where

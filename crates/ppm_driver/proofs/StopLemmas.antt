@@ -23,7 +23,7 @@ use Rattle.ppm_loading.proofs.ProgramLemmas.{AreKinds}
 use Rattle.ppm_saved.specs.Correct.{StateFits}
 use Rattle.ppm_saved.specs.Text.{saved_text}
 use Rattle.ppm_saved.specs.declared.names.NamedLength.{NamedLength}
-use Rattle.ppm_stop.specs.Stops.{sizes_of, names_of, text_of, IsReadBack, ProgramHas, ProgramReads}
+use Rattle.ppm_driver.specs.Stops.{sizes_of, names_of, text_of, IsReadBack, ProgramHas, ProgramReads}
 
 -- options in their ranges say sizes that a machine may have
 pub stopped_sizes : (options : StopOptions) → AreStopped options → AreSizes (sizes_of options)

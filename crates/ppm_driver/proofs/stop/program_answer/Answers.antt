@@ -1,8 +1,8 @@
 use Rattle.std.proofs.Common.{sym, ap, subst}
 use Rattle.ppm_tree.specs.Tree.{tree_of}
 use Rattle.ppm_answers.specs.declared.answer.Answer.TheVariants as answers
-use Rattle.ppm_stop.specs.Stops.{ProgramReads}
-use Rattle.ppm_stop.proofs.stop.program_answer.Goals as goal
+use Rattle.ppm_driver.specs.Stops.{ProgramReads}
+use Rattle.ppm_driver.proofs.stop.program_answer.Goals as goal
 
 -- the text that is saved
 pub returns-in-Ok : goal.returns-in-Ok

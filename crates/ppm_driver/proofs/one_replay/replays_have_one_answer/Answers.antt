@@ -1,5 +1,5 @@
 use Rattle.ppm_driver.proofs.OneReplay.{have_one_answer}
-use Rattle.ppm_driver.proofs.one_replay.have_one_answer.Goals as goal
+use Rattle.ppm_driver.proofs.one_replay.replays_have_one_answer.Goals as goal
 
 -- from the laws of texts, of codes, of images and of schedules
 pub returns : goal.returns

@@ -30,8 +30,8 @@ use Rattle.ppm_loading.specs.Loading.{OpensRun}
 use Rattle.ppm_saved.specs.Correct.{StateFits}
 use Rattle.ppm_saved_reader.specs.Rules.{is_from_to, sizes_fit}
 use Rattle.ppm_saved_reader.specs.Correct.{sizes_of as sizes_in}
-use Rattle.ppm_stop.specs.Stops.{sizes_of, names_of, IsReadBack}
-use Rattle.ppm_stop.proofs.NamesLemmas.{lengths_are, as_many}
+use Rattle.ppm_driver.specs.Stops.{sizes_of, names_of, IsReadBack}
+use Rattle.ppm_driver.proofs.NamesLemmas.{lengths_are, as_many}
 
 -- what the crates below show of every program's code
 pub record CodeLaws : Type 0 where

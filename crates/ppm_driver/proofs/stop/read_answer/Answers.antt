@@ -4,9 +4,9 @@ use Rattle.ppm_text.specs.Limits.{text_limit}
 use Rattle.ppm_answers.proofs.Delivered.{left_alone}
 use Rattle.ppm_plan.specs.Forms.{schedule_form}
 use Rattle.ppm_loading.proofs.PlannedLemmas.{by_items, refused_may}
-use Rattle.ppm_stop.specs.Stops.{TextReads, StopMay}
-use Rattle.ppm_stop.proofs.OneStop.{steady_read}
-use Rattle.ppm_stop.proofs.stop.read_answer.Goals as goal
+use Rattle.ppm_driver.specs.Stops.{TextReads, StopMay}
+use Rattle.ppm_driver.proofs.OneStop.{steady_read}
+use Rattle.ppm_driver.proofs.stop.read_answer.Goals as goal
 
 -- the schedule is accepted, and what was read is judged by its items
 pub returns-in-Ok : goal.returns-in-Ok

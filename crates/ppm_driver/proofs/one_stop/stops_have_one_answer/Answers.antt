@@ -1,5 +1,5 @@
-use Rattle.ppm_stop.proofs.OneStop.{have_one_answer}
-use Rattle.ppm_stop.proofs.laws.have_one_answer.Goals as goal
+use Rattle.ppm_driver.proofs.OneStop.{have_one_answer}
+use Rattle.ppm_driver.proofs.one_stop.stops_have_one_answer.Goals as goal
 
 -- from the laws of texts, of images and of schedules
 pub returns : goal.returns

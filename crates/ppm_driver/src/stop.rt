@@ -9,11 +9,11 @@ ghost use Rattle.ppm_text.specs.Limits.{text_limit};
 ghost use Rattle.ppm_tree.specs.Tree.{tree_of};
 ghost use Rattle.ppm_cut_bounds.specs.Bounds.{IsWithinBounds};
 ghost use Rattle.ppm_loading.specs.Programs.{ProgramMay};
-ghost use Rattle.ppm_stop.specs.Stops.{ProgramReads, StopMay, TextReads, sizes_of as sizes_in};
-ghost use Rattle.ppm_stop.specs.StopRows.{IsStopped};
+ghost use Rattle.ppm_driver.specs.Stops.{ProgramReads, StopMay, TextReads, sizes_of as sizes_in};
+ghost use Rattle.ppm_driver.specs.StopRows.{IsStopped};
 
-use crate::laws::have_one_answer;
 use crate::names::names_of;
+use crate::one_stop::stops_have_one_answer;
 use ppm_answers::{Answer, Status, deliver};
 use ppm_cells::Takeover;
 use ppm_cli::StopOptions;
@@ -48,7 +48,7 @@ pub fn stop_command<S: Source, K: Sink, E: Sink>(
         (port K.written K.fault_count out.old out.new) (port E.written E.fault_count err.old err.new)) result }
 {
     // The rows rest on these laws; the calls do nothing.
-    have_one_answer();
+    stops_have_one_answer();
     schedules_have_one_answer();
     let answer = read_answer(alloc, options, schedule, source);
     deliver(alloc, &answer, out, err)
