@@ -11,6 +11,7 @@
 -- text, and from that text the state is read back (`ReadBackLemmas`). After a run a program has one answer of `stop`, the text of the machine there
 -- (`StopLemmas`), which makes its law (`OneStop`) and its rows (`OfStop`) by the lemmas of `ppm_loading` on texts and plans.
 
+pub mod OrdersLemmas
 pub mod EndLemmas
 pub mod AllLemmas
 pub mod ExactLemmas

@@ -1,4 +1,5 @@
 pub mod Watchers
+pub mod Orders
 pub mod RunOf
 pub mod Meant
 pub mod Runs

@@ -2,18 +2,16 @@
 ghost use Rattle.std.specs.Prelude.{◌≡◌, IfOk};
 ghost use Rattle.ppm_ports.specs.Ports.{port};
 ghost use Rattle.ppm_ports.specs.Outside.{ports};
-ghost use Rattle.ppm_answers.specs.Reading.{JudgingMay};
 ghost use Rattle.ppm_answers.specs.declared.answer.Answer.TheVariants as answers;
 ghost use Rattle.ppm_cli.specs.Words.{AreStopped};
-ghost use Rattle.ppm_text.specs.Limits.{text_limit};
 ghost use Rattle.ppm_tree.specs.Tree.{tree_of};
 ghost use Rattle.ppm_cut_bounds.specs.Bounds.{IsWithinBounds};
-ghost use Rattle.ppm_loading.specs.Programs.{ProgramMay};
-ghost use Rattle.ppm_driver.specs.Stops.{ProgramReads, StopMay, TextReads, sizes_of as sizes_in};
+ghost use Rattle.ppm_driver.specs.Stops.{ProgramReads, StopMay, sizes_of as sizes_in};
 ghost use Rattle.ppm_driver.specs.StopRows.{IsStopped};
 
 use crate::names::names_of;
 use crate::one_stop::stops_have_one_answer;
+use crate::orders::read_task;
 use ppm_answers::{Answer, Status, deliver};
 use ppm_cells::Takeover;
 use ppm_cli::StopOptions;
@@ -21,8 +19,8 @@ use ppm_cut_code::keeps_the_rules;
 use ppm_cut_correct::{name_arrays, start_with_input};
 use ppm_cut_sound::{may_be_stopped, store_tidily};
 use ppm_following::follow;
-use ppm_loading::{Sizes, load, read_program, refusal_answer};
-use ppm_plan::{Schedule, have_one_answer as schedules_have_one_answer, read_schedule};
+use ppm_loading::{Sizes, load};
+use ppm_plan::{Schedule, have_one_answer as schedules_have_one_answer};
 use ppm_ports::{Sink, Source};
 use ppm_regions::Admitted;
 use ppm_saved::write_saved;
@@ -64,46 +62,12 @@ fn read_answer<S: Source>(
     requires options { AreStopped options }
     ensures { StopMay options schedule.now (port S.left S.fault_count source.old source.new) result }
 {
-    // A schedule that is accepted is not refused, by this law; the call does nothing.
-    schedules_have_one_answer();
-    match read_schedule(alloc, schedule, options.processors) {
-        Ok(schedule) => planned_answer(alloc, options, &schedule, source),
-        Err(error) => refusal_answer(error),
-    }
-}
-
-/// The program of the text that is read is run by the schedule, and saved.
-fn planned_answer<S: Source>(
-    alloc: Global,
-    options: StopOptions,
-    schedule: &Schedule,
-    source: &mut S,
-) -> Answer
-    requires options { AreStopped options }
-    requires processors { schedule.now.processors ≡ options.processors }
-    ensures { JudgingMay text_limit (TextReads options schedule.now.items) (port S.left S.fault_count source.old source.new) result }
-{
-    match read_program(alloc, source) {
-        Ok(program) => program_answer(alloc, options, schedule, &program),
+    match read_task(alloc, schedule, options.processors, source) {
+        Ok((schedule, program)) => match stopped(alloc, options, &schedule, &program) {
+            Ok(text) => Answer::Saved(Items::from_vec(text)),
+            Err(NoMemory) => Answer::NoMemory,
+        },
         Err(answer) => answer,
-    }
-}
-
-/// The saved text of a program's run, or want of memory.
-fn program_answer(
-    alloc: Global,
-    options: StopOptions,
-    schedule: &Schedule,
-    program: &Admitted,
-) -> Answer
-    requires options { AreStopped options }
-    requires processors { schedule.now.processors ≡ options.processors }
-    requires bounded { IsWithinBounds (tree_of program.now) }
-    ensures { ProgramMay (ProgramReads options schedule.now.items (tree_of program.now)) result }
-{
-    match stopped(alloc, options, schedule, program) {
-        Ok(text) => Answer::Saved(Items::from_vec(text)),
-        Err(NoMemory) => Answer::NoMemory,
     }
 }
 

@@ -1,23 +1,26 @@
-use Rattle.std.proofs.Common.{sym, subst}
-use Rattle.ppm_ports.specs.Ports.{port}
-use Rattle.ppm_text.specs.Limits.{text_limit}
-use Rattle.ppm_answers.proofs.Delivered.{left_alone}
+use Rattle.std.proofs.Common.{sym, ap, subst}
+use Rattle.ppm_tree.specs.Tree.{tree_of}
 use Rattle.ppm_plan.specs.Forms.{schedule_form}
-use Rattle.ppm_loading.proofs.PlannedLemmas.{by_items, refused_may}
-use Rattle.ppm_driver.specs.Stops.{TextReads, StopMay}
-use Rattle.ppm_driver.proofs.OneStop.{steady_read}
+use Rattle.ppm_answers.specs.declared.answer.Answer.TheVariants as answers
+use Rattle.ppm_driver.specs.Stops.{ProgramReads}
+use Rattle.ppm_driver.proofs.OrdersLemmas.{no_task, task_has, task_wants}
+use Rattle.ppm_driver.proofs.StopLemmas.{kinds, of_reading}
 use Rattle.ppm_driver.proofs.stop.read_answer.Goals as goal
 
--- the schedule is accepted, and what was read is judged by its items
+-- the saved text of the program's run, by the schedule's items
+pub returns-in-Ok-stopped : goal.returns-in-Ok-stopped
+returns-in-Ok-stopped g c =
+    task_has schedule_form c.args.schedule.now c.args.options.processors (ProgramReads c.args.options) kinds (of_reading c.args.options)
+    c.read_task.ensures.one c.in-Ok.schedule.items c.in-Ok.ensures.accepted _ (tree_of c.in-Ok.program) c.in-Ok.ensures.program _
+    (subst (ProgramReads c.args.options c.in-Ok.schedule.items (tree_of c.in-Ok.program)) (ap (λ x. answers.Saved x) (sym c.from_vec.ensures))
+    c.in-Ok-stopped.ensures)
+
+-- memory was wanting in it
 pub returns-in-Ok : goal.returns-in-Ok
 returns-in-Ok g c =
-    by_items schedule_form c.args.schedule.now c.args.options.processors (TextReads c.args.options) text_limit
-    c.have_one_answer.ensures.law.schedules (steady_read c.args.options) c.in-Ok.schedule.items c.in-Ok.ensures.schedule _ _ c.planned_answer.ensures
+    task_wants schedule_form c.args.schedule.now c.args.options.processors (ProgramReads c.args.options) kinds (of_reading c.args.options)
+    c.read_task.ensures.one c.in-Ok.schedule.items c.in-Ok.ensures.accepted _ (tree_of c.in-Ok.program) c.in-Ok.ensures.program
 
--- the schedule is refused, and nothing was read
-pub returns-in-Err : goal.returns-in-Err
-returns-in-Err g c =
-    subst (StopMay c.args.options c.args.schedule.now (port g.S.Source.left g.S.Source.fault_count c.args.source.now c.args.source.now))
-    (sym c.refusal_answer.ensures)
-    (refused_may schedule_form c.args.schedule.now c.args.options.processors (TextReads c.args.options) text_limit c.in-Err.error
-    c.in-Err.ensures.refused _ (left_alone g.S.Source.left g.S.Source.fault_count c.args.source.now))
+-- nothing was run
+pub returns : goal.returns
+returns g c = no_task schedule_form c.args.schedule.now c.args.options.processors (ProgramReads c.args.options) _ c.in-Err.answer c.in-Err.ensures.none
