@@ -28,7 +28,7 @@ use Rattle.ppm_following.specs.Followed.{followed}
 use Rattle.ppm_following.proofs.ScheduledLemmas.{scheduled_among}
 use Rattle.ppm_loading.proofs.LoadingLemmas.{opens_processors}
 use Rattle.ppm_saved_reader.specs.Correct.{FaultsTellSavedTexts}
-use Rattle.ppm_stop.specs.Stops.{sizes_of, text_of, ProgramReads as StoppedReads}
+use Rattle.ppm_driver.specs.Stops.{sizes_of, text_of, ProgramReads as StoppedReads}
 use Rattle.ppm_driver.specs.Legs.{worked_in_all, struck_in_all, TagsMayRiseInLegs}
 use Rattle.ppm_driver.specs.RunOf.{words_behind}
 use Rattle.ppm_driver.specs.Resumes.{state_behind, IsLeftBy, IsTextLeftBy, RunsLeaveStates, StopsLeaveStates, LeftWordsComeBack}

@@ -49,7 +49,7 @@ use Rattle.ppm_driver.proofs.FaultLemmas.{struck_few, legs_struck_few}
 use Rattle.ppm_driver.proofs.PlaceLemmas.{of_place}
 use Rattle.ppm_driver.proofs.MeantLemmas as meant
 use Rattle.ppm_driver.proofs.MeantLemmas.{ends_as, ended_said, trapped_said}
-use Rattle.ppm_stop.proofs.ReadBackLemmas.{run_length}
+use Rattle.ppm_driver.proofs.ReadBackLemmas.{run_length}
 use Rattle.ppm_runs.proofs.LongLemmas.{as_long}
 
 -- what the crates below show of every run, and of every run in legs

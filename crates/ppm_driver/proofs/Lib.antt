@@ -7,7 +7,11 @@
 -- last case.
 -- That a run in legs is as its program does (`LegsMeant`) is shown as of a run without legs (`MeantLemmas`). A resumed run is the latest leg of each
 -- run that left its state (`OfResume`), whose words come back (`LeftLemmas`); so it is complete as a run is (`ResumeComplete`).
+-- The arrays that an admitted program starts with have names of their own, none of them a keyword (`NamesLemmas`), so `stop` may name them in a saved
+-- text, and from that text the state is read back (`ReadBackLemmas`). After a run a program has one answer of `stop`, the text of the machine there
+-- (`StopLemmas`), which makes its law (`OneStop`) and its rows (`OfStop`) by the lemmas of `ppm_loading` on texts and plans.
 
+pub mod OrdersLemmas
 pub mod EndLemmas
 pub mod AllLemmas
 pub mod ExactLemmas
@@ -36,6 +40,11 @@ pub mod TellLemmas
 pub mod LeftLemmas
 pub mod StoppedLemmas
 pub mod ResumeComplete
+pub mod NamesLemmas
+pub mod ReadBackLemmas
+pub mod StopLemmas
+pub mod OneStop
+pub mod OfStop
 pub mod ExampleLemmas
 pub mod ExampleSums
 pub mod OfExample

@@ -63,7 +63,7 @@ use Rattle.ppm_loading.specs.Says.{arrays_from}
 use Rattle.ppm_loading.proofs.ArrayLemmas.{same_arrays}
 use Rattle.ppm_driver.proofs.EndLemmas.{keeper_opened, unset, words_opened}
 use Rattle.ppm_runs.proofs.LongLemmas.{as_long}
-use Rattle.ppm_stop.proofs.ReadBackLemmas.{run_length}
+use Rattle.ppm_driver.proofs.ReadBackLemmas.{run_length}
 use Rattle.ppm_driver.proofs.FaultLemmas.{undone_few}
 use Rattle.ppm_driver.proofs.PlaceLemmas.{of_place}
 

@@ -41,7 +41,7 @@ use Rattle.ppm_cli.specs.declared.resume.ResumeOptions.{ResumeOptions}
 use Rattle.ppm_loading.specs.Says.{array_words, arrays_from, IsOfFinish}
 use Rattle.ppm_loading.proofs.LoadingLemmas.{opens_lengths}
 use Rattle.ppm_loading.proofs.SayLemmas.{said_of_word}
-use Rattle.ppm_stop.specs.Stops.{names_of}
+use Rattle.ppm_driver.specs.Stops.{names_of}
 use Rattle.ppm_driver.specs.Legs.{words_at_last, finish_at_last, worked_in_all, lost_in_all, NoneIsTakenTwiceInAll, EndsAsProgramInAll, IsAsProgramInAll, RunsInLegsAreAsPrograms}
 use Rattle.ppm_driver.specs.Meant.{NeedsMoreRoom, NeedsMoreTurns, struck_in}
 use Rattle.ppm_driver.specs.RunOf.{words_behind, finish_behind}

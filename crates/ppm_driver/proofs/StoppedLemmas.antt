@@ -25,9 +25,9 @@ use Rattle.ppm_runs.specs.Legs.{Leg}
 use Rattle.ppm_saved_reader.specs.Correct.{IsSavedText}
 use Rattle.ppm_step.specs.Among.{IsTurnAmong}
 use Rattle.ppm_step.specs.State.{along, work_of}
-use Rattle.ppm_stop.specs.Stops.{sizes_of}
-use Rattle.ppm_stop.specs.StopRows.{HasRead, WritesSaved}
-use Rattle.ppm_stop.proofs.StopLemmas.{same_text}
+use Rattle.ppm_driver.specs.Stops.{sizes_of}
+use Rattle.ppm_driver.specs.StopRows.{HasRead, WritesSaved}
+use Rattle.ppm_driver.proofs.StopLemmas.{same_text}
 use Rattle.ppm_driver.specs.ResumeRows.{WritesArrays, WritesTrap, WritesBroken, ComesLate}
 use Rattle.ppm_driver.specs.Legs.{RunsInLegsAreAsPrograms}
 use Rattle.ppm_driver.specs.Completeness.{IsEnough, IsEnd}

@@ -1,4 +1,5 @@
 pub mod Watchers
+pub mod Orders
 pub mod RunOf
 pub mod Meant
 pub mod Runs
@@ -8,6 +9,8 @@ pub mod Headline
 pub mod RunRows
 pub mod Replays
 pub mod ReplayRows
+pub mod Stops
+pub mod StopRows
 pub mod Legs
 pub mod Resumes
 pub mod ResumeCompleteness

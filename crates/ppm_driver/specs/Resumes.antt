@@ -44,7 +44,7 @@ use Rattle.ppm_answers.specs.Reading.{JudgingMay, FrontsDecide, Reads}
 use Rattle.ppm_cli.specs.declared.resume.ResumeOptions.{ResumeOptions}
 use Rattle.ppm_cli.specs.declared.stop.StopOptions.{StopOptions}
 use Rattle.ppm_cli.specs.Words.{AreStopped}
-use Rattle.ppm_stop.specs.Stops.{names_of, ProgramReads as StoppedReads}
+use Rattle.ppm_driver.specs.Stops.{names_of, ProgramReads as StoppedReads}
 use Rattle.ppm_loading.specs.Loading.{OpensRun}
 use Rattle.ppm_loading.specs.Planned.{IsRefusedBy}
 use Rattle.ppm_loading.specs.declared.loading.Sizes.{Sizes}

@@ -12,7 +12,7 @@ use Rattle.ppm_cli.specs.declared.stop.StopOptions.{StopOptions}
 use Rattle.ppm_cli.specs.Words.{AreStopped, AreResumed}
 use Rattle.ppm_tree.specs.Tree.{ProgramTree}
 use Rattle.ppm_program.specs.Programs.{HasProgram}
-use Rattle.ppm_stop.specs.StopRows.{WritesSaved}
+use Rattle.ppm_driver.specs.StopRows.{WritesSaved}
 use Rattle.ppm_driver.specs.Completeness.{IsEnough, IsEnd}
 use Rattle.ppm_driver.specs.Meant.{HasOutcome}
 use Rattle.ppm_driver.specs.ResumeCompleteness.{lost_with}

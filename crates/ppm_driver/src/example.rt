@@ -8,11 +8,11 @@ ghost use Rattle.ppm_tree.specs.Tree.{tree_of};
 ghost use Rattle.ppm_cut_bounds.specs.Bounds.{IsWithinBounds};
 ghost use Rattle.ppm_program.specs.Programs.{HasProgram};
 ghost use Rattle.ppm_plan.specs.Schedules.{Planned};
-ghost use Rattle.ppm_loading.specs.Programs.{ProgramMay, RefusedHas};
+ghost use Rattle.ppm_loading.specs.Programs.{RefusedHas};
 ghost use Rattle.ppm_driver.specs.Examples.{AreForks, ExampleMay, ExampleTells, IsPlanOf, ProgramSums, ProgramWants};
 ghost use Rattle.ppm_driver.specs.Examples.{first_value, last_value, run_options_of, text_of};
 ghost use Rattle.ppm_driver.specs.ExampleRows.{ExampleRows};
-ghost use Rattle.ppm_driver.specs.Runs.{ProgramHas, RunTold};
+ghost use Rattle.ppm_driver.specs.Runs.{ProgramHas};
 ghost use Rattle.ppm_driver.specs.Watchers.{OthersKeep, watcher_count};
 
 use crate::meant::runs_are_as_programs;
@@ -103,7 +103,10 @@ fn example_answer<R: Threads + Wait + Sync, W: Watch>(
     ensures watchers { length watch.new.items ≡ watcher_count }
 {
     match example(alloc, options) {
-        Ok((plan, program)) => sums_answer(rt, alloc, options, &plan, &program, watch),
+        Ok((plan, program)) => match summed(rt, alloc, options, &plan, &program, watch) {
+            Ok(answer) => answer,
+            Err(NoMemory) => Answer::NoMemory,
+        },
         Err(answer) => answer,
     }
 }
@@ -133,31 +136,6 @@ fn made(alloc: Global, options: SelfOptions) -> Result<(Plan, Vec<u8>), NoMemory
     let plan = seeded_plan(alloc, options.seed, options.processors, options.count)?;
     let text = make_source(alloc, options.size, options.seed)?;
     Ok((plan, text))
-}
-
-/// What the run of the example's program comes to, or want of memory.
-fn sums_answer<R: Threads + Wait + Sync, W: Watch>(
-    rt: &R,
-    alloc: Global,
-    options: SelfOptions,
-    plan: &Plan,
-    program: &Admitted,
-    watch: &mut Vec<W>,
-) -> Answer
-    requires options { AreSelf options }
-    requires plan { IsPlanOf options plan.now }
-    requires bounded { IsWithinBounds (tree_of program.now) }
-    requires watchers { length watch.old.items ≡ watcher_count }
-    ensures may { ProgramMay (ProgramSums options (map W.told watch.old.items) (map W.told watch.new.items) (tree_of program.now)) result }
-    ensures told { RunTold options.processors (ProgramWants options (map W.told watch.old.items) (map W.told watch.new.items)
-        (tree_of program.now)) result (map W.told watch.old.items) (map W.told watch.new.items) }
-    ensures kept { KeepFronts (map W.told watch.old.items) (map W.told watch.new.items) }
-    ensures watchers { length watch.new.items ≡ watcher_count }
-{
-    match summed(rt, alloc, options, plan, program, watch) {
-        Ok(answer) => answer,
-        Err(NoMemory) => Answer::NoMemory,
-    }
 }
 
 /// What the run of the example's program comes to.

@@ -1,17 +1,23 @@
-//! Commands that run a machine: `replay` follows a schedule, `run` lets processors, each a thread,
-//! obey a plan of faults and limits, `resume` lets fresh ones go on from a saved state, and `self`
-//! runs a source of its own.
-//! Model: what a schedule says, and obedience, are those of `ppm_choice`; a run in legs is turns, the
-//! words behind them that came back, turns of fresh processors, and so on (`specs/Legs`).
-//! Contract: `replay_command` delivers the one answer of a text (`specs/Replays`); `run_command` and
-//! `resume_command`, if they return, one that it has: that of a run in which each processor obeys, of
-//! which its watcher was told (`specs/RunOf`, `specs/Runs`, `specs/Resumes`); `self_command` tells
-//! sums of such an answer (`specs/Examples`). What follows from each status: `specs/RunRows`,
-//! `specs/ReplayRows`, `specs/ResumeRows`, `specs/ExampleRows`; where turns and room are enough, a
-//! run ends (`specs/Completeness`, `specs/ResumeCompleteness`). What is stopped and resumed ends as
-//! its program does (`specs/Stopped`).
-//! Stands on `ppm_threads`, `ppm_following`, `ppm_loading`, `ppm_saved_reader` and `ppm_answers`;
-//! `ppm_top` calls it. The schedules and limits and their rules are this project's.
+//! Commands that run a machine: `replay` follows a schedule, `stop` does so for some acts and
+//! saves the state then, `run` lets processors, each a thread, obey a plan of faults and limits,
+//! `resume` lets fresh ones go on from a saved state, and `self` runs a source of its own.
+//! Model: what a schedule says, and obedience, are those of `ppm_choice`; what a schedule makes of
+//! a machine is that of `ppm_following`, and the text of a state that of `ppm_saved`; a run in
+//! legs is turns, the words after them that came back, turns of fresh processors, and so on
+//! (`specs/Legs`).
+//! Contract: `replay_command` delivers the one answer of a text (`specs/Replays`), and so does
+//! `stop_command`, the saved text of the machine after exactly that run (`specs/Stops`). Neither
+//! may wait, so each call of the two returns. `run_command` and `resume_command`, if they return,
+//! deliver one answer that the text has: that of a run in which each processor obeys, of which its
+//! watcher was told (`specs/RunOf`, `specs/Runs`, `specs/Resumes`); `self_command` tells sums of
+//! such an answer (`specs/Examples`). What follows from each status: `specs/RunRows`,
+//! `specs/ReplayRows`, `specs/StopRows`, `specs/ResumeRows`, `specs/ExampleRows`; where turns and
+//! room are enough, a run ends (`specs/Completeness`, `specs/ResumeCompleteness`). What is stopped
+//! and resumed ends as its program does (`specs/Stopped`).
+//! Stands on `ppm_threads`, `ppm_following`, `ppm_loading`, `ppm_saved`, `ppm_saved_reader` and
+//! `ppm_answers`; `ppm_top` calls it. The schedules and limits and their rules are this project's.
+//! `stop` and `resume` come after the persistent memory of Blelloch et al., SPAA 2018, which
+//! outlives its processors.
 #![tactic(auto)]
 
 mod complete;
@@ -23,10 +29,13 @@ mod meant;
 mod names;
 mod one_replay;
 mod one_run;
+mod one_stop;
+mod orders;
 mod replay;
 mod resuming;
 mod run;
 mod saying;
+mod stop;
 mod stopped;
 mod sums;
 
@@ -39,10 +48,12 @@ pub use legs::{
     stops_leave_states,
 };
 pub use meant::runs_are_as_programs;
-pub use one_replay::have_one_answer;
+pub use one_replay::replays_have_one_answer;
 pub use one_run::answers_are_one;
+pub use one_stop::stops_have_one_answer;
 pub use replay::replay_command;
 pub use resuming::resume_command;
 pub use run::{WATCHERS, run_command};
+pub use stop::stop_command;
 pub use stopped::stopped_runs_go_on;
 pub use sums::examples_sum_up;

@@ -1,11 +1,13 @@
-//! The arrays that the words of a table have for names.
+//! The names of arrays, and the arrays that the words of a table have for them.
 ghost use Rattle.std.specs.Prelude.{◌≡◌, IfOk};
+ghost use Rattle.ppm_words.specs.Inputs.{IsInput};
 ghost use Rattle.ppm_loading.specs.Says.{arrays_from};
-ghost use Rattle.ppm_saved.specs.Names.{lengths_of};
+ghost use Rattle.ppm_saved.specs.Names.{AreNames, lengths_of};
 ghost use Rattle.ppm_driver.specs.Resumes.{named};
+ghost use Rattle.ppm_driver.specs.Stops.{names_of as names_in};
 
 use ppm_loading::to_values;
-use ppm_saved::NamedLength;
+use ppm_saved::{NamedLength, Names};
 use ppm_table::Closed;
 use ppm_words::{Items, NamedArray, NoMemory};
 use std::alloc::Global;
@@ -35,4 +37,21 @@ pub(crate) fn arrays_of_names(
         left = rest;
     }
     Ok(Items::from_vec(arrays))
+}
+
+/// The arrays without their values. `Err` only where memory is refused.
+pub(crate) fn names_of(alloc: Global, arrays: &[NamedArray]) -> Result<Names, NoMemory>
+    requires input { IsInput arrays.now }
+    requires names { AreNames (names_in arrays.now) }
+    ensures { IfOk result (λ names. names ≡ names_in arrays.now) }
+{
+    let mut named = Vec::new(alloc);
+    let mut left = arrays;
+    while let [array, rest @ ..] = left {
+        let name = array.name.try_clone(alloc)?;
+        let len = array.values.as_slice().len() as u32;
+        named.push(NamedLength { name, len })?;
+        left = rest;
+    }
+    Ok(Names::from_vec(named))
 }

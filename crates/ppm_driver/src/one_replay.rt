@@ -10,7 +10,7 @@ use ppm_rows::trees_are_within;
 /// With all options and each schedule a text has one answer at most: the schedule is refused by one
 /// number, or the text is refused for one reason, or its program's replay comes to one answer. With
 /// options in their ranges a text that is not refused has one.
-pub fn have_one_answer()
+pub fn replays_have_one_answer()
     ensures law { HaveOneAnswer }
 {
     // The law rests on these; the calls do nothing.

@@ -2,23 +2,21 @@
 ghost use Rattle.std.specs.Prelude.{◌≡◌, IfOk};
 ghost use Rattle.ppm_ports.specs.Ports.{port};
 ghost use Rattle.ppm_ports.specs.Outside.{ports};
-ghost use Rattle.ppm_answers.specs.Reading.{JudgingMay};
 ghost use Rattle.ppm_cli.specs.Words.{AreReplayed};
-ghost use Rattle.ppm_text.specs.Limits.{text_limit};
 ghost use Rattle.ppm_tree.specs.Tree.{tree_of};
 ghost use Rattle.ppm_cut_bounds.specs.Bounds.{IsWithinBounds};
-ghost use Rattle.ppm_loading.specs.Programs.{ProgramMay};
-ghost use Rattle.ppm_driver.specs.Replays.{ProgramHas, ReplayMay, TextHas, sizes_of as sizes_in};
+ghost use Rattle.ppm_driver.specs.Replays.{ProgramHas, ReplayMay, sizes_of as sizes_in};
 ghost use Rattle.ppm_driver.specs.ReplayRows.{IsReplayed};
 
 use crate::meant::runs_are_as_programs;
-use crate::one_replay::have_one_answer;
+use crate::one_replay::replays_have_one_answer;
+use crate::orders::read_task;
 use crate::saying::replay_answer;
 use ppm_answers::{Answer, Status, deliver};
 use ppm_cli::ReplayOptions;
 use ppm_following::follow;
-use ppm_loading::{Sizes, load, read_program, refusal_answer};
-use ppm_plan::{Schedule, have_one_answer as schedules_have_one_answer, read_schedule};
+use ppm_loading::{Sizes, load};
+use ppm_plan::{Schedule, have_one_answer as schedules_have_one_answer};
 use ppm_ports::{Sink, Source};
 use ppm_regions::Admitted;
 use ppm_words::NoMemory;
@@ -42,7 +40,7 @@ pub fn replay_command<S: Source, K: Sink, E: Sink>(
         (port K.written K.fault_count out.old out.new) (port E.written E.fault_count err.old err.new)) result }
 {
     // The rows rest on these laws; the calls do nothing.
-    have_one_answer();
+    replays_have_one_answer();
     schedules_have_one_answer();
     runs_are_as_programs();
     let answer = read_answer(alloc, options, schedule, source);
@@ -59,46 +57,12 @@ fn read_answer<S: Source>(
     requires options { AreReplayed options }
     ensures { ReplayMay options schedule.now (port S.left S.fault_count source.old source.new) result }
 {
-    // A schedule that is accepted is not refused, by this law; the call does nothing.
-    schedules_have_one_answer();
-    match read_schedule(alloc, schedule, options.processors) {
-        Ok(schedule) => planned_answer(alloc, options, &schedule, source),
-        Err(error) => refusal_answer(error),
-    }
-}
-
-/// The program of the text that is read is replayed by the schedule.
-fn planned_answer<S: Source>(
-    alloc: Global,
-    options: ReplayOptions,
-    schedule: &Schedule,
-    source: &mut S,
-) -> Answer
-    requires options { AreReplayed options }
-    requires processors { schedule.now.processors ≡ options.processors }
-    ensures { JudgingMay text_limit (TextHas options schedule.now.items) (port S.left S.fault_count source.old source.new) result }
-{
-    match read_program(alloc, source) {
-        Ok(program) => program_answer(alloc, options, schedule, &program),
+    match read_task(alloc, schedule, options.processors, source) {
+        Ok((schedule, program)) => match replayed(alloc, options, &schedule, &program) {
+            Ok(answer) => answer,
+            Err(NoMemory) => Answer::NoMemory,
+        },
         Err(answer) => answer,
-    }
-}
-
-/// What the replay of a program comes to, or want of memory.
-fn program_answer(
-    alloc: Global,
-    options: ReplayOptions,
-    schedule: &Schedule,
-    program: &Admitted,
-) -> Answer
-    requires options { AreReplayed options }
-    requires processors { schedule.now.processors ≡ options.processors }
-    requires bounded { IsWithinBounds (tree_of program.now) }
-    ensures { ProgramMay (ProgramHas options schedule.now.items (tree_of program.now)) result }
-{
-    match replayed(alloc, options, schedule, program) {
-        Ok(answer) => answer,
-        Err(NoMemory) => Answer::NoMemory,
     }
 }
 

@@ -1,16 +1,12 @@
 //! The command `run`.
-ghost use Rattle.std.specs.Prelude.{◌≡◌, ℕ, IfErr, IfOk, List, length, map};
+ghost use Rattle.std.specs.Prelude.{◌≡◌, IfErr, IfOk, length, map};
 ghost use Rattle.ppm_ports.specs.Ports.{port};
 ghost use Rattle.ppm_ports.specs.Outside.{KeepFronts, outside};
-ghost use Rattle.ppm_answers.specs.Reading.{Answers, JudgingMay};
+ghost use Rattle.ppm_answers.specs.Reading.{Answers};
 ghost use Rattle.ppm_cli.specs.Words.{AreRun};
-ghost use Rattle.ppm_text.specs.Limits.{text_limit};
 ghost use Rattle.ppm_tree.specs.Tree.{tree_of};
 ghost use Rattle.ppm_cut_bounds.specs.Bounds.{IsWithinBounds};
-ghost use Rattle.ppm_loading.specs.Programs.{ProgramMay};
-ghost use Rattle.ppm_plan.specs.Forms.{plan_form};
-ghost use Rattle.ppm_plan.specs.Refusals.{IsAccepted};
-ghost use Rattle.ppm_driver.specs.Runs.{ProgramHas, ProgramWants, RunMay, RunTells, RunTold, TextHas};
+ghost use Rattle.ppm_driver.specs.Runs.{ProgramHas, ProgramWants, RunMay, RunTells};
 ghost use Rattle.ppm_driver.specs.Runs.{limits_of as limits_in, sizes_of as sizes_in};
 ghost use Rattle.ppm_driver.specs.RunRows.{RunRows};
 ghost use Rattle.ppm_driver.specs.Watchers.{OthersKeep, watcher_count};
@@ -18,12 +14,13 @@ ghost use Rattle.ppm_driver.specs.Watchers.{OthersKeep, watcher_count};
 use crate::complete::runs_complete;
 use crate::meant::runs_are_as_programs;
 use crate::one_run::answers_are_one;
+use crate::orders::read_task;
 use crate::saying::run_answer;
 use ppm_answers::{Answer, Status, deliver};
 use ppm_choice::Limits;
 use ppm_cli::RunOptions;
-use ppm_loading::{Sizes, read_program, refusal_answer, share};
-use ppm_plan::{Plan, have_one_answer as plans_have_one_answer, read_plan};
+use ppm_loading::{Sizes, share};
+use ppm_plan::{Plan, have_one_answer as plans_have_one_answer};
 use ppm_ports::{Sink, Source, Watch};
 use ppm_regions::Admitted;
 use ppm_threads::drive;
@@ -96,64 +93,12 @@ fn read_answer<R: Threads + Wait + Sync, S: Source, W: Watch>(
     ensures kept { KeepFronts (map W.told watch.old.items) (map W.told watch.new.items) }
     ensures watchers { length watch.new.items ≡ watcher_count }
 {
-    // A plan that is accepted is not refused, by this law; the call does nothing.
-    plans_have_one_answer();
-    match read_plan(alloc, faults, options.processors) {
-        Ok(plan) => planned_answer(rt, alloc, options, &plan, source, watch),
-        Err(error) => refusal_answer(error),
-    }
-}
-
-/// The program of the text that is read is run by the plan.
-fn planned_answer<R: Threads + Wait + Sync, S: Source, W: Watch>(
-    rt: &R,
-    alloc: Global,
-    options: RunOptions,
-    plan: &Plan,
-    source: &mut S,
-    watch: &mut Vec<W>,
-) -> Answer
-    requires options { AreRun options }
-    requires processors { plan.now.processors ≡ options.processors }
-    requires watchers { length watch.old.items ≡ watcher_count }
-    ensures may { JudgingMay text_limit
-        (TextHas options options.processors (map W.told watch.old.items) (map W.told watch.new.items) plan.now.items)
-        (port S.left S.fault_count source.old source.new) result }
-    ensures told { (text : List ℕ) → IsAccepted plan_form text options.processors plan.now.items
-        → RunTells options options.processors text (port S.left S.fault_count source.old source.new) result
-        (map W.told watch.old.items) (map W.told watch.new.items) }
-    ensures kept { KeepFronts (map W.told watch.old.items) (map W.told watch.new.items) }
-    ensures watchers { length watch.new.items ≡ watcher_count }
-{
-    match read_program(alloc, source) {
-        Ok(program) => program_answer(rt, alloc, options, plan, &program, watch),
+    match read_task(alloc, faults, options.processors, source) {
+        Ok((plan, program)) => match ran(rt, alloc, options, &plan, &program, watch) {
+            Ok(answer) => answer,
+            Err(NoMemory) => Answer::NoMemory,
+        },
         Err(answer) => answer,
-    }
-}
-
-/// What the run of a program comes to, or want of memory.
-fn program_answer<R: Threads + Wait + Sync, W: Watch>(
-    rt: &R,
-    alloc: Global,
-    options: RunOptions,
-    plan: &Plan,
-    program: &Admitted,
-    watch: &mut Vec<W>,
-) -> Answer
-    requires options { AreRun options }
-    requires processors { plan.now.processors ≡ options.processors }
-    requires bounded { IsWithinBounds (tree_of program.now) }
-    requires watchers { length watch.old.items ≡ watcher_count }
-    ensures may { ProgramMay (ProgramHas options options.processors (map W.told watch.old.items) (map W.told watch.new.items)
-        plan.now.items (tree_of program.now)) result }
-    ensures told { RunTold options.processors (ProgramWants options options.processors (map W.told watch.old.items)
-        (map W.told watch.new.items) plan.now.items (tree_of program.now)) result (map W.told watch.old.items) (map W.told watch.new.items) }
-    ensures kept { KeepFronts (map W.told watch.old.items) (map W.told watch.new.items) }
-    ensures watchers { length watch.new.items ≡ watcher_count }
-{
-    match ran(rt, alloc, options, plan, program, watch) {
-        Ok(answer) => answer,
-        Err(NoMemory) => Answer::NoMemory,
     }
 }
 

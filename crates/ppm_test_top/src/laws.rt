@@ -15,7 +15,8 @@ use ppm_cut_sound::{code_is_sound, may_be_stopped, store_tidily};
 use ppm_driver::{
     answers_are_one, examples_sum_up, fronts_decide_resumed, left_words_come_back,
     resumes_complete, resumes_leave_states, runs_are_as_programs, runs_complete,
-    runs_in_legs_are_as_programs, runs_leave_states, stopped_runs_go_on, stops_leave_states,
+    runs_in_legs_are_as_programs, runs_leave_states, stopped_runs_go_on, stops_have_one_answer,
+    stops_leave_states,
 };
 use ppm_example::{examples_are_programs, examples_sum};
 use ppm_listing_reader::faults_tell_listings;
@@ -26,7 +27,6 @@ use ppm_plan::{
 use ppm_printer::{canonical_texts_tell_programs, printed_texts_have_their_tree};
 use ppm_saved_reader::faults_tell_saved_texts;
 use ppm_step::{done_has_cause, finish_stays, records_lead, room_has_cause, turns_have_cause};
-use ppm_stop::have_one_answer as stops_have_one_answer;
 
 #[test]
 fn laws_of_texts_are_called(_: HostRuntime) {

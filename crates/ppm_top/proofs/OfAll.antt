@@ -20,27 +20,23 @@ use Rattle.ppm_cli.specs.declared.run.RunOptions.{RunOptions}
 use Rattle.ppm_cli.specs.declared.stop.StopOptions.{StopOptions}
 use Rattle.ppm_cli.specs.Words.{command_of}
 use Rattle.ppm_cli.proofs.RangeLemmas.{is_in_range}
-use Rattle.ppm_commands.specs.Check.{CheckHas, HaveOneAnswer as ListingsHaveOneAnswer}
-use Rattle.ppm_commands.specs.Code.{CodeReads, CodesAreFaithful, HaveOneAnswer as CodesHaveOneAnswer}
-use Rattle.ppm_commands.specs.Serial.{SerialHas, HaveOneAnswer as OutcomesHaveOneAnswer}
+use Rattle.ppm_commands.specs.Check.{CheckHas}
+use Rattle.ppm_commands.specs.Code.{CodeReads}
+use Rattle.ppm_commands.specs.Serial.{SerialHas}
 use Rattle.ppm_commands.proofs.CheckRows.{check_rows}
 use Rattle.ppm_commands.proofs.CodeRows.{code_rows}
 use Rattle.ppm_commands.proofs.SerialRows.{serial_rows}
-use Rattle.ppm_plan.specs.Correct.{HaveOneAnswer as PlansHaveOneAnswer}
 use Rattle.ppm_plan.specs.Forms.{Form, plan_form, schedule_form}
 use Rattle.ppm_loading.specs.Planned.{PlannedMay}
 use Rattle.ppm_loading.specs.MachineRows.{RefusesPlan}
-use Rattle.ppm_driver.specs.Completeness.{RunsComplete}
-use Rattle.ppm_driver.specs.Examples.{ExamplesSumUp}
 use Rattle.ppm_driver.specs.Legs.{RunsInLegsAreAsPrograms}
 use Rattle.ppm_driver.specs.Meant.{RunsAreAsPrograms}
-use Rattle.ppm_driver.specs.Replays.{TextHas as ReplayTextHas, HaveOneAnswer as ReplaysHaveOneAnswer}
-use Rattle.ppm_driver.specs.Resumes.{TextHas as ResumeTextHas, LeftWordsComeBack, StopsLeaveStates}
-use Rattle.ppm_driver.specs.ResumeCompleteness.{ResumesComplete}
+use Rattle.ppm_driver.specs.Replays.{TextHas as ReplayTextHas}
+use Rattle.ppm_driver.specs.Resumes.{TextHas as ResumeTextHas, LeftWordsComeBack}
 use Rattle.ppm_driver.specs.ResumeRows.{RefusesPlan as RefusesResumed}
-use Rattle.ppm_driver.specs.Runs.{TextHas as RunTextHas, AnswersAreOne, FrontsDecideAnswers}
-use Rattle.ppm_stop.specs.Stops.{TextReads as StopTextReads, HaveOneAnswer as StopsHaveOneAnswer}
-use Rattle.ppm_stop.proofs.OfStop as of_stop
+use Rattle.ppm_driver.specs.Runs.{TextHas as RunTextHas, FrontsDecideAnswers}
+use Rattle.ppm_driver.specs.Stops.{TextReads as StopTextReads}
+use Rattle.ppm_driver.proofs.OfStop as of_stop
 use Rattle.ppm_driver.proofs.OfExample as of_example
 use Rattle.ppm_driver.proofs.OfReplay as of_replay
 use Rattle.ppm_driver.proofs.OfResume as of_resume
@@ -52,6 +48,7 @@ use Rattle.ppm_answers.specs.Reading.{IsUnread, JudgingMay, DeliversAnswer, Answ
 use Rattle.ppm_answers.proofs.Delivered.{of_answers}
 use Rattle.ppm_answers.specs.Rows.{IsOneOf}
 use Rattle.ppm_top.specs.Causes.{NoCommandMay, CommandMay, CommandTells, IsAnswered}
+use Rattle.ppm_top.specs.Laws.{ProgramLaws}
 use Rattle.ppm_top.specs.Rows.{HasRefusedPlan, OfRun, OfReplay, OfStop, OfResume, RefusesWords, ReportsFaults, ProgramRows}
 use Rattle.ppm_answers.proofs.Delivered as delivered
 use Rattle.ppm_answers.proofs.Judged as judged
@@ -213,27 +210,8 @@ refuses_words meant fronts legs comes words o status a = record {
   always (inl r) (inr w) = inl (w.own ∙ r)
   always (inr r) (inr w) = inr (inr (inl (w.own ∙ r)))
 
--- what the crates of the commands show of every text
-pub record Laws : Type 0 where
-  pub runs : AnswersAreOne
-  pub fronts : FrontsDecideAnswers
-  pub meant : RunsAreAsPrograms
-  pub complete : RunsComplete
-  pub sums : ExamplesSumUp
-  pub legs : RunsInLegsAreAsPrograms
-  pub comes : LeftWordsComeBack
-  pub resumes : ResumesComplete
-  pub leave : StopsLeaveStates
-  pub outcomes : OutcomesHaveOneAnswer
-  pub codes : CodesHaveOneAnswer
-  pub faithful : CodesAreFaithful
-  pub listings : ListingsHaveOneAnswer
-  pub plans : PlansHaveOneAnswer
-  pub replays : ReplaysHaveOneAnswer
-  pub stops : StopsHaveOneAnswer
-
 -- all rows of the program
-pub program_rows : Laws → (words : List (List ℕ)) (o : Outside) (status : Status) → IsAnswered words o status → ProgramRows words o status
+pub program_rows : ProgramLaws → (words : List (List ℕ)) (o : Outside) (status : Status) → IsAnswered words o status → ProgramRows words o status
 program_rows laws words o status a = record {
   run = λ options plan e. (
     is_in_range words (commands.Run options plan) e,

@@ -15,7 +15,7 @@ use Rattle.ppm_driver.specs.Examples.{ExampleMay, ExampleTells}
 use Rattle.ppm_driver.specs.Replays.{ReplayMay}
 use Rattle.ppm_driver.specs.Resumes.{ResumeMay, ResumeTells}
 use Rattle.ppm_driver.specs.Runs.{RunMay, RunTells}
-use Rattle.ppm_stop.specs.Stops.{StopMay}
+use Rattle.ppm_driver.specs.Stops.{StopMay}
 
 -- the answers where the words give no command
 abbrev pub NoCommandMay : Outside → Answer → Type 0

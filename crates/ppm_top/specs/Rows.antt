@@ -26,7 +26,7 @@ use Rattle.ppm_driver.specs.ResumeRows.{ResumeRows, RefusesPlan as RefusesResume
 use Rattle.ppm_driver.specs.Resumes.{IsTextLeftBy}
 use Rattle.ppm_driver.specs.Strikes.{scheduled_faults}
 use Rattle.ppm_driver.specs.RunRows.{RunRows}
-use Rattle.ppm_stop.specs.StopRows.{HasRead, StopRows}
+use Rattle.ppm_driver.specs.StopRows.{HasRead, StopRows}
 use Rattle.ppm_plan.specs.Forms.{plan_form, schedule_form}
 
 -- the rows of `run` hold where the words ask for a run, with these options, which are in their ranges, and this plan

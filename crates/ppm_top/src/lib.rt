@@ -9,7 +9,9 @@
 //! The commands are this project's.
 #![tactic(auto)]
 
+mod laws;
 mod top;
 
+pub use laws::program_laws;
 pub use ppm_driver::WATCHERS;
 pub use top::ppm;

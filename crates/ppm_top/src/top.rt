@@ -7,21 +7,12 @@ ghost use Rattle.ppm_driver.specs.Watchers.{watcher_count};
 ghost use Rattle.ppm_top.specs.Causes.{IsAnswered};
 ghost use Rattle.ppm_top.specs.Rows.{ProgramRows};
 
+use crate::laws::program_laws;
 use ppm_answers::{Answer, Status, deliver};
 use ppm_cli::{Command, read_words};
-use ppm_commands::{
-    check_command, code_command, codes_are_faithful, codes_have_one_answer,
-    listings_have_one_answer, outcomes_have_one_answer, serial_command,
-};
-use ppm_driver::{
-    answers_are_one as runs_have_one_answer, examples_sum_up,
-    have_one_answer as replays_have_one_answer, left_words_come_back, replay_command,
-    resume_command, resumes_complete, run_command, runs_are_as_programs, runs_complete,
-    runs_in_legs_are_as_programs, self_command, stops_leave_states,
-};
-use ppm_plan::have_one_answer as plans_have_one_answer;
+use ppm_commands::{check_command, code_command, serial_command};
+use ppm_driver::{replay_command, resume_command, run_command, self_command, stop_command};
 use ppm_ports::{Sink, Source, Watch};
-use ppm_stop::{have_one_answer as stops_have_one_answer, stop_command};
 use ppm_words::NoMemory;
 use std::alloc::Global;
 use std::sync::Wait;
@@ -54,22 +45,8 @@ pub fn ppm<R: Threads + Wait + Sync, S: Source, K: Sink, E: Sink, W: Watch>(
 
     ensures watchers { length watch.new.items ≡ watcher_count }
 {
-    // The rows rest on these laws; the calls do nothing.
-    runs_have_one_answer();
-    runs_are_as_programs();
-    runs_complete();
-    examples_sum_up();
-    runs_in_legs_are_as_programs();
-    left_words_come_back();
-    resumes_complete();
-    stops_leave_states();
-    outcomes_have_one_answer();
-    codes_have_one_answer();
-    codes_are_faithful();
-    listings_have_one_answer();
-    plans_have_one_answer();
-    replays_have_one_answer();
-    stops_have_one_answer();
+    // The rows say of each text more than its one answer does, by these laws; the call does nothing.
+    program_laws();
     answer_words(rt, alloc, words, source, out, err, watch)
 }
 

@@ -1,23 +1,23 @@
-use Rattle.std.proofs.Common.{sym, subst}
-use Rattle.ppm_ports.specs.Ports.{port}
-use Rattle.ppm_text.specs.Limits.{text_limit}
-use Rattle.ppm_answers.proofs.Delivered.{left_alone}
+use Rattle.ppm_tree.specs.Tree.{tree_of}
 use Rattle.ppm_plan.specs.Forms.{schedule_form}
-use Rattle.ppm_driver.specs.Replays.{TextHas, ReplayMay}
-use Rattle.ppm_loading.proofs.PlannedLemmas.{by_items, refused_may}
-use Rattle.ppm_driver.proofs.OneReplay.{steady}
+use Rattle.ppm_driver.specs.Replays.{ProgramHas}
+use Rattle.ppm_driver.proofs.OrdersLemmas.{no_task, task_has, task_wants}
+use Rattle.ppm_driver.proofs.ReplayLemmas.{kinds, of_program}
 use Rattle.ppm_driver.proofs.replay.read_answer.Goals as goal
 
--- the schedule is accepted, and what was read is judged by its items
+-- what the replay of the program comes to, by the schedule's items
+pub returns-in-Ok-replayed : goal.returns-in-Ok-replayed
+returns-in-Ok-replayed g c =
+    task_has schedule_form c.args.schedule.now c.args.options.processors (ProgramHas c.args.options) (kinds c.args.options.processors c.args.options.turns) (of_program c.args.options)
+    c.read_task.ensures.one c.in-Ok.schedule.items c.in-Ok.ensures.accepted _ (tree_of c.in-Ok.program) c.in-Ok.ensures.program c.in-Ok-replayed.answer
+    c.in-Ok-replayed.ensures
+
+-- memory was wanting in it
 pub returns-in-Ok : goal.returns-in-Ok
 returns-in-Ok g c =
-    by_items schedule_form c.args.schedule.now c.args.options.processors (TextHas c.args.options) text_limit
-    c.have_one_answer.ensures.law.schedules (steady c.args.options) c.in-Ok.schedule.items c.in-Ok.ensures.schedule _ _ c.planned_answer.ensures
+    task_wants schedule_form c.args.schedule.now c.args.options.processors (ProgramHas c.args.options) (kinds c.args.options.processors c.args.options.turns) (of_program c.args.options)
+    c.read_task.ensures.one c.in-Ok.schedule.items c.in-Ok.ensures.accepted _ (tree_of c.in-Ok.program) c.in-Ok.ensures.program
 
--- the schedule is refused, and nothing was read
-pub returns-in-Err : goal.returns-in-Err
-returns-in-Err g c =
-    subst (ReplayMay c.args.options c.args.schedule.now (port g.S.Source.left g.S.Source.fault_count c.args.source.now c.args.source.now))
-    (sym c.refusal_answer.ensures)
-    (refused_may schedule_form c.args.schedule.now c.args.options.processors (TextHas c.args.options) text_limit c.in-Err.error
-    c.in-Err.ensures.refused _ (left_alone g.S.Source.left g.S.Source.fault_count c.args.source.now))
+-- nothing was run
+pub returns : goal.returns
+returns g c = no_task schedule_form c.args.schedule.now c.args.options.processors (ProgramHas c.args.options) _ c.in-Err.answer c.in-Err.ensures.none

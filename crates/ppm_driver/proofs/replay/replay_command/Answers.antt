@@ -9,9 +9,9 @@ use Rattle.ppm_driver.proofs.replay.replay_command.Goals as goal
 pub returns : goal.returns
 returns g c = record {
   delivers = planned_done schedule_form c.args.schedule.now c.args.options.processors (TextHas c.args.options) text_limit
-      c.have_one_answer-2.ensures.law.schedules _ _ _ c.read_answer-answer.ensures c.deliver.ensures;
+      c.have_one_answer.ensures.law.schedules _ _ _ c.read_answer-answer.ensures c.deliver.ensures;
   rows = replay_rows c.runs_are_as_programs.ensures.law c.args.options c.requires.options c.args.schedule.now _ _
       (planned_done schedule_form c.args.schedule.now c.args.options.processors (TextHas c.args.options) text_limit
-      c.have_one_answer-2.ensures.law.schedules _ _ _ c.read_answer-answer.ensures c.deliver.ensures)
-      c.have_one_answer-2.ensures.law c.have_one_answer.ensures.law;
+      c.have_one_answer.ensures.law.schedules _ _ _ c.read_answer-answer.ensures c.deliver.ensures)
+      c.have_one_answer.ensures.law c.replays_have_one_answer.ensures.law;
 }

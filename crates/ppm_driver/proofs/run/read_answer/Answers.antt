@@ -1,38 +1,48 @@
-use Rattle.std.proofs.Common.{sym, subst}
-use Rattle.ppm_ports.specs.Ports.{port}
-use Rattle.ppm_text.specs.Limits.{text_limit}
-use Rattle.ppm_answers.proofs.Delivered.{left_alone}
+use Rattle.ppm_tree.specs.Tree.{tree_of}
 use Rattle.ppm_plan.specs.Forms.{plan_form}
-use Rattle.ppm_driver.specs.Runs.{ProgramHas, RunMay, TextHas}
-use Rattle.ppm_loading.proofs.PlannedLemmas.{by_items, refused_may}
-use Rattle.ppm_loading.proofs.ProgramLemmas.{plain}
-use Rattle.ppm_driver.proofs.RunLemmas.{kinds, of_program}
+use Rattle.ppm_answers.specs.declared.answer.Answer.TheVariants as answers
+use Rattle.ppm_driver.specs.Runs.{ProgramHas}
+use Rattle.ppm_driver.proofs.MadeLemmas.{source_tells}
+use Rattle.ppm_driver.proofs.OrdersLemmas.{no_task, task_has, task_wants}
+use Rattle.ppm_driver.proofs.RunLemmas.{kinds, of_program, run_tells}
 use Rattle.ppm_driver.proofs.WatchLemmas.{fronts_stay, untold}
 use Rattle.ppm_driver.proofs.run.read_answer.Goals as goal
 
--- the plan is accepted, and what was read is judged by its items
+-- what the run of the program comes to, by the plan's items
+pub returns-in-Ok-ran-clause-may : goal.returns-in-Ok-ran-clause-may
+returns-in-Ok-ran-clause-may g c =
+    task_has plan_form c.args.faults.now c.args.options.processors (ProgramHas c.args.options c.args.options.processors _ _)
+    (kinds c.args.options.processors) (of_program c.args.options c.args.options.processors _ _) c.read_task.ensures.one c.in-Ok.plan.items
+    c.in-Ok.ensures.accepted _ (tree_of c.in-Ok.program) c.in-Ok.ensures.program c.in-Ok-ran.answer c.in-Ok-ran.ensures.has
+
+pub returns-in-Ok-ran-clause-told : goal.returns-in-Ok-ran-clause-told
+returns-in-Ok-ran-clause-told g c =
+    source_tells c.args.options c.args.options.processors _ _ c.in-Ok.plan.items _ _ c.in-Ok.ensures.program c.args.faults.now
+    c.in-Ok.ensures.accepted c.in-Ok-ran.answer
+    (run_tells c.args.options.processors _ c.in-Ok-ran.answer _ _
+    (of_program c.args.options c.args.options.processors _ _ c.in-Ok.plan.items (tree_of c.in-Ok.program) c.in-Ok-ran.answer c.in-Ok-ran.ensures.has)
+    c.in-Ok-ran.ensures.others)
+
+-- memory was wanting in it
 pub returns-in-Ok-clause-may : goal.returns-in-Ok-clause-may
 returns-in-Ok-clause-may g c =
-    by_items plan_form c.args.faults.now c.args.options.processors (TextHas c.args.options c.args.options.processors _ _) text_limit
-    c.have_one_answer.ensures.law.plans
-    (λ items. plain (ProgramHas c.args.options c.args.options.processors _ _ items) (kinds c.args.options.processors)
-    (of_program c.args.options c.args.options.processors _ _ items))
-    c.in-Ok.plan.items c.in-Ok.ensures.plan _ _ c.planned_answer.ensures.may
+    task_wants plan_form c.args.faults.now c.args.options.processors (ProgramHas c.args.options c.args.options.processors _ _)
+    (kinds c.args.options.processors) (of_program c.args.options c.args.options.processors _ _) c.read_task.ensures.one c.in-Ok.plan.items
+    c.in-Ok.ensures.accepted _ (tree_of c.in-Ok.program) c.in-Ok.ensures.program
 
 pub returns-in-Ok-clause-told : goal.returns-in-Ok-clause-told
-returns-in-Ok-clause-told g c = c.planned_answer.ensures.told c.args.faults.now c.in-Ok.ensures.plan
+returns-in-Ok-clause-told g c =
+    source_tells c.args.options c.args.options.processors _ _ c.in-Ok.plan.items _ _ c.in-Ok.ensures.program c.args.faults.now
+    c.in-Ok.ensures.accepted answers.NoMemory (c.in-Err-ran.ensures.kept, c.in-Err-ran.ensures.others, c.in-Err-ran.ensures.wants)
 
--- the plan is refused, and nothing was read or told
-pub returns-in-Err-clause-may : goal.returns-in-Err-clause-may
-returns-in-Err-clause-may g c =
-    subst (RunMay c.args.options c.args.options.processors c.args.faults.now _ _
-    (port g.S.Source.left g.S.Source.fault_count c.args.source.now c.args.source.now))
-    (sym c.refusal_answer.ensures)
-    (refused_may plan_form c.args.faults.now c.args.options.processors (TextHas c.args.options c.args.options.processors _ _) text_limit c.in-Err.error
-    c.in-Err.ensures.refused _ (left_alone g.S.Source.left g.S.Source.fault_count c.args.source.now))
+-- nothing was run, and nobody was told anything
+pub returns-clause-may : goal.returns-clause-may
+returns-clause-may g c =
+    no_task plan_form c.args.faults.now c.args.options.processors (ProgramHas c.args.options c.args.options.processors _ _) _ c.in-Err.answer
+    c.in-Err.ensures.none
 
-pub returns-in-Err-clause-told : goal.returns-in-Err-clause-told
-returns-in-Err-clause-told g c = untold c.args.options.processors _ _ c.refusal_answer.result _
+pub returns-clause-told : goal.returns-clause-told
+returns-clause-told g c = untold c.args.options.processors _ _ c.in-Err.answer _
 
-pub returns-in-Err-clause-kept : goal.returns-in-Err-clause-kept
-returns-in-Err-clause-kept g c = fronts_stay _
+pub returns-clause-kept : goal.returns-clause-kept
+returns-clause-kept g c = fronts_stay _

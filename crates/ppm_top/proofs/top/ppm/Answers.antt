@@ -3,21 +3,4 @@ use Rattle.ppm_top.proofs.top.ppm.Goals as goal
 
 -- the rows follow from the answer that was delivered
 pub returns-clause-rows : goal.returns-clause-rows
-returns-clause-rows g c = program_rows (record {
-  runs = c.answers_are_one.ensures.one;
-  fronts = c.answers_are_one.ensures.front;
-  meant = c.runs_are_as_programs.ensures.law;
-  complete = c.runs_complete.ensures.law;
-  sums = c.examples_sum_up.ensures.law;
-  legs = c.runs_in_legs_are_as_programs.ensures.law;
-  comes = c.left_words_come_back.ensures.law;
-  resumes = c.resumes_complete.ensures.law;
-  leave = c.stops_leave_states.ensures.law;
-  outcomes = c.outcomes_have_one_answer.ensures.law;
-  codes = c.codes_have_one_answer.ensures.law;
-  faithful = c.codes_are_faithful.ensures.law;
-  listings = c.listings_have_one_answer.ensures.law;
-  plans = c.have_one_answer.ensures.law;
-  replays = c.have_one_answer-2.ensures.law;
-  stops = c.have_one_answer-3.ensures.law;
-}) _ _ _ c.answer_words.ensures.answers
+returns-clause-rows g c = program_rows c.program_laws.ensures.law _ _ _ c.answer_words.ensures.answers

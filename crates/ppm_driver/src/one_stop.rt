@@ -1,0 +1,20 @@
+//! That a text has one answer where it is stopped, shown by a call that does nothing.
+ghost use Rattle.ppm_driver.specs.Stops.{HaveOneAnswer};
+
+use ppm_layout::images_are_one;
+use ppm_plan::have_one_answer as schedules_have_one_answer;
+use ppm_program::have_one_answer as texts_have_one_program;
+use ppm_rows::trees_are_within;
+
+/// With all options and each schedule a text has one answer at most: the schedule is refused by one
+/// number, or the text is refused for one reason, or the state behind its program's run is saved as
+/// one text. With options in their ranges a text that is not refused has one.
+pub fn stops_have_one_answer()
+    ensures law { HaveOneAnswer }
+{
+    // The law rests on these; the calls do nothing.
+    texts_have_one_program();
+    trees_are_within();
+    images_are_one();
+    schedules_have_one_answer();
+}

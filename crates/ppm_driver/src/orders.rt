@@ -1,0 +1,108 @@
+//! What the processors of a machine are told to do: a plan of faults, or a schedule.
+ghost use Rattle.std.specs.Prelude.{◌≡◌, ℕ, IfErr, IfOk, List};
+ghost use Rattle.std.specs.Int.{IsInRange};
+ghost use Rattle.ppm_ports.specs.Ports.{port};
+ghost use Rattle.ppm_plan.specs.Correct.{HaveOneAnswer, HasOneAnswer};
+ghost use Rattle.ppm_plan.specs.Forms.{Form};
+ghost use Rattle.ppm_plan.specs.Refusals.{IsAccepted, IsRefused};
+ghost use Rattle.ppm_tree.specs.Tree.{tree_of};
+ghost use Rattle.ppm_cut_bounds.specs.Bounds.{IsWithinBounds};
+ghost use Rattle.ppm_loading.specs.Programs.{ReadsProgram};
+ghost use Rattle.ppm_driver.specs.Orders.{NoTaskMay};
+
+use ppm_answers::Answer;
+use ppm_loading::{read_program, refusal_answer};
+use ppm_plan::{
+    Plan, PlanError, PlanItem, Schedule, ScheduleItem, have_one_answer, read_plan, read_schedule,
+};
+use ppm_ports::Source;
+use ppm_regions::Admitted;
+use std::alloc::Global;
+
+/// Orders to the processors of a machine, which a text says.
+pub(crate) trait Orders: Sized + Drop {
+    /// What stands between two commas of the text.
+    type Item;
+
+    /// The form of the texts.
+    ghost form: { Form Self.Item };
+
+    /// For how many processors they are.
+    ghost count: { Self → ℕ };
+
+    /// The items, in the order of the text.
+    ghost items: { Self → List Self.Item };
+
+    /// Of the law of all texts that of this form.
+    ghost one: { HaveOneAnswer → HasOneAnswer form };
+
+    /// The orders that a text says for so many processors, or the one reason why it says none.
+    fn read(alloc: Global, text: &[u8], processors: u32) -> Result<Self, PlanError>
+        requires { IsInRange 1 64 processors }
+        ensures accepted { IfOk result (λ orders. IsAccepted form text.now processors (items orders)) }
+        ensures count { IfOk result (λ orders. count orders ≡ processors) }
+        ensures refused { IfErr result (IsRefused form text.now processors) };
+}
+
+impl Orders for Plan {
+    ghost use Rattle.ppm_plan.specs.Forms.{plan_form};
+
+    type Item = PlanItem;
+
+    ghost form = { plan_form };
+
+    ghost count = { λ plan. plan.processors };
+
+    ghost items = { λ plan. plan.items };
+
+    ghost one = { λ law. law.plans };
+
+    fn read(alloc: Global, text: &[u8], processors: u32) -> Result<Plan, PlanError> {
+        read_plan(alloc, text, processors)
+    }
+}
+
+impl Orders for Schedule {
+    ghost use Rattle.ppm_plan.specs.Forms.{schedule_form};
+
+    type Item = ScheduleItem;
+
+    ghost form = { schedule_form };
+
+    ghost count = { λ schedule. schedule.processors };
+
+    ghost items = { λ schedule. schedule.items };
+
+    ghost one = { λ law. law.schedules };
+
+    fn read(alloc: Global, text: &[u8], processors: u32) -> Result<Schedule, PlanError> {
+        read_schedule(alloc, text, processors)
+    }
+}
+
+/// What a command has to run: the orders of a text come first, and then the program of what is read.
+/// `Err` is the answer where there is none; where the orders are refused, the source is left unread.
+pub(crate) fn read_task<O: Orders, S: Source>(
+    alloc: Global,
+    text: &[u8],
+    processors: u32,
+    source: &mut S,
+) -> Result<(O, Admitted), Answer>
+    requires { IsInRange 1 64 processors }
+    ensures accepted { IfOk result (λ task. IsAccepted O.form text.now processors (O.items task.0)) }
+    ensures count { IfOk result (λ task. O.count task.0 ≡ processors) }
+    ensures program { IfOk result (λ task. ReadsProgram (port S.left S.fault_count source.old source.new) (tree_of task.1)) }
+    ensures bounded { IfOk result (λ task. IsWithinBounds (tree_of task.1)) }
+    ensures none { IfErr result (NoTaskMay O.form text.now processors (port S.left S.fault_count source.old source.new)) }
+    ensures one { HasOneAnswer O.form }
+{
+    // Orders that are accepted are not refused, by this law; the call does nothing.
+    have_one_answer();
+    match O::read(alloc, text, processors) {
+        Ok(orders) => {
+            let program = read_program(alloc, source)?;
+            Ok((orders, program))
+        }
+        Err(error) => Err(refusal_answer(error)),
+    }
+}

@@ -1,0 +1,24 @@
+use Rattle.ppm_top.proofs.laws.program_laws.Goals as goal
+
+-- each is one of a crate below
+pub returns : goal.returns
+returns c = record {
+  law = record {
+    runs = c.answers_are_one.ensures.one;
+    fronts = c.answers_are_one.ensures.front;
+    meant = c.runs_are_as_programs.ensures.law;
+    complete = c.runs_complete.ensures.law;
+    sums = c.examples_sum_up.ensures.law;
+    legs = c.runs_in_legs_are_as_programs.ensures.law;
+    comes = c.left_words_come_back.ensures.law;
+    resumes = c.resumes_complete.ensures.law;
+    leave = c.stops_leave_states.ensures.law;
+    outcomes = c.outcomes_have_one_answer.ensures.law;
+    codes = c.codes_have_one_answer.ensures.law;
+    faithful = c.codes_are_faithful.ensures.law;
+    listings = c.listings_have_one_answer.ensures.law;
+    plans = c.have_one_answer.ensures.law;
+    replays = c.replays_have_one_answer.ensures.law;
+    stops = c.stops_have_one_answer.ensures.law;
+  };
+}

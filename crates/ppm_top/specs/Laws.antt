@@ -1,0 +1,33 @@
+-- The laws on which the rows of the program rest.
+use Rattle.ppm_plan.specs.Correct.{HaveOneAnswer as PlansHaveOneAnswer}
+use Rattle.ppm_commands.specs.Check.{HaveOneAnswer as ListingsHaveOneAnswer}
+use Rattle.ppm_commands.specs.Code.{CodesAreFaithful, HaveOneAnswer as CodesHaveOneAnswer}
+use Rattle.ppm_commands.specs.Serial.{HaveOneAnswer as OutcomesHaveOneAnswer}
+use Rattle.ppm_driver.specs.Completeness.{RunsComplete}
+use Rattle.ppm_driver.specs.Examples.{ExamplesSumUp}
+use Rattle.ppm_driver.specs.Legs.{RunsInLegsAreAsPrograms}
+use Rattle.ppm_driver.specs.Meant.{RunsAreAsPrograms}
+use Rattle.ppm_driver.specs.Replays.{HaveOneAnswer as ReplaysHaveOneAnswer}
+use Rattle.ppm_driver.specs.ResumeCompleteness.{ResumesComplete}
+use Rattle.ppm_driver.specs.Resumes.{LeftWordsComeBack, StopsLeaveStates}
+use Rattle.ppm_driver.specs.Runs.{AnswersAreOne, FrontsDecideAnswers}
+use Rattle.ppm_driver.specs.Stops.{HaveOneAnswer as StopsHaveOneAnswer}
+
+-- what the crates of the commands show of every text
+pub record ProgramLaws : Type 0 where
+  pub runs : AnswersAreOne
+  pub fronts : FrontsDecideAnswers
+  pub meant : RunsAreAsPrograms
+  pub complete : RunsComplete
+  pub sums : ExamplesSumUp
+  pub legs : RunsInLegsAreAsPrograms
+  pub comes : LeftWordsComeBack
+  pub resumes : ResumesComplete
+  pub leave : StopsLeaveStates
+  pub outcomes : OutcomesHaveOneAnswer
+  pub codes : CodesHaveOneAnswer
+  pub faithful : CodesAreFaithful
+  pub listings : ListingsHaveOneAnswer
+  pub plans : PlansHaveOneAnswer
+  pub replays : ReplaysHaveOneAnswer
+  pub stops : StopsHaveOneAnswer

@@ -1,0 +1,34 @@
+//! The laws of all commands, shown by a call that does nothing.
+ghost use Rattle.ppm_top.specs.Laws.{ProgramLaws};
+
+use ppm_commands::{
+    codes_are_faithful, codes_have_one_answer, listings_have_one_answer, outcomes_have_one_answer,
+};
+use ppm_driver::{
+    answers_are_one as runs_have_one_answer, examples_sum_up, left_words_come_back,
+    replays_have_one_answer, resumes_complete, runs_are_as_programs, runs_complete,
+    runs_in_legs_are_as_programs, stops_have_one_answer, stops_leave_states,
+};
+use ppm_plan::have_one_answer as plans_have_one_answer;
+
+/// What the crates of the commands show of every text: all laws on which the rows of `ppm` rest.
+pub fn program_laws()
+    ensures law { ProgramLaws }
+{
+    // It rests on the laws of these crates; the calls do nothing.
+    runs_have_one_answer();
+    runs_are_as_programs();
+    runs_complete();
+    examples_sum_up();
+    runs_in_legs_are_as_programs();
+    left_words_come_back();
+    resumes_complete();
+    stops_leave_states();
+    outcomes_have_one_answer();
+    codes_have_one_answer();
+    codes_are_faithful();
+    listings_have_one_answer();
+    plans_have_one_answer();
+    replays_have_one_answer();
+    stops_have_one_answer();
+}
