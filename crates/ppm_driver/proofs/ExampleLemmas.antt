@@ -23,7 +23,7 @@ use Rattle.ppm_program.specs.Programs.{HasProgram}
 use Rattle.ppm_plan.specs.declared.plan_item.PlanItem.{PlanItem}
 use Rattle.ppm_loading.specs.Programs.{ProgramMay, RefusedHas}
 use Rattle.ppm_driver.specs.Examples.{AreForks, ExampleMay, ExampleTells, ExampleWants, HasRun, ProgramSums, ProgramWants, items_of, run_options_of, text_of}
-use Rattle.ppm_driver.specs.Runs.{ProgramHas, ProgramRefused, RunTold}
+use Rattle.ppm_driver.specs.Runs.{ProgramHas, ProgramGivenUp, RunTold}
 use Rattle.ppm_driver.specs.Runs as runs
 use Rattle.ppm_driver.specs.Watchers.{OthersKeep, ToldNothing, ToldWhole}
 use Rattle.ppm_driver.proofs.WantLemmas.{map_want, map_wanting}
@@ -84,7 +84,7 @@ module _ (o : SelfOptions) (before now : ToldLists) (t : ProgramTree) where
     where
       lifted : ProgramWants o before now t → ExampleWants o before now
       lifted w =
-          map_want (λ (r : ProgramRefused (run_options_of o) before now (items_of o) t). (t, has, r))
+          map_want (λ (r : ProgramGivenUp (run_options_of o) before now (items_of o) t). (t, has, r))
           (λ (r : (a : Answer) × HasRun o before now t a). (r.0, (t, has, r.1))) w
 
   -- an answer of the program is one of the example

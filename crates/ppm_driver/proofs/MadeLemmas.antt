@@ -15,7 +15,7 @@ use Rattle.ppm_answers.specs.Reading.{Reads}
 use Rattle.ppm_answers.proofs.WholeText.{whole_read}
 use Rattle.ppm_cli.specs.declared.run.RunOptions.{RunOptions}
 use Rattle.ppm_loading.specs.Programs.{ReadsProgram}
-use Rattle.ppm_driver.specs.Runs.{ProgramHas, ProgramRefused, ProgramWants, OfSource, RunMade, RunMay, RunTold, RunTells, RunWants}
+use Rattle.ppm_driver.specs.Runs.{ProgramHas, ProgramGivenUp, ProgramWants, OfSource, RunMade, RunMay, RunTold, RunTells, RunWants}
 use Rattle.ppm_driver.specs.Watchers.{ToldAtWant, ToldNothing, ToldWhole}
 use Rattle.ppm_driver.proofs.WantLemmas.{map_want, map_wanting}
 
@@ -49,7 +49,7 @@ source_tells options watching before now items t source r plan accepted a told =
     lifted : ProgramWants options watching before now items t → RunWants options watching plan before now source
     lifted w =
         map_want
-        (λ (x : ProgramRefused options before now items t). of_source options plan source (ProgramRefused options before now) r.0 r.1 t r.2 items accepted x)
+        (λ (x : ProgramGivenUp options before now items t). of_source options plan source (ProgramGivenUp options before now) r.0 r.1 t r.2 items accepted x)
         (λ (x : (a : Answer) × ProgramHas options watching before now items t a). (
           x.0,
           of_source options plan source (λ items t. ProgramHas options watching before now items t x.0) r.0 r.1 t r.2 items accepted x.1,

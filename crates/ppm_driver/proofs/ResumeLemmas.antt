@@ -56,12 +56,12 @@ use Rattle.ppm_table.specs.Shown.{opening_of}
 use Rattle.ppm_table.specs.declared.processor.Shared.{Shared}
 use Rattle.ppm_table.specs.declared.view.Opening.{Opening}
 use Rattle.ppm_threads.specs.Driven.{Driven, OthersStay, WasRefused}
-use Rattle.ppm_driver.specs.RunOf.{words_behind, finish_behind, RefusedRun}
+use Rattle.ppm_driver.specs.RunOf.{words_behind, finish_behind, RunGivenUp}
 use Rattle.ppm_driver.specs.Runs.{IsSaid, RunTold}
-use Rattle.ppm_driver.specs.Watchers.{AreTold, OthersKeep, ToldNothing, ToldRefused, ToldWhole}
-use Rattle.ppm_driver.specs.Resumes.{SavedState, saved_finish, IsTextOf, named, limits_of, plan_of, ResumedHas, ResumedRefused, IsBrokenBefore, OfState, ByItems, ItemsHave, ItemsWant, StateHas, StateWants, TextHas, TextWants, TextTells, ResumeMay, ResumeWants, ResumeTells, FrontsDecideResumed, refusal_of, state_of}
+use Rattle.ppm_driver.specs.Watchers.{AreTold, OthersKeep, ToldNothing, ToldInPart, ToldWhole}
+use Rattle.ppm_driver.specs.Resumes.{SavedState, saved_finish, IsTextOf, named, limits_of, plan_of, ResumedHas, ResumedGivenUp, IsBrokenBefore, OfState, ByItems, ItemsHave, ItemsWant, StateHas, StateWants, TextHas, TextWants, TextTells, ResumeMay, ResumeWants, ResumeTells, FrontsDecideResumed, refusal_of, state_of}
 use Rattle.ppm_driver.proofs.RunLemmas.{not_spent, room_finish, proposed_of, spent_ending, spent_answer}
-use Rattle.ppm_driver.proofs.WatchLemmas.{are_told, if_wanting, told_none}
+use Rattle.ppm_driver.proofs.WatchLemmas.{are_told, if_wanting, others_keep, told_none}
 use Rattle.ppm_driver.proofs.WantLemmas.{lists_refused, map_want, map_wanting}
 
 -- that a processor has made its turns is an answer, and that a run has no end is none
@@ -337,7 +337,7 @@ module _ (options : ResumeOptions) (before now : ToldLists) where
     where
       lifted : ItemsWant options before now items z → StateWants options plan before now z
       lifted w =
-          map_want (λ (r : ResumedRefused options before now items z). record { items = items; accepted = accepted; has = r })
+          map_want (λ (r : ResumedGivenUp options before now items z). record { items = items; accepted = accepted; has = r })
           (λ (r : (a : Answer) × ResumedHas options before now items z a). (r.0, record { items = items; accepted = accepted; has = r.1 })) w
 
   -- that is told of the text of the state, and of the source from which this was read
@@ -351,7 +351,7 @@ module _ (options : ResumeOptions) (before now : ToldLists) where
     where
       lifted : StateWants options plan before now z → TextWants options plan before now text
       lifted w =
-          map_want (λ (r : ByItems plan (ResumedRefused options before now) z). record { state = z; is = is; has = r })
+          map_want (λ (r : ByItems plan (ResumedGivenUp options before now) z). record { state = z; is = is; has = r })
           (λ (r : (a : Answer) × ByItems plan (λ items z. ResumedHas options before now items z a) z). (r.0, record { state = z; is = is; has = r.1 })) w
 
   pub source_tells : (plan : List ℕ) (source : Port) (text : List ℕ) → Reads saved_limit source text → (a : Answer)
@@ -364,7 +364,7 @@ module _ (options : ResumeOptions) (before now : ToldLists) where
     where
       lifted : TextWants options plan before now text → ResumeWants options plan before now source
       lifted w =
-          map_want (λ (r : OfState (ByItems plan (ResumedRefused options before now)) text). (text, reads, r))
+          map_want (λ (r : OfState (ByItems plan (ResumedGivenUp options before now)) text). (text, reads, r))
           (λ (r : (a : Answer) × OfState (ByItems plan (λ items z. ResumedHas options before now items z a)) text). (r.0, (text, reads, r.1))) w
 
   -- where an answer may come, want of memory may, with what was told of it
@@ -507,16 +507,20 @@ module _ {W : Type 0} (told : W → Option (List Event)) (options : ResumeOption
       (renewed : AreRenewed z.shape z.words words) (is : IsCode z.code) (same : plan.processors ≡ z.shape.processors)
       (spared : IsKeeper plan_form plan.items keeper) (below : keeper < z.shape.processors) (many : length new ≡ length old)
       (enough : z.shape.processors ≤ length old) where
-    -- of a run in which a watcher refused
-    state_refused : WasRefused told plan (limits_of options) (k words) old new → ResumedRefused options (map told old) (map told new) plan.items z
-    state_refused r =
+    -- of a run that was given up
+    state_given_up : OthersStay z.shape.processors old new → WasRefused told plan (limits_of options) (k words) old new
+        → ResumedGivenUp options (map told old) (map told new) plan.items z
+    state_given_up others r =
         let m = loaded z.shape z.code (lengths_of z.arrays) words in
+        let lists : RunGivenUp plan (limits_of options) m (map told old) (map told new) = record {
+          in_part = lists_refused told plan (limits_of options) (k words) old new w many enough r;
+          others = others_keep told z.shape.processors old new w many others;
+        } in
         record {
           stands = stands;
           start = m;
           goes_on = record { words = words; renewed = renewed; loads = refl };
-          run = subst (λ (p : Planned). RefusedRun p (limits_of options) m (map told old) (map told new)) (same_plan z plan same)
-              (lists_refused told plan (limits_of options) (k words) old new w many enough r);
+          run = subst (λ (p : Planned). RunGivenUp p (limits_of options) m (map told old) (map told new)) (same_plan z plan same) lists;
         }
 
     -- of a whole run
@@ -573,11 +577,12 @@ module _ {W : Type 0} (told : W → Option (List Event)) (options : ResumeOption
         (subst (λ (l : Limits). Driven told plan l (opening_of shared) behind old new) limits_are d)
 
     -- where a drive met want of memory
-    pub renewed_wanting : (new ≡ old) ⊎ WasRefused told plan limits (opening_of shared) old new
+    pub renewed_wanting : OthersStay (opening_of shared).shape.processors old new
+        → (new ≡ old) ⊎ WasRefused told plan limits (opening_of shared) old new
         → ItemsWant options (map told old) (map told new) plan.items z
-    renewed_wanting (inl still) = ToldNothing (ap (λ (ws : List W). map told ws) still)
-    renewed_wanting (inr refused) = ToldRefused
-        (state_refused stands keeper r.image.words old new w words_renewed code_there same spared below many enough
+    renewed_wanting others (inl still) = ToldNothing (ap (λ (ws : List W). map told ws) still)
+    renewed_wanting others (inr refused) = ToldInPart
+        (state_given_up stands keeper r.image.words old new w words_renewed code_there same spared below many enough (others_there others)
         (subst (λ (o : Opening). WasRefused told plan (limits_of options) o old new) opening_is
         (subst (λ (l : Limits). WasRefused told plan l (opening_of shared) old new) limits_are refused)))
 

@@ -34,19 +34,19 @@ use Rattle.ppm_loading.specs.declared.loading.Sizes.{Sizes}
 use Rattle.ppm_loading.specs.Loading.{AreSizes, OpensRun, opened_by}
 use Rattle.ppm_choice.specs.Deeds.{work_made}
 use Rattle.ppm_choice.specs.Finishes.{Finishes, Proposed, Spent, Stood}
-use Rattle.ppm_driver.specs.RunOf.{words_behind, finish_behind, RefusedRun}
+use Rattle.ppm_driver.specs.RunOf.{words_behind, finish_behind, RunGivenUp}
 use Rattle.ppm_loading.specs.Says.{IsTheOne, IsOfFinish, IsOfEnding}
 use Rattle.ppm_table.specs.Closed.{Closing}
 use Rattle.ppm_table.specs.Shown.{opening_of}
 use Rattle.ppm_table.specs.declared.processor.Shared.{Shared}
 use Rattle.ppm_threads.specs.Driven.{Driven, OthersStay, WasRefused}
-use Rattle.ppm_driver.specs.Runs.{plan_of, limits_of, sizes_of, IsSaid, ProgramHas, ProgramRefused, ProgramWants, RunTold, TextHas, RunHas}
+use Rattle.ppm_driver.specs.Runs.{plan_of, limits_of, sizes_of, IsSaid, ProgramHas, ProgramGivenUp, ProgramWants, RunTold, TextHas, RunHas}
 use Rattle.ppm_loading.specs.Planned.{PlannedHas, HasByItems}
-use Rattle.ppm_driver.specs.Watchers.{AreTold, OthersKeep, ToldNothing, ToldRefused, ToldWhole}
+use Rattle.ppm_driver.specs.Watchers.{AreTold, OthersKeep, ToldNothing, ToldInPart, ToldWhole}
 use Rattle.ppm_driver.proofs.EndLemmas.{unset_opened, has_finished}
 use Rattle.ppm_loading.proofs.LoadingLemmas.{opens_processors}
 use Rattle.ppm_loading.proofs.ProgramLemmas.{AreKinds}
-use Rattle.ppm_driver.proofs.WatchLemmas.{are_told, stays}
+use Rattle.ppm_driver.proofs.WatchLemmas.{are_told, others_keep, stays}
 use Rattle.ppm_driver.proofs.WantLemmas.{lists_refused}
 use Rattle.ppm_loading.proofs.SayLemmas.{ending_is, one_of_ending, some_of_proposed, of_proposed}
 
@@ -314,24 +314,29 @@ module _ {W : Type 0} (told : W → Option (List Event)) (options : RunOptions) 
     count : (opening_of shared).shape.processors ≡ options.processors
     count = opens_processors (sizes_of options) (code_of t) (initial_arrays t) keeper (opened_by shared) begins
 
-    -- of a run in which a watcher refused
-    program_refused : WasRefused told plan limits (opening_of shared) old new → ProgramRefused options (map told old) (map told new) plan.items t
-    program_refused r =
-        let lists = lists_refused told plan limits (opening_of shared) old new w many (omega (arith, enough, count)) r in
+    -- of a run that was given up
+    program_given_up : OthersStay (opening_of shared).shape.processors old new → WasRefused told plan limits (opening_of shared) old new
+        → ProgramGivenUp options (map told old) (map told new) plan.items t
+    program_given_up others r =
+        let lists : RunGivenUp plan limits (opened_by shared) (map told old) (map told new) = record {
+          in_part = lists_refused told plan limits (opening_of shared) old new w many (omega (arith, enough, count)) r;
+          others = others_keep told (opening_of shared).shape.processors old new w many others;
+        } in
         record {
           keeper = keeper;
           spared = spared;
           start = opened_by shared;
           opens = begins;
-          run = subst (λ (p : Planned). RefusedRun p (limits_of options) (opened_by shared) (map told old) (map told new)) (same_plan options plan same)
-              (subst (λ (l : Limits). RefusedRun plan l (opened_by shared) (map told old) (map told new)) limits_are lists);
+          run = subst (λ (p : Planned). RunGivenUp p (limits_of options) (opened_by shared) (map told old) (map told new)) (same_plan options plan same)
+              (subst (λ (l : Limits). RunGivenUp plan l (opened_by shared) (map told old) (map told new)) limits_are lists);
         }
 
     -- where a drive met want of memory
-    pub program_wanting : (new ≡ old) ⊎ WasRefused told plan limits (opening_of shared) old new
+    pub program_wanting : OthersStay (opening_of shared).shape.processors old new
+        → (new ≡ old) ⊎ WasRefused told plan limits (opening_of shared) old new
         → ProgramWants options options.processors (map told old) (map told new) plan.items t
-    program_wanting (inl still) = ToldNothing (ap (λ (ws : List W). map told ws) still)
-    program_wanting (inr r) = ToldRefused (program_refused r)
+    program_wanting others (inl still) = ToldNothing (ap (λ (ws : List W). map told ws) still)
+    program_wanting others (inr r) = ToldInPart (program_given_up others r)
 
     -- of a whole run
     module _ (words : List ℕ) (others : OthersStay (opening_of shared).shape.processors old new) (d : Driven told plan limits (opening_of shared) words old new) where

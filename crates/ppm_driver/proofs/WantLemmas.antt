@@ -8,7 +8,7 @@ use Rattle.ppm_table.specs.declared.view.Opening.{Opening}
 use Rattle.ppm_threads.specs.Driven.{WasRefused, IsToldOf, HasQuitIn}
 use Rattle.ppm_answers.specs.declared.answer.Answer.{Answer}
 use Rattle.ppm_answers.specs.declared.answer.Answer.TheVariants as answers
-use Rattle.ppm_driver.specs.Watchers.{ToldAtWant, ToldNothing, ToldRefused, ToldWhole, IfWanting}
+use Rattle.ppm_driver.specs.Watchers.{ToldAtWant, ToldNothing, ToldInPart, ToldWhole, IfWanting}
 
 -- nobody was told anything
 pub nothing_told : (R V : Type 0) (lists : ToldLists) → ToldAtWant R V lists lists
@@ -17,7 +17,7 @@ nothing_told R V lists = ToldNothing refl
 -- of such runs, and so of such others
 pub map_want : {R S V W : Type 0} {before now : ToldLists} → (R → S) → (V → W) → ToldAtWant R V before now → ToldAtWant S W before now
 map_want refused whole (ToldNothing still) = ToldNothing still
-map_want refused whole (ToldRefused r) = ToldRefused (refused r)
+map_want refused whole (ToldInPart r) = ToldInPart (refused r)
 map_want refused whole (ToldWhole v) = ToldWhole (whole v)
 
 pub map_wanting : {T S : Type 0} → (T → S) → (a : Answer) → IfWanting T a → IfWanting S a

@@ -1,4 +1,4 @@
--- The theorem on `run`, for whoever reads its contract: what stands behind its answer, at each status.
+-- The theorem on `run`, for whoever reads its contract: what holds of its answer, at each status.
 use Rattle.std.specs.Prelude.{◌≡◌, ◌<◌, ◌≤◌, ◌⊎◌, ℕ, List, [], Some}
 use Rattle.ppm_words.specs.declared.named_array.NamedArray.{NamedArray}
 use Rattle.ppm_words.specs.declared.outcome.Outcome.{Outcome}
@@ -29,7 +29,7 @@ use Rattle.ppm_driver.specs.Strikes.{fault_count}
 module _ (options : RunOptions) (watching : ℕ) (plan : List ℕ) (o : Outside) where
   -- A run of the program whose text was read, by a plan that was accepted, so it spares a processor, the keeper. The turns of all processors are in
   -- one order, from the machine with which a run of the program begins, its root with the keeper, and each processor obeys the plan and the limits
-  -- in them. The words behind them say this answer, and the finish word there has its cause in them. What each watcher was told is its processor's
+  -- in them. The words after them say this answer, and the finish word there has its cause in them. What each watcher was told is its processor's
   -- record of these turns, with event 7 where it parked; of a watcher that shows no list that says nothing, as `read` does of a source that shows no
   -- bytes.
   abbrev pub Made : Answer → Type 0
@@ -64,7 +64,7 @@ module _ (options : RunOptions) (watching : ℕ) (plan : List ℕ) (o : Outside)
     pub needs : NeedsMoreRoom made.program options.room
     pub once : NoneIsTakenTwice made.ran.start made.ran.run.turns
 
-  -- the text that was read is refused, and so are all bytes of the source, where they are known; the plan is accepted
+  -- the text that was read is refused, and all bytes of the source are, where they are known; the plan is accepted; nobody was told anything
   pub record RefusesText (r : Refusal) : Type 0 where
     pub text : List ℕ
     pub read : Reads text_limit o.source text
@@ -73,13 +73,13 @@ module _ (options : RunOptions) (watching : ℕ) (plan : List ℕ) (o : Outside)
     pub accepted : SomeAccepted plan_form plan options.processors
     pub untold : IsUntold
 
-  -- the plan is refused by a number, and nothing was read
+  -- the plan is refused by a number; nothing was read, and nobody was told anything
   pub record RefusesPlan (number : ℕ) : Type 0 where
     pub refused : IsRefusedBy plan_form plan options.processors number
     pub unread : IsUnread o.source
     pub untold : IsUntold
 
-  -- the source failed, and the plan is accepted
+  -- the source failed, and the plan is accepted; nobody was told anything
   pub record FailsToRead : Type 0 where
     pub fails : Fails o.source
     pub front : ReadsSome text_limit o.source
@@ -87,7 +87,7 @@ module _ (options : RunOptions) (watching : ℕ) (plan : List ℕ) (o : Outside)
     pub untold : IsUntold
 
   -- What holds of an answer, also where a port failed at its texts. Where memory is wanting, either nobody was told anything, or what watchers were
-  -- told is of one run of this kind: up to where one refused, or all of it.
+  -- told is of one run of this kind: of one that was given up, or of a whole one.
   abbrev pub HoldsOf : Answer → Type 0
   HoldsOf (answers.Ended arrays) = EndsSo (answers.Ended arrays) (outcome.Ended arrays)
   HoldsOf (answers.Trapped trap line) = EndsSo (answers.Trapped trap line) (outcome.Trapped trap line)

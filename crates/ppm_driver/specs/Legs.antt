@@ -1,4 +1,4 @@
--- What runs in legs of a program's machine come to, in the words of the program's serial meaning: turns, the words behind them that came back,
+-- What runs in legs of a program's machine come to, in the words of the program's serial meaning: turns, the words after them that came back,
 -- turns of fresh processors, and so on.
 use Rattle.std.specs.Prelude.{◌≡◌, ◌≢◌, ◌≤◌, ◌<◌, ℕ, ◌+◌, ◌*◌, ◌^◌, List, [], ◌∷◌, Some, None, length}
 use Rattle.std.specs.List.{AllByRecursion}
@@ -35,9 +35,9 @@ abbrev pub faults_then : List Leg → ℕ
 faults_then [] = 0
 faults_then (leg ∷ legs) = faults_then legs + faults_in leg.turns
 
--- the legs of a run from a machine, the latest first, and the turns behind them
+-- the legs of a run from a machine, the latest first, and the turns after them
 module _ (m : Situation) (legs : List Leg) (turns : List Turn) where
-  -- the words behind all of them, and the finish word
+  -- the words after all of them, and the finish word
   abbrev pub words_at_last : List ℕ
   words_at_last = (last_state m.shape m.code m.state.words legs turns).words
 
@@ -84,11 +84,11 @@ module _ (m : Situation) (legs : List Leg) (turns : List Turn) where
     pub branches : EachIsTakenOnceInAll
     pub forks : (e : CapsuleEnd Result) → ComesTo (code_of t) (initial_arrays t) e → length forked_in_all ≡ e.counts.forks
 
-  -- What holds behind them. No branch is taken twice. Where the finish word says an outcome the run ends as the program does, with the arrays
+  -- What holds after them. No branch is taken twice. Where the finish word says an outcome the run ends as the program does, with the arrays
   -- of the words then, or this trap; where it says that a pool is full, it is that of a place, and the program takes more words. All work turns
   -- are fewer than 256 for each capsule that the program's code runs depth first, if that run ends, each fault that strikes a row of work, and each
   -- fresh processor; no more faults strike one than turns are faults. No place has given out more of its pool than that run takes. The finish word
-  -- stands for a finish; that words are broken it says only behind more than 2^34 work turns, where words came back at most 2^50 times.
+  -- stands for a finish; that words are broken it says only after more than 2^34 work turns, where words came back at most 2^50 times.
   pub record IsAsProgramInAll (t : ProgramTree) : Type 0 where
     pub once : NoneIsTakenTwiceInAll
     pub ended : finish_of finish_at_last ≡ Some finishes.Ended

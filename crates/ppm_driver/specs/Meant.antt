@@ -84,7 +84,7 @@ module _ (m : Situation) (turns : List Turn) where
   abbrev pub struck_in : ℕ
   struck_in = strikes_in m.shape m.code m.state turns
 
-  -- how many of them undo work: those that strike a row of work, and with takeover by entries hard ones too that close a place behind its push
+  -- how many of them undo work: those that strike a row of work, and with takeover by entries hard ones too that close a place after its push
   abbrev pub undone_in : ℕ
   undone_in = undone_among m.shape m.code m.state turns
 
@@ -100,9 +100,9 @@ module _ (m : Situation) (turns : List Turn) where
     pub branches : EachIsTakenOnce
     pub forks : (e : CapsuleEnd Result) → ComesTo (code_of t) (initial_arrays t) e → length forked_in ≡ e.counts.forks
 
-  -- What holds behind these turns. No branch is taken twice. Where the finish word says an outcome the run ends as the program does, with the
+  -- What holds after these turns. No branch is taken twice. Where the finish word says an outcome the run ends as the program does, with the
   -- arrays of the words then, or this trap; where it says that a pool is full, it is that of a place, and the program takes more words. That words
-  -- are broken it says only behind more than 2^34 work turns. All work turns are fewer than 256 for each capsule that the program's code runs depth
+  -- are broken it says only after more than 2^34 work turns. All work turns are fewer than 256 for each capsule that the program's code runs depth
   -- first, if that run ends, and each fault that undoes work; no more do so than turns are faults. No place has given out more of its pool than that
   -- run takes.
   pub record IsAsProgram (t : ProgramTree) : Type 0 where

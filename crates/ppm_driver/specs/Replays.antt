@@ -41,8 +41,8 @@ IsSaid turns m arrays answer =
     IsOfWords m.shape m.array_lengths m.state.words (λ values. answers.EndedWith values (tally_of m))
     (λ trap line. answers.TrappedWith trap line (tally_of m)) (λ processor a. ⊥) (λ a. a ≡ answers.Unfinished turns) arrays answer
 
--- the answer of a program by the items of a schedule: what the machine's words say behind the run that these say, from the machine with
--- which a run of the program begins, with the schedule's keeper; a finish word behind it that isn't 0 stands for what steps propose, and
+-- the answer of a program by the items of a schedule: what the machine's words say after the run that these say, from the machine with
+-- which a run of the program begins, with the schedule's keeper; a finish word after it that isn't 0 stands for what steps propose, and
 -- where it is 0, exactly as many acts were made as may be; where it says that a pool is full, one of the turns found it so
 pub record ProgramHas (options : ReplayOptions) (items : List ScheduleItem) (t : ProgramTree) (answer : Answer) : Type 0 where
   pub keeper : ℕ
@@ -69,7 +69,7 @@ abbrev pub ReplayMay : ReplayOptions → (schedule : List ℕ) → Port → Answ
 ReplayMay options schedule source answer =
     PlannedMay schedule_form schedule options.processors (TextHas options) text_limit source answer
 
--- With all options and all schedules two answers of a text are one, and what stands behind more bytes than a text may have changes none;
+-- With all options and all schedules two answers of a text are one, and what stands after more bytes than a text may have changes none;
 -- with options in their ranges a text that is not refused has one.
 pub record HaveOneAnswer : Type 0 where
   pub one : (options : ReplayOptions) (schedule : List ℕ) → AreOne (ReplayHas options schedule)

@@ -45,7 +45,7 @@ module _ (options : ResumeOptions) (plan : List ℕ) (o : Outside) where
   Resumed items z answer = ResumedHas options o.told_before o.told_now items z answer
 
   module _ {items : List PlanItem} {z : SavedState} {answer : Answer} (run : Resumed items z answer) where
-    -- behind it no right branch was forked or taken twice, over all of the run of each program that left the state
+    -- after it no right branch was forked or taken twice, over all of the run of each program that left the state
     abbrev pub IsOnce : Type 0
     IsOnce = (source : List ℕ) (left : IsLeftBy source z) → NoneIsTakenTwiceInAll left.start (legs_with left run.start.state.words) run.run.turns
 

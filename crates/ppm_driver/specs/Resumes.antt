@@ -49,7 +49,7 @@ use Rattle.ppm_loading.specs.Loading.{OpensRun}
 use Rattle.ppm_loading.specs.Planned.{IsRefusedBy}
 use Rattle.ppm_loading.specs.declared.loading.Sizes.{Sizes}
 use Rattle.ppm_driver.specs.Legs.{words_at_last, worked_in_all, struck_in_all}
-use Rattle.ppm_driver.specs.RunOf.{RunOf, RefusedRun, words_behind}
+use Rattle.ppm_driver.specs.RunOf.{RunOf, RunGivenUp, words_behind}
 use Rattle.ppm_driver.specs.Runs.{IsSaid, TellsOfTurns}
 use Rattle.ppm_driver.specs.Strikes.{scheduled_faults}
 use Rattle.ppm_driver.specs.Watchers.{AreTold, OthersKeep, ToldAtWant, IfWanting}
@@ -120,16 +120,16 @@ pub record RunOfState (z : SavedState) (Run : Situation → Type 0) : Type 0 whe
   pub run : Run start
 
 -- The answer of a state by the items of a plan, where watchers were told such lists before the run and after it: that of such a run. The answer is
--- what the words say behind it, with the arrays that they have for the state's names.
+-- what the words say after it, with the arrays that they have for the state's names.
 abbrev pub ResumedHas : ResumeOptions → (before now : ToldLists) → List PlanItem → SavedState → Answer → Type 0
 ResumedHas options before now items z answer = RunOfState z (λ (start : Situation).
     RunOf (plan_of z items) (limits_of options) start (AreTold z.shape.processors (plan_of z items) (limits_of options) before now start)
     (IsSaid start.shape start.array_lengths (named z.arrays)) answer)
 
--- such a run in which a watcher refused
-abbrev pub ResumedRefused : ResumeOptions → (before now : ToldLists) → List PlanItem → SavedState → Type 0
-ResumedRefused options before now items z =
-    RunOfState z (λ (start : Situation). RefusedRun (plan_of z items) (limits_of options) start before now)
+-- a run from a state that was given up
+abbrev pub ResumedGivenUp : ResumeOptions → (before now : ToldLists) → List PlanItem → SavedState → Type 0
+ResumedGivenUp options before now items z =
+    RunOfState z (λ (start : Situation). RunGivenUp (plan_of z items) (limits_of options) start before now)
 
 -- the saved finish word stands for nothing, and nobody was told anything
 pub record IsBrokenBefore (before now : ToldLists) (z : SavedState) : Type 0 where
@@ -169,7 +169,7 @@ TextHas options plan before now text answer = OfState (λ z. StateHas options pl
 abbrev pub ResumeMay : ResumeOptions → (plan : List ℕ) → (before now : ToldLists) → Port → Answer → Type 0
 ResumeMay options plan before now source answer = JudgingMay saved_limit (TextHas options plan before now) source answer
 
--- a text is that of a state, and watchers of none of its processors were told nothing; or nobody was told anything
+-- a text is that of a state, and watchers without a processor of it were told nothing; or nobody was told anything
 abbrev pub OthersOfTextKeep : (before now : ToldLists) → (text : List ℕ) → Type 0
 OthersOfTextKeep before now text = (now ≡ before) ⊎ OfState (λ z. OthersKeep z.shape.processors before now) text
 
@@ -177,12 +177,12 @@ abbrev pub OthersOfSourceKeep : (before now : ToldLists) → Port → Type 0
 OthersOfSourceKeep before now source =
     (now ≡ before) ⊎ ((text : List ℕ) × Reads saved_limit source text × OfState (λ z. OthersKeep z.shape.processors before now) text)
 
--- what watchers were told where memory is wanting, where this says of which runs from a state
+-- What watchers were told where memory is wanting: of which runs from a state the parameter `Of` says.
 abbrev pub WantsOf : ResumeOptions → (before now : ToldLists) → ((List PlanItem → SavedState → Type 0) → Type 0) → Type 0
-WantsOf options before now Of = ToldAtWant (Of (ResumedRefused options before now)) ((a : Answer) × Of (λ items z. ResumedHas options before now items z a))
+WantsOf options before now Of = ToldAtWant (Of (ResumedGivenUp options before now)) ((a : Answer) × Of (λ items z. ResumedHas options before now items z a))
     before now
 
--- of one by these items, of one by a plan, of one of the state of a text, and of one of the text that was read
+-- what they were told where memory is wanting: of a run by these items; of a run by a plan; of a run of a text's state; of the text that was read
 abbrev pub ItemsWant : ResumeOptions → (before now : ToldLists) → List PlanItem → SavedState → Type 0
 ItemsWant options before now items z = WantsOf options before now (λ Run. Run items z)
 
@@ -197,7 +197,7 @@ ResumeWants options plan before now source =
     WantsOf options before now (λ Run. (text : List ℕ) × Reads saved_limit source text × OfState (ByItems plan Run) text)
 
 -- what watchers were told where an answer of a text comes: nothing where it or the plan is refused; the causes of an answer of a run say which
--- turns; those of none of the state's processors nothing
+-- turns; watchers without a processor of the state nothing
 abbrev pub TextTells : ResumeOptions → (plan text : List ℕ) → Answer → ToldLists → ToldLists → Type 0
 TextTells options plan text answer before now =
     TellsOfTurns answer before now × OthersOfTextKeep before now text × IfWanting (TextWants options plan before now text) answer
@@ -207,7 +207,7 @@ abbrev pub ResumeTells : ResumeOptions → (plan : List ℕ) → Port → Answer
 ResumeTells options plan source answer before now =
     TellsOfTurns answer before now × OthersOfSourceKeep before now source × IfWanting (ResumeWants options plan before now source) answer
 
--- what stands behind more bytes than a saved text may have changes no answer, with all options and all plans
+-- what stands after more bytes than a saved text may have changes no answer, with all options and all plans
 abbrev pub FrontsDecideResumed : Type 0
 FrontsDecideResumed = (options : ResumeOptions) (plan : List ℕ) (before now : ToldLists)
     → FrontsDecide saved_limit (TextHas options plan before now)
@@ -236,22 +236,22 @@ pub record IsLeftBy (source : List ℕ) (z : SavedState) : Type 0 where
 abbrev pub LeftWordsComeBack : Type 0
 LeftWordsComeBack = (source : List ℕ) (z : SavedState) → IsLeftBy source z → (words : List ℕ) → AreRenewed z.shape z.words words → IsRenewal z.shape z.words words
 
--- the legs of such a run with the one behind which these words come back
+-- the legs of such a run with the one after which these words come back
 abbrev pub legs_with : {source : List ℕ} {z : SavedState} → IsLeftBy source z → (back : List ℕ) → List Leg
 legs_with left back = record { turns = left.turns; back = back } ∷ left.legs
 
--- the state behind turns of a machine with arrays of these names and lengths
+-- the state after turns of a machine with arrays of these names and lengths
 abbrev pub state_behind : Situation → List NamedArray → List Turn → SavedState
 state_behind m arrays turns = record { shape = m.shape; arrays = names_of arrays; code = m.code; words = words_behind m turns }
 
--- With takeover by places, whatever turns are made from the machine with which a run of a text's program begins: the state behind them is left by
+-- With takeover by places, whatever turns are made from the machine with which a run of a text's program begins: the state after them is left by
 -- that text.
 abbrev pub RunsLeaveStates : Type 0
 RunsLeaveStates = (text : List ℕ) (t : ProgramTree) → HasProgram text t → (sizes : Sizes) → sizes.takeover ≡ ByPlaces
     → (keeper : ℕ) (m : Situation) → OpensRun sizes (code_of t) (initial_arrays t) keeper m
     → (turns : List Turn) → AllByRecursion (IsTurnAmong m.shape.processors) turns → IsLeftBy text (state_behind m (initial_arrays t) turns)
 
--- The state behind turns of fresh processors that went on from one that a program left is left by that program too, unless words came back so
+-- The state after turns of fresh processors that went on from one that a program left is left by that program too, unless words came back so
 -- often.
 abbrev pub ResumesLeaveStates : Type 0
 ResumesLeaveStates = (source : List ℕ) (z : SavedState) (left : IsLeftBy source z) → length left.legs + 1 < 2 ^ 50

@@ -28,7 +28,7 @@ use Rattle.ppm_loading.specs.declared.loading.Sizes.{Sizes}
 use Rattle.ppm_loading.specs.Loading.{OpensRun}
 use Rattle.ppm_loading.specs.Planned.{PlannedHas, PlannedMay}
 use Rattle.ppm_loading.specs.Programs as programs
-use Rattle.ppm_driver.specs.RunOf.{RunOf, RefusedRun}
+use Rattle.ppm_driver.specs.RunOf.{RunOf, RunGivenUp}
 use Rattle.ppm_loading.specs.Says.{IsOfWords, IsTheOne}
 use Rattle.ppm_driver.specs.Watchers.{AreTold, OthersKeep, ToldAtWant, IfWanting}
 
@@ -43,7 +43,7 @@ limits_of o = record { turns = o.turns; looks = o.looks; seed = o.seed; idle = o
 abbrev pub plan_of : RunOptions → List PlanItem → Planned
 plan_of options items = record { processors = options.processors; items = items }
 
--- the answer that words say behind a run with these arrays; the run has an end
+-- the answer that words say after a run with these arrays; the run has an end
 abbrev pub IsSaid : Shape → (lengths : List ℕ) → List NamedArray → (words : List ℕ) → Answer → Type 0
 IsSaid s lengths arrays words answer =
     IsOfWords s lengths words answers.Ended answers.Trapped (λ processor a. a ≡ answers.OutOfTurns processor) (λ a. ⊥) arrays answer
@@ -69,10 +69,10 @@ ProgramHas options watching before now items t answer = RunOfProgram options ite
     RunOf (plan_of options items) (limits_of options) start (AreTold watching (plan_of options items) (limits_of options) before now start)
     (IsSaid start.shape start.array_lengths (initial_arrays t)) answer)
 
--- such a run in which a watcher refused
-abbrev pub ProgramRefused : RunOptions → (before now : ToldLists) → List PlanItem → ProgramTree → Type 0
-ProgramRefused options before now items t =
-    RunOfProgram options items t (λ (start : Situation). RefusedRun (plan_of options items) (limits_of options) start before now)
+-- a run of a program that was given up
+abbrev pub ProgramGivenUp : RunOptions → (before now : ToldLists) → List PlanItem → ProgramTree → Type 0
+ProgramGivenUp options before now items t =
+    RunOfProgram options items t (λ (start : Situation). RunGivenUp (plan_of options items) (limits_of options) start before now)
 
 -- that of a text: its program's, or its refusal
 abbrev pub TextHas : RunOptions → (watching : ℕ) → (before now : ToldLists) → List PlanItem → List ℕ → Answer → Type 0
@@ -104,28 +104,28 @@ abbrev pub RunMade : RunOptions → (watching : ℕ) → (plan : List ℕ) → (
 RunMade options watching plan before now source answer =
     OfSource options plan source (λ items t. ProgramHas options watching before now items t answer)
 
--- what watchers were told where memory is wanting, where this says of which runs of a program
+-- What watchers were told where memory is wanting: of which runs of a program the parameter `Of` says.
 abbrev pub WantsOf : RunOptions → (watching : ℕ) → (before now : ToldLists) → ((List PlanItem → ProgramTree → Type 0) → Type 0) → Type 0
-WantsOf options watching before now Of = ToldAtWant (Of (ProgramRefused options before now))
+WantsOf options watching before now Of = ToldAtWant (Of (ProgramGivenUp options before now))
     ((a : Answer) × Of (λ items t. ProgramHas options watching before now items t a)) before now
 
--- of one by these items, and of one of the program of the text that was read
+-- what they were told where memory is wanting: of a run by these items; of a run of the program of the text that was read
 abbrev pub ProgramWants : RunOptions → (watching : ℕ) → (before now : ToldLists) → List PlanItem → ProgramTree → Type 0
 ProgramWants options watching before now items t = WantsOf options watching before now (λ Run. Run items t)
 
 abbrev pub RunWants : RunOptions → (watching : ℕ) → (plan : List ℕ) → (before now : ToldLists) → Port → Type 0
 RunWants options watching plan before now source = WantsOf options watching before now (OfSource options plan source)
 
--- what watchers were told where an answer comes: nothing where there was no run; the causes of an answer of a run say which turns; and each list
--- keeps what it had in front
+-- What watchers were told with an answer: nothing where there was no run. With the answer of a run its causes say which turns. Where memory is
+-- wanting each list keeps what it had in front.
 abbrev pub TellsOfTurns : Answer → ToldLists → ToldLists → Type 0
 TellsOfTurns answer before now = TellsOfRun (λ answer before now. ⊤) answer before now
 
--- and where memory is wanting this; those behind the first so many were told nothing
+-- the same, and this where memory is wanting; the watchers after the first so many were told nothing
 abbrev pub RunTold : (watching : ℕ) → (Wanting : Type 0) → Answer → ToldLists → ToldLists → Type 0
 RunTold watching Wanting answer before now = TellsOfTurns answer before now × OthersKeep watching before now × IfWanting Wanting answer
 
--- that of a run of the text that was read
+-- what watchers were told with an answer of a run of the text that was read
 abbrev pub RunTells : RunOptions → (watching : ℕ) → (plan : List ℕ) → Port → Answer → ToldLists → ToldLists → Type 0
 RunTells options watching plan source answer before now =
     RunTold watching (RunWants options watching plan before now source) answer before now
@@ -134,7 +134,7 @@ RunTells options watching plan source answer before now =
 abbrev pub AnswersAreOne : Type 0
 AnswersAreOne = (options : RunOptions) (plan : List ℕ) → options.processors ≡ 1 → AreOne (RunHas options plan)
 
--- and what stands behind more bytes than a text may have changes none, with all options and all plans, whoever is told anything
+-- what stands after more bytes than a text may have changes no answer, with all options and all plans, whoever is told anything
 abbrev pub FrontsDecideAnswers : Type 0
 FrontsDecideAnswers = (options : RunOptions) (watching : ℕ) (before now : ToldLists) (plan : List ℕ)
     → FrontsDecide text_limit (λ text answer. PlannedHas plan_form plan options.processors (TextHas options watching before now) text answer)

@@ -22,7 +22,7 @@ module _ (options : StopOptions) (schedule : List ℕ) (o : Ports) where
   abbrev pub HasRead : Answer → Type 0
   HasRead answer = machine.HasRead schedule_form schedule options.processors (TextReads options) o answer
 
-  -- the state behind the run of the text that was read is saved, and out got exactly its text, from which this state is read back
+  -- the state after the run of the text that was read is saved, and out got exactly its text, from which this state is read back
   pub record WritesSaved : Type 0 where
     pub text : List ℕ
     pub read : HasRead (answers.Saved text)

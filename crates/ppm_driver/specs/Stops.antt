@@ -41,7 +41,7 @@ text_of m arrays = saved_text m.shape (names_of arrays) m.code m.state.words
 abbrev pub IsReadBack : Situation → List NamedArray → Type 0
 IsReadBack m arrays = IsSavedText (text_of m arrays) m.shape (names_of arrays) m.code m.state.words
 
--- The answer of a program by the items of a schedule: the saved text of the machine behind the run that these say, of at most so many acts,
+-- The answer of a program by the items of a schedule: the saved text of the machine after the run that these say, of at most so many acts,
 -- whatever its finish word is. The run is from the machine with which a run of the program begins, with the schedule's keeper.
 pub record ProgramHas (options : StopOptions) (items : List ScheduleItem) (t : ProgramTree) (answer : Answer) : Type 0 where
   pub keeper : ℕ
@@ -76,7 +76,7 @@ abbrev pub StopMay : StopOptions → (schedule : List ℕ) → Port → Answer �
 StopMay options schedule source answer =
     PlannedMay schedule_form schedule options.processors (TextReads options) text_limit source answer
 
--- With all options and all schedules two answers of a text are one, and what stands behind more bytes than a text may have changes none;
+-- With all options and all schedules two answers of a text are one, and what stands after more bytes than a text may have changes none;
 -- with options in their ranges a text that is not refused has one.
 pub record HaveOneAnswer : Type 0 where
   pub one : (options : StopOptions) (schedule : List ℕ) → AreOne (StopHas options schedule)

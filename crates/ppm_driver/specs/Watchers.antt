@@ -26,14 +26,14 @@ pub record AreTold (watching : ℕ) (plan : Planned) (limits : Limits) (before n
       → AppendsList (get_or before c None) (get_or now c None) (told_in plan limits c start.shape start.code start.state turns)
   pub others : OthersKeep watching before now
 
--- What watchers were told where memory is wanting. Nothing; or such a run in which one of them refused; or such a whole run, for whose answer, or
--- for the texts of it, there was no memory.
-pub data ToldAtWant (Refused Whole : Type 0) (before now : ToldLists) : Type 0 where
-  ToldNothing : now ≡ before → ToldAtWant Refused Whole before now
-  ToldRefused : Refused → ToldAtWant Refused Whole before now
-  ToldWhole : Whole → ToldAtWant Refused Whole before now
+-- What watchers were told where memory is wanting. Nothing; or a run that was given up, in part; or a whole run. Why no answer of a whole run was
+-- written, no clause says.
+pub data ToldAtWant (GivenUp Whole : Type 0) (before now : ToldLists) : Type 0 where
+  ToldNothing : now ≡ before → ToldAtWant GivenUp Whole before now
+  ToldInPart : GivenUp → ToldAtWant GivenUp Whole before now
+  ToldWhole : Whole → ToldAtWant GivenUp Whole before now
 
--- that, where the answer is want of memory
+-- this holds where the answer is want of memory
 abbrev pub IfWanting : (Told : Type 0) → Answer → Type 0
 IfWanting Told answers.NoMemory = Told
 IfWanting Told answer = ⊤

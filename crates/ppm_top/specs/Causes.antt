@@ -36,7 +36,7 @@ CommandMay (Some (commands.Stop options schedule)) o answer = StopMay options sc
 CommandMay (Some (commands.Example options)) o answer = IsUnread o.source × ExampleMay options o.told_before o.told_now answer
 
 -- What watchers are told with each answer of a command, or of none: a run tells them its turns. Where memory is wanting, what they were told is
--- nothing, or it is of one run, up to where watchers refused, or whole.
+-- nothing, or it is of one run: of one that was given up, or of a whole one.
 abbrev pub CommandTells : Option Command → Outside → Answer → ToldLists → ToldLists → Type 0
 CommandTells None o = TellsNothing
 CommandTells (Some (commands.Run options plan)) o = RunTells options options.processors plan o.source

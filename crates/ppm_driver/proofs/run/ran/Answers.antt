@@ -27,7 +27,7 @@ returns-clause-has g c =
 pub returns-in_err-table-clause-wants : goal.returns-in_err-table-clause-wants
 returns-in_err-table-clause-wants g c = at_err (nothing_told _ _ _) _
 
--- where the drive met want of memory, nobody was told anything either, or a watcher refused
+-- where the drive met want of memory, nobody was told anything either, or the run was given up
 pub returns-in_err-closed-clause-wants : goal.returns-in_err-closed-clause-wants
 returns-in_err-closed-clause-wants g c =
     let some : 0 < length c.args.watch.now.items = omega (arith, c.requires.watchers) in
@@ -36,6 +36,8 @@ returns-in_err-closed-clause-wants g c =
     (first_of c.args.watch.now.items some) c.sizes_of.ensures c.limits_of.ensures c.requires.processors c.keeper.ensures.keeper c.in_ok-table.ensures.opens
     (code_opened _ _ _ _ _ c.in_ok-table.ensures.opens (subst IsCode (sym c.in_ok-table.table.0.told.1) c.parts.ensures.code))
     (omega (arith, c.in_err-closed.ensures.kept.0, c.args.watch.now.ok.0, c.drive.new.watch.ok.0)) enough
+    (subst (λ (s : Shape). OthersStay s.processors c.args.watch.now.items c.drive.new.watch.items) (sym c.in_ok-table.table.0.told.0)
+    c.in_err-closed.ensures.others)
     c.in_err-closed.ensures.refused) _
 
 -- where there was no memory for the answer, all of its run was told
