@@ -9,7 +9,7 @@ use Rattle.ppm_layout.specs.Root.{root_strand}
 use Rattle.ppm_step.specs.Contents.{content_of}
 use Rattle.ppm_step.specs.State.{State as RunState}
 use Rattle.ppm_step.specs.declared.content.Reading.TheVariants.{AsEntry}
-use Rattle.ppm_tickets.specs.Homes.{Home, Unborn, Pushing, Listed, Popping, Stolen, Inline, Begun}
+use Rattle.ppm_tickets.specs.Homes.{Home, Unborn, Pushing, Popping, Stolen, Inline, Begun}
 use Rattle.ppm_tickets.specs.Lawful.{Names, Stays, IsCarrier, Closed}
 use Rattle.ppm_tickets.specs.Renewal.{IsLawful}
 use Rattle.ppm_tickets.specs.Saw.{Lawful}
