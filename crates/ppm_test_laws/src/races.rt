@@ -29,7 +29,7 @@ pub fn samples_are_local()
     ensures { SamplesAreLocal }
 {}
 
-/// So the strands of a table's trees may run in any order, where these are calm: the law at an
+/// The strands of a table's trees may run in any order, where these trees are calm: the law at an
 /// instance, by its contract alone.
 pub fn tables_run_in_any_order()
     ensures { TablesRunInAnyOrder }

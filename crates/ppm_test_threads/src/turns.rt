@@ -58,7 +58,8 @@ fn ends(shared: &Shared, processor: &mut Processor) -> bool
     false
 }
 
-/// The same of two, side by side, each on its thread.
+/// Lets two processors make steps until they are done, side by side, each on its thread: whether
+/// they are.
 fn both_end<R: Threads + Sync>(
     rt: &R,
     shared: &Shared,

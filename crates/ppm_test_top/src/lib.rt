@@ -11,4 +11,6 @@ mod laws;
 #[cfg(test)]
 mod stops;
 #[cfg(test)]
+mod wakes;
+#[cfg(test)]
 mod watching;

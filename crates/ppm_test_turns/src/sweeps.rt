@@ -123,8 +123,9 @@ fn flaw_of_sweep(
     Ok(None)
 }
 
-/// The same of both listings and of both takeovers: with one fork at each act of two processors, and at
-/// fewer of more; with a fork in a fork at fewer still. So each processor has its share of the faults.
+/// The first flaw of the sweeps of both listings under both takeovers. In the listing with one fork a
+/// fault comes at each act of two processors, and at fewer acts of more processors; in that with a fork
+/// in a fork at fewer still. Each processor has its share of the faults.
 fn flaw_of_sweeps(alloc: Global, trial: Trial, apart: u32) -> Result<Option<(u32, Flaw)>, Fail> {
     let often = trial.processors.saturating_sub(1).max(1);
     let seldom = trial.processors.saturating_mul(2).saturating_sub(1);
