@@ -1,4 +1,4 @@
-//! Trials by the top call that no sheet can say: watchers that meet or keep what they are told;
+//! Trials by the top call that no sheet can say: watchers that meet, wait or keep what they are told;
 //! accepted capsules that are stopped anywhere; and the laws, each called once.
 //! Model: none; all of it is tests, by what was worked out by hand or by another program.
 //! Contract: none.
