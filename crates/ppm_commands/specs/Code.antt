@@ -84,8 +84,8 @@ CodeMay source answer = JudgingMay text_limit CodeReads source answer
 abbrev pub HasRead : Port → Answer → Type 0
 HasRead source answer = ReadHas text_limit CodeReads source answer
 
--- the text that was read has a program, and out got exactly the listing of its code; `check` accepts the listing, and the code is faithful:
--- tidy, sound with every input, and it ends as the program does
+-- The text that was read has a program, and out got exactly the listing of its code. What is in the last two fields are laws of all such listings:
+-- `check` accepts the listing, and the code is faithful, so it is tidy, sound with every input, and ends as the program does.
 pub record WritesListing (o : Ports) : Type 0 where
   pub listing : List ℕ
   pub read : HasRead o.source (answers.Listed listing)

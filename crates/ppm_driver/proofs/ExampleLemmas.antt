@@ -22,9 +22,11 @@ use Rattle.ppm_cli.specs.Words.{AreRun, AreSelf}
 use Rattle.ppm_program.specs.Programs.{HasProgram}
 use Rattle.ppm_plan.specs.declared.plan_item.PlanItem.{PlanItem}
 use Rattle.ppm_loading.specs.Programs.{ProgramMay, RefusedHas}
-use Rattle.ppm_driver.specs.Examples.{AreForks, ExampleMay, HasRun, ProgramSums, items_of, run_options_of, text_of}
-use Rattle.ppm_driver.specs.Runs.{ProgramHas, RunTells}
-use Rattle.ppm_driver.specs.Watchers.{OthersKeep}
+use Rattle.ppm_driver.specs.Examples.{AreForks, ExampleMay, ExampleTells, ExampleWants, HasRun, ProgramSums, ProgramWants, items_of, run_options_of, text_of}
+use Rattle.ppm_driver.specs.Runs.{ProgramHas, ProgramRefused, RunTold}
+use Rattle.ppm_driver.specs.Runs as runs
+use Rattle.ppm_driver.specs.Watchers.{OthersKeep, ToldNothing, ToldWhole}
+use Rattle.ppm_driver.proofs.WantLemmas.{map_want, map_wanting}
 use Rattle.ppm_driver.proofs.RunLemmas.{IsOfProgram, of_program}
 
 -- the options with which the example is run are in their ranges
@@ -60,14 +62,30 @@ module _ (o : SelfOptions) (before now : ToldLists) (t : ProgramTree) where
   sums_may a h = h
 
   -- watchers were told what its causes say
-  pub sums_tell : (a : Answer) → ProgramSums o before now t a → OthersKeep o.processors before now → RunTells o.processors a before now
-  sums_tell (answers.Summed sums) h others = (tt, others)
-  sums_tell (answers.Trapped trap line) h others = (tt, others)
-  sums_tell (answers.OutOfTurns processor) h others = (tt, others)
-  sums_tell (answers.OutOfRoom place) h others = (tt, others)
-  sums_tell (answers.Broken place) h others = (tt, others)
-  sums_tell (answers.Ended arrays) h others = absurd h
-  sums_tell a h others = absurd (kind a h)
+  pub sums_tell : (T : Type 0) (a : Answer) → ProgramSums o before now t a → OthersKeep o.processors before now → RunTold o.processors T a before now
+  sums_tell T (answers.Summed sums) h others = (tt, others, tt)
+  sums_tell T (answers.Trapped trap line) h others = (tt, others, tt)
+  sums_tell T (answers.OutOfTurns processor) h others = (tt, others, tt)
+  sums_tell T (answers.OutOfRoom place) h others = (tt, others, tt)
+  sums_tell T (answers.Broken place) h others = (tt, others, tt)
+  sums_tell T (answers.Ended arrays) h others = absurd h
+  sums_tell T a h others = absurd (kind a h)
+
+  -- of a run by a plan that is the example's
+  pub wants_by_plan : (items : List PlanItem) → items ≡ items_of o → runs.ProgramWants (run_options_of o) o.processors before now items t
+      → ProgramWants o before now t
+  wants_by_plan items same w = subst (λ (l : List PlanItem). runs.ProgramWants (run_options_of o) o.processors before now l t) same w
+
+  -- what was told of the program's run was told of the example's
+  pub example_tells : HasProgram (text_of o) t → (a : Answer) → RunTold o.processors (ProgramWants o before now t) a before now
+      → ExampleTells o a before now
+  example_tells has a told =
+      (told.0, told.1, map_wanting {T = ProgramWants o before now t} {S = ExampleWants o before now} lifted a told.2)
+    where
+      lifted : ProgramWants o before now t → ExampleWants o before now
+      lifted w =
+          map_want (λ (r : ProgramRefused (run_options_of o) before now (items_of o) t). (t, has, r))
+          (λ (r : (a : Answer) × HasRun o before now t a). (r.0, (t, has, r.1))) w
 
   -- an answer of the program is one of the example
   pub program_may : HasProgram (text_of o) t → (a : Answer) → ProgramMay (ProgramSums o before now t) a → ExampleMay o before now a
@@ -80,6 +98,14 @@ pub none_may : (o : SelfOptions) (before now : ToldLists) (a : Answer) → TextM
 none_may o before now answers.NoMemory h = tt
 none_may o before now (answers.SourceRefused r) h = h
 none_may o before now a h = absurd h.2
+
+-- where an answer may come, want of memory may, with what was told of it
+pub wants : (o : SelfOptions) (before now : ToldLists) (a : Answer) → ExampleMay o before now a → ExampleTells o a before now → ExampleWants o before now
+wants o before now answers.NoMemory h told = told.2
+wants o before now (answers.SourceRefused r) h told = ToldNothing told.0
+wants o before now (answers.Summed sums) h told = ToldWhole (answers.Ended h.2.arrays, (h.0, h.1, h.2.has))
+wants o before now (answers.Ended arrays) h told = absurd h.2
+wants o before now a h told = ToldWhole (a, (h.0, h.1, h.2))
 
 -- the code is tidy, and the forks that are counted are its
 module _ (t : ProgramTree) (code : CodeParts) (is : code ≡ code_of t) where

@@ -1,13 +1,13 @@
 -- What rows say of `resume`: each status says its sentence; and of each program that left the state the whole run, with the legs before, is as
 -- the program.
-use Rattle.std.proofs.Common.{◌≡◌, ◌≢◌, ◌≤◌, ◌<◌, ◌+◌, ◌*◌, ◌^◌, ℕ, suc, List, [], ◌∷◌, length, map, Some, None, inl, inr, refl, sym, ap, ◌∙◌, subst, arith}
+use Rattle.std.proofs.Common.{◌≡◌, ◌≢◌, ◌⊎◌, ◌≤◌, ◌<◌, ◌+◌, ◌*◌, ◌^◌, ℕ, suc, List, [], ◌∷◌, length, map, Some, None, inl, inr, refl, sym, ap, ◌∙◌, subst, arith}
 use Rattle.std.specs.List.{AllByRecursion}
 use Rattle.std.proofs.lemmas.List.Elements.{recursion_from_All}
 use Rattle.ppm_words.specs.TwosComplement.{value_of}
 use Rattle.ppm_words.specs.declared.named_array.NamedArray.{NamedArray}
 use Rattle.ppm_words.specs.declared.outcome.Outcome.TheVariants as outcome
 use Rattle.ppm_words.specs.declared.trap.Trap.{Trap}
-use Rattle.ppm_ports.specs.Outside.{ToldLists, Outside, ports_of}
+use Rattle.ppm_ports.specs.Outside.{KeepFronts, ToldLists, Outside, ports_of}
 use Rattle.ppm_cells.specs.Finish.{finish_of}
 use Rattle.ppm_cells.specs.Memory.{read}
 use Rattle.ppm_cells.specs.declared.cell.Cell.TheVariants.{FinishWord}
@@ -30,11 +30,13 @@ use Rattle.ppm_answers.specs.declared.answer.Answer.TheVariants as answers
 use Rattle.ppm_answers.specs.declared.status.Status.{Status}
 use Rattle.ppm_answers.specs.declared.status.Status.TheVariants as statuses
 use Rattle.ppm_answers.specs.Statuses.{status_of}
-use Rattle.ppm_answers.specs.Delivery.{IsWritten}
-use Rattle.ppm_answers.specs.Reading.{ReadHas, DeliversAnswer}
+use Rattle.ppm_answers.specs.Delivery.{IsWritten, Delivers}
+use Rattle.ppm_answers.specs.Reading.{ReadHas, Answers}
+use Rattle.ppm_answers.specs.Texts.{IsFixed}
+use Rattle.ppm_answers.proofs.Delivered.{of_answers}
 use Rattle.ppm_answers.specs.Rows.{IsOneOf, TextRows}
 use Rattle.ppm_answers.proofs.RowsLemmas.{SaysOfPorts}
-use Rattle.ppm_answers.proofs.Judged.{text_rows}
+use Rattle.ppm_answers.proofs.Judged.{judging_told, text_rows}
 use Rattle.ppm_cli.specs.declared.resume.ResumeOptions.{ResumeOptions}
 use Rattle.ppm_loading.specs.Says.{array_words, arrays_from, IsOfFinish}
 use Rattle.ppm_loading.proofs.LoadingLemmas.{opens_lengths}
@@ -43,12 +45,12 @@ use Rattle.ppm_stop.specs.Stops.{names_of}
 use Rattle.ppm_driver.specs.Legs.{words_at_last, finish_at_last, worked_in_all, lost_in_all, NoneIsTakenTwiceInAll, EndsAsProgramInAll, IsAsProgramInAll, RunsInLegsAreAsPrograms}
 use Rattle.ppm_driver.specs.Meant.{NeedsMoreRoom, NeedsMoreTurns, struck_in}
 use Rattle.ppm_driver.specs.RunOf.{words_behind, finish_behind}
-use Rattle.ppm_driver.specs.Resumes.{SavedState, GoesOnFrom, named, limits_of, plan_of, saved_finish, ResumedHas, ItemsHave, ResumeMay, IsLeftBy, IsTextOf, IsTextLeftBy, LeftWordsComeBack, ResumesLeaveStates, legs_with}
+use Rattle.ppm_driver.specs.Resumes.{SavedState, GoesOnFrom, named, limits_of, plan_of, saved_finish, ResumedHas, ItemsHave, ResumeMay, ResumeTells, TextHas, IsLeftBy, IsTextOf, IsTextLeftBy, LeftWordsComeBack, ResumesLeaveStates, legs_with}
 use Rattle.ppm_driver.specs.Completeness.{IsEnd}
 use Rattle.ppm_driver.specs.ResumeCompleteness.{faults_with, lost_with, ResumesComplete}
 use Rattle.ppm_driver.specs.ResumeRows.{Has, RefusesPlan, ResumeSays, ComesLate, Completes, ResumeRows}
 use Rattle.ppm_driver.proofs.MeantRows.{ended_run, trapped_run, full_run, broken_run}
-use Rattle.ppm_driver.proofs.ResumeLemmas.{spent_has, filled_has, has_kind, fronts_decide, saved_or_none}
+use Rattle.ppm_driver.proofs.ResumeLemmas.{spent_has, filled_has, has_kind, fronts_decide, saved_or_none, wants}
 use Rattle.ppm_driver.proofs.StrikeLemmas.{strikes_are_planned}
 use Rattle.ppm_driver.proofs.WorkLemmas.{of_all}
 
@@ -275,13 +277,27 @@ module _ (law : RunsInLegsAreAsPrograms) (comes : LeftWordsComeBack) (options : 
   pub short_behind_stop : (z : SavedState) → IsTextOf text z → IsShort z
   short_behind_stop z is = subst IsShort (sym (left.one z is)) short_there
 
-module _ (law : RunsInLegsAreAsPrograms) (comes : LeftWordsComeBack) (options : ResumeOptions) (plan : List ℕ) (o : Outside) where
+-- what was delivered is the answer, or want of memory in its place
+pub resume_delivered : (options : ResumeOptions) (plan : List ℕ) (o : Outside) (a : Answer) (status : Status) → KeepFronts o.told_before o.told_now
+    → ResumeTells options plan o.source a o.told_before o.told_now → ResumeMay options plan o.told_before o.told_now o.source a
+    → Delivers o.out o.err a status ⊎ ((¬ IsFixed a) × Delivers o.out o.err answers.NoMemory status)
+    → Answers (ResumeMay options plan o.told_before o.told_now o.source) (ResumeTells options plan o.source) o status
+resume_delivered options plan o a status kept told may d =
+    judging_told saved_limit (TextHas options plan o.told_before o.told_now) (ResumeTells options plan o.source) o a status told
+    (kept, told.1, wants options o.told_before o.told_now plan o.source a may told) may d
+
+module _ (law : RunsInLegsAreAsPrograms) (comes : LeftWordsComeBack) (options : ResumeOptions) (plan : List ℕ) (o : Outside) (status : Status)
+    (a : Answers (ResumeMay options plan o.told_before o.told_now o.source) (ResumeTells options plan o.source) o status) where
   abbrev Reads : Answer → Type 0
   Reads answer = ReadHas saved_limit (Has options plan o) o.source answer
 
   -- what is said of faults and of want of memory
   of_ports : SaysOfPorts (ports_of o) (ResumeSays options plan o)
-  of_ports = record { read_fault = λ f. f; write_fault = λ f. f; memory = tt }
+  of_ports = record {
+    read_fault = λ f. f;
+    write_fault = λ f. f;
+    memory = wants options o.told_before o.told_now plan o.source a.answer a.cause a.told;
+  }
 
   -- that words are broken comes late
   late : (items : List PlanItem) (z : SavedState) (place : ℕ) → ItemsHave options o.told_before o.told_now items z (answers.Broken place) → ComesLate options plan o items z place
@@ -331,34 +347,33 @@ module _ (law : RunsInLegsAreAsPrograms) (comes : LeftWordsComeBack) (options : 
   by (answers.Broken place) h w = record { place = place; read = h; late = late h.2.has.items h.2.state place h.2.has.has; gets = w.err_takes.0 }
   by answer h w = absurd (has_kind options o.told_before o.told_now h.2.has.items h.2.state answer h.2.has.has)
 
-  module _ (status : Status) (d : DeliversAnswer (ResumeMay options plan o.told_before o.told_now o.source) (ports_of o) status) where
-    abbrev Rows : Type 0
-    Rows = TextRows saved_limit (Has options plan o) (ResumeSays options plan o) (ports_of o) status
+  abbrev Rows : Type 0
+  Rows = TextRows saved_limit (Has options plan o) (ResumeSays options plan o) (ports_of o) status
 
-    rows_of : Rows
-    rows_of =
-        text_rows saved_limit (Has options plan o) (fronts_decide options plan o.told_before o.told_now) (ResumeSays options plan o) (ports_of o) status d of_ports by
+  rows_of : Rows
+  rows_of =
+      text_rows saved_limit (Has options plan o) (fronts_decide options plan o.told_before o.told_now) (ResumeSays options plan o) (ports_of o) status
+      (of_answers (ResumeMay options plan o.told_before o.told_now o.source) (ResumeTells options plan o.source) o status a) of_ports by
 
-    -- what is known to end is written with the status of an end
-    ended : (answer : Answer) → IsEnd answer → status ≡ status_of answer → IsOneOf status (statuses.Ended ∷ statuses.Trapped ∷ [])
-    ended (answers.Ended arrays) is own = inl own
-    ended (answers.Trapped trap line) is own = inr (inl own)
-    ended _ is own = absurd is
+  -- what is known to end is written with the status of an end
+  ended : (answer : Answer) → IsEnd answer → status ≡ status_of answer → IsOneOf status (statuses.Ended ∷ statuses.Trapped ∷ [])
+  ended (answers.Ended arrays) is own = inl own
+  ended (answers.Trapped trap line) is own = inr (inl own)
+  ended _ is own = absurd is
 
-    completes : ResumesComplete → Completes options plan o status
-    completes complete are all e z is items accepted source left enough well =
-        let k = rows_of.known all e well in
-        ended k.0 (complete options are all z is plan items accepted source left enough o.told_before o.told_now k.0 k.1) k.2.own
+  completes : ResumesComplete → Completes options plan o status
+  completes complete are all e z is items accepted source left enough well =
+      let k = rows_of.known all e well in
+      ended k.0 (complete options are all z is plan items accepted source left enough o.told_before o.told_now k.0 k.1) k.2.own
 
-    pub resume_rows : ResumesComplete → ResumeRows options plan o status
-    resume_rows complete = record {
-      rows = rows_of;
-      meant = λ items z answer h source left.
-          is_program law comes source z left h.start h.goes_on h.run.turns (among law comes options o.told_before o.told_now items z answer h);
-      completes = completes complete;
-    }
+  pub resume_rows : ResumesComplete → ResumeRows options plan o status
+  resume_rows complete = record {
+    rows = rows_of;
+    meant = λ items z answer h source left.
+        is_program law comes source z left h.start h.goes_on h.run.turns (among law comes options o.told_before o.told_now items z answer h);
+    completes = completes complete;
+  }
 
   -- 3 comes of a plan alone
-  pub plan_refused : (status : Status) → DeliversAnswer (ResumeMay options plan o.told_before o.told_now o.source) (ports_of o) status
-      → status ≡ statuses.WordsRefused → RefusesPlan options plan o
-  plan_refused status d e = subst (ResumeSays options plan o) e (rows_of status d).says
+  pub plan_refused : status ≡ statuses.WordsRefused → RefusesPlan options plan o
+  plan_refused e = subst (ResumeSays options plan o) e rows_of.says

@@ -55,13 +55,14 @@ use Rattle.ppm_table.specs.Closed.{Closing}
 use Rattle.ppm_table.specs.Shown.{opening_of}
 use Rattle.ppm_table.specs.declared.processor.Shared.{Shared}
 use Rattle.ppm_table.specs.declared.view.Opening.{Opening}
-use Rattle.ppm_threads.specs.Driven.{Driven, OthersStay}
-use Rattle.ppm_driver.specs.RunOf.{words_behind, finish_behind}
-use Rattle.ppm_driver.specs.Runs.{IsSaid, RunTells}
-use Rattle.ppm_driver.specs.Watchers.{AreTold, OthersKeep}
-use Rattle.ppm_driver.specs.Resumes.{SavedState, saved_finish, IsTextOf, named, limits_of, plan_of, ResumedHas, ItemsHave, StateHas, TextHas, TextTells, ResumeTells, FrontsDecideResumed, refusal_of, state_of}
+use Rattle.ppm_threads.specs.Driven.{Driven, OthersStay, WasRefused}
+use Rattle.ppm_driver.specs.RunOf.{words_behind, finish_behind, RefusedRun}
+use Rattle.ppm_driver.specs.Runs.{IsSaid, RunTold}
+use Rattle.ppm_driver.specs.Watchers.{AreTold, OthersKeep, ToldNothing, ToldRefused, ToldWhole}
+use Rattle.ppm_driver.specs.Resumes.{SavedState, saved_finish, IsTextOf, named, limits_of, plan_of, ResumedHas, ResumedRefused, IsBrokenBefore, OfState, ByItems, ItemsHave, ItemsWant, StateHas, StateWants, TextHas, TextWants, TextTells, ResumeMay, ResumeWants, ResumeTells, FrontsDecideResumed, refusal_of, state_of}
 use Rattle.ppm_driver.proofs.RunLemmas.{not_spent, room_finish, proposed_of, spent_ending, spent_answer}
-use Rattle.ppm_driver.proofs.WatchLemmas.{are_told, told_none}
+use Rattle.ppm_driver.proofs.WatchLemmas.{are_told, if_wanting, told_none}
+use Rattle.ppm_driver.proofs.WantLemmas.{lists_refused, map_want, map_wanting}
 
 -- that a processor has made its turns is an answer, and that a run has no end is none
 abbrev IsOutOfTurns : ℕ → Answer → Type 0
@@ -317,29 +318,87 @@ module _ (options : ResumeOptions) (before now : ToldLists) (items : List PlanIt
   items_kind a h = has_kind a h
 
 -- what watchers were told belongs to an answer of a run
-pub run_tells : (processors : ℕ) (a : Answer) (before now : ToldLists) → IsOfResumed a → OthersKeep processors before now → RunTells processors a before now
-run_tells processors (answers.Ended arrays) before now h others = (tt, others)
-run_tells processors (answers.Trapped t line) before now h others = (tt, others)
-run_tells processors (answers.OutOfTurns processor) before now h others = (tt, others)
-run_tells processors (answers.OutOfRoom place) before now h others = (tt, others)
-run_tells processors (answers.Broken place) before now h others = (tt, others)
-run_tells processors a before now h others = absurd h
+pub run_tells : (processors : ℕ) (T : Type 0) (a : Answer) (before now : ToldLists) → IsOfResumed a → OthersKeep processors before now
+    → RunTold processors T a before now
+run_tells processors T (answers.Ended arrays) before now h others = (tt, others, tt)
+run_tells processors T (answers.Trapped t line) before now h others = (tt, others, tt)
+run_tells processors T (answers.OutOfTurns processor) before now h others = (tt, others, tt)
+run_tells processors T (answers.OutOfRoom place) before now h others = (tt, others, tt)
+run_tells processors T (answers.Broken place) before now h others = (tt, others, tt)
+run_tells processors T a before now h others = absurd h
 
--- that belongs to it as one of the text of the state, and of the source from which this was read
-pub text_tells : (text : List ℕ) (z : SavedState) → IsTextOf text z → (a : Answer) (before now : ToldLists) → RunTells z.shape.processors a before now
-    → TextTells text a before now
-text_tells text z is a before now told = (told.0, inr (record { state = z; is = is; has = told.1 }))
+module _ (options : ResumeOptions) (before now : ToldLists) where
+  -- what was told of a run by items was told of one by the plan
+  pub state_tells : (plan : List ℕ) (z : SavedState) (items : List PlanItem) → IsAccepted plan_form plan z.shape.processors items → (a : Answer)
+      → RunTold z.shape.processors (ItemsWant options before now items z) a before now
+      → RunTold z.shape.processors (StateWants options plan before now z) a before now
+  state_tells plan z items accepted a told =
+      (told.0, told.1, map_wanting {T = ItemsWant options before now items z} {S = StateWants options plan before now z} lifted a told.2)
+    where
+      lifted : ItemsWant options before now items z → StateWants options plan before now z
+      lifted w =
+          map_want (λ (r : ResumedRefused options before now items z). record { items = items; accepted = accepted; has = r })
+          (λ (r : (a : Answer) × ResumedHas options before now items z a). (r.0, record { items = items; accepted = accepted; has = r.1 })) w
 
-pub source_tells : (source : Port) (text : List ℕ) → Reads saved_limit source text → (a : Answer) (before now : ToldLists) → TextTells text a before now
-    → ResumeTells source a before now
-source_tells source text r a before now told = (told.0, elim told.1 [ inl still ↦ inl still | inr of ↦ inr (text, r, of) ])
+  -- that is told of the text of the state, and of the source from which this was read
+  pub text_tells : (plan text : List ℕ) (z : SavedState) → IsTextOf text z → (a : Answer)
+      → RunTold z.shape.processors (StateWants options plan before now z) a before now → TextTells options plan text a before now
+  text_tells plan text z is a told = (
+    told.0,
+    inr (record { state = z; is = is; has = told.1 }),
+    map_wanting {T = StateWants options plan before now z} {S = TextWants options plan before now text} lifted a told.2,
+  )
+    where
+      lifted : StateWants options plan before now z → TextWants options plan before now text
+      lifted w =
+          map_want (λ (r : ByItems plan (ResumedRefused options before now) z). record { state = z; is = is; has = r })
+          (λ (r : (a : Answer) × ByItems plan (λ items z. ResumedHas options before now items z a) z). (r.0, record { state = z; is = is; has = r.1 })) w
 
--- and so it does where nobody was told anything
-pub untold_text : (text : List ℕ) (a : Answer) (lists : ToldLists) → TextTells text a lists lists
-untold_text text a lists = (told_none a lists, inl refl)
+  pub source_tells : (plan : List ℕ) (source : Port) (text : List ℕ) → Reads saved_limit source text → (a : Answer)
+      → TextTells options plan text a before now → ResumeTells options plan source a before now
+  source_tells plan source text reads a told = (
+    told.0,
+    elim told.1 [ inl still ↦ inl still | inr of ↦ inr (text, reads, of) ],
+    map_wanting {T = TextWants options plan before now text} {S = ResumeWants options plan before now source} lifted a told.2,
+  )
+    where
+      lifted : TextWants options plan before now text → ResumeWants options plan before now source
+      lifted w =
+          map_want (λ (r : OfState (ByItems plan (ResumedRefused options before now)) text). (text, reads, r))
+          (λ (r : (a : Answer) × OfState (ByItems plan (λ items z. ResumedHas options before now items z a)) text). (r.0, (text, reads, r.1))) w
 
-pub untold_source : (source : Port) (a : Answer) (lists : ToldLists) → ResumeTells source a lists lists
-untold_source source a lists = (told_none a lists, inl refl)
+  -- where an answer may come, want of memory may, with what was told of it
+  pub wants : (plan : List ℕ) (source : Port) (a : Answer) → ResumeMay options plan before now source a
+      → ResumeTells options plan source a before now → ResumeWants options plan before now source
+  wants plan source answers.NoMemory h told = told.2
+  wants plan source answers.ReadFault h told = ToldNothing told.0
+  wants plan source answers.WordsRefused h told = ToldNothing told.0
+  wants plan source (answers.PlanRefused number) h told = ToldNothing told.0
+  wants plan source (answers.SourceRefused r) h told = ToldNothing told.0
+  wants plan source (answers.ListingRefused r) h told = ToldNothing told.0
+  wants plan source (answers.SavedRefused r) h told = ToldNothing told.0
+  wants plan source (answers.Conflicting c) h told = ToldNothing told.0
+  wants plan source (answers.Broken place) h told = broken h.2.has.has
+    where
+      broken : (IsBrokenBefore before now h.2.state × (place ≡ unknown_place)) ⊎ ResumedHas options before now h.2.has.items h.2.state (answers.Broken place)
+          → ResumeWants options plan before now source
+      broken (inl k) = ToldNothing k.0.still
+      broken (inr r) = ToldWhole (
+        answers.Broken place,
+        (h.0, h.1, record { state = h.2.state; is = h.2.is; has = record { items = h.2.has.items; accepted = h.2.has.accepted; has = r } }),
+      )
+  wants plan source a h told = ToldWhole (
+    a,
+    (h.0, h.1, record { state = h.2.state; is = h.2.is; has = record { items = h.2.has.items; accepted = h.2.has.accepted; has = h.2.has.has } }),
+  )
+
+-- and so it is where nobody was told anything
+pub untold_text : (options : ResumeOptions) (plan text : List ℕ) (a : Answer) (lists : ToldLists) → TextTells options plan text a lists lists
+untold_text options plan text a lists = (told_none a lists, inl refl, if_wanting {T = TextWants options plan lists lists text} (ToldNothing refl) a)
+
+pub untold_source : (options : ResumeOptions) (plan : List ℕ) (source : Port) (a : Answer) (lists : ToldLists)
+    → ResumeTells options plan source a lists lists
+untold_source options plan source a lists = (told_none a lists, inl refl, if_wanting {T = ResumeWants options plan lists lists source} (ToldNothing refl) a)
 
 module _ (options : ResumeOptions) (plan : List ℕ) (before now : ToldLists) where
   -- with a plan that is accepted
@@ -415,80 +474,135 @@ fronts_decide options plan before now text rest a long h = let short = h.is.shor
 same_plan : (z : SavedState) (plan : Planned) → plan.processors ≡ z.shape.processors → plan ≡ plan_of z plan.items
 same_plan z plan same = λ i. record { processors = same i; items = plan.items }
 
--- the answer of a state is what is said of the words behind its run
+-- some answer is that of a state, and it is what is said of the words behind its run
 module _ (options : ResumeOptions) (z : SavedState) (items : List PlanItem) (before now : ToldLists) where
-  has_run : (stands : finish_of (saved_finish z) ≢ None) (keeper : ℕ) (words : List ℕ) (turns : List Turn) → AreRenewed z.shape z.words words → IsCode z.code
+  some_run : (stands : finish_of (saved_finish z) ≢ None) (keeper : ℕ) (words : List ℕ) (turns : List Turn) → AreRenewed z.shape z.words words → IsCode z.code
       → IsKeeper plan_form items keeper → keeper < z.shape.processors
       → ObeyAll (plan_of z items) (limits_of options) z.shape z.code (opening words z.shape.processors) turns
       → AreTold z.shape.processors (plan_of z items) (limits_of options) before now (loaded z.shape z.code (lengths_of z.arrays) words) turns
-      → (a : Answer) → IsTheOne (IsSaid z.shape (lengths_of z.arrays) (named z.arrays) (words_behind (loaded z.shape z.code (lengths_of z.arrays) words) turns)) a
-      → ResumedHas options before now items z a
-  has_run stands keeper words turns renewed is spared below obey told a only =
+      → (a : Answer)
+      × IsSaid z.shape (lengths_of z.arrays) (named z.arrays) (words_behind (loaded z.shape z.code (lengths_of z.arrays) words) turns) a
+      × ResumedHas options before now items z a
+  some_run stands keeper words turns renewed is spared below obey told =
       let m = loaded z.shape z.code (lengths_of z.arrays) words in
       let finished : Finishes z.shape z.code (limits_of options) m.state turns (finish_behind m turns) =
       (runs_finish z.shape z.code is (plan_of z items) (limits_of options) keeper words turns renewed.fit spared below obey).1 in
-      let s = some_said z words renewed stands (limits_of options) turns (named z.arrays) finished in
-      record {
-        stands = stands;
-        start = m;
-        goes_on = record { words = words; renewed = renewed; loads = refl };
-        run = record {
-          turns = turns;
-          obey = obey;
-          finished = finished;
-          told = told;
-          says = subst (IsSaid z.shape (lengths_of z.arrays) (named z.arrays) (words_behind m turns)) (sym (only s.0 s.1)) s.1;
-        };
-      }
+      let s = some_said z words renewed stands (limits_of options) turns (named z.arrays) finished in (
+        s.0,
+        s.1,
+        record {
+          stands = stands;
+          start = m;
+          goes_on = record { words = words; renewed = renewed; loads = refl };
+          run = record { turns = turns; obey = obey; finished = finished; told = told; says = s.1 };
+        },
+      )
 
 -- what is said behind the run of a table over the words that fresh processors find, and told of it
 module _ {W : Type 0} (told : W → Option (List Event)) (options : ResumeOptions) (z : SavedState) (plan : Planned) where
   abbrev k : (words : List ℕ) → Opening
   k words = record { shape = z.shape; code = z.code; words = words }
 
-  pub state_has : (stands : finish_of (saved_finish z) ≢ None) (keeper : ℕ) (words : List ℕ) (closed : Closing) (old new : List W) (w : W) (a : Answer)
-      → AreRenewed z.shape z.words words → IsCode z.code → plan.processors ≡ z.shape.processors
-      → IsKeeper plan_form plan.items keeper → keeper < z.shape.processors → length new ≡ length old → z.shape.processors ≤ length old
-      → closed.shape ≡ z.shape → closed.array_lengths ≡ lengths_of z.arrays → OthersStay z.shape.processors old new
-      → Driven told plan (limits_of options) (k words) closed.words old new
-      → IsTheOne (IsSaid closed.shape closed.array_lengths (named z.arrays) closed.words) a
-      → ResumedHas options (map told old) (map told new) plan.items z a
-  state_has stands keeper words closed old new w a renewed is same spared below many enough shape lengths others d only =
-      let m = loaded z.shape z.code (lengths_of z.arrays) words in
-      let obey = subst (λ (p : Planned). ObeyAll p (limits_of options) m.shape m.code m.state d.turns) (same_plan z plan same) d.obey in
-      let are = are_told told plan (limits_of options) (k words) closed.words (lengths_of z.arrays) z.shape.processors old new w many enough refl others d in
-      let lists = subst (λ (p : Planned). AreTold z.shape.processors p (limits_of options) (map told old) (map told new) m d.turns) (same_plan z plan same) are in
-      let said = subst (λ (ws : List ℕ). IsTheOne (IsSaid m.shape m.array_lengths (named z.arrays) ws) a) (sym d.words_are)
-      (subst (λ (n : List ℕ). IsTheOne (IsSaid m.shape n (named z.arrays) closed.words) a) lengths
-      (subst (λ (s : Shape). IsTheOne (IsSaid s closed.array_lengths (named z.arrays) closed.words) a) shape only)) in
-      has_run options z plan.items (map told old) (map told new) stands keeper words d.turns renewed is spared below obey lists a said
+  module _ (stands : finish_of (saved_finish z) ≢ None) (keeper : ℕ) (words : List ℕ) (old new : List W) (w : W)
+      (renewed : AreRenewed z.shape z.words words) (is : IsCode z.code) (same : plan.processors ≡ z.shape.processors)
+      (spared : IsKeeper plan_form plan.items keeper) (below : keeper < z.shape.processors) (many : length new ≡ length old)
+      (enough : z.shape.processors ≤ length old) where
+    -- of a run in which a watcher refused
+    state_refused : WasRefused told plan (limits_of options) (k words) old new → ResumedRefused options (map told old) (map told new) plan.items z
+    state_refused r =
+        let m = loaded z.shape z.code (lengths_of z.arrays) words in
+        record {
+          stands = stands;
+          start = m;
+          goes_on = record { words = words; renewed = renewed; loads = refl };
+          run = subst (λ (p : Planned). RefusedRun p (limits_of options) m (map told old) (map told new)) (same_plan z plan same)
+              (lists_refused told plan (limits_of options) (k words) old new w many enough r);
+        }
+
+    -- of a whole run
+    state_some : (behind : List ℕ) → OthersStay z.shape.processors old new → (d : Driven told plan (limits_of options) (k words) behind old new)
+        → (a : Answer)
+        × IsSaid z.shape (lengths_of z.arrays) (named z.arrays) (words_behind (loaded z.shape z.code (lengths_of z.arrays) words) d.turns) a
+        × ResumedHas options (map told old) (map told new) plan.items z a
+    state_some behind others d =
+        let m = loaded z.shape z.code (lengths_of z.arrays) words in
+        let obey = subst (λ (p : Planned). ObeyAll p (limits_of options) m.shape m.code m.state d.turns) (same_plan z plan same) d.obey in
+        let are = are_told told plan (limits_of options) (k words) behind (lengths_of z.arrays) z.shape.processors old new w many enough refl others d in
+        let lists = subst (λ (p : Planned). AreTold z.shape.processors p (limits_of options) (map told old) (map told new) m d.turns) (same_plan z plan same) are in
+        some_run options z plan.items (map told old) (map told new) stands keeper words d.turns renewed is spared below obey lists
+
+    -- its answer is the one that is said of the words
+    state_has : (closed : Closing) (a : Answer) → closed.shape ≡ z.shape → closed.array_lengths ≡ lengths_of z.arrays
+        → OthersStay z.shape.processors old new → Driven told plan (limits_of options) (k words) closed.words old new
+        → IsTheOne (IsSaid closed.shape closed.array_lengths (named z.arrays) closed.words) a
+        → ResumedHas options (map told old) (map told new) plan.items z a
+    state_has closed a shape lengths others d only =
+        let m = loaded z.shape z.code (lengths_of z.arrays) words in
+        let said = subst (λ (ws : List ℕ). IsTheOne (IsSaid m.shape m.array_lengths (named z.arrays) ws) a) (sym d.words_are)
+        (subst (λ (n : List ℕ). IsTheOne (IsSaid m.shape n (named z.arrays) closed.words) a) lengths
+        (subst (λ (s : Shape). IsTheOne (IsSaid s closed.array_lengths (named z.arrays) closed.words) a) shape only)) in
+        let some = state_some closed.words others d in
+        subst (ResumedHas options (map told old) (map told new) plan.items z) (sym (said some.0 some.1)) some.2
 
   -- so it is of a table that was made of what fresh processors find
-  pub renewed_has : (saved : Saved) → z ≡ state_of saved → (keeper : ℕ) (r : Renewed) (shared : Shared) (limits : Limits) (closed : Closing) (old new : List W) (w : W)
-      (names : List NamedLength) (a : Answer) → finish_of (saved_finish z) ≢ None → IsRenewalOf saved keeper r
-      → opening_of shared ≡ record { shape = r.image.shape; code = r.code; words = r.image.words } → shared.lengths ≡ r.image.lengths
-      → IsCode (opening_of shared).code → limits ≡ limits_of options → plan.processors ≡ z.shape.processors
-      → IsKeeper plan_form plan.items keeper → keeper < z.shape.processors → length new ≡ length old → z.shape.processors ≤ length old
-      → closed.shape ≡ (opening_of shared).shape → closed.array_lengths ≡ shared.lengths → OthersStay (opening_of shared).shape.processors old new
-      → Driven told plan limits (opening_of shared) closed.words old new → names ≡ r.names
-      → IsTheOne (IsSaid closed.shape closed.array_lengths (named names) closed.words) a
-      → ResumedHas options (map told old) (map told new) plan.items z a
-  renewed_has saved is_state keeper r shared limits closed old new w names a stands is opens arrays is_code limits_are same spared below many enough shape lengths others d names_are only =
-      let shape_is : r.image.shape ≡ z.shape = is.shape_is ∙ sym (ap (λ (x : SavedState). x.shape) is_state) in
-      let code_is : r.code ≡ z.code = is.code_is ∙ sym (ap (λ (x : SavedState). x.code) is_state) in
-      let opening_is : opening_of shared ≡ k r.image.words = opens ∙ (λ i. record { shape = shape_is i; code = code_is i; words = r.image.words }) in
-      let arrays_are : z.arrays ≡ saved.names = ap (λ (x : SavedState). x.arrays) is_state in
-      let lengths_are : closed.array_lengths ≡ lengths_of z.arrays =
-      lengths ∙ arrays ∙ is.lengths_are ∙ saved.whole.lengths_are ∙ ap lengths_of (sym arrays_are) in
-      let named_are : named names ≡ named z.arrays = ap named (names_are ∙ is.names_are ∙ sym arrays_are) in
-      let renewed : AreRenewed z.shape z.words r.image.words = subst (λ (x : SavedState). AreRenewed x.shape x.words r.image.words) (sym is_state) is.words_are in
-      state_has stands keeper r.image.words closed old new w a renewed
-      (subst (λ (o : Opening). IsCode o.code) opening_is is_code) same spared below many enough
-      (shape ∙ ap (λ (o : Opening). o.shape) opening_is) lengths_are
-      (subst (λ (o : Opening). OthersStay o.shape.processors old new) opening_is others)
-      (subst (λ (o : Opening). Driven told plan (limits_of options) o closed.words old new) opening_is
-      (subst (λ (l : Limits). Driven told plan l (opening_of shared) closed.words old new) limits_are d))
-      (subst (λ (l : List NamedArray). IsTheOne (IsSaid closed.shape closed.array_lengths l closed.words) a) named_are only)
+  module _ (saved : Saved) (is_state : z ≡ state_of saved) (keeper : ℕ) (r : Renewed) (shared : Shared) (limits : Limits) (old new : List W) (w : W)
+      (stands : finish_of (saved_finish z) ≢ None) (is : IsRenewalOf saved keeper r)
+      (opens : opening_of shared ≡ record { shape = r.image.shape; code = r.code; words = r.image.words })
+      (is_code : IsCode (opening_of shared).code) (limits_are : limits ≡ limits_of options) (same : plan.processors ≡ z.shape.processors)
+      (spared : IsKeeper plan_form plan.items keeper) (below : keeper < z.shape.processors) (many : length new ≡ length old)
+      (enough : z.shape.processors ≤ length old) where
+    opening_is : opening_of shared ≡ k r.image.words
+    opening_is =
+        let shape_is : r.image.shape ≡ z.shape = is.shape_is ∙ sym (ap (λ (x : SavedState). x.shape) is_state) in
+        let code_is : r.code ≡ z.code = is.code_is ∙ sym (ap (λ (x : SavedState). x.code) is_state) in
+        opens ∙ (λ i. record { shape = shape_is i; code = code_is i; words = r.image.words })
+
+    words_renewed : AreRenewed z.shape z.words r.image.words
+    words_renewed = subst (λ (x : SavedState). AreRenewed x.shape x.words r.image.words) (sym is_state) is.words_are
+
+    code_there : IsCode z.code
+    code_there = subst (λ (o : Opening). IsCode o.code) opening_is is_code
+
+    others_there : OthersStay (opening_of shared).shape.processors old new → OthersStay z.shape.processors old new
+    others_there others = subst (λ (o : Opening). OthersStay o.shape.processors old new) opening_is others
+
+    driven_there : (behind : List ℕ) → Driven told plan limits (opening_of shared) behind old new
+        → Driven told plan (limits_of options) (k r.image.words) behind old new
+    driven_there behind d =
+        subst (λ (o : Opening). Driven told plan (limits_of options) o behind old new) opening_is
+        (subst (λ (l : Limits). Driven told plan l (opening_of shared) behind old new) limits_are d)
+
+    -- where a drive met want of memory
+    pub renewed_wanting : (new ≡ old) ⊎ WasRefused told plan limits (opening_of shared) old new
+        → ItemsWant options (map told old) (map told new) plan.items z
+    renewed_wanting (inl still) = ToldNothing (ap (λ (ws : List W). map told ws) still)
+    renewed_wanting (inr refused) = ToldRefused
+        (state_refused stands keeper r.image.words old new w words_renewed code_there same spared below many enough
+        (subst (λ (o : Opening). WasRefused told plan (limits_of options) o old new) opening_is
+        (subst (λ (l : Limits). WasRefused told plan l (opening_of shared) old new) limits_are refused)))
+
+    -- where there was no memory for the answer of a whole run
+    pub renewed_whole : (behind : List ℕ) → OthersStay (opening_of shared).shape.processors old new
+        → Driven told plan limits (opening_of shared) behind old new → ItemsWant options (map told old) (map told new) plan.items z
+    renewed_whole behind others d =
+        let some = state_some stands keeper r.image.words old new w words_renewed code_there same spared below many enough behind
+        (others_there others) (driven_there behind d) in
+        ToldWhole (some.0, some.2)
+
+    -- its answer
+    pub renewed_has : (closed : Closing) (names : List NamedLength) (a : Answer) → shared.lengths ≡ r.image.lengths
+        → closed.shape ≡ (opening_of shared).shape → closed.array_lengths ≡ shared.lengths
+        → OthersStay (opening_of shared).shape.processors old new → Driven told plan limits (opening_of shared) closed.words old new → names ≡ r.names
+        → IsTheOne (IsSaid closed.shape closed.array_lengths (named names) closed.words) a
+        → ResumedHas options (map told old) (map told new) plan.items z a
+    renewed_has closed names a arrays shape lengths others d names_are only =
+        let arrays_are : z.arrays ≡ saved.names = ap (λ (x : SavedState). x.arrays) is_state in
+        let lengths_are : closed.array_lengths ≡ lengths_of z.arrays =
+        lengths ∙ arrays ∙ is.lengths_are ∙ saved.whole.lengths_are ∙ ap lengths_of (sym arrays_are) in
+        let named_are : named names ≡ named z.arrays = ap named (names_are ∙ is.names_are ∙ sym arrays_are) in
+        state_has stands keeper r.image.words old new w words_renewed code_there same spared below many enough closed a
+        (shape ∙ ap (λ (o : Opening). o.shape) opening_is) lengths_are (others_there others) (driven_there closed.words d)
+        (subst (λ (l : List NamedArray). IsTheOne (IsSaid closed.shape closed.array_lengths l closed.words) a) named_are only)
 
 -- such a table has as many processors as the state
 pub table_count : (saved : Saved) (keeper : ℕ) (r : Renewed) (shared : Shared) → IsRenewalOf saved keeper r

@@ -34,19 +34,20 @@ use Rattle.ppm_loading.specs.declared.loading.Sizes.{Sizes}
 use Rattle.ppm_loading.specs.Loading.{AreSizes, OpensRun, opened_by}
 use Rattle.ppm_choice.specs.Deeds.{work_made}
 use Rattle.ppm_choice.specs.Finishes.{Finishes, Proposed, Spent, Stood}
-use Rattle.ppm_driver.specs.RunOf.{words_behind, finish_behind}
+use Rattle.ppm_driver.specs.RunOf.{words_behind, finish_behind, RefusedRun}
 use Rattle.ppm_loading.specs.Says.{IsTheOne, IsOfFinish, IsOfEnding}
 use Rattle.ppm_table.specs.Closed.{Closing}
 use Rattle.ppm_table.specs.Shown.{opening_of}
 use Rattle.ppm_table.specs.declared.processor.Shared.{Shared}
-use Rattle.ppm_threads.specs.Driven.{Driven, OthersStay}
-use Rattle.ppm_driver.specs.Runs.{plan_of, limits_of, sizes_of, IsSaid, ProgramHas, RunTells, TextHas, RunHas}
+use Rattle.ppm_threads.specs.Driven.{Driven, OthersStay, WasRefused}
+use Rattle.ppm_driver.specs.Runs.{plan_of, limits_of, sizes_of, IsSaid, ProgramHas, ProgramRefused, ProgramWants, RunTold, TextHas, RunHas}
 use Rattle.ppm_loading.specs.Planned.{PlannedHas, HasByItems}
-use Rattle.ppm_driver.specs.Watchers.{AreTold, OthersKeep}
+use Rattle.ppm_driver.specs.Watchers.{AreTold, OthersKeep, ToldNothing, ToldRefused, ToldWhole}
 use Rattle.ppm_driver.proofs.EndLemmas.{unset_opened, has_finished}
 use Rattle.ppm_loading.proofs.LoadingLemmas.{opens_processors}
 use Rattle.ppm_loading.proofs.ProgramLemmas.{AreKinds}
 use Rattle.ppm_driver.proofs.WatchLemmas.{are_told, stays}
+use Rattle.ppm_driver.proofs.WantLemmas.{lists_refused}
 use Rattle.ppm_loading.proofs.SayLemmas.{ending_is, one_of_ending, some_of_proposed, of_proposed}
 
 -- options in their ranges say sizes that a machine may have
@@ -267,32 +268,29 @@ run_forgets options watching before now plan text a h = record {
 same_plan : (options : RunOptions) (plan : Planned) → plan.processors ≡ options.processors → plan ≡ plan_of options plan.items
 same_plan options plan same = λ i. record { processors = same i; items = plan.items }
 
--- the answer of a program is what is said of the words behind its run
+-- some answer is that of a program, and it is what is said of the words behind its run
 module _ (options : RunOptions) (items : List PlanItem) (t : ProgramTree) (before now : ToldLists) where
-  has_run : (keeper : ℕ) (start : Situation) (turns : List Turn) → IsKeeper plan_form items keeper
+  some_run : (keeper : ℕ) (start : Situation) (turns : List Turn) → IsKeeper plan_form items keeper
       → OpensRun (sizes_of options) (code_of t) (initial_arrays t) keeper start → IsCode (code_of t)
       → ObeyAll (plan_of options items) (limits_of options) start.shape start.code start.state turns
       → AreTold options.processors (plan_of options items) (limits_of options) before now start turns
-      → (a : Answer) → IsTheOne (IsSaid start.shape start.array_lengths (initial_arrays t) (words_behind start turns)) a
-      → ProgramHas options options.processors before now items t a
-  has_run keeper start turns spared opens is obey told a only =
+      → (a : Answer) × IsSaid start.shape start.array_lengths (initial_arrays t) (words_behind start turns) a
+      × ProgramHas options options.processors before now items t a
+  some_run keeper start turns spared opens is obey told =
       let finished = has_finished (sizes_of options) (code_of t) (initial_arrays t) keeper (plan_of options items) (limits_of options) start turns
       opens is spared obey in
       let s = some_said (limits_of options) start (unset_opened (sizes_of options) (code_of t) (initial_arrays t) keeper start opens) turns
-      (initial_arrays t) finished in
-      record {
-        keeper = keeper;
-        spared = spared;
-        start = start;
-        opens = opens;
-        run = record {
-          turns = turns;
-          obey = obey;
-          finished = finished;
-          told = told;
-          says = subst (IsSaid start.shape start.array_lengths (initial_arrays t) (words_behind start turns)) (sym (only s.0 s.1)) s.1;
-        };
-      }
+      (initial_arrays t) finished in (
+        s.0,
+        s.1,
+        record {
+          keeper = keeper;
+          spared = spared;
+          start = start;
+          opens = opens;
+          run = record { turns = turns; obey = obey; finished = finished; told = told; says = s.1 };
+        },
+      )
 
 -- a table has as many processors as the options say
 pub table_processors : (options : RunOptions) (t : ProgramTree) (sizes : Sizes) (keeper : ℕ) (shared : Shared) → sizes ≡ sizes_of options
@@ -306,39 +304,74 @@ module _ {W : Type 0} (told : W → Option (List Event)) (options : RunOptions) 
   abbrev ListsTold : Planned → Limits → Situation → List Turn → List W → List W → Type 0
   ListsTold p l m turns old new = AreTold options.processors p l (map told old) (map told new) m turns
 
-  pub program_has : (sizes : Sizes) (limits : Limits) (keeper : ℕ) (shared : Shared) (closed : Closing) (old new : List W) (w : W)
-      (arrays : List NamedArray) (a : Answer) → sizes ≡ sizes_of options → limits ≡ limits_of options
-      → plan.processors ≡ options.processors → IsKeeper plan_form plan.items keeper
-      → OpensRun sizes (code_of t) (initial_arrays t) keeper (opened_by shared) → IsCode (code_of t)
-      → length new ≡ length old → options.processors ≤ length old
-      → closed.shape ≡ (opening_of shared).shape → closed.array_lengths ≡ shared.lengths
-      → OthersStay (opening_of shared).shape.processors old new → Driven told plan limits (opening_of shared) closed.words old new → arrays ≡ initial_arrays t
-      → IsTheOne (IsSaid closed.shape closed.array_lengths arrays closed.words) a
-      → ProgramHas options options.processors (map told old) (map told new) plan.items t a
-  program_has sizes limits keeper shared closed old new w arrays a sizes_are limits_are same spared opens is many enough shape lengths others d arrays_are only =
-      let k = opening_of shared in
-      let m = opened_by shared in
-      let begins = subst (λ (z : Sizes). OpensRun z (code_of t) (initial_arrays t) keeper m) sizes_are opens in
-      let count : k.shape.processors ≡ options.processors =
-      opens_processors (sizes_of options) (code_of t) (initial_arrays t) keeper m begins in
-      let obey = subst (λ (p : Planned). ObeyAll p (limits_of options) m.shape m.code m.state d.turns) (same_plan options plan same)
-      (subst (λ (l : Limits). ObeyAll plan l m.shape m.code m.state d.turns) limits_are d.obey) in
-      let are = are_told told plan limits k closed.words shared.lengths options.processors old new w many
-      (omega (arith, enough, count)) (sym count) others d in
-      let lists = subst (λ (p : Planned). ListsTold p (limits_of options) m d.turns old new) (same_plan options plan same)
-      (subst (λ (l : Limits). ListsTold plan l m d.turns old new) limits_are are) in
-      let said = subst (λ (l : List NamedArray). IsTheOne (IsSaid m.shape m.array_lengths l (words_behind m d.turns)) a) arrays_are
-      (subst (λ (ws : List ℕ). IsTheOne (IsSaid m.shape m.array_lengths arrays ws) a) (sym d.words_are)
-      (subst (λ (n : List ℕ). IsTheOne (IsSaid m.shape n arrays closed.words) a) lengths
-      (subst (λ (s : Shape). IsTheOne (IsSaid s closed.array_lengths arrays closed.words) a) shape only))) in
-      has_run options plan.items t (map told old) (map told new) keeper m d.turns spared begins is obey lists a said
+  module _ (sizes : Sizes) (limits : Limits) (keeper : ℕ) (shared : Shared) (old new : List W) (w : W) (sizes_are : sizes ≡ sizes_of options)
+      (limits_are : limits ≡ limits_of options) (same : plan.processors ≡ options.processors) (spared : IsKeeper plan_form plan.items keeper)
+      (opens : OpensRun sizes (code_of t) (initial_arrays t) keeper (opened_by shared)) (is : IsCode (code_of t))
+      (many : length new ≡ length old) (enough : options.processors ≤ length old) where
+    begins : OpensRun (sizes_of options) (code_of t) (initial_arrays t) keeper (opened_by shared)
+    begins = subst (λ (z : Sizes). OpensRun z (code_of t) (initial_arrays t) keeper (opened_by shared)) sizes_are opens
+
+    count : (opening_of shared).shape.processors ≡ options.processors
+    count = opens_processors (sizes_of options) (code_of t) (initial_arrays t) keeper (opened_by shared) begins
+
+    -- of a run in which a watcher refused
+    program_refused : WasRefused told plan limits (opening_of shared) old new → ProgramRefused options (map told old) (map told new) plan.items t
+    program_refused r =
+        let lists = lists_refused told plan limits (opening_of shared) old new w many (omega (arith, enough, count)) r in
+        record {
+          keeper = keeper;
+          spared = spared;
+          start = opened_by shared;
+          opens = begins;
+          run = subst (λ (p : Planned). RefusedRun p (limits_of options) (opened_by shared) (map told old) (map told new)) (same_plan options plan same)
+              (subst (λ (l : Limits). RefusedRun plan l (opened_by shared) (map told old) (map told new)) limits_are lists);
+        }
+
+    -- where a drive met want of memory
+    pub program_wanting : (new ≡ old) ⊎ WasRefused told plan limits (opening_of shared) old new
+        → ProgramWants options options.processors (map told old) (map told new) plan.items t
+    program_wanting (inl still) = ToldNothing (ap (λ (ws : List W). map told ws) still)
+    program_wanting (inr r) = ToldRefused (program_refused r)
+
+    -- of a whole run
+    module _ (words : List ℕ) (others : OthersStay (opening_of shared).shape.processors old new) (d : Driven told plan limits (opening_of shared) words old new) where
+      program_some : (a : Answer)
+          × IsSaid (opened_by shared).shape (opened_by shared).array_lengths (initial_arrays t) (words_behind (opened_by shared) d.turns) a
+          × ProgramHas options options.processors (map told old) (map told new) plan.items t a
+      program_some =
+          let k = opening_of shared in
+          let m = opened_by shared in
+          let obey = subst (λ (p : Planned). ObeyAll p (limits_of options) m.shape m.code m.state d.turns) (same_plan options plan same)
+          (subst (λ (l : Limits). ObeyAll plan l m.shape m.code m.state d.turns) limits_are d.obey) in
+          let are = are_told told plan limits k words shared.lengths options.processors old new w many
+          (omega (arith, enough, count)) (sym count) others d in
+          let lists = subst (λ (p : Planned). ListsTold p (limits_of options) m d.turns old new) (same_plan options plan same)
+          (subst (λ (l : Limits). ListsTold plan l m d.turns old new) limits_are are) in
+          some_run options plan.items t (map told old) (map told new) keeper m d.turns spared begins is obey lists
+
+      -- where there was no memory for its answer
+      pub program_whole : ProgramWants options options.processors (map told old) (map told new) plan.items t
+      program_whole = ToldWhole (program_some.0, program_some.2)
+
+      -- its answer is the one that is said of the words
+      pub program_has : (closed : Closing) (arrays : List NamedArray) (a : Answer) → closed.words ≡ words
+          → closed.shape ≡ (opening_of shared).shape → closed.array_lengths ≡ shared.lengths → arrays ≡ initial_arrays t
+          → IsTheOne (IsSaid closed.shape closed.array_lengths arrays closed.words) a
+          → ProgramHas options options.processors (map told old) (map told new) plan.items t a
+      program_has closed arrays a words_are shape lengths arrays_are only =
+          let m = opened_by shared in
+          let said = subst (λ (l : List NamedArray). IsTheOne (IsSaid m.shape m.array_lengths l (words_behind m d.turns)) a) arrays_are
+          (subst (λ (ws : List ℕ). IsTheOne (IsSaid m.shape m.array_lengths arrays ws) a) (words_are ∙ sym d.words_are)
+          (subst (λ (n : List ℕ). IsTheOne (IsSaid m.shape n arrays closed.words) a) lengths
+          (subst (λ (s : Shape). IsTheOne (IsSaid s closed.array_lengths arrays closed.words) a) shape only))) in
+          subst (ProgramHas options options.processors (map told old) (map told new) plan.items t) (sym (said program_some.0 program_some.1)) program_some.2
 
 -- an answer of a run is one of which watchers were told what its causes say
-pub run_tells : (processors : ℕ) (a : Answer) (before now : ToldLists) → IsOfProgram processors a → OthersKeep processors before now
-    → RunTells processors a before now
-run_tells processors (answers.Ended arrays) before now h others = (tt, others)
-run_tells processors (answers.Trapped t line) before now h others = (tt, others)
-run_tells processors (answers.OutOfTurns processor) before now h others = (tt, others)
-run_tells processors (answers.OutOfRoom place) before now h others = (tt, others)
-run_tells processors (answers.Broken place) before now h others = (tt, others)
-run_tells processors a before now h others = absurd h
+pub run_tells : (processors : ℕ) (T : Type 0) (a : Answer) (before now : ToldLists) → IsOfProgram processors a → OthersKeep processors before now
+    → RunTold processors T a before now
+run_tells processors T (answers.Ended arrays) before now h others = (tt, others, tt)
+run_tells processors T (answers.Trapped t line) before now h others = (tt, others, tt)
+run_tells processors T (answers.OutOfTurns processor) before now h others = (tt, others, tt)
+run_tells processors T (answers.OutOfRoom place) before now h others = (tt, others, tt)
+run_tells processors T (answers.Broken place) before now h others = (tt, others, tt)
+run_tells processors T a before now h others = absurd h

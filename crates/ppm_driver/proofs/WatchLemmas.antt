@@ -15,8 +15,8 @@ use Rattle.ppm_threads.specs.Driven.{AllKeep, OthersStay, Driven}
 use Rattle.ppm_answers.specs.declared.answer.Answer.{Answer}
 use Rattle.ppm_answers.specs.declared.answer.Answer.TheVariants as answers
 use Rattle.ppm_answers.specs.Reading.{TellsOfRun}
-use Rattle.ppm_driver.specs.Runs.{RunTells}
-use Rattle.ppm_driver.specs.Watchers.{AreTold, OthersKeep}
+use Rattle.ppm_driver.specs.Runs.{RunTold}
+use Rattle.ppm_driver.specs.Watchers.{AreTold, OthersKeep, ToldAtWant, ToldNothing, IfWanting}
 
 -- a list stays as it is
 pub stays : (l : Option (List Event)) → KeepsList l l
@@ -59,8 +59,13 @@ told_none answers.Accepted lists = tt
 pub others_still : (watching : ℕ) (lists : ToldLists) → OthersKeep watching lists lists
 others_still watching lists c least = stays (get_or lists c None)
 
-pub untold : (watching : ℕ) (a : Answer) (lists : ToldLists) → RunTells watching a lists lists
-untold watching a lists = (told_none a lists, others_still watching lists)
+-- what is told in want of memory belongs to each answer
+pub if_wanting : {T : Type 0} → T → (a : Answer) → IfWanting T a
+if_wanting t answers.NoMemory = t
+if_wanting t a = tt
+
+pub untold : (watching : ℕ) (R V : Type 0) (a : Answer) (lists : ToldLists) → RunTold watching (ToldAtWant R V lists lists) a lists lists
+untold watching R V a lists = (told_none a lists, others_still watching lists, if_wanting {T = ToldAtWant R V lists lists} (ToldNothing refl) a)
 
 -- the first watcher of some
 pub first_of : {W : Type 0} (ws : List W) → 0 < length ws → W

@@ -23,7 +23,8 @@ use Rattle.ppm_cli.specs.declared.run.RunOptions.{RunOptions}
 use Rattle.ppm_cli.specs.Words.{AreSelf}
 use Rattle.ppm_example.specs.Example.{sum_drawn}
 use Rattle.ppm_loading.specs.Programs.{ProgramMay, TextHas}
-use Rattle.ppm_driver.specs.Runs.{ProgramHas}
+use Rattle.ppm_program.specs.Programs.{HasProgram}
+use Rattle.ppm_driver.specs.Runs.{ProgramHas, RunTold, WantsOf}
 
 -- the options of `run` with which the example is run
 abbrev pub run_options_of : SelfOptions → RunOptions
@@ -105,6 +106,18 @@ module _ (o : SelfOptions) (before now : ToldLists) where
   -- that, or want of memory
   abbrev pub ExampleMay : Answer → Type 0
   ExampleMay answer = ProgramMay ExampleHas answer
+
+-- what watchers were told where memory is wanting: of a run of a program of the example, and of one of the example's program
+abbrev pub ProgramWants : SelfOptions → (before now : ToldLists) → ProgramTree → Type 0
+ProgramWants o before now t = WantsOf (run_options_of o) o.processors before now (λ Run. Run (items_of o) t)
+
+abbrev pub ExampleWants : SelfOptions → (before now : ToldLists) → Type 0
+ExampleWants o before now = WantsOf (run_options_of o) o.processors before now
+    (λ Run. (t : ProgramTree) × HasProgram (text_of o) t × Run (items_of o) t)
+
+-- what watchers were told where an answer of the example comes
+abbrev pub ExampleTells : SelfOptions → Answer → ToldLists → ToldLists → Type 0
+ExampleTells o answer before now = RunTold o.processors (ExampleWants o before now) answer before now
 
 -- an answer of the example: what is told of it, or want of memory
 abbrev pub IsExampleEnd : SelfOptions → Answer → Type 0

@@ -1,38 +1,29 @@
--- The theorem on `run`, for whoever reads its contract: what stands behind an answer that was written.
-use Rattle.std.specs.Prelude.{ℕ, ◌<◌, ◌+◌, ◌*◌, List, ⊤}
+-- The theorem on `run`, for whoever reads its contract: what stands behind its answer, at each status.
+use Rattle.std.specs.Prelude.{◌≡◌, ◌<◌, ◌≤◌, ◌⊎◌, ℕ, List, [], Some}
 use Rattle.ppm_words.specs.declared.named_array.NamedArray.{NamedArray}
 use Rattle.ppm_words.specs.declared.outcome.Outcome.{Outcome}
 use Rattle.ppm_words.specs.declared.outcome.Outcome.TheVariants as outcome
 use Rattle.ppm_words.specs.declared.trap.Trap.{Trap}
-use Rattle.ppm_ports.specs.Ports.{Gets}
+use Rattle.ppm_ports.specs.Ports.{Fails, Takes}
 use Rattle.ppm_ports.specs.Outside.{Outside}
-use Rattle.ppm_strands.specs.Run.{End as CapsuleEnd}
 use Rattle.ppm_text.specs.Limits.{text_limit}
-use Rattle.ppm_tree.specs.Tree.{ProgramTree}
-use Rattle.ppm_tree.specs.Program.{initial_arrays}
-use Rattle.ppm_program.specs.Programs.{HasProgram}
-use Rattle.ppm_code.specs.Strands.{Result}
-use Rattle.ppm_depth.specs.Run.{ComesTo, pool_words}
-use Rattle.ppm_cut_code.specs.Routines.{code_of}
+use Rattle.ppm_program.specs.Refusals.{IsRefusal}
+use Rattle.ppm_plan.specs.Correct.{SomeAccepted}
 use Rattle.ppm_plan.specs.Forms.{plan_form}
-use Rattle.ppm_plan.specs.declared.plan_item.PlanItem.{PlanItem}
-use Rattle.ppm_plan.specs.Refusals.{IsAccepted, IsKeeper}
-use Rattle.ppm_step.specs.declared.turn.Turn.{Turn}
-use Rattle.ppm_core.specs.Situation.{Situation}
-use Rattle.ppm_choice.specs.Finishes.{Finishes}
-use Rattle.ppm_choice.specs.Obeying.{ObeyAll}
+use Rattle.ppm_choice.specs.Deeds.{work_made}
+use Rattle.ppm_step.specs.Laws.{IsFilledBehind}
 use Rattle.ppm_answers.specs.declared.answer.Answer.{Answer}
 use Rattle.ppm_answers.specs.declared.answer.Answer.TheVariants as answers
+use Rattle.ppm_answers.specs.declared.refusal.Refusal.{Refusal}
 use Rattle.ppm_answers.specs.declared.status.Status.{Status}
 use Rattle.ppm_answers.specs.declared.status.Status.TheVariants as statuses
-use Rattle.ppm_answers.specs.Reading.{Reads}
-use Rattle.ppm_answers.specs.Texts.{arrays_text, trap_text, turns_text, room_text}
+use Rattle.ppm_answers.specs.Delivery.{OutFails, ErrFails}
+use Rattle.ppm_answers.specs.Reading.{Reads, ReadsSome, IsUnread}
+use Rattle.ppm_answers.specs.Texts.{arrays_text, trap_text, refusal_text, plan_text, turns_text, room_text, err_text}
 use Rattle.ppm_cli.specs.declared.run.RunOptions.{RunOptions}
-use Rattle.ppm_loading.specs.Loading.{OpensRun}
-use Rattle.ppm_driver.specs.Watchers.{AreTold}
-use Rattle.ppm_driver.specs.Meant.{NoneIsTakenTwice, EndsAsProgram}
-use Rattle.ppm_driver.specs.RunOf.{words_behind, finish_behind}
-use Rattle.ppm_driver.specs.Runs.{sizes_of, limits_of, plan_of, IsSaid}
+use Rattle.ppm_loading.specs.Planned.{IsRefusedBy}
+use Rattle.ppm_driver.specs.Meant.{NoneIsTakenTwice, EndsAsProgram, NeedsMoreRoom, NeedsMoreTurns, undone_in}
+use Rattle.ppm_driver.specs.Runs.{RunMade, RunWants}
 use Rattle.ppm_driver.specs.Strikes.{fault_count}
 
 module _ (options : RunOptions) (watching : ℕ) (plan : List ℕ) (o : Outside) where
@@ -40,52 +31,95 @@ module _ (options : RunOptions) (watching : ℕ) (plan : List ℕ) (o : Outside)
   -- one order, from the machine with which a run of the program begins, its root with the keeper, and each processor obeys the plan and the limits
   -- in them. The words behind them say this answer, and the finish word there has its cause in them. What each watcher was told is its processor's
   -- record of these turns, with event 7 where it parked; of a watcher that shows no list that says nothing, as `read` does of a source that shows no
-  -- bytes. No branch is taken twice in these turns.
-  pub record Made (answer : Answer) : Type 0 where
+  -- bytes.
+  abbrev pub Made : Answer → Type 0
+  Made answer = RunMade options watching plan o.told_before o.told_now o.source answer
+
+  -- nobody was told anything
+  abbrev pub IsUntold : Type 0
+  IsUntold = o.told_now ≡ o.told_before
+
+  -- the run ended with this outcome, which is the program's serial one; and each branch that was forked was taken exactly once
+  pub record EndsSo (answer : Answer) (outcome : Outcome) : Type 0 where
+    pub made : Made answer
+    pub ends : EndsAsProgram made.ran.start made.ran.run.turns made.program outcome
+
+  -- A processor has made exactly as many work turns as it may make. They are fewer than 256 for each capsule that the program's code runs depth
+  -- first and each fault of the plan, or that run has no end; and of the faults those that undid work are enough for this. No branch was taken twice.
+  pub record SpendsTurns (processor : ℕ) : Type 0 where
+    pub made : Made (answers.OutOfTurns processor)
+    pub there : processor < options.processors
+    pub spent : work_made made.ran.start.shape made.ran.start.code processor made.ran.start.state made.ran.run.turns ≡ options.turns
+    pub exceeds : NeedsMoreTurns made.program (fault_count made.items) options.turns
+    pub needs : NeedsMoreTurns made.program (undone_in made.ran.start made.ran.run.turns) options.turns
+    pub undone : undone_in made.ran.start made.ran.run.turns ≤ fault_count made.items
+    pub once : NoneIsTakenTwice made.ran.start made.ran.run.turns
+
+  -- A turn found the pool of a place full: it began the capsule that the header of the frame names, which asks for more words than are left. The
+  -- program takes more words than a pool has, or has no end. No branch was taken twice.
+  pub record FillsPool (place : ℕ) : Type 0 where
+    pub made : Made (answers.OutOfRoom place)
+    pub there : place < options.processors
+    pub full : IsFilledBehind made.ran.start.shape made.ran.start.code place made.ran.start.state.words made.ran.run.turns
+    pub needs : NeedsMoreRoom made.program options.room
+    pub once : NoneIsTakenTwice made.ran.start made.ran.run.turns
+
+  -- the text that was read is refused, and so are all bytes of the source, where they are known; the plan is accepted
+  pub record RefusesText (r : Refusal) : Type 0 where
     pub text : List ℕ
     pub read : Reads text_limit o.source text
-    pub program : ProgramTree
-    pub has : HasProgram text program
-    pub items : List PlanItem
-    pub accepted : IsAccepted plan_form plan options.processors items
-    pub keeper : ℕ
-    pub spared : IsKeeper plan_form items keeper
-    pub start : Situation
-    pub opens : OpensRun (sizes_of options) (code_of program) (initial_arrays program) keeper start
-    pub turns : List Turn
-    pub obey : ObeyAll (plan_of options items) (limits_of options) start.shape start.code start.state turns
-    pub finished : Finishes start.shape start.code (limits_of options) start.state turns (finish_behind start turns)
-    pub says : IsSaid start.shape start.array_lengths (initial_arrays program) (words_behind start turns) answer
-    pub told : AreTold watching (plan_of options items) (limits_of options) o.told_before o.told_now start turns
-    pub once : NoneIsTakenTwice start turns
+    pub refused : IsRefusal text r
+    pub whole : (all : List ℕ) → o.source.before ≡ Some all → IsRefusal all r
+    pub accepted : SomeAccepted plan_form plan options.processors
+    pub untold : IsUntold
 
-  -- the run ended with this outcome, which is the program's serial one; each branch that was forked was taken exactly once; and out got exactly
-  -- this text
-  pub record WritesOutcome (answer : Answer) (outcome : Outcome) (text : List ℕ) : Type 0 where
-    pub made : Made answer
-    pub ends : EndsAsProgram made.start made.turns made.program outcome
-    pub gets : Gets o.out text
+  -- the plan is refused by a number, and nothing was read
+  pub record RefusesPlan (number : ℕ) : Type 0 where
+    pub refused : IsRefusedBy plan_form plan options.processors number
+    pub unread : IsUnread o.source
+    pub untold : IsUntold
 
-  -- the run met a limit that the program's code, run depth first, exceeds, if that has an end, and err got exactly this text
-  pub record NamesLimit (answer : Answer) (Exceeds : Made answer → CapsuleEnd Result → Type 0) (text : List ℕ) : Type 0 where
-    pub made : Made answer
-    pub exceeds : (e : CapsuleEnd Result) → ComesTo (code_of made.program) (initial_arrays made.program) e → Exceeds made e
-    pub gets : Gets o.err text
+  -- the source failed, and the plan is accepted
+  pub record FailsToRead : Type 0 where
+    pub fails : Fails o.source
+    pub front : ReadsSome text_limit o.source
+    pub accepted : SomeAccepted plan_form plan options.processors
+    pub untold : IsUntold
 
-  module _ {answer : Answer} where
-    -- the turns of a processor are fewer than 256 for each capsule of that run and each fault of the plan
-    abbrev pub ExceedsTurns : Made answer → CapsuleEnd Result → Type 0
-    ExceedsTurns made e = options.turns < 256 * (e.counts.capsules + fault_count made.items)
+  -- What holds of an answer, also where a port failed at its texts. Where memory is wanting, either nobody was told anything, or what watchers were
+  -- told is of one run of this kind: up to where one refused, or all of it.
+  abbrev pub HoldsOf : Answer → Type 0
+  HoldsOf (answers.Ended arrays) = EndsSo (answers.Ended arrays) (outcome.Ended arrays)
+  HoldsOf (answers.Trapped trap line) = EndsSo (answers.Trapped trap line) (outcome.Trapped trap line)
+  HoldsOf (answers.SourceRefused r) = RefusesText r
+  HoldsOf (answers.PlanRefused number) = RefusesPlan number
+  HoldsOf (answers.OutOfTurns processor) = SpendsTurns processor
+  HoldsOf (answers.OutOfRoom place) = FillsPool place
+  HoldsOf answers.ReadFault = FailsToRead
+  HoldsOf answers.NoMemory = RunWants options watching plan o.told_before o.told_now o.source
+  HoldsOf answer = ⊥
 
-    -- that run takes more words than a pool has
-    abbrev pub ExceedsRoom : Made answer → CapsuleEnd Result → Type 0
-    ExceedsRoom made e = options.room < pool_words (code_of made.program) e.counts
+  -- out got exactly this text, and err nothing; no write failed
+  pub record OutTakes (text : List ℕ) : Type 0 where
+    pub on_out : Takes o.out text
+    pub on_err : Takes o.err []
+
+  -- err got exactly this text, and out nothing; no write failed
+  pub record ErrTakes (text : List ℕ) : Type 0 where
+    pub on_out : Takes o.out []
+    pub on_err : Takes o.err text
 
   -- Whatever the source, the number of processors, the order of turns and the plan: `run`, if it returns, writes the serial outcome of the source's
-  -- program, its arrays or its first trap, or names a limit that the depth-first run exceeds. At each other status nothing is told of a run here.
+  -- program, its arrays or its first trap, or names a limit that the depth-first run exceeds. All else that it may do is to refuse the text or the
+  -- plan, or to say that a port failed or that memory is wanting. Where out or err failed, all holds that is said of the answer to be written.
   abbrev pub Headline : Status → Type 0
-  Headline statuses.Ended = (arrays : List NamedArray) × WritesOutcome (answers.Ended arrays) (outcome.Ended arrays) (arrays_text arrays)
-  Headline statuses.Trapped = (trap : Trap) × (line : ℕ) × WritesOutcome (answers.Trapped trap line) (outcome.Trapped trap line) (trap_text trap line)
-  Headline statuses.OutOfTurns = (processor : ℕ) × NamesLimit (answers.OutOfTurns processor) ExceedsTurns (turns_text processor)
-  Headline statuses.OutOfRoom = (place : ℕ) × NamesLimit (answers.OutOfRoom place) ExceedsRoom (room_text place)
-  Headline status = ⊤
+  Headline statuses.Ended = (arrays : List NamedArray) × HoldsOf (answers.Ended arrays) × OutTakes (arrays_text arrays)
+  Headline statuses.Trapped = (trap : Trap) × (line : ℕ) × HoldsOf (answers.Trapped trap line) × OutTakes (trap_text trap line)
+  Headline statuses.SourceRefused = (r : Refusal) × HoldsOf (answers.SourceRefused r) × ErrTakes (refusal_text r)
+  Headline statuses.WordsRefused = (number : ℕ) × HoldsOf (answers.PlanRefused number) × ErrTakes (plan_text number)
+  Headline statuses.OutOfTurns = (processor : ℕ) × HoldsOf (answers.OutOfTurns processor) × ErrTakes (turns_text processor)
+  Headline statuses.OutOfRoom = (place : ℕ) × HoldsOf (answers.OutOfRoom place) × ErrTakes (room_text place)
+  Headline statuses.ReadFault = HoldsOf answers.ReadFault × ErrTakes (err_text answers.ReadFault)
+  Headline statuses.WriteFault = (answer : Answer) × HoldsOf answer × (OutFails o.out o.err answer ⊎ ErrFails o.out o.err answer)
+  Headline statuses.NoMemory = HoldsOf answers.NoMemory × ErrTakes (err_text answers.NoMemory)
+  Headline status = ⊥

@@ -104,13 +104,14 @@ module _ (options : ReplayOptions) (schedule : List ℕ) (o : Ports) where
   ReplaySays statuses.OutOfRoom = WritesOutOfRoom
   ReplaySays status = PortsSay o status
 
-  -- each replay that an answer is of is as its program, at each status: also where the answer's text failed
+  -- Each replay that an answer is of is as its program. It is a law, in which no status occurs, so it holds also where a port failed at the text.
   abbrev pub AreAsPrograms : Type 0
   AreAsPrograms = (items : List ScheduleItem) → IsAccepted schedule_form schedule options.processors items
       → (text : List ℕ) (t : ProgramTree) → HasProgram text t → (answer : Answer) (h : ProgramHas options items t answer)
       → IsAsProgram h.start (turns_by h.start items) t
 
   -- The rows of `replay` with such options, in their ranges, and such a schedule. The answer that a text has is written, whichever it is.
+  -- What is in `meant` is a law of all replays.
   pub record ReplayRows (status : Status) : Type 0 where
     pub rows : PlannedRows (IsRefusedBy schedule_form schedule options.processors)
         (HasByItems schedule_form schedule options.processors (TextHas options)) text_limit ReplaySays o status

@@ -28,7 +28,7 @@ use Rattle.ppm_driver.specs.Strikes.{fault_count}
 use Rattle.ppm_driver.specs.Completeness.{IsEnough}
 use Rattle.ppm_driver.specs.Legs.{worked_in_all, lost_in_all, NoneIsTakenTwiceInAll, EndsAsProgramInAll, IsAsProgramInAll}
 use Rattle.ppm_driver.specs.ResumeCompleteness.{faults_with, lost_with}
-use Rattle.ppm_driver.specs.Resumes.{SavedState, saved_finish, IsTextOf, ResumedHas, TextHas, IsLeftBy, legs_with, IsTextLeftBy}
+use Rattle.ppm_driver.specs.Resumes.{SavedState, saved_finish, IsTextOf, ResumedHas, ResumeWants, TextHas, IsLeftBy, legs_with, IsTextLeftBy}
 use Rattle.ppm_plan.specs.declared.plan_item.PlanItem.{PlanItem}
 
 module _ (options : ResumeOptions) (plan : List ℕ) (o : Outside) where
@@ -130,7 +130,7 @@ module _ (options : ResumeOptions) (plan : List ℕ) (o : Outside) where
     pub late : ComesLate read.2.has.items read.2.state place
     pub gets : Gets o.err (broken_text place)
 
-  -- what each status says
+  -- what each status says; where memory is wanting, what watchers were told is nothing, or it is of one run
   abbrev pub ResumeSays : Status → Type 0
   ResumeSays statuses.Ended = WritesArrays
   ResumeSays statuses.Trapped = WritesTrap
@@ -139,10 +139,11 @@ module _ (options : ResumeOptions) (plan : List ℕ) (o : Outside) where
   ResumeSays statuses.OutOfTurns = WritesOutOfTurns
   ResumeSays statuses.OutOfRoom = WritesOutOfRoom
   ResumeSays statuses.Broken = WritesBroken
+  ResumeSays statuses.NoMemory = ResumeWants options plan o.told_before o.told_now o.source
   ResumeSays status = PortsSay (ports_of o) status
 
-  -- each run that an answer is of is, with the legs before, as each program that left its state; at each status: also where the answer's text
-  -- failed
+  -- Each run that an answer is of is, with the legs before, as each program that left its state. It is a law, in which no status occurs, so it holds
+  -- also where a port failed at the text.
   abbrev pub AreAsPrograms : Type 0
   AreAsPrograms = (items : List PlanItem) (z : SavedState) (answer : Answer) (h : Resumed items z answer) (source : List ℕ) (left : IsLeftBy source z)
       → IsAsProgramInAll left.start (legs_with left h.start.state.words) h.run.turns left.tree
@@ -157,7 +158,7 @@ module _ (options : ResumeOptions) (plan : List ℕ) (o : Outside) where
       → IsOneOf status (statuses.Ended ∷ statuses.Trapped ∷ [])
 
   -- The rows of `resume` with such options and such a plan: what each status says; and where all goes well, something is judged, and the
-  -- answer that the text has is written.
+  -- answer that the text has is written. What is in `meant` is a law of all such runs.
   pub record ResumeRows (status : Status) : Type 0 where
     pub rows : TextRows saved_limit Has ResumeSays (ports_of o) status
     pub meant : AreAsPrograms

@@ -49,10 +49,10 @@ use Rattle.ppm_loading.specs.Loading.{OpensRun}
 use Rattle.ppm_loading.specs.Planned.{IsRefusedBy}
 use Rattle.ppm_loading.specs.declared.loading.Sizes.{Sizes}
 use Rattle.ppm_driver.specs.Legs.{words_at_last, worked_in_all, struck_in_all}
-use Rattle.ppm_driver.specs.RunOf.{RunOf, words_behind}
+use Rattle.ppm_driver.specs.RunOf.{RunOf, RefusedRun, words_behind}
 use Rattle.ppm_driver.specs.Runs.{IsSaid, TellsOfTurns}
 use Rattle.ppm_driver.specs.Strikes.{scheduled_faults}
-use Rattle.ppm_driver.specs.Watchers.{AreTold, OthersKeep}
+use Rattle.ppm_driver.specs.Watchers.{AreTold, OthersKeep, ToldAtWant, IfWanting}
 
 -- what a saved text tells: sizes, arrays without their values, code and words
 pub record SavedState : Type 0 where
@@ -112,15 +112,24 @@ limits_of o = record { turns = o.turns; looks = o.looks; seed = o.seed; idle = L
 abbrev pub plan_of : SavedState → List PlanItem → Planned
 plan_of z items = record { processors = z.shape.processors; items = items }
 
--- The answer of a state by the items of a plan, where watchers were told such lists before the run and after it: that of a run from the machine
--- with which fresh processors go on. The answer is what the words say behind it, with the arrays that they have for the state's names.
-pub record ResumedHas (options : ResumeOptions) (before now : ToldLists) (items : List PlanItem) (z : SavedState) (answer : Answer) : Type 0 where
+-- A run from a state, of which this holds: from the machine with which fresh processors go on. The saved finish word stands for something.
+pub record RunOfState (z : SavedState) (Run : Situation → Type 0) : Type 0 where
   pub stands : finish_of (saved_finish z) ≢ None
   pub start : Situation
   pub goes_on : GoesOnFrom z start
-  pub run : RunOf (plan_of z items) (limits_of options) start
-      (AreTold z.shape.processors (plan_of z items) (limits_of options) before now start)
-      (IsSaid start.shape start.array_lengths (named z.arrays)) answer
+  pub run : Run start
+
+-- The answer of a state by the items of a plan, where watchers were told such lists before the run and after it: that of such a run. The answer is
+-- what the words say behind it, with the arrays that they have for the state's names.
+abbrev pub ResumedHas : ResumeOptions → (before now : ToldLists) → List PlanItem → SavedState → Answer → Type 0
+ResumedHas options before now items z answer = RunOfState z (λ (start : Situation).
+    RunOf (plan_of z items) (limits_of options) start (AreTold z.shape.processors (plan_of z items) (limits_of options) before now start)
+    (IsSaid start.shape start.array_lengths (named z.arrays)) answer)
+
+-- such a run in which a watcher refused
+abbrev pub ResumedRefused : ResumeOptions → (before now : ToldLists) → List PlanItem → SavedState → Type 0
+ResumedRefused options before now items z =
+    RunOfState z (λ (start : Situation). RefusedRun (plan_of z items) (limits_of options) start before now)
 
 -- the saved finish word stands for nothing, and nobody was told anything
 pub record IsBrokenBefore (before now : ToldLists) (z : SavedState) : Type 0 where
@@ -168,14 +177,35 @@ abbrev pub OthersOfSourceKeep : (before now : ToldLists) → Port → Type 0
 OthersOfSourceKeep before now source =
     (now ≡ before) ⊎ ((text : List ℕ) × Reads saved_limit source text × OfState (λ z. OthersKeep z.shape.processors before now) text)
 
+-- what watchers were told where memory is wanting, where this says of which runs from a state
+abbrev pub WantsOf : ResumeOptions → (before now : ToldLists) → ((List PlanItem → SavedState → Type 0) → Type 0) → Type 0
+WantsOf options before now Of = ToldAtWant (Of (ResumedRefused options before now)) ((a : Answer) × Of (λ items z. ResumedHas options before now items z a))
+    before now
+
+-- of one by these items, of one by a plan, of one of the state of a text, and of one of the text that was read
+abbrev pub ItemsWant : ResumeOptions → (before now : ToldLists) → List PlanItem → SavedState → Type 0
+ItemsWant options before now items z = WantsOf options before now (λ Run. Run items z)
+
+abbrev pub StateWants : ResumeOptions → (plan : List ℕ) → (before now : ToldLists) → SavedState → Type 0
+StateWants options plan before now z = WantsOf options before now (λ Run. ByItems plan Run z)
+
+abbrev pub TextWants : ResumeOptions → (plan : List ℕ) → (before now : ToldLists) → List ℕ → Type 0
+TextWants options plan before now text = WantsOf options before now (λ Run. OfState (ByItems plan Run) text)
+
+abbrev pub ResumeWants : ResumeOptions → (plan : List ℕ) → (before now : ToldLists) → Port → Type 0
+ResumeWants options plan before now source =
+    WantsOf options before now (λ Run. (text : List ℕ) × Reads saved_limit source text × OfState (ByItems plan Run) text)
+
 -- what watchers were told where an answer of a text comes: nothing where it or the plan is refused; the causes of an answer of a run say which
 -- turns; those of none of the state's processors nothing
-abbrev pub TextTells : (text : List ℕ) → Answer → ToldLists → ToldLists → Type 0
-TextTells text answer before now = TellsOfTurns answer before now × OthersOfTextKeep before now text
+abbrev pub TextTells : ResumeOptions → (plan text : List ℕ) → Answer → ToldLists → ToldLists → Type 0
+TextTells options plan text answer before now =
+    TellsOfTurns answer before now × OthersOfTextKeep before now text × IfWanting (TextWants options plan before now text) answer
 
--- and where one comes of what was read, also where memory is wanting, or a watcher refused
-abbrev pub ResumeTells : (source : Port) → Answer → ToldLists → ToldLists → Type 0
-ResumeTells source answer before now = TellsOfTurns answer before now × OthersOfSourceKeep before now source
+-- and where one comes of what was read
+abbrev pub ResumeTells : ResumeOptions → (plan : List ℕ) → Port → Answer → ToldLists → ToldLists → Type 0
+ResumeTells options plan source answer before now =
+    TellsOfTurns answer before now × OthersOfSourceKeep before now source × IfWanting (ResumeWants options plan before now source) answer
 
 -- what stands behind more bytes than a saved text may have changes no answer, with all options and all plans
 abbrev pub FrontsDecideResumed : Type 0

@@ -1,5 +1,6 @@
 -- The run of a machine whose processors obey a plan and limits, and what is answered behind it: the same for each command that has a plan.
 use Rattle.std.specs.Prelude.{ℕ, List}
+use Rattle.ppm_ports.specs.Outside.{ToldLists}
 use Rattle.ppm_cells.specs.Memory.{read}
 use Rattle.ppm_cells.specs.declared.cell.Cell.TheVariants.{FinishWord}
 use Rattle.ppm_plan.specs.Schedules.{Planned}
@@ -10,6 +11,8 @@ use Rattle.ppm_choice.specs.declared.limits.Limits.{Limits}
 use Rattle.ppm_answers.specs.declared.answer.Answer.{Answer}
 use Rattle.ppm_choice.specs.Finishes.{Finishes}
 use Rattle.ppm_choice.specs.Obeying.{ObeyAll}
+use Rattle.ppm_table.specs.declared.view.Opening.{Opening}
+use Rattle.ppm_threads.specs.Driven.{WasRefused}
 
 -- the words behind turns of a machine, and the finish word
 abbrev pub words_behind : Situation → List Turn → List ℕ
@@ -27,3 +30,12 @@ pub record RunOf (plan : Planned) (limits : Limits) (start : Situation) (IsTold 
   pub finished : Finishes start.shape start.code limits start.state turns (finish_behind start turns)
   pub told : IsTold turns
   pub says : IsSaid (words_behind start turns) answer
+
+-- the table with a machine's code and words
+abbrev pub table_of : Situation → Opening
+table_of m = record { shape = m.shape; code = m.code; words = m.state.words }
+
+-- A run from a machine in which a watcher refused an event. Each processor obeys in its turns, and its list has its record of them; or its watcher
+-- refused an event: up to that event the list has its record, up to that act it obeys, and then it gave up. One watcher at least refused.
+abbrev pub RefusedRun : Planned → Limits → Situation → (before now : ToldLists) → Type 0
+RefusedRun plan limits start before now = WasRefused (λ list. list) plan limits (table_of start) before now

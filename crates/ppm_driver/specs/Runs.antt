@@ -13,23 +13,24 @@ use Rattle.ppm_core.specs.Situation.{Situation}
 use Rattle.ppm_choice.specs.declared.limits.Limits.{Limits}
 use Rattle.ppm_plan.specs.declared.plan_item.PlanItem.{PlanItem}
 use Rattle.ppm_plan.specs.Forms.{plan_form}
-use Rattle.ppm_plan.specs.Refusals.{IsKeeper}
+use Rattle.ppm_plan.specs.Refusals.{IsAccepted, IsKeeper}
 use Rattle.ppm_plan.specs.Schedules.{Planned}
 use Rattle.ppm_tree.specs.Tree.{ProgramTree}
 use Rattle.ppm_tree.specs.Program.{initial_arrays}
+use Rattle.ppm_program.specs.Programs.{HasProgram}
 use Rattle.ppm_cut_code.specs.Routines.{code_of}
 use Rattle.ppm_words.specs.declared.named_array.NamedArray.{NamedArray}
 use Rattle.ppm_answers.specs.declared.answer.Answer.{Answer}
 use Rattle.ppm_answers.specs.declared.answer.Answer.TheVariants as answers
-use Rattle.ppm_answers.specs.Reading.{AreOne, FrontsDecide, TellsOfRun}
+use Rattle.ppm_answers.specs.Reading.{AreOne, FrontsDecide, Reads, TellsOfRun}
 use Rattle.ppm_cli.specs.declared.run.RunOptions.{RunOptions}
 use Rattle.ppm_loading.specs.declared.loading.Sizes.{Sizes}
 use Rattle.ppm_loading.specs.Loading.{OpensRun}
 use Rattle.ppm_loading.specs.Planned.{PlannedHas, PlannedMay}
 use Rattle.ppm_loading.specs.Programs as programs
-use Rattle.ppm_driver.specs.RunOf.{RunOf}
+use Rattle.ppm_driver.specs.RunOf.{RunOf, RefusedRun}
 use Rattle.ppm_loading.specs.Says.{IsOfWords, IsTheOne}
-use Rattle.ppm_driver.specs.Watchers.{AreTold, OthersKeep}
+use Rattle.ppm_driver.specs.Watchers.{AreTold, OthersKeep, ToldAtWant, IfWanting}
 
 -- the machine's sizes and the limits, as the options say them
 abbrev pub sizes_of : RunOptions → Sizes
@@ -52,17 +53,26 @@ abbrev pub SaysWhyNone : Shape → (lengths words : List ℕ) → Option Answer 
 SaysWhyNone s lengths words None = ending_of (read s words FinishWord) ≡ With finishes.Ended
 SaysWhyNone s lengths words (Some answer) = (arrays : List NamedArray) → IsTheOne (IsSaid s lengths arrays words) answer
 
--- the answer of a program by the items of a plan, where the first so many watchers are told what their processors do, with such lists before
--- the run and after it: that of a run from the machine with which a run of the program's code on its arrays begins, with the plan's keeper
-pub record ProgramHas (options : RunOptions) (watching : ℕ) (before now : ToldLists) (items : List PlanItem) (t : ProgramTree) (answer : Answer)
-    : Type 0 where
+-- A run of a program by the items of a plan, of which this holds: from the machine with which a run of the program's code on its arrays begins,
+-- with the plan's keeper.
+pub record RunOfProgram (options : RunOptions) (items : List PlanItem) (t : ProgramTree) (Run : Situation → Type 0) : Type 0 where
   pub keeper : ℕ
   pub spared : IsKeeper plan_form items keeper
   pub start : Situation
   pub opens : OpensRun (sizes_of options) (code_of t) (initial_arrays t) keeper start
-  pub run : RunOf (plan_of options items) (limits_of options) start
-      (AreTold watching (plan_of options items) (limits_of options) before now start)
-      (IsSaid start.shape start.array_lengths (initial_arrays t)) answer
+  pub run : Run start
+
+-- the answer of a program by the items of a plan, where the first so many watchers are told what their processors do, with such lists before
+-- the run and after it: that of such a run
+abbrev pub ProgramHas : RunOptions → (watching : ℕ) → (before now : ToldLists) → List PlanItem → ProgramTree → Answer → Type 0
+ProgramHas options watching before now items t answer = RunOfProgram options items t (λ (start : Situation).
+    RunOf (plan_of options items) (limits_of options) start (AreTold watching (plan_of options items) (limits_of options) before now start)
+    (IsSaid start.shape start.array_lengths (initial_arrays t)) answer)
+
+-- such a run in which a watcher refused
+abbrev pub ProgramRefused : RunOptions → (before now : ToldLists) → List PlanItem → ProgramTree → Type 0
+ProgramRefused options before now items t =
+    RunOfProgram options items t (λ (start : Situation). RefusedRun (plan_of options items) (limits_of options) start before now)
 
 -- that of a text: its program's, or its refusal
 abbrev pub TextHas : RunOptions → (watching : ℕ) → (before now : ToldLists) → List PlanItem → List ℕ → Answer → Type 0
@@ -77,13 +87,48 @@ abbrev pub RunMay : RunOptions → (watching : ℕ) → (plan : List ℕ) → (b
 RunMay options watching plan before now source answer =
     PlannedMay plan_form plan options.processors (TextHas options watching before now) text_limit source answer
 
--- what watchers were told where an answer comes: the causes of an answer of a run say which turns; and so it is with those behind the first
--- so many, who were told nothing
+-- The text that was read has a program, and the plan is accepted. Of this program and the plan's items this holds. Where the source's bytes are
+-- known, the text is all of them.
+pub record OfSource (options : RunOptions) (plan : List ℕ) (source : Port) (Run : List PlanItem → ProgramTree → Type 0) : Type 0 where
+  pub text : List ℕ
+  pub read : Reads text_limit source text
+  pub whole : (all : List ℕ) → source.before ≡ Some all → text ≡ all
+  pub program : ProgramTree
+  pub has : HasProgram text program
+  pub items : List PlanItem
+  pub accepted : IsAccepted plan_form plan options.processors items
+  pub ran : Run items program
+
+-- the run that an answer is of: one of the program of the text that was read
+abbrev pub RunMade : RunOptions → (watching : ℕ) → (plan : List ℕ) → (before now : ToldLists) → Port → Answer → Type 0
+RunMade options watching plan before now source answer =
+    OfSource options plan source (λ items t. ProgramHas options watching before now items t answer)
+
+-- what watchers were told where memory is wanting, where this says of which runs of a program
+abbrev pub WantsOf : RunOptions → (watching : ℕ) → (before now : ToldLists) → ((List PlanItem → ProgramTree → Type 0) → Type 0) → Type 0
+WantsOf options watching before now Of = ToldAtWant (Of (ProgramRefused options before now))
+    ((a : Answer) × Of (λ items t. ProgramHas options watching before now items t a)) before now
+
+-- of one by these items, and of one of the program of the text that was read
+abbrev pub ProgramWants : RunOptions → (watching : ℕ) → (before now : ToldLists) → List PlanItem → ProgramTree → Type 0
+ProgramWants options watching before now items t = WantsOf options watching before now (λ Run. Run items t)
+
+abbrev pub RunWants : RunOptions → (watching : ℕ) → (plan : List ℕ) → (before now : ToldLists) → Port → Type 0
+RunWants options watching plan before now source = WantsOf options watching before now (OfSource options plan source)
+
+-- what watchers were told where an answer comes: nothing where there was no run; the causes of an answer of a run say which turns; and each list
+-- keeps what it had in front
 abbrev pub TellsOfTurns : Answer → ToldLists → ToldLists → Type 0
 TellsOfTurns answer before now = TellsOfRun (λ answer before now. ⊤) answer before now
 
-abbrev pub RunTells : (watching : ℕ) → Answer → ToldLists → ToldLists → Type 0
-RunTells watching answer before now = TellsOfTurns answer before now × OthersKeep watching before now
+-- and where memory is wanting this; those behind the first so many were told nothing
+abbrev pub RunTold : (watching : ℕ) → (Wanting : Type 0) → Answer → ToldLists → ToldLists → Type 0
+RunTold watching Wanting answer before now = TellsOfTurns answer before now × OthersKeep watching before now × IfWanting Wanting answer
+
+-- that of a run of the text that was read
+abbrev pub RunTells : RunOptions → (watching : ℕ) → (plan : List ℕ) → Port → Answer → ToldLists → ToldLists → Type 0
+RunTells options watching plan source answer before now =
+    RunTold watching (RunWants options watching plan before now source) answer before now
 
 -- two answers of a text are one where there is one processor, with such options and all plans
 abbrev pub AnswersAreOne : Type 0

@@ -1,5 +1,5 @@
 -- What the watchers of a run are told.
-use Rattle.std.specs.Prelude.{ℕ, ◌<◌, ◌≤◌, List, None, get_or}
+use Rattle.std.specs.Prelude.{◌≡◌, ℕ, ◌<◌, ◌≤◌, List, None, get_or, ⊤}
 use Rattle.ppm_words.specs.Limits.{processor_limit}
 use Rattle.ppm_ports.specs.Outside.{ToldLists}
 use Rattle.ppm_ports.specs.Told.{AppendsList, KeepsList}
@@ -8,6 +8,8 @@ use Rattle.ppm_step.specs.declared.turn.Turn.{Turn}
 use Rattle.ppm_plan.specs.Schedules.{Planned}
 use Rattle.ppm_choice.specs.declared.limits.Limits.{Limits}
 use Rattle.ppm_choice.specs.Tells.{told_in}
+use Rattle.ppm_answers.specs.declared.answer.Answer.{Answer}
+use Rattle.ppm_answers.specs.declared.answer.Answer.TheVariants as answers
 
 -- how many watchers a run has: one for each processor that it may have
 abbrev pub watcher_count : ℕ
@@ -23,3 +25,15 @@ pub record AreTold (watching : ℕ) (plan : Planned) (limits : Limits) (before n
   pub records : (c : ℕ) → c < watching
       → AppendsList (get_or before c None) (get_or now c None) (told_in plan limits c start.shape start.code start.state turns)
   pub others : OthersKeep watching before now
+
+-- What watchers were told where memory is wanting. Nothing; or such a run in which one of them refused; or such a whole run, for whose answer, or
+-- for the texts of it, there was no memory.
+pub data ToldAtWant (Refused Whole : Type 0) (before now : ToldLists) : Type 0 where
+  ToldNothing : now ≡ before → ToldAtWant Refused Whole before now
+  ToldRefused : Refused → ToldAtWant Refused Whole before now
+  ToldWhole : Whole → ToldAtWant Refused Whole before now
+
+-- that, where the answer is want of memory
+abbrev pub IfWanting : (Told : Type 0) → Answer → Type 0
+IfWanting Told answers.NoMemory = Told
+IfWanting Told answer = ⊤

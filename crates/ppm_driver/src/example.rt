@@ -9,10 +9,10 @@ ghost use Rattle.ppm_cut_bounds.specs.Bounds.{IsWithinBounds};
 ghost use Rattle.ppm_program.specs.Programs.{HasProgram};
 ghost use Rattle.ppm_plan.specs.Schedules.{Planned};
 ghost use Rattle.ppm_loading.specs.Programs.{ProgramMay, RefusedHas};
-ghost use Rattle.ppm_driver.specs.Examples.{AreForks, ExampleMay, IsPlanOf, ProgramSums};
+ghost use Rattle.ppm_driver.specs.Examples.{AreForks, ExampleMay, ExampleTells, IsPlanOf, ProgramSums, ProgramWants};
 ghost use Rattle.ppm_driver.specs.Examples.{first_value, last_value, run_options_of, text_of};
 ghost use Rattle.ppm_driver.specs.ExampleRows.{ExampleRows};
-ghost use Rattle.ppm_driver.specs.Runs.{ProgramHas, RunTells};
+ghost use Rattle.ppm_driver.specs.Runs.{ProgramHas, RunTold};
 ghost use Rattle.ppm_driver.specs.Watchers.{OthersKeep, watcher_count};
 
 use crate::meant::runs_are_as_programs;
@@ -65,12 +65,14 @@ pub fn self_command<R: Threads + Wait + Sync, K: Sink, E: Sink, W: Watch>(
     requires options { AreSelf options }
     requires watchers { length watch.old.items ≡ watcher_count }
 
-    // An answer that the command's causes allow, and its texts, whatever source there is. Behind a
-    // run each processor's watcher was told its turns; the other watchers are told nothing.
+    // An answer that the command's causes allow, and its texts, whatever source there is. After a run
+    // each processor's watcher was told its turns. Where memory is wanting, or a watcher refused,
+    // either nobody was told anything, or the lists are those of one run: up to where watchers
+    // refused, or whole. The other watchers are told nothing.
     ensures answers { (source : Port) → let o = outside source
         (port K.written K.fault_count out.old out.new) (port E.written E.fault_count err.old err.new)
         (map W.told watch.old.items) (map W.told watch.new.items)
-        in Answers (ExampleMay options o.told_before o.told_now) (RunTells options.processors) o result }
+        in Answers (ExampleMay options o.told_before o.told_now) (ExampleTells options) o result }
 
     // What follows from each status.
     ensures rows { (source : Port) → ExampleRows options (outside source
@@ -96,7 +98,7 @@ fn example_answer<R: Threads + Wait + Sync, W: Watch>(
     requires options { AreSelf options }
     requires watchers { length watch.old.items ≡ watcher_count }
     ensures may { ExampleMay options (map W.told watch.old.items) (map W.told watch.new.items) result }
-    ensures told { RunTells options.processors result (map W.told watch.old.items) (map W.told watch.new.items) }
+    ensures told { ExampleTells options result (map W.told watch.old.items) (map W.told watch.new.items) }
     ensures kept { KeepFronts (map W.told watch.old.items) (map W.told watch.new.items) }
     ensures watchers { length watch.new.items ≡ watcher_count }
 {
@@ -147,7 +149,8 @@ fn sums_answer<R: Threads + Wait + Sync, W: Watch>(
     requires bounded { IsWithinBounds (tree_of program.now) }
     requires watchers { length watch.old.items ≡ watcher_count }
     ensures may { ProgramMay (ProgramSums options (map W.told watch.old.items) (map W.told watch.new.items) (tree_of program.now)) result }
-    ensures told { RunTells options.processors result (map W.told watch.old.items) (map W.told watch.new.items) }
+    ensures told { RunTold options.processors (ProgramWants options (map W.told watch.old.items) (map W.told watch.new.items)
+        (tree_of program.now)) result (map W.told watch.old.items) (map W.told watch.new.items) }
     ensures kept { KeepFronts (map W.told watch.old.items) (map W.told watch.new.items) }
     ensures watchers { length watch.new.items ≡ watcher_count }
 {
@@ -171,6 +174,7 @@ fn summed<R: Threads + Wait + Sync, W: Watch>(
     requires bounded { IsWithinBounds (tree_of program.now) }
     requires watchers { length watch.old.items ≡ watcher_count }
     ensures has { IfOk result (ProgramSums options (map W.told watch.old.items) (map W.told watch.new.items) (tree_of program.now)) }
+    ensures wants { IfErr result (λ _. ProgramWants options (map W.told watch.old.items) (map W.told watch.new.items) (tree_of program.now)) }
     ensures kept { KeepFronts (map W.told watch.old.items) (map W.told watch.new.items) }
     ensures others { OthersKeep options.processors (map W.told watch.old.items) (map W.told watch.new.items) }
     ensures watchers { length watch.new.items ≡ watcher_count }

@@ -1,14 +1,14 @@
 //! The command `resume`.
-ghost use Rattle.std.specs.Prelude.{◌≡◌, ◌≢◌, IfOk, None, length, map};
+ghost use Rattle.std.specs.Prelude.{◌≡◌, ◌≢◌, IfErr, IfOk, None, length, map};
 ghost use Rattle.ppm_ports.specs.Ports.{port};
 ghost use Rattle.ppm_ports.specs.Outside.{KeepFronts, outside};
 ghost use Rattle.ppm_answers.specs.Reading.{Answers, TextMay};
 ghost use Rattle.ppm_cells.specs.Finish.{finish_of};
 ghost use Rattle.ppm_loading.specs.Programs.{ProgramMay};
-ghost use Rattle.ppm_driver.specs.Resumes.{ItemsHave, ResumeMay, ResumeTells, ResumedHas, StateHas};
+ghost use Rattle.ppm_driver.specs.Resumes.{ItemsHave, ItemsWant, ResumeMay, ResumeTells, ResumedHas, StateHas, StateWants};
 ghost use Rattle.ppm_driver.specs.Resumes.{TextHas, TextTells, limits_of as limits_in, refusal_of, saved_finish, state_of};
 ghost use Rattle.ppm_driver.specs.ResumeRows.{ResumeRows};
-ghost use Rattle.ppm_driver.specs.Runs.{RunTells};
+ghost use Rattle.ppm_driver.specs.Runs.{RunTold};
 ghost use Rattle.ppm_driver.specs.Watchers.{OthersKeep, watcher_count};
 
 use crate::complete_resume::resumes_complete;
@@ -47,14 +47,14 @@ pub fn resume_command<R: Threads + Wait + Sync, S: Source, K: Sink, E: Sink, W: 
 ) -> Status
     requires watchers { length watch.old.items ≡ watcher_count }
 
-    // An answer that the command's causes allow, and its texts. Behind a run each processor's
-    // watcher was told its turns; where the text or the plan is refused nobody was told anything;
-    // where memory is wanting, or a watcher refused, each list keeps what it had in front. The other
-    // watchers are told nothing.
+    // An answer that the command's causes allow, and its texts. After a run each processor's watcher
+    // was told its turns. Where the text or the plan is refused nobody was told anything. Where
+    // memory is wanting, or a watcher refused, either nobody was told anything, or the lists are
+    // those of one run: up to where watchers refused, or whole. The other watchers are told nothing.
     ensures answers { let o = outside (port S.left S.fault_count source.old source.new)
         (port K.written K.fault_count out.old out.new) (port E.written E.fault_count err.old err.new)
         (map W.told watch.old.items) (map W.told watch.new.items)
-        in Answers (ResumeMay options faults.now o.told_before o.told_now o.source) (ResumeTells o.source) o result }
+        in Answers (ResumeMay options faults.now o.told_before o.told_now o.source) (ResumeTells options faults.now o.source) o result }
 
     // What follows from each status.
     ensures rows { ResumeRows options faults.now (outside (port S.left S.fault_count source.old source.new)
@@ -84,7 +84,8 @@ fn read_answer<R: Threads + Wait + Sync, S: Source, W: Watch>(
     requires watchers { length watch.old.items ≡ watcher_count }
     ensures may { ResumeMay options faults.now (map W.told watch.old.items) (map W.told watch.new.items)
         (port S.left S.fault_count source.old source.new) result }
-    ensures told { ResumeTells (port S.left S.fault_count source.old source.new) result (map W.told watch.old.items) (map W.told watch.new.items) }
+    ensures told { ResumeTells options faults.now (port S.left S.fault_count source.old source.new) result
+        (map W.told watch.old.items) (map W.told watch.new.items) }
     ensures kept { KeepFronts (map W.told watch.old.items) (map W.told watch.new.items) }
     ensures watchers { length watch.new.items ≡ watcher_count }
 {
@@ -105,7 +106,7 @@ fn text_answer<R: Threads + Wait + Sync, W: Watch>(
 ) -> Answer
     requires watchers { length watch.old.items ≡ watcher_count }
     ensures may { TextMay (TextHas options faults.now (map W.told watch.old.items) (map W.told watch.new.items)) text.items result }
-    ensures told { TextTells text.items result (map W.told watch.old.items) (map W.told watch.new.items) }
+    ensures told { TextTells options faults.now text.items result (map W.told watch.old.items) (map W.told watch.new.items) }
     ensures kept { KeepFronts (map W.told watch.old.items) (map W.told watch.new.items) }
     ensures watchers { length watch.new.items ≡ watcher_count }
 {
@@ -149,7 +150,8 @@ fn state_answer<R: Threads + Wait + Sync, W: Watch>(
 ) -> Answer
     requires watchers { length watch.old.items ≡ watcher_count }
     ensures may { ProgramMay (StateHas options faults.now (map W.told watch.old.items) (map W.told watch.new.items) (state_of saved)) result }
-    ensures told { RunTells saved.shape.processors result (map W.told watch.old.items) (map W.told watch.new.items) }
+    ensures told { RunTold saved.shape.processors (StateWants options faults.now (map W.told watch.old.items)
+        (map W.told watch.new.items) (state_of saved)) result (map W.told watch.old.items) (map W.told watch.new.items) }
     ensures kept { KeepFronts (map W.told watch.old.items) (map W.told watch.new.items) }
     ensures watchers { length watch.new.items ≡ watcher_count }
 {
@@ -173,7 +175,8 @@ fn planned_answer<R: Threads + Wait + Sync, W: Watch>(
     requires watchers { length watch.old.items ≡ watcher_count }
     ensures may { ProgramMay (ItemsHave options (map W.told watch.old.items) (map W.told watch.new.items) plan.now.items (state_of saved))
         result }
-    ensures told { RunTells saved.shape.processors result (map W.told watch.old.items) (map W.told watch.new.items) }
+    ensures told { RunTold saved.shape.processors (ItemsWant options (map W.told watch.old.items) (map W.told watch.new.items)
+        plan.now.items (state_of saved)) result (map W.told watch.old.items) (map W.told watch.new.items) }
     ensures kept { KeepFronts (map W.told watch.old.items) (map W.told watch.new.items) }
     ensures watchers { length watch.new.items ≡ watcher_count }
 {
@@ -199,6 +202,8 @@ fn resumed<R: Threads + Wait + Sync, W: Watch>(
     requires processors { plan.now.processors ≡ saved.shape.processors }
     requires watchers { length watch.old.items ≡ watcher_count }
     ensures has { IfOk result (ResumedHas options (map W.told watch.old.items) (map W.told watch.new.items) plan.now.items (state_of saved)) }
+    ensures wants { IfErr result (λ _. ItemsWant options (map W.told watch.old.items) (map W.told watch.new.items)
+        plan.now.items (state_of saved)) }
     ensures others { OthersKeep saved.shape.processors (map W.told watch.old.items) (map W.told watch.new.items) }
     ensures kept { KeepFronts (map W.told watch.old.items) (map W.told watch.new.items) }
     ensures watchers { length watch.new.items ≡ watcher_count }

@@ -1,5 +1,5 @@
 //! The command `run`.
-ghost use Rattle.std.specs.Prelude.{◌≡◌, IfOk, length, map};
+ghost use Rattle.std.specs.Prelude.{◌≡◌, ℕ, IfErr, IfOk, List, length, map};
 ghost use Rattle.ppm_ports.specs.Ports.{port};
 ghost use Rattle.ppm_ports.specs.Outside.{KeepFronts, outside};
 ghost use Rattle.ppm_answers.specs.Reading.{Answers, JudgingMay};
@@ -8,8 +8,10 @@ ghost use Rattle.ppm_text.specs.Limits.{text_limit};
 ghost use Rattle.ppm_tree.specs.Tree.{tree_of};
 ghost use Rattle.ppm_cut_bounds.specs.Bounds.{IsWithinBounds};
 ghost use Rattle.ppm_loading.specs.Programs.{ProgramMay};
-ghost use Rattle.ppm_driver.specs.Runs.{ProgramHas, RunMay, RunTells, TextHas, limits_of as limits_in};
-ghost use Rattle.ppm_driver.specs.Runs.{sizes_of as sizes_in};
+ghost use Rattle.ppm_plan.specs.Forms.{plan_form};
+ghost use Rattle.ppm_plan.specs.Refusals.{IsAccepted};
+ghost use Rattle.ppm_driver.specs.Runs.{ProgramHas, ProgramWants, RunMay, RunTells, RunTold, TextHas};
+ghost use Rattle.ppm_driver.specs.Runs.{limits_of as limits_in, sizes_of as sizes_in};
 ghost use Rattle.ppm_driver.specs.RunRows.{RunRows};
 ghost use Rattle.ppm_driver.specs.Watchers.{OthersKeep, watcher_count};
 
@@ -51,13 +53,14 @@ pub fn run_command<R: Threads + Wait + Sync, S: Source, K: Sink, E: Sink, W: Wat
     requires options { AreRun options }
     requires watchers { length watch.old.items ≡ watcher_count }
 
-    // An answer that the command's causes allow, and its texts. Behind a run each processor's
-    // watcher was told its turns, and where it parked; where memory is wanting, or a watcher
-    // refused, each list keeps what it had in front. The other watchers are told nothing.
+    // An answer that the command's causes allow, and its texts. After a run each processor's watcher
+    // was told its turns, and where it parked. Where memory is wanting, or a watcher refused, either
+    // nobody was told anything, or the lists are those of one run: up to where watchers refused, or
+    // whole. The other watchers are told nothing.
     ensures answers { let o = outside (port S.left S.fault_count source.old source.new)
         (port K.written K.fault_count out.old out.new) (port E.written E.fault_count err.old err.new)
         (map W.told watch.old.items) (map W.told watch.new.items)
-        in Answers (RunMay options options.processors faults.now o.told_before o.told_now o.source) (RunTells options.processors) o result }
+        in Answers (RunMay options options.processors faults.now o.told_before o.told_now o.source) (RunTells options options.processors faults.now o.source) o result }
 
     // What follows from each status.
     ensures rows { RunRows options options.processors faults.now (outside (port S.left S.fault_count source.old source.new)
@@ -88,7 +91,8 @@ fn read_answer<R: Threads + Wait + Sync, S: Source, W: Watch>(
     requires watchers { length watch.old.items ≡ watcher_count }
     ensures may { RunMay options options.processors faults.now (map W.told watch.old.items) (map W.told watch.new.items)
         (port S.left S.fault_count source.old source.new) result }
-    ensures told { RunTells options.processors result (map W.told watch.old.items) (map W.told watch.new.items) }
+    ensures told { RunTells options options.processors faults.now (port S.left S.fault_count source.old source.new) result
+        (map W.told watch.old.items) (map W.told watch.new.items) }
     ensures kept { KeepFronts (map W.told watch.old.items) (map W.told watch.new.items) }
     ensures watchers { length watch.new.items ≡ watcher_count }
 {
@@ -115,7 +119,9 @@ fn planned_answer<R: Threads + Wait + Sync, S: Source, W: Watch>(
     ensures may { JudgingMay text_limit
         (TextHas options options.processors (map W.told watch.old.items) (map W.told watch.new.items) plan.now.items)
         (port S.left S.fault_count source.old source.new) result }
-    ensures told { RunTells options.processors result (map W.told watch.old.items) (map W.told watch.new.items) }
+    ensures told { (text : List ℕ) → IsAccepted plan_form text options.processors plan.now.items
+        → RunTells options options.processors text (port S.left S.fault_count source.old source.new) result
+        (map W.told watch.old.items) (map W.told watch.new.items) }
     ensures kept { KeepFronts (map W.told watch.old.items) (map W.told watch.new.items) }
     ensures watchers { length watch.new.items ≡ watcher_count }
 {
@@ -140,7 +146,8 @@ fn program_answer<R: Threads + Wait + Sync, W: Watch>(
     requires watchers { length watch.old.items ≡ watcher_count }
     ensures may { ProgramMay (ProgramHas options options.processors (map W.told watch.old.items) (map W.told watch.new.items)
         plan.now.items (tree_of program.now)) result }
-    ensures told { RunTells options.processors result (map W.told watch.old.items) (map W.told watch.new.items) }
+    ensures told { RunTold options.processors (ProgramWants options options.processors (map W.told watch.old.items)
+        (map W.told watch.new.items) plan.now.items (tree_of program.now)) result (map W.told watch.old.items) (map W.told watch.new.items) }
     ensures kept { KeepFronts (map W.told watch.old.items) (map W.told watch.new.items) }
     ensures watchers { length watch.new.items ≡ watcher_count }
 {
@@ -165,6 +172,8 @@ pub(crate) fn ran<R: Threads + Wait + Sync, W: Watch>(
     requires watchers { length watch.old.items ≡ watcher_count }
     ensures has { IfOk result (ProgramHas options options.processors (map W.told watch.old.items) (map W.told watch.new.items)
         plan.now.items (tree_of program.now)) }
+    ensures wants { IfErr result (λ _. ProgramWants options options.processors (map W.told watch.old.items)
+        (map W.told watch.new.items) plan.now.items (tree_of program.now)) }
     ensures kept { KeepFronts (map W.told watch.old.items) (map W.told watch.new.items) }
     ensures others { OthersKeep options.processors (map W.told watch.old.items) (map W.told watch.new.items) }
     ensures watchers { length watch.new.items ≡ watcher_count }

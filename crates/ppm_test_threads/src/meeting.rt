@@ -19,7 +19,7 @@ pub struct Meeting<'a> {
 
 /// Whether the other one comes so far, in a time that is long enough.
 pub fn comes(there: &AtomicU64, count: u64) -> bool {
-    for _ in 0..100_000_000u64 {
+    for _ in 0..10_000_000u64 {
         if there.load(Ordering::SeqCst) >= count {
             return true;
         }

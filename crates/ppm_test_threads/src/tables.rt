@@ -104,7 +104,7 @@ pub(crate) fn run<W: Watch, R: Threads + Wait + Sync>(
     run_listing(rt, alloc, FORK, faults, limits, processors, watch)
 }
 
-/// A listing that is run on so many threads; `None` where memory was refused, or by a watcher.
+/// A listing on so many threads; `None` where memory was refused, or by a watcher.
 pub(crate) fn run_listing<W: Watch, R: Threads + Wait + Sync>(
     rt: &R,
     alloc: Global,
@@ -134,7 +134,7 @@ pub(crate) fn is_right(alloc: Global, closed: &Closed) -> Result<bool, Fail> {
     Ok(array.as_slice() == [1, 2, 7, 4].as_slice())
 }
 
-/// Watchers that keep what they are told, as many as asked for.
+/// So many watchers that keep what they are told.
 pub(crate) fn recorders(alloc: Global, count: u32) -> Result<Vec<Recorder>, Fail> {
     let mut all = Vec::new(alloc);
     for _ in 0..count {

@@ -2,10 +2,10 @@
 //! and to see the end through soft faults.
 ghost use Rattle.std.specs.Prelude.{None};
 
+use crate::calls::call;
 use ppm_answers::Status;
 use ppm_cells::Entry;
 use ppm_ports::{Silent, Watch};
-use ppm_test_calls::call;
 use ppm_test_threads::comes;
 use ppm_top::WATCHERS;
 use ppm_words::{Event, NoMemory};

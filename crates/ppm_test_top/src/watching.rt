@@ -1,5 +1,7 @@
 //! What the watchers of a run are told through the top call, where several processors act side by
 //! side; and how one that refuses ends the run.
+use crate::calls::{CODE, call};
+use crate::sources::SUM;
 use ppm_answers::Status;
 use ppm_cells::Shape;
 use ppm_choice::{Idle, Limits};
@@ -7,7 +9,6 @@ use ppm_code::Code;
 use ppm_listing_reader::read_listing;
 use ppm_plan::{Plan, read_plan};
 use ppm_ports::Silent;
-use ppm_test_calls::{CODE, SUM, call};
 use ppm_test_threads::{Meeting, obeys};
 use ppm_top::WATCHERS;
 use ppm_words::Event;

@@ -18,11 +18,11 @@ use Rattle.ppm_cli.specs.Words.{command_of}
 use Rattle.ppm_top.specs.Causes.{CommandMay, CommandTells, IsAnswered}
 use Rattle.ppm_plan.specs.Forms.{plan_form, schedule_form}
 use Rattle.ppm_cli.specs.declared.example.SelfOptions.{SelfOptions}
-use Rattle.ppm_driver.specs.Examples.{ExampleMay}
+use Rattle.ppm_driver.specs.Examples.{ExampleMay, ExampleTells}
 use Rattle.ppm_driver.specs.Replays.{TextHas as ReplayTextHas}
 use Rattle.ppm_driver.specs.Resumes.{TextHas as ResumeTextHas}
 use Rattle.ppm_stop.specs.Stops.{TextReads as StopTextReads}
-use Rattle.ppm_driver.specs.Runs.{RunTells, TextHas as RunTextHas}
+use Rattle.ppm_driver.specs.Runs.{TextHas as RunTextHas}
 use Rattle.ppm_loading.proofs.PlannedLemmas as planned
 use Rattle.ppm_driver.proofs.ResumeLemmas.{untold_source}
 use Rattle.ppm_driver.proofs.WatchLemmas.{untold}
@@ -60,7 +60,7 @@ by_ports words o status command e tells told d =
 
 -- an answer of the example is one of its command, where nothing was read
 pub of_example : (options : SelfOptions) (o : Outside) (status : Status) → IsUnread o.source
-    → Answers (ExampleMay options o.told_before o.told_now) (RunTells options.processors) o status
+    → Answers (ExampleMay options o.told_before o.told_now) (ExampleTells options) o status
     → Answers (CommandMay (Some (commands.Example options)) o) (CommandTells (Some (commands.Example options)) o) o status
 of_example options o status unread a =
     record { answer = a.answer; cause = (unread, a.cause); delivered = a.delivered; told = a.told }
@@ -68,11 +68,11 @@ of_example options o status unread a =
 -- where nobody was told anything, that belongs to each answer
 pub told_nothing : (command : Option Command) (o : Outside) (answer : Answer) (lists : ToldLists) → CommandTells command o answer lists lists
 told_nothing None o answer lists = refl
-told_nothing (Some (commands.Run options plan)) o answer lists = untold options.processors answer lists
+told_nothing (Some (commands.Run options plan)) o answer lists = untold options.processors _ _ answer lists
 told_nothing (Some (commands.Serial options)) o answer lists = refl
 told_nothing (Some commands.Code) o answer lists = refl
 told_nothing (Some commands.Check) o answer lists = refl
 told_nothing (Some (commands.Replay options schedule)) o answer lists = refl
-told_nothing (Some (commands.Resume options plan)) o answer lists = untold_source o.source answer lists
+told_nothing (Some (commands.Resume options plan)) o answer lists = untold_source options plan o.source answer lists
 told_nothing (Some (commands.Stop options schedule)) o answer lists = refl
-told_nothing (Some (commands.Example options)) o answer lists = untold options.processors answer lists
+told_nothing (Some (commands.Example options)) o answer lists = untold options.processors _ _ answer lists

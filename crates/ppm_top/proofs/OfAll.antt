@@ -164,8 +164,8 @@ refusal o answers.WordsRefused h = (h, inl refl)
 refusal o answers.NoMemory h = (h, inr refl)
 refusal o answer h = absurd h
 
-refuses_words : RunsAreAsPrograms → RunsInLegsAreAsPrograms → LeftWordsComeBack → (words : List (List ℕ)) (o : Outside) (status : Status) → IsAnswered words o status → RefusesWords words o status
-refuses_words meant legs comes words o status a = record {
+refuses_words : RunsAreAsPrograms → FrontsDecideAnswers → RunsInLegsAreAsPrograms → LeftWordsComeBack → (words : List (List ℕ)) (o : Outside) (status : Status) → IsAnswered words o status → RefusesWords words o status
+refuses_words meant fronts legs comes words o status a = record {
   only = only;
   unread = λ e. (refusal o a.answer (cause e)).0;
   always = λ e. always (refusal o a.answer (cause e)).1 (delivered.own_or_fault o.out o.err a.answer status a.delivered);
@@ -192,12 +192,12 @@ refuses_words meant legs comes words o status a = record {
         refuses_plan : (options : RunOptions) (plan : List ℕ) → command_of words ≡ Some (commands.Run options plan) →
             RefusesPlan plan_form plan options.processors (ports_of o)
         refuses_plan options plan c = of_run.plan_refused meant options (is_in_range words (commands.Run options plan) c) options.processors plan o status
-            (subst (λ x. DeliversAnswer (CommandMay x o) (ports_of o) status) c (delivers words o status a)) e
+            (subst (λ x. Answers (CommandMay x o) (CommandTells x o) o status) c a) fronts e
 
         refuses_resumed : (options : ResumeOptions) (plan : List ℕ) → command_of words ≡ Some (commands.Resume options plan) →
             RefusesResumed options plan o
         refuses_resumed options plan c = of_resume.plan_refused legs comes options plan o status
-            (subst (λ x. DeliversAnswer (CommandMay x o) (ports_of o) status) c (delivers words o status a)) e
+            (subst (λ x. Answers (CommandMay x o) (CommandTells x o) o status) c a) e
 
         by_words : (command_of words ≡ None) ⊎ IsPlanned (command_of words) → (command_of words ≡ None) ⊎ HasRefusedPlan words o
         by_words (inl n) = inl n
@@ -238,7 +238,7 @@ program_rows laws words o status a = record {
   run = λ options plan e. (
     is_in_range words (commands.Run options plan) e,
     of_run.run_rows laws.meant options (is_in_range words (commands.Run options plan) e) options.processors plan o status
-        (by_words (Some (commands.Run options plan)) e) laws.plans laws.runs laws.fronts laws.complete,
+        (answered (Some (commands.Run options plan)) e) laws.plans laws.runs laws.fronts laws.complete,
   );
   serial = λ options e. serial_rows options.turns (ports_of o) (laws.outcomes options.turns) status (by_words (Some (commands.Serial options)) e);
   code = λ e. code_rows laws.codes laws.faithful (ports_of o) status (by_words (Some commands.Code) e);
@@ -250,7 +250,7 @@ program_rows laws words o status a = record {
   );
   resume = λ options plan e. (
     is_in_range words (commands.Resume options plan) e,
-    of_resume.resume_rows laws.legs laws.comes options plan o status (by_words (Some (commands.Resume options plan)) e) laws.resumes,
+    of_resume.resume_rows laws.legs laws.comes options plan o status (answered (Some (commands.Resume options plan)) e) laws.resumes,
   );
   stop = λ options schedule e.
       let range = is_in_range words (commands.Stop options schedule) e in (
@@ -262,19 +262,18 @@ program_rows laws words o status a = record {
       );
   example = λ options e.
       let range = is_in_range words (commands.Example options) e in
-      let x = by_example options e in (
+      let x = answered (Some (commands.Example options)) e in (
         range,
         x.cause.0,
         of_example.example_rows laws.meant laws.sums options range o status
             (record { answer = x.answer; cause = x.cause.1; delivered = x.delivered; told = x.told }),
       );
-  words_refused = refuses_words laws.meant laws.legs laws.comes words o status a;
+  words_refused = refuses_words laws.meant laws.fronts laws.legs laws.comes words o status a;
   faults = faults words o status a;
   nothing_on_out = delivered.nothing_on_out o.out o.err a.answer status a.delivered;
 } where
-  by_example : (options : SelfOptions) → command_of words ≡ Some (commands.Example options)
-      → Answers (CommandMay (Some (commands.Example options)) o) (CommandTells (Some (commands.Example options)) o) o status
-  by_example options e = subst (λ c. Answers (CommandMay c o) (CommandTells c o) o status) e a
+  answered : (command : Option Command) → command_of words ≡ command → Answers (CommandMay command o) (CommandTells command o) o status
+  answered command e = subst (λ c. Answers (CommandMay c o) (CommandTells c o) o status) e a
 
   by_words : (command : Option Command) → command_of words ≡ command → DeliversAnswer (CommandMay command o) (ports_of o) status
   by_words command e = subst (λ c. DeliversAnswer (CommandMay c o) (ports_of o) status) e (delivers words o status a)

@@ -11,7 +11,7 @@ use Rattle.ppm_cli.specs.Words.{command_of}
 use Rattle.ppm_commands.specs.Check.{CheckMay}
 use Rattle.ppm_commands.specs.Code.{CodeMay}
 use Rattle.ppm_commands.specs.Serial.{SerialMay}
-use Rattle.ppm_driver.specs.Examples.{ExampleMay}
+use Rattle.ppm_driver.specs.Examples.{ExampleMay, ExampleTells}
 use Rattle.ppm_driver.specs.Replays.{ReplayMay}
 use Rattle.ppm_driver.specs.Resumes.{ResumeMay, ResumeTells}
 use Rattle.ppm_driver.specs.Runs.{RunMay, RunTells}
@@ -35,17 +35,18 @@ CommandMay (Some (commands.Resume options plan)) o answer = ResumeMay options pl
 CommandMay (Some (commands.Stop options schedule)) o answer = StopMay options schedule o.source answer
 CommandMay (Some (commands.Example options)) o answer = IsUnread o.source × ExampleMay options o.told_before o.told_now answer
 
--- what watchers are told with each answer of a command, or of none: a run tells them its turns
+-- What watchers are told with each answer of a command, or of none: a run tells them its turns. Where memory is wanting, what they were told is
+-- nothing, or it is of one run, up to where watchers refused, or whole.
 abbrev pub CommandTells : Option Command → Outside → Answer → ToldLists → ToldLists → Type 0
 CommandTells None o = TellsNothing
-CommandTells (Some (commands.Run options plan)) o = RunTells options.processors
+CommandTells (Some (commands.Run options plan)) o = RunTells options options.processors plan o.source
 CommandTells (Some (commands.Serial options)) o = TellsNothing
 CommandTells (Some commands.Code) o = TellsNothing
 CommandTells (Some commands.Check) o = TellsNothing
 CommandTells (Some (commands.Replay options schedule)) o = TellsNothing
-CommandTells (Some (commands.Resume options plan)) o = ResumeTells o.source
+CommandTells (Some (commands.Resume options plan)) o = ResumeTells options plan o.source
 CommandTells (Some (commands.Stop options schedule)) o = TellsNothing
-CommandTells (Some (commands.Example options)) o = RunTells options.processors
+CommandTells (Some (commands.Example options)) o = ExampleTells options
 
 -- an answer of the command that the words give was delivered, and watchers were told what belongs to it
 abbrev pub IsAnswered : List (List ℕ) → Outside → Status → Type 0

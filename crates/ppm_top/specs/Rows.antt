@@ -57,13 +57,13 @@ abbrev pub ResumesByWords : List (List ℕ) → Outside → Status → Type 0
 ResumesByWords words o status = (options : ResumeOptions) (plan : List ℕ) → command_of words ≡ Some (commands.Resume options plan)
     → AreResumed options × ResumeRows options plan o status
 
--- what `stop` saves of the text that was read is the text of a state which that text left, by no more faults than the schedule has; at each
--- status: also where the saved text failed
+-- What `stop` saves of the text that was read is the text of a state which that text left, by no more faults than the schedule has. It is a law, in
+-- which no status occurs, so it holds also where out failed at the saved text.
 abbrev pub LeavesStates : StopOptions → (schedule : List ℕ) → Ports → Type 0
 LeavesStates options schedule p = (text : List ℕ) (read : HasRead options schedule p (answers.Saved text))
     → IsTextLeftBy read.0 (scheduled_faults read.2.items) text
 
--- the rows of `stop` with such options and such a schedule, and what its texts are
+-- the rows of `stop` with such options and such a schedule; and, a law, what its texts are
 pub record StopsLeaving (options : StopOptions) (schedule : List ℕ) (p : Ports) (status : Status) : Type 0 where
   pub says : StopRows options schedule p status
   pub left : LeavesStates options schedule p

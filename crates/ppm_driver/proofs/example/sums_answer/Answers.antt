@@ -9,8 +9,8 @@ returns-in-Ok-clause-may g c = sums_may c.args.options (map g.W.Watch.told c.arg
 
 pub returns-in-Ok-clause-told : goal.returns-in-Ok-clause-told
 returns-in-Ok-clause-told g c =
-    sums_tell c.args.options (map g.W.Watch.told c.args.watch.now.items) (map g.W.Watch.told c.summed.new.watch.items) (tree_of c.args.program.now) c.in-Ok.answer c.in-Ok.ensures.has c.in-Ok.ensures.others
+    sums_tell c.args.options (map g.W.Watch.told c.args.watch.now.items) (map g.W.Watch.told c.summed.new.watch.items) (tree_of c.args.program.now) _ c.in-Ok.answer c.in-Ok.ensures.has c.in-Ok.ensures.others
 
 -- memory was wanting
 pub returns-in-Err-clause-told : goal.returns-in-Err-clause-told
-returns-in-Err-clause-told g c = (c.in-Err.ensures.kept, c.in-Err.ensures.others)
+returns-in-Err-clause-told g c = (c.in-Err.ensures.kept, c.in-Err.ensures.others, c.in-Err.ensures.wants)

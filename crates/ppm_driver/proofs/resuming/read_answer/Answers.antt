@@ -15,8 +15,8 @@ returns-in-Ok-clause-may g c =
 
 pub returns-in-Ok-clause-told : goal.returns-in-Ok-clause-told
 returns-in-Ok-clause-told g c =
-    source_tells _ c.in-Ok.text.items (record { whole = c.in-Ok.ensures.bytes; holds = c.in-Ok.ensures.cause }) c.text_answer.result _ _
-    c.text_answer.ensures.told
+    source_tells c.args.options _ _ c.args.faults.now _ c.in-Ok.text.items (record { whole = c.in-Ok.ensures.bytes; holds = c.in-Ok.ensures.cause })
+    c.text_answer.result c.text_answer.ensures.told
 
 -- or it was not read whole, and nobody was told anything
 pub returns-in-Err-clause-may : goal.returns-in-Err-clause-may
@@ -25,7 +25,7 @@ returns-in-Err-clause-may g c =
     (not_read saved_limit (TextHas c.args.options c.args.faults.now _ _) _ c.in-Err.error c.in-Err.ensures.front c.in-Err.ensures.cause)
 
 pub returns-in-Err-clause-told : goal.returns-in-Err-clause-told
-returns-in-Err-clause-told g c = untold_source _ c.answer_of_read.result _
+returns-in-Err-clause-told g c = untold_source c.args.options c.args.faults.now _ c.answer_of_read.result _
 
 pub returns-in-Err-clause-kept : goal.returns-in-Err-clause-kept
 returns-in-Err-clause-kept g c = fronts_stay _

@@ -1,7 +1,7 @@
 use Rattle.std.proofs.Common.{sym, subst}
 use Rattle.ppm_loading.specs.Programs.{ProgramMay}
 use Rattle.ppm_driver.specs.Resumes.{StateHas, state_of}
-use Rattle.ppm_driver.proofs.ResumeLemmas.{refused_plan, state_may}
+use Rattle.ppm_driver.proofs.ResumeLemmas.{refused_plan, state_may, state_tells}
 use Rattle.ppm_driver.proofs.WatchLemmas.{fronts_stay, untold}
 use Rattle.ppm_driver.proofs.resuming.state_answer.Goals as goal
 
@@ -11,6 +11,11 @@ returns-in-Ok-clause-may g c =
     state_may c.args.options c.args.faults.now _ _ (state_of c.args.saved) c.in-Ok.plan.items c.in-Ok.ensures.plan c.planned_answer.result
     c.planned_answer.ensures.may
 
+pub returns-in-Ok-clause-told : goal.returns-in-Ok-clause-told
+returns-in-Ok-clause-told g c =
+    state_tells c.args.options _ _ c.args.faults.now (state_of c.args.saved) c.in-Ok.plan.items c.in-Ok.ensures.plan c.planned_answer.result
+    c.planned_answer.ensures.told
+
 -- it is refused, and nobody was told anything
 pub returns-in-Err-clause-may : goal.returns-in-Err-clause-may
 returns-in-Err-clause-may g c =
@@ -18,7 +23,7 @@ returns-in-Err-clause-may g c =
     (refused_plan c.args.options c.args.faults.now _ _ (state_of c.args.saved) c.in-Err.error c.in-Err.ensures.refused)
 
 pub returns-in-Err-clause-told : goal.returns-in-Err-clause-told
-returns-in-Err-clause-told g c = untold c.args.saved.shape.processors c.refusal_answer.result _
+returns-in-Err-clause-told g c = untold c.args.saved.shape.processors _ _ c.refusal_answer.result _
 
 pub returns-in-Err-clause-kept : goal.returns-in-Err-clause-kept
 returns-in-Err-clause-kept g c = fronts_stay _

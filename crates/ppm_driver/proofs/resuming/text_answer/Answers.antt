@@ -11,7 +11,7 @@ pub returns-then-len-gt-SAVED_LIMIT-clause-may : goal.returns-then-len-gt-SAVED_
 returns-then-len-gt-SAVED_LIMIT-clause-may g c = long_text c.args.options c.args.faults.now [] [] c.args.text.items (omega arith)
 
 pub returns-then-len-gt-SAVED_LIMIT-clause-told : goal.returns-then-len-gt-SAVED_LIMIT-clause-told
-returns-then-len-gt-SAVED_LIMIT-clause-told g c = (refl, inl refl)
+returns-then-len-gt-SAVED_LIMIT-clause-told g c = (refl, inl refl, tt)
 
 pub returns-then-len-gt-SAVED_LIMIT-clause-kept : goal.returns-then-len-gt-SAVED_LIMIT-clause-kept
 returns-then-len-gt-SAVED_LIMIT-clause-kept g c = fronts_stay _
@@ -24,8 +24,8 @@ returns-in-Ok-clause-may g c =
 
 pub returns-in-Ok-clause-told : goal.returns-in-Ok-clause-told
 returns-in-Ok-clause-told g c =
-    text_tells c.args.text.items (state_of c.in-Ok.saved) (record { short = omega arith; saved = subst (λ text. IsSavedText text c.in-Ok.saved.shape c.in-Ok.saved.names c.in-Ok.saved.code c.in-Ok.saved.words) c.deref.ensures.value c.in-Ok.ensures.ok })
-    c.state_answer.result _ _ c.state_answer.ensures.told
+    text_tells c.args.options _ _ c.args.faults.now c.args.text.items (state_of c.in-Ok.saved) (record { short = omega arith; saved = subst (λ text. IsSavedText text c.in-Ok.saved.shape c.in-Ok.saved.names c.in-Ok.saved.code c.in-Ok.saved.words) c.deref.ensures.value c.in-Ok.ensures.ok })
+    c.state_answer.result c.state_answer.ensures.told
 
 -- one of none
 pub returns-in-Err-clause-may : goal.returns-in-Err-clause-may
@@ -34,7 +34,7 @@ returns-in-Err-clause-may g c =
     (refused_text c.args.options c.args.faults.now _ _ c.args.text.items c.in-Err.error (subst (λ text. IsRefusal text c.in-Err.error) c.deref.ensures.value c.in-Err.ensures.err))
 
 pub returns-in-Err-clause-told : goal.returns-in-Err-clause-told
-returns-in-Err-clause-told g c = untold_text c.args.text.items c.refused_answer.result _
+returns-in-Err-clause-told g c = untold_text c.args.options c.args.faults.now c.args.text.items c.refused_answer.result _
 
 pub returns-in-Err-clause-kept : goal.returns-in-Err-clause-kept
 returns-in-Err-clause-kept g c = fronts_stay _

@@ -12,10 +12,10 @@ returns-in-Ok-clause-may g c =
 
 pub returns-in-Ok-clause-told : goal.returns-in-Ok-clause-told
 returns-in-Ok-clause-told g c =
-    run_tells c.args.options.processors c.in-Ok.answer _ _
+    run_tells c.args.options.processors _ c.in-Ok.answer _ _
     (of_program c.args.options c.args.options.processors _ _ c.args.plan.now.items (tree_of c.args.program.now) c.in-Ok.answer c.in-Ok.ensures.has)
     c.in-Ok.ensures.others
 
 -- memory was wanting
 pub returns-in-Err-clause-told : goal.returns-in-Err-clause-told
-returns-in-Err-clause-told g c = (c.in-Err.ensures.kept, c.in-Err.ensures.others)
+returns-in-Err-clause-told g c = (c.in-Err.ensures.kept, c.in-Err.ensures.others, c.in-Err.ensures.wants)

@@ -1,10 +1,11 @@
-use Rattle.std.proofs.Common.{ℕ, ◌≡◌, ◌<◌, ◌≤◌, ◌∙◌, sym, subst, arith, length}
+use Rattle.std.proofs.Common.{ℕ, ◌≡◌, ◌<◌, ◌≤◌, ◌∙◌, refl, sym, subst, arith, length}
 use Rattle.ppm_cells.specs.declared.shape.Shape.{Shape}
 use Rattle.ppm_code.specs.Code.{IsCode}
 use Rattle.ppm_threads.specs.Driven.{OthersStay}
 use Rattle.ppm_tree.specs.Tree.{tree_of}
 use Rattle.ppm_driver.proofs.ExactLemmas.{code_opened}
-use Rattle.ppm_driver.proofs.RunLemmas.{program_has, table_processors}
+use Rattle.ppm_driver.proofs.RunLemmas.{program_has, program_wanting, program_whole, table_processors}
+use Rattle.ppm_driver.proofs.WantLemmas.{at_err, nothing_told}
 use Rattle.ppm_driver.proofs.WatchLemmas.{first_of, fronts_stay, keep_fronts, others_keep, others_still}
 use Rattle.ppm_driver.proofs.run.ran.Goals as goal
 
@@ -14,13 +15,40 @@ returns-clause-has g c =
     let t = tree_of c.args.program.now in
     let some : 0 < length c.args.watch.now.items = omega (arith, c.requires.watchers) in
     let enough : c.args.options.processors ≤ length c.args.watch.now.items = omega (arith, c.requires.watchers, c.requires.options.0.1) in
-    program_has g.W.Watch.told c.args.options c.args.plan.now t _ _ _ c.in_ok-table.table.0 _ _ _ (first_of c.args.watch.now.items some) _ _ c.sizes_of.ensures
+    program_has g.W.Watch.told c.args.options c.args.plan.now t _ _ _ c.in_ok-table.table.0 _ _ (first_of c.args.watch.now.items some) c.sizes_of.ensures
     c.limits_of.ensures c.requires.processors c.keeper.ensures.keeper c.in_ok-table.ensures.opens
     (code_opened _ _ _ _ _ c.in_ok-table.ensures.opens (subst IsCode (sym c.in_ok-table.table.0.told.1) c.parts.ensures.code))
-    (omega (arith, c.in_ok-closed.ensures.kept.0, c.args.watch.now.ok.0, c.drive.new.watch.ok.0)) enough (c.in_ok-closed.ensures.sizes.0 ∙ sym c.in_ok-table.table.0.told.0) c.in_ok-closed.ensures.sizes.1
+    (omega (arith, c.in_ok-closed.ensures.kept.0, c.args.watch.now.ok.0, c.drive.new.watch.ok.0)) enough _
     (subst (λ (s : Shape). OthersStay s.processors c.args.watch.now.items c.drive.new.watch.items) (sym c.in_ok-table.table.0.told.0) c.in_ok-closed.ensures.others)
-    c.in_ok-closed.ensures.run
+    c.in_ok-closed.ensures.run _ _ _ refl (c.in_ok-closed.ensures.sizes.0 ∙ sym c.in_ok-table.table.0.told.0) c.in_ok-closed.ensures.sizes.1
     (c.arrays.ensures.value ∙ c.input.ensures.value) c.in_ok-answer.ensures
+
+-- where the table was not made, nobody was told anything
+pub returns-in_err-table-clause-wants : goal.returns-in_err-table-clause-wants
+returns-in_err-table-clause-wants g c = at_err (nothing_told _ _ _) _
+
+-- where the drive met want of memory, nobody was told anything either, or a watcher refused
+pub returns-in_err-closed-clause-wants : goal.returns-in_err-closed-clause-wants
+returns-in_err-closed-clause-wants g c =
+    let some : 0 < length c.args.watch.now.items = omega (arith, c.requires.watchers) in
+    let enough : c.args.options.processors ≤ length c.args.watch.now.items = omega (arith, c.requires.watchers, c.requires.options.0.1) in
+    at_err (program_wanting g.W.Watch.told c.args.options c.args.plan.now (tree_of c.args.program.now) _ _ _ c.in_ok-table.table.0 _ _
+    (first_of c.args.watch.now.items some) c.sizes_of.ensures c.limits_of.ensures c.requires.processors c.keeper.ensures.keeper c.in_ok-table.ensures.opens
+    (code_opened _ _ _ _ _ c.in_ok-table.ensures.opens (subst IsCode (sym c.in_ok-table.table.0.told.1) c.parts.ensures.code))
+    (omega (arith, c.in_err-closed.ensures.kept.0, c.args.watch.now.ok.0, c.drive.new.watch.ok.0)) enough
+    c.in_err-closed.ensures.refused) _
+
+-- where there was no memory for the answer, all of its run was told
+pub returns-in_err-answer-clause-wants : goal.returns-in_err-answer-clause-wants
+returns-in_err-answer-clause-wants g c =
+    let some : 0 < length c.args.watch.now.items = omega (arith, c.requires.watchers) in
+    let enough : c.args.options.processors ≤ length c.args.watch.now.items = omega (arith, c.requires.watchers, c.requires.options.0.1) in
+    at_err (program_whole g.W.Watch.told c.args.options c.args.plan.now (tree_of c.args.program.now) _ _ _ c.in_ok-table.table.0 _ _
+    (first_of c.args.watch.now.items some) c.sizes_of.ensures c.limits_of.ensures c.requires.processors c.keeper.ensures.keeper c.in_ok-table.ensures.opens
+    (code_opened _ _ _ _ _ c.in_ok-table.ensures.opens (subst IsCode (sym c.in_ok-table.table.0.told.1) c.parts.ensures.code))
+    (omega (arith, c.in_ok-closed.ensures.kept.0, c.args.watch.now.ok.0, c.drive.new.watch.ok.0)) enough _
+    (subst (λ (s : Shape). OthersStay s.processors c.args.watch.now.items c.drive.new.watch.items) (sym c.in_ok-table.table.0.told.0) c.in_ok-closed.ensures.others)
+    c.in_ok-closed.ensures.run) _
 
 -- each list keeps what it had in front
 pub returns-clause-kept : goal.returns-clause-kept

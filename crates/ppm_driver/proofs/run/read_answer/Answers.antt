@@ -19,6 +19,9 @@ returns-in-Ok-clause-may g c =
     (of_program c.args.options c.args.options.processors _ _ items))
     c.in-Ok.plan.items c.in-Ok.ensures.plan _ _ c.planned_answer.ensures.may
 
+pub returns-in-Ok-clause-told : goal.returns-in-Ok-clause-told
+returns-in-Ok-clause-told g c = c.planned_answer.ensures.told c.args.faults.now c.in-Ok.ensures.plan
+
 -- the plan is refused, and nothing was read or told
 pub returns-in-Err-clause-may : goal.returns-in-Err-clause-may
 returns-in-Err-clause-may g c =
@@ -29,7 +32,7 @@ returns-in-Err-clause-may g c =
     c.in-Err.ensures.refused _ (left_alone g.S.Source.left g.S.Source.fault_count c.args.source.now))
 
 pub returns-in-Err-clause-told : goal.returns-in-Err-clause-told
-returns-in-Err-clause-told g c = untold c.args.options.processors c.refusal_answer.result _
+returns-in-Err-clause-told g c = untold c.args.options.processors _ _ c.refusal_answer.result _
 
 pub returns-in-Err-clause-kept : goal.returns-in-Err-clause-kept
 returns-in-Err-clause-kept g c = fronts_stay _

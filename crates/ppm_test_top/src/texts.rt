@@ -1,7 +1,7 @@
 //! Saved texts.
+use crate::calls::call;
 use ppm_answers::Status;
 use ppm_ports::Silent;
-use ppm_test_calls::call;
 use ppm_top::WATCHERS;
 use std::alloc::Global;
 use std::process::Abort;

@@ -1,5 +1,7 @@
 //! What watchers are told where words are resumed: exactly what one processor does alone, of several
 //! what they are told that obey; and how one that refuses ends the run.
+use crate::calls::{Shown, call_over};
+use crate::sources::{FIRST, SUM};
 use crate::texts::{changed, stopped};
 use ppm_answers::Status;
 use ppm_choice::{Idle, Limits};
@@ -7,7 +9,6 @@ use ppm_core::Machine;
 use ppm_plan::read_plan;
 use ppm_saved::{Renewed, renew};
 use ppm_saved_reader::read_saved;
-use ppm_test_calls::{FIRST, SUM, Shown, call_over};
 use ppm_test_threads::{Bounded, obeys, record};
 use ppm_top::WATCHERS;
 use ppm_words::Event;

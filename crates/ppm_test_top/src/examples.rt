@@ -1,4 +1,5 @@
 //! Trials of `self`: what its watchers are told.
+use crate::calls::{CODE, call, call_over};
 use crate::told::{are_silent, is_shown, watchers};
 use ppm_answers::Status;
 use ppm_cells::{Shape, Takeover};
@@ -9,7 +10,6 @@ use ppm_listing_reader::read_listing;
 use ppm_loading::{Sizes, load, read_program};
 use ppm_plan::{make_source, seeded_plan};
 use ppm_ports::{MemorySource, Silent};
-use ppm_test_calls::{CODE, call, call_over};
 use ppm_test_threads::{obeys, record};
 use ppm_top::WATCHERS;
 use ppm_words::Event;

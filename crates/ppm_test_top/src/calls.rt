@@ -14,19 +14,19 @@ const ROOM: usize = 300_000;
 const MOST: usize = 4096;
 
 /// Words that ask for the code of a source.
-pub const CODE: &[&str] = &["ppm", "code"];
+pub(crate) const CODE: &[&str] = &["ppm", "code"];
 
 /// What a call wrote and answered.
 #[derive(Drop)]
-pub struct Shown {
-    pub status: Status,
-    pub out: Vec<u8>,
-    pub err: Vec<u8>,
+pub(crate) struct Shown {
+    pub(crate) status: Status,
+    pub(crate) out: Vec<u8>,
+    pub(crate) err: Vec<u8>,
 }
 
 /// A call of these words over ports that never fail, with these watchers. `Err` unless there is one
 /// for each processor.
-pub fn call<R: Threads + Wait + Sync, W: Watch>(
+pub(crate) fn call<R: Threads + Wait + Sync, W: Watch>(
     rt: &R,
     alloc: Global,
     words: &[&str],
@@ -37,7 +37,7 @@ pub fn call<R: Threads + Wait + Sync, W: Watch>(
 }
 
 /// A call that reads bytes, as a saved text is written.
-pub fn call_over<R: Threads + Wait + Sync, W: Watch>(
+pub(crate) fn call_over<R: Threads + Wait + Sync, W: Watch>(
     rt: &R,
     alloc: Global,
     words: &[&str],

@@ -3,6 +3,7 @@
 ghost use Rattle.std.specs.Prelude.{◌≡◌, ◌≤◌, ◌^◌, IfOk};
 ghost use Rattle.ppm_cells.specs.declared.shape.Takeover.TheVariants.{ByPlaces};
 
+use crate::sources::{FIRST, SUM};
 use crate::texts::stopped;
 use crate::told::{PLAIN, is_run, is_run_alone};
 use ppm_answers::Status;
@@ -11,7 +12,6 @@ use ppm_following::follow;
 use ppm_plan::{Schedule, read_schedule};
 use ppm_saved::{Renewed, Saved, renew, write_saved};
 use ppm_saved_reader::read_saved;
-use ppm_test_calls::{FIRST, SUM};
 use ppm_words::NoMemory;
 use std::alloc::Global;
 use std::test::Fail;
