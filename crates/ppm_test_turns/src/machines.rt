@@ -2,7 +2,7 @@
 ghost use Rattle.std.specs.Prelude.{◌↔◌, IfSome, IsTrue};
 ghost use Rattle.ppm_core.specs.Acts.{IsActAmong, IsTurnAmong};
 
-use crate::listings::{FORK, FORKED, code_of, four_words};
+use crate::listings::{FORK, FORKED, SUM, code_of, four_words};
 use ppm_cells::{Ending, Finish, Shape};
 use ppm_core::{Act, Machine, Next, Told, Turn, Why, done_is_done, turns_follow_on, turns_tell_on};
 use ppm_layout::image;
