@@ -1,3 +1,4 @@
+use Rattle.std.proofs.Common.{map}
 use Rattle.ppm_tree.specs.Tree.{tree_of}
 use Rattle.ppm_plan.specs.Forms.{plan_form}
 use Rattle.ppm_answers.specs.declared.answer.Answer.TheVariants as answers
@@ -26,8 +27,10 @@ returns-in-Ok-ran-clause-told g c =
 -- memory was wanting in it
 pub returns-in-Ok-clause-may : goal.returns-in-Ok-clause-may
 returns-in-Ok-clause-may g c =
-    task_wants plan_form c.args.faults.now c.args.options.processors (ProgramHas c.args.options c.args.options.processors _ _)
-    (kinds c.args.options.processors) (of_program c.args.options c.args.options.processors _ _) c.read_task.ensures.one c.in-Ok.plan.items
+    let before = map g.W.Watch.told c.args.watch.now.items in
+    let now = map g.W.Watch.told c.ran.new.watch.items in
+    task_wants plan_form c.args.faults.now c.args.options.processors (ProgramHas c.args.options c.args.options.processors before now)
+    (kinds c.args.options.processors) (of_program c.args.options c.args.options.processors before now) c.read_task.ensures.one c.in-Ok.plan.items
     c.in-Ok.ensures.accepted _ (tree_of c.in-Ok.program) c.in-Ok.ensures.program
 
 pub returns-in-Ok-clause-told : goal.returns-in-Ok-clause-told
