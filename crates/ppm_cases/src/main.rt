@@ -9,10 +9,20 @@
 mod top;
 mod watcher;
 
-use crate::top::Top;
-use ppm_sheets::judge_sheets;
+use crate::top::tried;
+use ppm_sheets::{Call, judge_sheets};
+use std::alloc::Global;
 use std::process::ExitCode;
+use std::rt::{Env, Files};
+use std::sync::Wait;
+use std::thread::Threads;
+
+/// Judges the sheets that the command line names by the top call.
+fn judge<R: Alloc<A = Global> + Env + Files + Print + Threads + Wait + Sync>(rt: &R) -> ExitCode {
+    let alloc = rt.alloc();
+    judge_sheets(rt, &|call: &Call| tried(rt, alloc, call))
+}
 
 fn main(rt: HostRuntime) -> ExitCode {
-    judge_sheets(&rt, &Top { rt: &rt })
+    judge(&rt)
 }

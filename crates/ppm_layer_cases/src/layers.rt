@@ -6,24 +6,25 @@ use crate::listings::{listing, saved};
 use crate::plans::{fault, items, next_fault, plan, schedule};
 use crate::said::Said;
 use crate::texts::{text, tree};
-use ppm_sheets::{Call, Caller, Fault, Shown};
+use ppm_sheets::{Call, Fault, Shown, Unmade};
 use std::alloc::Global;
 
-/// What tries the layers.
-#[derive(Clone, Copy, Drop)]
-pub(crate) struct Layers;
+/// What the layer of a call's first word shows, or why there is no such call.
+pub(crate) fn tried(alloc: Global, call: &Call) -> Result<Shown, Unmade> {
+    let shown = shown(alloc, call)?;
+    Ok(shown)
+}
 
-impl Caller for Layers {
-    fn shown(&self, alloc: Global, call: &Call) -> Result<Shown, Fault> {
-        let first = match call.words.first() {
-            Some(first) => first.as_str(),
-            None => "",
-        };
-        if first == "answer" {
-            return answer(alloc, call);
-        }
-        said(alloc, first, call)?.shown(alloc)
+/// What the layer of a call's first word shows.
+fn shown(alloc: Global, call: &Call) -> Result<Shown, Fault> {
+    let first = match call.words.first() {
+        Some(first) => first.as_str(),
+        None => "",
+    };
+    if first == "answer" {
+        return answer(alloc, call);
     }
+    said(alloc, first, call)?.shown(alloc)
 }
 
 /// What the layer of a first word says; without such a layer the words are those of a command.

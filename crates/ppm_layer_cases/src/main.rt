@@ -17,10 +17,11 @@ mod said;
 mod texts;
 mod trees;
 
-use crate::layers::Layers;
-use ppm_sheets::judge_sheets;
+use crate::layers::tried;
+use ppm_sheets::{Call, judge_sheets};
 use std::process::ExitCode;
 
 fn main(rt: HostRuntime) -> ExitCode {
-    judge_sheets(&rt, &Layers)
+    let alloc = rt.alloc();
+    judge_sheets(&rt, &|call: &Call| tried(alloc, call))
 }

@@ -44,12 +44,6 @@ pub struct Shown {
     pub told: u64,
 }
 
-/// What makes the calls of a sheet.
-pub trait Caller {
-    /// Makes a call. `Err` where it can't be made: memory is refused, or its words say nothing.
-    fn shown(&self, alloc: Global, call: &Call) -> Result<Shown, Fault>;
-}
-
 impl Call {
     /// A call without words or input. Its ports never fail; it is to write nothing and to end well.
     pub(crate) fn new(alloc: Global, line: usize) -> Self {

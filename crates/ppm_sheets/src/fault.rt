@@ -30,3 +30,30 @@ impl From<io::Error> for Fault {
         Fault::File
     }
 }
+
+/// Why a call can't be made.
+#[derive(Clone, Copy, Debug)]
+pub enum Unmade {
+    /// Memory was refused.
+    NoMemory,
+    /// Its words ask for nothing.
+    Words,
+}
+
+impl From<Unmade> for Fault {
+    fn from(why: Unmade) -> Self {
+        match why {
+            Unmade::NoMemory => Fault::NoMemory,
+            Unmade::Words => Fault::Line("words that ask for nothing"),
+        }
+    }
+}
+
+impl From<Fault> for Unmade {
+    fn from(fault: Fault) -> Self {
+        match fault {
+            Fault::NoMemory => Unmade::NoMemory,
+            Fault::File | Fault::Line(_) => Unmade::Words,
+        }
+    }
+}

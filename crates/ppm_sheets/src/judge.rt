@@ -1,7 +1,7 @@
 //! How a sheet is judged: its blocks, each for all values of its sweeps, and the calls of a block.
-use crate::call::{Call, Caller};
+use crate::call::{Call, Shown};
 use crate::expander::expanded;
-use crate::fault::Fault;
+use crate::fault::{Fault, Unmade};
 use crate::judged::Judged;
 use crate::names::Names;
 use crate::sweep::Sweep;
@@ -26,9 +26,8 @@ impl<'a> Line<'a> {
 
 /// A sheet that is judged.
 #[derive(Drop)]
-struct Judge<'a, C: Caller> {
+struct Judge<'a> {
     sheet: &'a str,
-    caller: &'a C,
     names: Names,
     judged: Judged,
     /// The line that was looked at last.
@@ -37,16 +36,17 @@ struct Judge<'a, C: Caller> {
 
 /// Makes all calls of a sheet, prints those that differ and then a line with the counts. Whether all
 /// is as wanted; a line that the sheet can't have is printed with its reason, and nothing follows it.
-pub(crate) fn judge_sheet<C: Caller>(
+pub(crate) fn judge_sheet<C: Fn(&Call) -> Result<Shown, Unmade>>(
     rt: &impl Print,
     alloc: Global,
     caller: &C,
     sheet: &str,
     text: &str,
-) -> Result<bool, Fault> {
+) -> Result<bool, Fault>
+    requires { C.IsAlwaysCallable caller.now }
+{
     let mut judge = Judge {
         sheet,
-        caller,
         names: Names::new(alloc),
         judged: Judged {
             cases: 0,
@@ -54,7 +54,7 @@ pub(crate) fn judge_sheet<C: Caller>(
         },
         at: 0,
     };
-    if let Err(fault) = judge.judge(rt, alloc, text) {
+    if let Err(fault) = judge.judge(rt, alloc, caller, text) {
         let Fault::Line(why) = fault else {
             return Err(fault);
         };
@@ -70,31 +70,47 @@ pub(crate) fn judge_sheet<C: Caller>(
     Ok(differing == 0)
 }
 
-impl<'a, C: Caller> Judge<'a, C> {
+impl<'a> Judge<'a> {
     /// Judges each block of a text.
-    fn judge(&mut self, rt: &impl Print, alloc: Global, text: &str) -> Result<(), Fault> {
+    fn judge<C: Fn(&Call) -> Result<Shown, Unmade>>(
+        &mut self,
+        rt: &impl Print,
+        alloc: Global,
+        caller: &C,
+        text: &str,
+    ) -> Result<(), Fault>
+        requires { C.IsAlwaysCallable caller.now }
+    {
         let mut block = Vec::new(alloc);
         let mut number = 0usize;
         for text in text.lines() {
             number = number.saturating_add(1);
             if text.is_empty() {
-                self.judge_block(rt, alloc, &block)?;
+                self.judge_block(rt, alloc, caller, &block)?;
                 block.clear();
             } else if !text.starts_with('#') {
                 block.push(Line { number, text })?;
             }
         }
-        self.judge_block(rt, alloc, &block)
+        self.judge_block(rt, alloc, caller, &block)
     }
 
     /// Judges a block, for each of its values. The names that a block of calls gives are forgotten at
     /// its end; those of a block of texts stay.
-    fn judge_block(&mut self, rt: &impl Print, alloc: Global, block: &[Line]) -> Result<(), Fault> {
+    fn judge_block<C: Fn(&Call) -> Result<Shown, Unmade>>(
+        &mut self,
+        rt: &impl Print,
+        alloc: Global,
+        caller: &C,
+        block: &[Line],
+    ) -> Result<(), Fault>
+        requires { C.IsAlwaysCallable caller.now }
+    {
         let sweeps = self.sweeps(alloc, block)?;
         let known = self.names.count();
         for value in 0..count_of(&sweeps) {
             put_all(alloc, &mut self.names, &sweeps, value)?;
-            self.make_calls(rt, alloc, block)?;
+            self.make_calls(rt, alloc, caller, block)?;
             if !is_text(block) {
                 self.names.keep_first(known);
             }
@@ -122,29 +138,40 @@ impl<'a, C: Caller> Judge<'a, C> {
     }
 
     /// Makes the calls of a block, or gives its texts their names.
-    fn make_calls(&mut self, rt: &impl Print, alloc: Global, block: &[Line]) -> Result<(), Fault> {
-        let mut call = None;
-        for line in block {
-            self.at = line.number;
-            self.take_line(rt, alloc, *line, &mut call)?;
-        }
-        self.end_call(rt, alloc, &mut call)
-    }
-
-    /// Takes a line of a call, or ends a call and begins the next one.
-    fn take_line(
+    fn make_calls<C: Fn(&Call) -> Result<Shown, Unmade>>(
         &mut self,
         rt: &impl Print,
         alloc: Global,
+        caller: &C,
+        block: &[Line],
+    ) -> Result<(), Fault>
+        requires { C.IsAlwaysCallable caller.now }
+    {
+        let mut call = None;
+        for line in block {
+            self.at = line.number;
+            self.take_line(rt, alloc, caller, *line, &mut call)?;
+        }
+        self.end_call(rt, alloc, caller, &mut call)
+    }
+
+    /// Takes a line of a call, or ends a call and begins the next one.
+    fn take_line<C: Fn(&Call) -> Result<Shown, Unmade>>(
+        &mut self,
+        rt: &impl Print,
+        alloc: Global,
+        caller: &C,
         line: Line,
         call: &mut Option<Call>,
-    ) -> Result<(), Fault> {
+    ) -> Result<(), Fault>
+        requires { C.IsAlwaysCallable caller.now }
+    {
         let (mark, rest) = line.parts();
         if mark == "for" || mark == "|" {
             return Ok(());
         }
         if mark == "$" || mark == "text" {
-            self.end_call(rt, alloc, call)?;
+            self.end_call(rt, alloc, caller, call)?;
             *call = Some(self.begun(alloc, line.number, mark, rest)?);
             return Ok(());
         }
@@ -169,24 +196,35 @@ impl<'a, C: Caller> Judge<'a, C> {
     }
 
     /// Makes the call that was begun, if there is one.
-    fn end_call(
+    fn end_call<C: Fn(&Call) -> Result<Shown, Unmade>>(
         &mut self,
         rt: &impl Print,
         alloc: Global,
+        caller: &C,
         call: &mut Option<Call>,
-    ) -> Result<(), Fault> {
+    ) -> Result<(), Fault>
+        requires { C.IsAlwaysCallable caller.now }
+    {
         match call.take() {
-            Some(call) => self.make(rt, alloc, call),
+            Some(call) => self.make(rt, alloc, caller, call),
             None => Ok(()),
         }
     }
 
     /// Makes a call, or gives a text its name.
-    fn make(&mut self, rt: &impl Print, alloc: Global, call: Call) -> Result<(), Fault> {
+    fn make<C: Fn(&Call) -> Result<Shown, Unmade>>(
+        &mut self,
+        rt: &impl Print,
+        alloc: Global,
+        caller: &C,
+        call: Call,
+    ) -> Result<(), Fault>
+        requires { C.IsAlwaysCallable caller.now }
+    {
         let text = if call.is_text {
             call.input.as_slice().to_vec(alloc)?
         } else {
-            let shown = self.caller.shown(alloc, &call)?;
+            let shown = caller(&call)?;
             self.judged.add(rt, self.sheet, &call, &shown)?;
             shown.out
         };

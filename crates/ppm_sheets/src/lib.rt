@@ -16,6 +16,6 @@ mod names;
 mod sheets;
 mod sweep;
 
-pub use call::{Call, Caller, Shown};
-pub use fault::Fault;
+pub use call::{Call, Shown};
+pub use fault::{Fault, Unmade};
 pub use sheets::judge_sheets;

@@ -1,6 +1,6 @@
 //! The sheets that a command line names.
-use crate::call::Caller;
-use crate::fault::Fault;
+use crate::call::{Call, Shown};
+use crate::fault::{Fault, Unmade};
 use crate::judge::judge_sheet;
 use std::alloc::Global;
 use std::process::ExitCode;
@@ -10,12 +10,15 @@ use std::{env, fs, io};
 /// How the names of sheets begin that are wrong on purpose.
 const WRONG: &str = "wrong";
 
-/// Judges the sheets that the command line names, from the folder in which the program runs. The
-/// status is 0 where all cases are as wanted, but for those of sheets that are wrong on purpose.
-pub fn judge_sheets<R: Alloc<A = Global> + Env + Files + Print, C: Caller>(
-    rt: &R,
-    caller: &C,
-) -> ExitCode {
+/// Judges the sheets that the command line names, from the folder in which the program runs. `caller`
+/// makes each call of a sheet. The status is 0 where all cases are as wanted, but for those of sheets that are wrong on
+/// purpose.
+pub fn judge_sheets<
+    R: Alloc<A = Global> + Env + Files + Print,
+    C: Fn(&Call) -> Result<Shown, Unmade>,
+>(rt: &R, caller: &C) -> ExitCode
+    requires { C.IsAlwaysCallable caller.now }
+{
     let alloc = rt.alloc();
     let mut all = true;
     match words_of(alloc, env::args(rt)) {
@@ -32,12 +35,14 @@ pub fn judge_sheets<R: Alloc<A = Global> + Env + Files + Print, C: Caller>(
 }
 
 /// Judges the sheet in a file. Whether all its cases are as wanted.
-fn judge_file<R: Alloc<A = Global> + Files + Print, C: Caller>(
+fn judge_file<R: Alloc<A = Global> + Files + Print, C: Fn(&Call) -> Result<Shown, Unmade>>(
     rt: &R,
     alloc: Global,
     caller: &C,
     sheet: &str,
-) -> bool {
+) -> bool
+    requires { C.IsAlwaysCallable caller.now }
+{
     match read_and_judge(rt, alloc, caller, sheet) {
         Ok(fine) => fine,
         Err(_) => {
@@ -49,12 +54,14 @@ fn judge_file<R: Alloc<A = Global> + Files + Print, C: Caller>(
 }
 
 /// Judges the sheet in a file that can be read.
-fn read_and_judge<R: Alloc<A = Global> + Files + Print, C: Caller>(
+fn read_and_judge<R: Alloc<A = Global> + Files + Print, C: Fn(&Call) -> Result<Shown, Unmade>>(
     rt: &R,
     alloc: Global,
     caller: &C,
     sheet: &str,
-) -> Result<bool, Fault> {
+) -> Result<bool, Fault>
+    requires { C.IsAlwaysCallable caller.now }
+{
     let text = fs::read_to_string(rt, sheet)?;
     judge_sheet(rt, alloc, caller, sheet, &text)
 }
