@@ -23,7 +23,7 @@ use Rattle.ppm_code.specs.Code.{EndFits, IsCode}
 use Rattle.ppm_code.specs.Locations.{Where, code_locations}
 use Rattle.ppm_code.specs.Strands.{Point, Result, opens, table_of, instrs_of}
 use Rattle.ppm_depth.specs.Moves.{now_after, stack_after, waiting_after, counts_by, pending, pending_for, moved, entry_at}
-use Rattle.ppm_depth.specs.Stack.{Own, Strands, tree_at, end_of, Holds, IsLaidOut, IsShown}
+use Rattle.ppm_depth.specs.Stack.{Own, Strands, tree_at, end_of, Holds, IsLaidOut, IsShown, IsShownAt}
 use Rattle.ppm_depth.specs.Start.{words_of}
 use Rattle.ppm_depth.specs.Store.{Shows, own_at}
 use Rattle.ppm_depth.specs.Turns.{strands_over}
@@ -33,7 +33,7 @@ use Rattle.ppm_depth.specs.declared.frame.Frame.{Frame}
 use Rattle.ppm_depth.specs.declared.frame.Now.TheVariants.{At}
 use Rattle.ppm_depth.specs.declared.frame.Waiting.{Waiting}
 use Rattle.ppm_depth.specs.declared.store.Place.{Place}
-use Rattle.ppm_depth.proofs.FollowLemmas.{followed, forks_opened}
+use Rattle.ppm_depth.proofs.FollowLemmas.{followed, followed_at, forks_opened, above_after, leaf_after}
 use Rattle.ppm_depth.proofs.StackLemmas.{laid_still, lifted}
 use Rattle.ppm_depth.proofs.TurnLemmas.{zeros}
 
@@ -149,6 +149,42 @@ module _ (code : CodeParts) (is_code : IsCode code) (frame : Frame) (block : ℕ
             (tree_at s (opens_next f holds there))) shown.waits
             (followed code is_code frame block blocks words (after f holds there) (is_whole f holds there).shows there blocks_length s laid done.end fits),
       )
+
+  -- a capsule, as what it touches is noted from the memory with which it begins
+  module _ (waiting : List Waiting) (t : Strands) (shown : IsShown code before_blocks waiting (At frame) t) where
+    abbrev pub there_at : end_of code frame ≤ block
+    there_at = subst (λ (n : ℕ). end_of code frame ≤ n) (sym block_is) shown.at.3
+
+    abbrev pub began : Memory Where
+    began = start code_locations (table_of code (length words_before)) shown.at.0 (words_of words_before)
+
+    abbrev pub came : Memory Where
+    came = leaves code_locations (capsule_of (length words) (instrs_of code frame.capsule)) began
+
+    pub began_shows : Shows (slots_at code frame.capsule) (block_at code frame.capsule) (record { frame = frame.base; block = block }) opened words_before began
+    began_shows = shows shown.at.0 shown.at.2 there_at
+
+    pub capsule_is : capsule_of (length words_before) (instrs_of code shown.at.0.point.capsule) ≡ capsule_of (length words_before) (instrs_of code frame.capsule)
+    capsule_is = ap (λ (p : Point). capsule_of (length words_before) (instrs_of code p.capsule)) shown.at.2.point
+
+    pub came_next : (strands_over code (length words_before)).next shown.at.0 (words_of words_before) ≡ opens code done.end (own_of came) (new_of came)
+    came_next = next_is shown.at.0 shown.at.2 there_at
+
+    pub came_after : (strands_over code (length words_before)).after shown.at.0 (words_of words_before) ≡ words_of words
+    came_after = after_is shown.at.0 shown.at.2 there_at
+
+    pub advanced_at : IsShownAt code (stack_after block blocks done.end) (waiting_after code frame block waiting done.end)
+        (now_after code frame block blocks done.end) (above_after code frame block came shown.above done.end) (leaf_after code came done.end)
+    advanced_at =
+        let s = shown.above in
+        let f = shown.at.0 in
+        let holds = shown.at.2 in
+        let laid = laid_still code before_blocks blocks s frame.base (end_of code frame) block outside_still (omega arith) there_at
+        (subst (λ (n : ℕ). IsLaidOut code before_blocks s frame.base (end_of code frame) n) (sym block_is) shown.at.4) in
+        subst (λ (ws : List Waiting). IsShownAt code (stack_after block blocks done.end)
+        (waiting_after code frame block ws done.end) (now_after code frame block blocks done.end)
+        (above_after code frame block came s done.end) (leaf_after code came done.end)) shown.waits
+        (followed_at code is_code frame block blocks words (after f holds there_at) (is_whole f holds there_at).shows there_at blocks_length s laid done.end fits)
 
 -- what waits after a capsule waits for little more
 pub pending_push : (ws : List Waiting) (w : Waiting) → pending (ws ++ (w ∷ [])) ≡ pending ws + pending_for w.on

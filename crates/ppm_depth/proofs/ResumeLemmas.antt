@@ -11,7 +11,7 @@ use Rattle.ppm_code.specs.declared.code.CodeParts.{CodeParts}
 use Rattle.ppm_code.specs.Strands.{Result, Gave, Trapped, resume, kept, with_value}
 use Rattle.ppm_depth.specs.Moves.{gone_on, stack_gone_on, joined, stack_joined, with_slot, resumed, stack_resumed, waiting_resumed, AreSlotsThere, IsSlotThere, pending, pending_for, turns_of}
 use Rattle.ppm_depth.proofs.AdvanceLemmas.{pending_push}
-use Rattle.ppm_depth.specs.Stack.{Own, Strands, result_of, Waits, ForCallee, ForLeft, ForRight, Above, Root, On, listed, tree_at, waits_for, end_of, Holds, AreOne, IsLaidOut, IsNow, IsTarget, IsShown}
+use Rattle.ppm_depth.specs.Stack.{Own, Strands, result_of, Waits, ForCallee, ForLeft, ForRight, Above, Root, On, listed, tree_at, waits_for, end_of, Holds, AreOne, IsLaidOut, IsNow, IsTarget, IsShown, IsShownAt}
 use Rattle.ppm_depth.specs.Turns.{strands_over}
 use Rattle.ppm_depth.specs.declared.frame.Frame.{Frame}
 use Rattle.ppm_depth.specs.declared.frame.Finish.{Finish}
@@ -21,7 +21,7 @@ use Rattle.ppm_depth.specs.declared.frame.For.TheVariants.{Callee, Left, Right}
 use Rattle.ppm_depth.specs.declared.frame.Now.TheVariants.{Over as IsOver}
 use Rattle.ppm_depth.specs.declared.frame.Waiting.{Waiting}
 use Rattle.ppm_depth.proofs.StackLemmas.{holds_still, laid_still, innermost, lifted}
-use Rattle.ppm_depth.proofs.TurnLemmas.{gone_shown, holds_with, with_laid, with_length, own_is}
+use Rattle.ppm_depth.proofs.TurnLemmas.{gone_shown, gone_at, holds_with, with_laid, with_length, own_is}
 
 module _ (code : CodeParts) (array_words : ℕ) where
   abbrev c : Code Own Result
@@ -134,6 +134,67 @@ module _ (code : CodeParts) (array_words : ℕ) where
             subst (λ (zs : List Waiting). IsShown code (stack_resumed w w.on done blocks) (waiting_resumed w w.on done zs) (resumed w w.on done) turn.0)
                 last.1 turn.2,
           )
+
+  -- after both branches, with what stands above them
+  joined_at : (blocks : List ℕ) (s : Above) (frame : Frame) (left_to to : Option ℕ) (f : Own) (l r : Finish) → Holds code blocks frame left_to to f
+      → end_of code frame ≤ length blocks → IsLaidOut code blocks s frame.base (end_of code frame) (length blocks)
+      → IsShownAt code (stack_joined frame left_to l to r blocks) (listed s) (joined frame l r) s (rejoin c f (result_of l) (result_of r))
+  joined_at blocks s frame left_to to f (finish.Trapped trap line) r holds fits laid = record {
+    waits = refl;
+    at = (refl, frame.base, end_of code frame, omega arith, fits, laid);
+  }
+  joined_at blocks s frame left_to to f (finish.Gave v) r holds fits laid =
+      let g : Own = record { own = with_value left_to v f.own; point = record { capsule = frame.capsule; left_to = None; to = to } } in
+      let same : kept (record { own = f.own; point = record { capsule = frame.capsule; left_to = left_to; to = to } }) (Gave v) ≡ kept f (Gave v) =
+      ap (λ (h : Own). kept h (Gave v)) (own_is code blocks frame left_to to f holds) in
+      subst (λ (h : Own). IsShownAt code (stack_gone_on frame to r (with_slot frame left_to v blocks)) (listed s) (gone_on frame r) s
+      (resume h (result_of r))) same
+      (gone_at code (with_slot frame left_to v blocks) s frame to g r
+      (holds_with code blocks frame left_to to f left_to v None to fits holds.left_target tt holds.target holds)
+      (subst (λ (n : ℕ). end_of code frame ≤ n) (sym (with_length code blocks frame left_to v)) fits)
+      (with_laid code blocks frame left_to v s fits holds.left_target laid))
+
+  -- what stands above the strand then, and the strand
+  abbrev pub above_resumed : Waiting → For → Waits → Finish → Above → Above
+  above_resumed w (Callee to) v done s = s
+  above_resumed w (Left right left_to to) (ForLeft f r) done s =
+      On (record { frame = w.frame; block = w.block; on = Right done left_to to }) (ForRight f (result_of done)) s
+  above_resumed w (Left right left_to to) (ForCallee f) done s = s
+  above_resumed w (Left right left_to to) (ForRight f o) done s = s
+  above_resumed w (Right l left_to to) v done s = s
+
+  abbrev pub leaf_resumed : Waits → Finish → Strands
+  leaf_resumed (ForCallee f) done = resume f (result_of done)
+  leaf_resumed (ForLeft f r) done = Strand r
+  leaf_resumed (ForRight f o) done = rejoin c f o (result_of done)
+
+  pub resumed_at : (w : Waiting) (on : For) (v : Waits) (s : Above) (done : Finish) (blocks : List ℕ) (begin end : ℕ)
+      → w.block ≤ begin → begin ≤ end → end ≤ length blocks → end_of code w.frame ≤ w.block
+      → AreOne code blocks end (length blocks) w.frame on v → IsLaidOut code blocks s w.frame.base (end_of code w.frame) w.block
+      → IsShownAt code (stack_resumed w on done blocks) (waiting_resumed w on done (listed s)) (resumed w on done)
+      (above_resumed w on v done s) (leaf_resumed v done)
+  resumed_at w (Callee to) (ForCallee f) s done blocks begin end lies first last fits one laid =
+      let within : w.block ≤ length blocks = omega (arith, lies, first, last) in
+      gone_at code (take w.block blocks) s w.frame to f done (below_holds blocks w.block w.frame None to f fits one)
+      (subst (λ (n : ℕ). end_of code w.frame ≤ n) (sym (length-take-le w.block blocks within)) fits)
+      (below_laid blocks w.block s w.frame within fits laid)
+  resumed_at w (Left right left_to to) (ForLeft f r) s done blocks begin end lies first last fits one laid = record {
+    waits = refl;
+    at = (r, refl, one.1, one.3, (omega (arith, lies, first, one.2), fits, (one.0, refl), laid));
+  }
+  resumed_at w (Right l left_to to) (ForRight f o) s done blocks begin end lies first last fits one laid =
+      let within : w.block ≤ length blocks = omega (arith, lies, first, last) in
+      subst (λ (p : Result). IsShownAt code (stack_joined w.frame left_to l to done (take w.block blocks)) (listed s) (joined w.frame l done) s
+      (rejoin c f p (result_of done))) (sym one.1)
+      (joined_at (take w.block blocks) s w.frame left_to to f l done (below_holds blocks w.block w.frame left_to to f fits one.0)
+      (subst (λ (n : ℕ). end_of code w.frame ≤ n) (sym (length-take-le w.block blocks within)) fits)
+      (below_laid blocks w.block s w.frame within fits laid))
+  resumed_at w (Callee to) (ForLeft f g) s done blocks begin end lies first last fits one laid = absurd one
+  resumed_at w (Callee to) (ForRight f o) s done blocks begin end lies first last fits one laid = absurd one
+  resumed_at w (Left r left_to to) (ForCallee f) s done blocks begin end lies first last fits one laid = absurd one
+  resumed_at w (Left r left_to to) (ForRight f o) s done blocks begin end lies first last fits one laid = absurd one
+  resumed_at w (Right l left_to to) (ForCallee f) s done blocks begin end lies first last fits one laid = absurd one
+  resumed_at w (Right l left_to to) (ForLeft f g) s done blocks begin end lies first last fits one laid = absurd one
 
   -- the slots that it takes values in lie below its block
   pub slots_there : (ws : List Waiting) (w : Waiting) (done : Finish) (blocks : List ℕ) (t : Strands) → IsShown code blocks (ws ++ (w ∷ [])) (IsOver done) t

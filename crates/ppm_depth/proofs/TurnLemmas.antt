@@ -7,7 +7,7 @@ use Rattle.ppm_code.specs.declared.code.CodeParts.{CodeParts}
 use Rattle.ppm_code.specs.declared.location.FrameWord.TheVariants.{Slot, Value}
 use Rattle.ppm_code.specs.Strands.{Point, Gave, Trapped, at_capsule, with_value, resume}
 use Rattle.ppm_depth.specs.Moves.{with_slot, gone_on, stack_gone_on}
-use Rattle.ppm_depth.specs.Stack.{Own, result_of, Above, listed, tree_at, end_of, IsTarget, Holds, IsLaidOut, IsShown}
+use Rattle.ppm_depth.specs.Stack.{Own, result_of, Above, listed, tree_at, end_of, IsTarget, Holds, IsLaidOut, IsShown, IsShownAt}
 use Rattle.ppm_depth.specs.Store.{own_at}
 use Rattle.ppm_depth.specs.declared.frame.Frame.{Frame}
 use Rattle.ppm_depth.specs.declared.frame.Finish.{Finish}
@@ -91,6 +91,25 @@ module _ (code : CodeParts) where
     at = (
       record { own = with_value to v f.own; point = at_capsule frame.capsule },
       refl,
+      holds_with blocks frame None to f to v None None fits holds.target tt tt holds,
+      subst (λ (n : ℕ). end_of code frame ≤ n) (sym (with_length blocks frame to v)) fits,
+      with_laid blocks frame to v s fits holds.target laid,
+    );
+  }
+
+  -- likewise, with what stands above it
+  pub gone_at : (blocks : List ℕ) (s : Above) (frame : Frame) (to : Option ℕ) (f : Own) (done : Finish) → Holds code blocks frame None to f
+      → end_of code frame ≤ length blocks → IsLaidOut code blocks s frame.base (end_of code frame) (length blocks)
+      → IsShownAt code (stack_gone_on frame to done blocks) (listed s) (gone_on frame done) s (resume f (result_of done))
+  gone_at blocks s frame to f (finish.Trapped trap line) holds fits laid = record {
+    waits = refl;
+    at = (refl, frame.base, end_of code frame, omega arith, fits, laid);
+  }
+  gone_at blocks s frame to f (finish.Gave v) holds fits laid = record {
+    waits = refl;
+    at = (
+      record { own = with_value to v f.own; point = at_capsule frame.capsule },
+      ap (λ (g : Own). resume g (Gave v)) (sym (own_is blocks frame None to f holds)),
       holds_with blocks frame None to f to v None None fits holds.target tt tt holds,
       subst (λ (n : ℕ). end_of code frame ≤ n) (sym (with_length blocks frame to v)) fits,
       with_laid blocks frame to v s fits holds.target laid,

@@ -105,3 +105,8 @@ module _ (code : CodeParts) where
     pub leaf : Strands
     pub tree : t ≡ tree_at above leaf
     pub at : IsNow blocks current above leaf
+
+  -- likewise, with these frames above this leaf
+  pub record IsShownAt (blocks : List ℕ) (waiting : List Waiting) (current : Now) (s : Above) (leaf : Strands) : Type 0 where
+    pub waits : listed s ≡ waiting
+    pub at : IsNow blocks current s leaf

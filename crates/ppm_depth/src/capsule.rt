@@ -21,7 +21,7 @@ pub struct Done {
 }
 
 /// The instructions of a capsule.
-pub(crate) fn instrs_of(code: &Code, number: u32) -> &[Instr]
+pub fn instrs_of(code: &Code, number: u32) -> &[Instr]
     requires { number < length code.now.capsules }
     ensures value { result.now ≡ instrs_in_code code.now number }
     ensures code { IsCode code.now }
@@ -32,7 +32,7 @@ pub(crate) fn instrs_of(code: &Code, number: u32) -> &[Instr]
 
 /// The words of a new block that a capsule may store into: those that it asks for, and no more than
 /// the largest fork block has.
-pub(crate) fn block_words(instrs: &[Instr]) -> usize
+pub fn block_words(instrs: &[Instr]) -> usize
     ensures { result ≡ kept_of (room_of instrs.now) }
 {
     match instrs {
@@ -42,7 +42,7 @@ pub(crate) fn block_words(instrs: &[Instr]) -> usize
 }
 
 /// Runs the capsule with a number whole, in the frame and the new block at a place.
-pub(crate) fn run_capsule(code: &Code, number: u32, place: Place, store: &mut Store) -> Done
+pub fn run_capsule(code: &Code, number: u32, place: Place, store: &mut Store) -> Done
     requires there { number < length code.now.capsules }
     requires tidy { IsTidy code.now }
     requires place { IsPlace code.now number place store.old.blocks.items }

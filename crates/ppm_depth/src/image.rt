@@ -13,7 +13,7 @@ use ppm_words::{Items, NamedArray, NoMemory};
 use std::alloc::Global;
 
 /// The words of arrays, one array after the other.
-pub(crate) fn to_words(alloc: Global, arrays: &[NamedArray]) -> Result<Vec<u64>, NoMemory>
+pub fn to_words(alloc: Global, arrays: &[NamedArray]) -> Result<Vec<u64>, NoMemory>
     ensures { IfOk result (λ words. words.items ≡ words_in arrays.now) }
 {
     let mut words = Vec::new(alloc);
@@ -49,11 +49,7 @@ fn push_regions(blocks: &mut Vec<u64>, regions: &[u64], arrays: &[u32]) -> Resul
 }
 
 /// The words with which a run begins: the root's frame, and the words of the arrays.
-pub(crate) fn root_store(
-    alloc: Global,
-    code: &Code,
-    arrays: &[NamedArray],
-) -> Result<Store, NoMemory>
+pub fn root_store(alloc: Global, code: &Code, arrays: &[NamedArray]) -> Result<Store, NoMemory>
     requires named { NamesArrays code.now arrays.now }
     requires few { word_count arrays.now ≤ word_limit }
     ensures blocks { IfOk result (λ store. store.blocks.items ≡ root_frame code.now arrays.now) }
@@ -75,7 +71,7 @@ pub(crate) fn root_store(
 }
 
 /// The arrays, by their names, that words stand for.
-pub(crate) fn to_arrays(
+pub fn to_arrays(
     alloc: Global,
     arrays: &[NamedArray],
     words: &[u64],

@@ -16,5 +16,10 @@ mod laws;
 mod store;
 mod strand;
 
+pub use capsule::{Done, block_words, instrs_of};
 pub use depth::{DepthRun, depth_first};
+pub use frame::{Finish, For, Frame, Now, Waiting};
+pub use image::root_store;
 pub use laws::orders_come_to_one_end;
+pub use store::{Place, Store};
+pub use strand::{Counts, Strand, counted, entry};

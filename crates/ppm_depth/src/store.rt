@@ -53,7 +53,7 @@ impl Store {
     }
 
     /// One step of a capsule; the words that it asks for.
-    pub(crate) fn step(&mut self, place: Place, step: Step, registers: &mut [u64; 64]) -> u32
+    pub fn step(&mut self, place: Place, step: Step, registers: &mut [u64; 64]) -> u32
         requires { IsStepThere place step self.old.blocks.items self.old.words.items }
         ensures registers { registers.new
             ≡ registers_after place step self.old.blocks.items self.old.words.items registers.old }
@@ -76,7 +76,7 @@ impl Store {
     }
 
     /// A new block on the stack, with 0 in its words.
-    pub(crate) fn open_block(&mut self, words: usize) -> Result<(), NoMemory>
+    pub fn open_block(&mut self, words: usize) -> Result<(), NoMemory>
         ensures blocks { OnOk result (self.new.blocks.items
             ≡ self.old.blocks.items ++ replicate words 0) }
         ensures words { OnOk result (self.new.words.items ≡ self.old.words.items) }

@@ -42,7 +42,7 @@ pub struct Strand {
 }
 
 /// The frame of a procedure that begins at a word of the stack.
-pub(crate) fn entry(code: &Code, procedure: u32, base: usize) -> Frame
+pub fn entry(code: &Code, procedure: u32, base: usize) -> Frame
     requires { procedure < length code.now.procedures }
     ensures value { result ≡ entry_at code.now procedure base }
     ensures code { IsCode code.now }
@@ -81,7 +81,7 @@ fn go_on(blocks: &mut Vec<u64>, frame: Frame, to: Option<u32>, finish: Finish) -
 
 impl Strand {
     /// A strand with nothing counted, where no frame waits.
-    pub(crate) fn new(alloc: Global, store: Store) -> Self
+    pub fn new(alloc: Global, store: Store) -> Self
         ensures store { result.store ≡ store }
         ensures waiting { result.waiting.items ≡ [] }
         ensures counts { counts_of result.counts ≡ none }
@@ -99,7 +99,13 @@ impl Strand {
     }
 
     /// What follows a capsule of a frame, by its end; its new block begins at a word of the stack.
-    fn follow(&mut self, code: &Code, frame: Frame, block: usize, end: End) -> Result<Now, NoMemory>
+    pub fn follow(
+        &mut self,
+        code: &Code,
+        frame: Frame,
+        block: usize,
+        end: End,
+    ) -> Result<Now, NoMemory>
         requires there { frame.base + size_at code.now frame.capsule ≤ block }
         requires block { block ≤ length self.old.store.blocks.items }
         requires fits { EndFits code.now (procedure_at code.now frame.capsule) (instrs_in_code code.now frame.capsule) end }
@@ -198,7 +204,7 @@ impl Strand {
     }
 
     /// What follows where that for which a frame waits is over.
-    fn resume(&mut self, waiting: Waiting, finish: Finish) -> Result<Now, NoMemory>
+    pub fn resume(&mut self, waiting: Waiting, finish: Finish) -> Result<Now, NoMemory>
         requires block { waiting.block ≤ length self.old.store.blocks.items }
         requires slots { AreSlotsThere waiting.frame waiting.on waiting.block }
         ensures now { IfOk result (λ now. now ≡ resumed waiting waiting.on finish) }
@@ -237,12 +243,7 @@ impl Strand {
     }
 
     /// Runs the strand from a frame to its end; `None` where more capsules would be run than that.
-    pub(crate) fn run(
-        &mut self,
-        code: &Code,
-        root: Frame,
-        limit: u64,
-    ) -> Result<Option<Finish>, NoMemory>
+    pub fn run(&mut self, code: &Code, root: Frame, limit: u64) -> Result<Option<Finish>, NoMemory>
         requires tidy { IsTidy code.now }
         requires limit { limit ≤ 2 ^ 40 }
         requires counts { counts_of self.old.counts ≡ none }
@@ -298,7 +299,7 @@ fn join(
 }
 
 /// The counts with those of one capsule.
-fn counted(counts: Counts, done: Done) -> Counts
+pub fn counted(counts: Counts, done: Done) -> Counts
     requires few { AreFew counts }
     requires capsules { counts.capsules < 2 ^ 40 }
     requires asked { done.asked ≤ room_limit }

@@ -1,0 +1,4 @@
+pub mod LogLemmas
+pub mod StampLemmas
+pub mod WalkLemmas
+pub mod VerdictLemmas

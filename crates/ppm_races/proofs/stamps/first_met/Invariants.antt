@@ -1,0 +1,16 @@
+use Rattle.std.proofs.Common.{◌≡◌, length}
+use Rattle.ppm_races.specs.Beside.{stands_beside}
+use Rattle.ppm_races.specs.Touches.{AreThere}
+use Rattle.ppm_races.proofs.StampLemmas.{DecidesAs}
+use Rattle.ppm_races.proofs.stamps.first_met.Given as goal
+
+-- what is left decides
+abbrev pub invariant-loop-left : goal.invariant-loop-left
+invariant-loop-left l = record {
+  decides : DecidesAs (stands_beside l.marks) l.visits.wrote.items l.visits.touched.items l.log l.left;
+  wrote : AreThere (length l.visits.wrote.items) l.left;
+  touched : AreThere (length l.visits.touched.items) l.left;
+}
+
+abbrev pub decreases-loop-left : goal.decreases-loop-left
+decreases-loop-left l = length l.left

@@ -1,0 +1,4 @@
+pub mod Beside
+pub mod Touches
+pub mod Verdicts
+pub mod Walks

@@ -1,0 +1,13 @@
+//! Whether two branches of a fork meet on an array word, in a code with its input.
+//! Model: the strands of the code (`ppm_depth`), and the stamps of its depth-first run (`ppm_stamps`).
+//! Contract: `races` says that the code is calm with the input, names a race by which it is not, or
+//! says that the run takes more capsules.
+#![tactic(auto)]
+
+mod capsule;
+mod judging;
+mod stamps;
+mod touch;
+mod walk;
+
+pub use judging::{Verdict, races};

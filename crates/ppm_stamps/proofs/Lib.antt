@@ -1,0 +1,6 @@
+pub mod CountLemmas
+pub mod CoverLemmas
+pub mod MomentLemmas
+pub mod NameLemmas
+pub mod RaceLemmas
+pub mod ToldLemmas

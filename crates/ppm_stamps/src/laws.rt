@@ -1,0 +1,34 @@
+//! What stamps tell of every code and every tree, shown by calls that do nothing.
+ghost use Rattle.ppm_strands.specs.Tree.{Code, Local};
+ghost use Rattle.ppm_stamps.specs.Moments.{EndedIsCalm, MetIsNotCalm, NextIsCounted, TouchesAreNamed};
+ghost use Rattle.ppm_stamps.specs.Stamps.{CleanIsCalm, EndsAreTold, FoundIsARace};
+
+/// Where a depth-first run comes to its end and its stamps have shown no race, the tree is calm.
+pub fn a_clean_run_is_calm<F, O>()
+    ensures { (c : Code F O) → Local c → CleanIsCalm c }
+{}
+
+/// Where its stamps show a race, the tree is not calm, whether or not the run has an end.
+pub fn a_found_race_is_one<F, O>()
+    ensures { (c : Code F O) → Local c → FoundIsARace c }
+{}
+
+/// A run that comes to an end is told clean, or a race is found in it.
+pub fn a_run_that_ends_is_told<F, O>()
+    ensures { (c : Code F O) → EndsAreTold c }
+{}
+
+/// A runtime that runs a tree depth first with a stack, and stamps as it goes: where it comes to the
+/// end and no capsule met anything, the tree is calm; where the next capsule meets something, it is
+/// not.
+pub fn moments_tell_of_calm<F, O>()
+    ensures ended { (c : Code F O) → Local c → EndedIsCalm c }
+    ensures met { (c : Code F O) → Local c → MetIsNotCalm c }
+    ensures counted { (c : Code F O) → NextIsCounted c }
+{}
+
+/// Whom a capsule meets by the stamps of a word is an earlier capsule of the run that wrote it, or
+/// touched it.
+pub fn touches_are_named<F, O>()
+    ensures { (c : Code F O) → TouchesAreNamed c }
+{}
