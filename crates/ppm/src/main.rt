@@ -60,7 +60,7 @@ fn program<R: Threads + Wait + Sync, S: Source, K: Sink, E: Sink>(
     ExitCode::from(status.number())
 }
 
-/// The same with the status itself.
+/// Answers the words, as a status.
 fn answered<R: Threads + Wait + Sync, S: Source, K: Sink, E: Sink>(
     rt: &R,
     alloc: Global,

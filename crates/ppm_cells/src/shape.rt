@@ -79,7 +79,7 @@ impl Shape {
         })
     }
 
-    /// The same shape with takeover by entries.
+    /// This shape, but with takeover by entries.
     pub fn stealing(self) -> Shape
         ensures { result ≡ record self { takeover = ByEntries } }
     {

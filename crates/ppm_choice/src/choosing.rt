@@ -53,7 +53,7 @@ pub fn choose(pace: &Pace, plan: &Plan, limits: Limits) -> Choice
     chosen(pace, plan, limits)
 }
 
-/// The same by what the pace says.
+/// What a processor of this pace does next.
 fn chosen(pace: &Pace, plan: &Plan, limits: Limits) -> Choice
     ensures { result ≡ chosen plan.now limits pace.now }
 {

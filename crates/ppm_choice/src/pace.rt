@@ -106,7 +106,7 @@ impl Pace {
     }
 }
 
-/// So many more, up to the most.
+/// A count with further ones added, up to the most.
 fn more(count: u64, further: u64, most: u64) -> u64
     ensures { result ≡ min (count + further) most }
 {
@@ -148,7 +148,7 @@ fn looks_along(looks: u32, most: u32, work: u64, further: u64) -> u32
     }
 }
 
-/// So many looks more, up to the most.
+/// A count of looks with further ones added, up to the most.
 fn looks_more(looks: u32, most: u32, further: u64) -> u32
     ensures { result ≡ min (looks + further) most }
 {

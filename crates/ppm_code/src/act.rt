@@ -10,7 +10,7 @@ pub enum Step {
     Loads(Location, Register),
     /// A word goes to a location.
     Stores(Location, u64),
-    /// So many words are asked for, for a new block.
+    /// A new block is asked for, of this many words.
     Asks(u32),
 }
 

@@ -33,7 +33,7 @@ pub(crate) fn run_answer(
     Ok(Answer::Ended(arrays_of_closed(alloc, closed, arrays)?))
 }
 
-/// The same behind a run from a saved state, with the arrays of its names.
+/// The answer after a run from a saved state, with the arrays of its names.
 pub(crate) fn resumed_answer(
     alloc: Global,
     closed: &Closed,

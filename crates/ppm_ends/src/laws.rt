@@ -40,7 +40,7 @@ pub fn capsules_show()
     ensures law { CapsulesShow }
 {}
 
-/// So at a fork of two procedures with two slots and with one, in words that were all 7.
+/// An instance: a fork of two procedures with two slots and with one, in words that were all 7.
 pub fn fork_is_shown()
     ensures law { ForkIsShown }
 {}

@@ -73,24 +73,24 @@ pub fn run_row_keeps()
     ensures law { RunRowKeeps }
 {}
 
-/// So does each step in a row of kind Bump.
+/// Each step in a row of kind Bump keeps the words in that way.
 pub fn bump_row_keeps()
     ensures law { BumpRowKeeps }
 {}
 
-/// So does each step in a row of kind Unwind: a value or a trap passes to the caller, a branch
+/// Each step in a row of kind Unwind keeps them: a value or a trap passes to the caller, a branch
 /// gives its outcome, and the root ends the run.
 pub fn unwind_row_keeps()
     ensures law { UnwindRowKeeps }
 {}
 
-/// So does each step in a row of kind Push1: at the last slot its strand is to run the right branch,
-/// which nobody has.
+/// Each step in a row of kind Push1 keeps them: at the last slot its strand is to run the right
+/// branch, which nobody has.
 pub fn push1_row_keeps()
     ensures law { Push1RowKeeps }
 {}
 
-/// So does each step in a row of kind Push2, by the exchange of the entry, made or not: which of
+/// Each step in a row of kind Push2 keeps them, by the exchange of the entry, made or not: which of
 /// the two it was the deque's half says.
 pub fn push2_row_keeps()
     ensures law { Push2RowKeeps }
@@ -102,32 +102,32 @@ pub fn untaken_stays()
     ensures law { AllUntakenStays }
 {}
 
-/// So does each step in a row of kind Arrive: the exchange of the order word, first or not, and the
-/// install of Join.
+/// Each step in a row of kind Arrive keeps them: the exchange of the order word, first or not, and
+/// the install of Join.
 pub fn arrive_row_keeps()
     ensures law { ArriveRowKeeps }
 {}
 
-/// So does each step in a row of kind Join whose branch came first, or whose strand runs both: it
-/// goes idle, or on with the right branch.
+/// Each step in a row of kind Join whose branch came first, or whose strand runs both, keeps them:
+/// it goes idle, or on with the right branch.
 pub fn early_join_row_keeps()
     ensures law { EarlyJoinRowKeeps }
 {}
 
-/// So does each step in a row of kind Join whose branch came last: a trap goes up, or both values
-/// pass, into two slots or one, and the frame that waited goes on.
+/// Each step in a row of kind Join whose branch came last keeps them: a trap goes up, or both
+/// values pass, into two slots or one, and the frame that waited goes on.
 pub fn last_join_row_keeps()
     ensures law { LastJoinRowKeeps }
 {}
 
-/// So does each step in a row of kind Join, whichever branch came first.
+/// Each step in a row of kind Join keeps them, whichever branch came first.
 pub fn join_row_keeps()
     ensures law { JoinRowKeeps }
 {}
 
-/// So does each step in a row of a kind without a strand, which pops, looks for work or takes a place
-/// over. A right branch that it begins waited for a taker, at the frame that begins, and its strand
-/// is then the place's. Two things the deque's half has to say: that the branch waits when its
+/// Each step in a row of a kind without a strand, which pops, looks for work or takes a place over,
+/// keeps them. A right branch that it begins waited for a taker, at the frame that begins, and its
+/// strand is then the place's. Two things the deque's half has to say: that the branch waits when its
 /// offset is loaded (`IsWaiting`), and that no other place is about to begin it (`IsAlone`). Where a
 /// place goes on with what it inherited, with takeover by entries, that is `heirs_keep`.
 pub fn take_rows_keep()
@@ -225,7 +225,8 @@ pub fn forks_are_new()
     ensures steady { RowsAreSteady }
 {}
 
-/// So it is over a whole turn, with takeover by places, of the blocks of `forks_of` and those before.
+/// This holds over a whole turn, with takeover by places, of the blocks of `forks_of` and those
+/// before.
 pub fn turns_bear()
     ensures law { TurnsBear }
 {}

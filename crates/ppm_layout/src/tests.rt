@@ -74,7 +74,7 @@ fn small_image(alloc: Global, processors: u32, slots: u32, keeper: u32) -> Resul
     Ok(image(alloc, &code, &input, shape, keeper).map_err(|_| "memory")?)
 }
 
-/// So many words, all 0 but those that are named, in the order of their addresses.
+/// Words of the given number, all 0 but those that are named, in the order of their addresses.
 fn words_with(alloc: Global, count: usize, named: &[(usize, u64)]) -> Result<Vec<u64>, Fail> {
     let mut words = Vec::new(alloc);
     let mut left = named;

@@ -71,7 +71,7 @@ fn end_out_of_range(code: &Outline, procedure: u32, end: End) -> bool
     }
 }
 
-/// Likewise of an instruction.
+/// Whether an instruction names something out of its range.
 fn instr_out_of_range(code: &Outline, procedure: u32, instr: Instr) -> bool
     ensures { result ≡ rule.instr_out_of_range code.now procedure instr }
 {

@@ -63,7 +63,7 @@ pub fn arrays_of(
     Ok(Items::from_vec(named))
 }
 
-/// The same with the values that the words of a table have for them.
+/// The named arrays with the values that the words of a closed table have for them.
 pub fn arrays_of_closed(
     alloc: Global,
     closed: &Closed,

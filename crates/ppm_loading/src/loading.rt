@@ -97,7 +97,8 @@ pub fn load(
     Ok(machine)
 }
 
-/// The same as a table that threads share, and its processors, none of which has done anything.
+/// The program's machine as a table that threads share, and its processors, none of which has done
+/// anything.
 /// `Err` only where memory is refused.
 pub fn share(
     alloc: Global,

@@ -73,7 +73,7 @@ fn step_at(processor: Option<u32>, victim: Option<u32>, times: u32) -> Option<Sc
     }
 }
 
-/// So many times, if that is from 1 to the most.
+/// A number of times, if it is from 1 to the most.
 fn times_in_range(times: Option<u32>) -> Option<u32>
     ensures { result ≡ in_range times }
 {

@@ -105,7 +105,7 @@ fn resume_marks(marks: &mut Vec<Mark>, on: For, time: u64) -> Result<(), NoMemor
     }
 }
 
-/// So many zeros.
+/// Zeros, of the given number.
 fn zeros(alloc: Global, count: usize) -> Result<Vec<u64>, NoMemory>
     ensures { IfOk result (λ zeros. zeros.items ≡ replicate count 0) }
 {

@@ -78,7 +78,7 @@ impl<'a> Declaration<'a> {
         }
     }
 
-    /// The same declaration.
+    /// A copy of this declaration.
     fn copied(&self) -> Declaration<'a>
         ensures { result ≡ self.now }
     {

@@ -5,8 +5,8 @@
 //! turn owes the tickets nothing that the frames don't show, and words are lawful and kept after it,
 //! or the run was stopped (`specs/Laws`); at an outcome all is as the depth-first run has it
 //! (`specs/Outcomes`).
-//! So each turn leads from one such state to the next, and whole runs come to what the depth-first
-//! run does (`specs/Whole`, `specs/Entries`): all turns are orderly (`specs/EveryRun`), and at each
+//! Thus each turn leads from one such state to the next, and whole runs come to what the
+//! depth-first run does (`specs/Whole`, `specs/Entries`): all turns are orderly (`specs/EveryRun`), and at each
 //! moment the words show what is left of that run (`specs/Trees`).
 //! Stands on `ppm_tickets` and `ppm_kept`.
 //! After the scheduler of Blelloch et al., SPAA 2018.

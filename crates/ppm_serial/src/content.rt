@@ -39,7 +39,7 @@ impl Model for Content {
 }
 
 impl Content {
-    /// So many locals, each 0, and so many regions, none of which is anywhere.
+    /// Locals that are all 0, and regions none of which is anywhere, of each the given number.
     pub(crate) fn fresh(alloc: Global, locals: usize, regions: usize) -> Result<Self, NoMemory>
         ensures { IfOk result (λ f. f ≡ fresh locals regions) }
     {
@@ -48,7 +48,7 @@ impl Content {
         Ok(Content { locals, regions })
     }
 
-    /// The same in the memory of what is over.
+    /// Such a content in the memory of one that is over.
     #[inline(always)]
     pub(crate) fn renew(
         &mut self,

@@ -34,7 +34,7 @@ impl Frame {
         Ok(Frame { content })
     }
 
-    /// The same in the memory of a frame that is over.
+    /// Such a frame in the memory of one that is over.
     #[inline(always)]
     pub(crate) fn renew(
         &mut self,

@@ -30,7 +30,7 @@ pub fn serial(alloc: Global, program: &Program, turns: u64) -> Result<Outcome, N
     outcome(alloc, program.tree(), turns)
 }
 
-/// The same of a tree, whatever its size.
+/// The outcome of a tree, whatever its size.
 pub(crate) fn outcome(alloc: Global, tree: &Tree, turns: u64) -> Result<Outcome, NoMemory>
     ensures { IfOk result (λ outcome. Serial (tree_of tree.now) turns outcome) }
 {
@@ -41,7 +41,7 @@ pub(crate) fn outcome(alloc: Global, tree: &Tree, turns: u64) -> Result<Outcome,
     outcome
 }
 
-/// The same of a tree that is laid out.
+/// The outcome of a tree that is laid out.
 #[inline(always)]
 fn outcome_of(alloc: Global, code: &Code, tree: &Tree, turns: u64) -> Result<Outcome, NoMemory>
     ensures { IfOk result (λ outcome. IsLaid (tree_of tree.now).procedures code.now

@@ -146,7 +146,7 @@ pub(crate) fn worth(frame: &Frame, store: &Store, value: &Value) -> Result<i64, 
     }
 }
 
-/// The same, for an expression that traps: which trap comes first, and in which line.
+/// The value of an expression that traps: which trap comes first, and in which line.
 #[inline(never)]
 fn trapping(content: &Content, store: &Store, value: &Value) -> Result<i64, Stop>
     ensures { result ≡ worth content.now store.now value.now }

@@ -352,7 +352,7 @@ impl Home {
         self.put(code, end, n)
     }
 
-    /// The same in a function of its own, for callers that seldom store.
+    /// Does what `put` does, as a function of its own, for callers that seldom store.
     #[inline(never)]
     pub fn next_put(&self, code: &Code, end: End, n: usize) -> Option<Put>
         requires home { IsHome self.now }

@@ -100,7 +100,7 @@ pub enum Point {
     },
     /// The entry below the bottom.
     PopBelow,
-    /// The same, once it was got back.
+    /// The entry below the bottom, once it was got back.
     PopAgain {
         block: u32,
     },
@@ -170,7 +170,7 @@ pub enum Point {
         victim: u32,
         dead: u32,
     },
-    /// The same, after the exchange.
+    /// That bid, after the exchange.
     BidAgain {
         victim: u32,
     },
@@ -188,9 +188,9 @@ pub enum Then {
     Load(Point),
     /// The restart word is stored, and the place goes on with it.
     Install(Restart),
-    /// The same with the push of a block, whose fork this is.
+    /// As `Install`, with the push of a block, whose fork this is.
     Fork { block: u32 },
-    /// The same with the right frame of a block, which is taken by this.
+    /// As `Install`, with the right frame of a block, which is taken by this.
     Begin { block: u32, frame: u32, bottom: u32 },
     /// The carry word is stored, and the processor goes on with that place.
     Move { place: u32 },

@@ -83,7 +83,7 @@ impl Local {
         }
     }
 
-    /// The same in a function of its own, for callers that seldom enter one.
+    /// Does what `enter` does, as a function of its own, for callers that seldom enter one.
     #[inline(never)]
     fn enter_apart(&mut self, shape: &Shape, code: &Code, seat: Seat, number: u64)
         requires seat { IsSeat shape.now seat }
@@ -311,7 +311,7 @@ pub(crate) fn at(seat: Seat, restart: Restart) -> Stand
     }
 }
 
-/// The same with one that was installed.
+/// Where a place stands with a restart word that was installed.
 #[tactic(auto, using(crate::proofs::ThereLemmas::restart_fits))]
 pub(crate) fn installed(shape: &Shape, seat: Seat, restart: Restart) -> Stand
     requires { restart_is_there shape.now restart ≡ true }

@@ -135,7 +135,7 @@ fn fill_along<W: Watch>(
     )
 }
 
-/// So many steps, all of them work, and how they ended.
+/// A number of steps, all of them work, and how they ended.
 #[inline(always)]
 fn filled(made: u64, end: RoundEnd) -> Circuit
     ensures { result ≡ record { made = made; work = made; end = end } }

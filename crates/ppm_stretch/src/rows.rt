@@ -348,7 +348,7 @@ fn one_of(first: bool, second: bool) -> bool
     first || second
 }
 
-/// So many looks more, or the first since the last work.
+/// How many looks there are with these, since the last work.
 #[inline(always)]
 fn looks_behind(before: u64, work: u64, looks: u64) -> u64
     requires { before + looks < 2 ^ 64 }

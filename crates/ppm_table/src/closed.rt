@@ -141,7 +141,7 @@ impl Closed {
         self.lengths.as_slice().len()
     }
 
-    /// So many words from an address on.
+    /// The words from an address on, of the given number.
     fn part(&self, alloc: Global, start: u32, length: u32) -> Result<Vec<u64>, NoMemory>
         requires { start + length ≤ word_count self.now.shape }
         ensures { IfOk result (λ words. words.items ≡ take length (drop start self.now.words)) }

@@ -134,7 +134,7 @@ pub(crate) fn is_right(alloc: Global, closed: &Closed) -> Result<bool, Fail> {
     Ok(array.as_slice() == [1, 2, 7, 4].as_slice())
 }
 
-/// So many watchers that keep what they are told.
+/// Watchers that keep what they are told, of the given number.
 pub(crate) fn recorders(alloc: Global, count: u32) -> Result<Vec<Recorder>, Fail> {
     let mut all = Vec::new(alloc);
     for _ in 0..count {

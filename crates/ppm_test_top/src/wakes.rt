@@ -100,7 +100,7 @@ fn one_that_parked_takes_a_branch(rt: HostRuntime) -> Result<(), Fail> {
     Ok(())
 }
 
-/// So many soft faults of processor 1, from its third act on each third one. Whenever it is woken it
+/// Soft faults of processor 1, of the given number, from its third act on each third one. Whenever it is woken it
 /// meets one of them, loads where it stood, and parks again, until none is left.
 fn soft_faults(alloc: Global, count: u64) -> Result<String, Fail> {
     let mut plan = String::new(alloc);

@@ -111,7 +111,7 @@ fn both_halves<W: Watch, R: Threads + Wait + Sync>(
     join_mut(rt, &mut front, &mut back)
 }
 
-/// The same over vectors, of which that of the watchers may be longer.
+/// Runs the crew over vectors; that of the watchers may be longer than that of the processors.
 fn run_over<W: Watch, R: Threads + Wait + Sync>(
     rt: &R,
     crew: &Crew,

@@ -27,8 +27,8 @@ use ppm_table::{Processor, hear};
 use ppm_words::Event;
 use std::sync::Wait;
 
-/// So many steps a processor makes at most before it wakes those that have parked, where it has put
-/// a job into a deque.
+/// How many steps a processor makes at most before it wakes those that have parked, where it has
+/// put a job into a deque.
 const MOST_UNTOLD: u64 = 1 << 12;
 
 /// Whether a processor that rests parks.

@@ -85,7 +85,7 @@ fn parker(alloc: Global) -> Result<IdleParker, NoMemory> {
     Ok(parker)
 }
 
-/// So many parkers.
+/// Parkers, of the given number.
 pub(crate) fn parkers(alloc: Global, count: usize) -> Result<Vec<IdleParker>, NoMemory>
     ensures { IfOk result (λ all. vec_len all ≡ count) }
 {
