@@ -18,8 +18,8 @@ const WORDS: usize = 153;
 
 /// `step TAKEOVER COUNT`: whether processor 0 makes the words that are wanted of those that are
 /// loaded, in so many word steps from the load of its carry word on, each with victim 1. The first
-/// line of the input loads words, the second one has those that are wanted to change, and the code's
-/// listing follows.
+/// line of the input loads words, the second one has those that are wanted to change, and then
+/// comes the code's listing.
 pub(crate) fn step(alloc: Global, call: &Call) -> Result<Said, Fault> {
     let shape = shape_of(call)?;
     let count = number_at(call, 2)?;

@@ -1,5 +1,5 @@
-//! A leg of a history: fresh processors go on from the state of a saved text by a schedule, for so many
-//! acts, and the text of the state then is written.
+//! A leg of a history: fresh processors go on from the state of a saved text by a schedule, for so
+//! many acts, and the text of the state then is written.
 ghost use Rattle.std.specs.Prelude.{◌≡◌};
 ghost use Rattle.ppm_cells.specs.declared.shape.Takeover.TheVariants.{ByPlaces};
 
@@ -14,8 +14,8 @@ use ppm_saved_reader::{SAVED_LIMIT, read_saved};
 use ppm_words::{Items, NoMemory};
 use std::alloc::Global;
 
-/// What is answered to `leg ACTS SCHEDULE`: the words are judged, then the saved text that the source
-/// has, and then the schedule.
+/// What is answered to `leg ACTS SCHEDULE`: the words are judged, then the saved text that the
+/// source has, and then the schedule.
 pub(crate) fn leg_answer<S: Source>(alloc: Global, words: &[String], source: &mut S) -> Answer {
     let [_, _, acts, schedule] = words else {
         return Answer::WordsRefused;

@@ -1,10 +1,10 @@
-//! The program of the trials: with the word `leg` it adds a leg to a history; else it does what `ppm`
-//! does, with watchers that count, and after a run it says on err what its processors met.
-//! Model: none; a leg is a row of calls, and each count is of events that a watcher is told (`Counts`).
-//! Contract: none beyond those of what it calls. It is a tool for `trials/stops`, as no command saves
-//! a state that `resume` has left, and for `trials/storm`.
+//! The program of the trials: with the word `leg` it adds a leg to a history; else it does what
+//! `ppm` does, with watchers that count, and after a run it says on err what its processors met.
+//! Model: none; a leg is a row of calls, and each count is of events that are told (`Counts`).
+//! Contract: none beyond those of what it calls. It is a tool for `trials/stops`, as no command
+//! saves a state that `resume` has left, and for `trials/storm`.
 //! Stands on `ppm_top`, and on what reads, follows and writes a saved state; nothing stands on it.
-//! After the steals and takeovers of Blelloch et al., SPAA 2018; words and counts are this project's.
+//! After the steals and takeovers of Blelloch et al., SPAA 2018; its words are this project's.
 #![tactic(auto)]
 
 mod counts;
