@@ -5,6 +5,7 @@ use crate::draws::{drawn, random, source, victims};
 use crate::listings::{listing, saved};
 use crate::plans::{fault, items, next_fault, plan, schedule};
 use crate::said::Said;
+use crate::steps::step;
 use crate::texts::{text, tree};
 use ppm_sheets::{Call, Fault, Shown, Unmade};
 use std::alloc::Global;
@@ -43,6 +44,7 @@ fn said(alloc: Global, first: &str, call: &Call) -> Result<Said, Fault> {
         "tree" => tree(alloc, &call.input),
         "listing" => listing(alloc, &call.input),
         "saved" => saved(alloc, &call.input),
+        "step" => step(alloc, call),
         _ => command(alloc, &call.words),
     }
 }

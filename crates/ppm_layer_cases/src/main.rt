@@ -8,12 +8,14 @@
 #![tactic(auto)]
 
 mod answers;
+mod cells;
 mod commands;
 mod draws;
 mod layers;
 mod listings;
 mod plans;
 mod said;
+mod steps;
 mod texts;
 mod trees;
 

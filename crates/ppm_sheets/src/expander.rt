@@ -6,7 +6,7 @@ use crate::names::{Names, number};
 use std::alloc::Global;
 
 /// Where in a mark a reader is.
-#[derive(Clone, Copy, PartialEq, Eq)]
+#[derive(Clone, Copy)]
 enum Place {
     Outside,
     Name,
@@ -89,16 +89,15 @@ impl<'a> Expander<'a> {
 
     /// Reads what stands after a dollar sign and is neither a name nor a number.
     fn read_sign(&mut self, byte: u8) -> Result<(), Fault> {
-        if byte == b'<' {
-            self.place = Place::Angle;
-            return Ok(());
+        match byte {
+            b'<' => self.place = Place::Angle,
+            b'$' => {
+                self.place = Place::Outside;
+                self.written.push(byte)?;
+            }
+            _ => return Err(Fault::Line("a dollar sign with nothing after it")),
         }
-        self.place = Place::Outside;
-        if byte == b'$' {
-            self.written.push(byte)?;
-            return Ok(());
-        }
-        Err(Fault::Line("a dollar sign with nothing after it"))
+        Ok(())
     }
 
     fn read_angle(&mut self, byte: u8) -> Result<(), Fault> {
@@ -171,11 +170,10 @@ impl<'a> Expander<'a> {
 
     /// What was written.
     fn end(mut self) -> Result<Vec<u8>, Fault> {
-        if self.place == Place::Name {
-            self.end_name()?;
-        }
-        if self.place != Place::Outside {
-            return Err(Fault::Line("a mark without its end"));
+        match self.place {
+            Place::Outside => {}
+            Place::Name => self.end_name()?,
+            Place::Angle | Place::Piece => return Err(Fault::Line("a mark without its end")),
         }
         Ok(self.written)
     }
@@ -212,7 +210,7 @@ fn push_counted(
 }
 
 /// Puts the digits of a number after a text.
-fn push_number(alloc: Global, written: &mut Vec<u8>, number: u64) -> Result<(), Fault> {
+pub(crate) fn push_number(alloc: Global, written: &mut Vec<u8>, number: u64) -> Result<(), Fault> {
     let digits = format!(in alloc; "{number}")?;
     written.extend_from_slice(digits.as_bytes())?;
     Ok(())

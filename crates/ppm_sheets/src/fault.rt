@@ -3,7 +3,7 @@ use std::alloc::{AllocError, AllocFailed};
 use std::io;
 
 /// Why a sheet was not judged to its end.
-#[derive(Debug, Drop)]
+#[derive(Drop)]
 pub enum Fault {
     /// Memory was refused.
     NoMemory,
@@ -32,7 +32,7 @@ impl From<io::Error> for Fault {
 }
 
 /// Why a call can't be made.
-#[derive(Clone, Copy, Debug)]
+#[derive(Clone, Copy)]
 pub enum Unmade {
     /// Memory was refused.
     NoMemory,

@@ -1,5 +1,5 @@
 //! Sweeps: the values for which the cases of a block are tried.
-use crate::expander::expanded;
+use crate::expander::{expanded, push_number};
 use crate::fault::Fault;
 use crate::names::{Names, number};
 use std::alloc::Global;
@@ -100,8 +100,9 @@ impl<'a> Sweep<'a> {
         let Some(name) = self.names.first() else {
             return Err(Fault::Line("a sweep without a name"));
         };
-        let text = format!(in alloc; "{number}")?;
-        names.put(alloc, name, text.as_bytes().to_vec(alloc)?)
+        let mut text = Vec::new(alloc);
+        push_number(alloc, &mut text, number)?;
+        names.put(alloc, name, text)
     }
 
     /// Gives the names the cells of a row.

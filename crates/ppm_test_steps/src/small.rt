@@ -1,4 +1,4 @@
-//! The code that rows are tried with.
+//! The code that ends and capsules are tried with.
 ghost use Rattle.std.specs.Prelude.{◌≡◌, IfOk, None, [], ◌∷◌};
 ghost use Rattle.ppm_code.specs.declared.act.End.TheVariants.{Call, Fork};
 ghost use Rattle.ppm_code.specs.declared.instr.Instr.TheVariants.{Ends, Room};
@@ -55,7 +55,7 @@ pub(crate) fn small_code(alloc: Global) -> Result<Code, Fail> {
     }))
 }
 
-/// A call of the procedure, behind which capsule 3 comes.
+/// A call of the procedure, after which capsule 3 comes.
 fn calling(to: Option<u32>) -> End
     ensures { result ≡ Call 0 3 to }
 {
@@ -66,7 +66,7 @@ fn calling(to: Option<u32>) -> End
     }
 }
 
-/// A fork of the procedure and itself, behind which capsule 3 comes; the left value goes to a slot,
+/// A fork of the procedure and itself, after which capsule 3 comes; the left value goes to a slot,
 /// if one is named.
 fn forking(left_to: Option<u32>) -> End
     ensures { result ≡ Fork 0 0 3 left_to None }

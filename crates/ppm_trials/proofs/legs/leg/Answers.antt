@@ -1,7 +1,7 @@
 use Rattle.std.proofs.Common.{ap, ◌∙◌}
 use Rattle.ppm_cells.specs.declared.shape.Shape.{Shape}
 use Rattle.ppm_core.specs.Situation.{Situation}
-use Rattle.ppm_leg.proofs.leg.Goals as goal
+use Rattle.ppm_trials.proofs.legs.leg.Goals as goal
 
 -- a machine that is loaded from a renewed state takes over as the state does, also after the acts of a schedule
 pub write_saved-requires : goal.write_saved-requires
