@@ -15,26 +15,29 @@ use Rattle.ppm_war.proofs.TidyLemmas.{tidy_in}
 
 -- what is no tidy store at a place is a store there that is not tidy
 pub untidy_at : (code : CodeParts) (is : List Instr) (at : ℕ) → (IsTidyAt code is at → ⊥) → IsUntidyAt code is at
-untidy_at code is at no = by (slice_get is at) refl
+untidy_at code is at other = by (slice_get is at) refl
   where
     by : (o : Option Instr) → slice_get is at ≡ o → IsUntidyAt code is at
     by (Some (instr.StoreNew word from)) e = record {
       word = word;
       from = from;
       stores = e;
-      untidy = λ tidy. no (λ w f one. let same : word ≡ w = cc in subst (IsTidyStore code is at) same tidy);
+      untidy = λ tidy. other (λ w f one. let same : word ≡ w = cc in subst (IsTidyStore code is at) same tidy);
     }
-    by _ e = absurd (no (λ w f one. cc))
+    by _ e = absurd (other (λ w f one. cc))
 
--- a code with such a store is not tidy
-pub not_tidy : (code : CodeParts) (s : UntidyStore) → IsFirstUntidyOf code s → IsTidy code → ⊥
-not_tidy code s first tidy = by (nat_lt s.capsule (length code.capsules)) refl
-  where
-    found = first.first.first.untidy
+module _ (code : CodeParts) (s : UntidyStore) (first : IsFirstUntidyOf code s) where
+  -- the store itself
+  found : IsUntidyAt code (instrs_of code s.capsule) s.at
+  found = first.first.first.untidy
 
-    by : (b : Bool) → nat_lt s.capsule (length code.capsules) ≡ b → ⊥
-    by true e = found.untidy (tidy_in code tidy s.capsule (ltb-true s.capsule (length code.capsules) e) s.at found.word found.from found.stores)
-    by false e =
-        let none : instrs_of code s.capsule ≡ [] = ap instrs_in (slice_get_past code.capsules s.capsule (ltb-false s.capsule (length code.capsules) e)) in
-        let stores : slice_get (instrs_of code s.capsule) s.at ≡ Some (instr.StoreNew found.word found.from) = found.stores in
-        cc
+  -- a code with such a store is not tidy
+  pub not_tidy : IsTidy code → ⊥
+  not_tidy tidy = by (nat_lt s.capsule (length code.capsules)) refl
+    where
+      by : (b : Bool) → nat_lt s.capsule (length code.capsules) ≡ b → ⊥
+      by true e = found.untidy (tidy_in code tidy s.capsule (ltb-true s.capsule (length code.capsules) e) s.at found.word found.from found.stores)
+      by false e =
+          let none : instrs_of code s.capsule ≡ [] = ap instrs_in (slice_get_past code.capsules s.capsule (ltb-false s.capsule (length code.capsules) e)) in
+          let stores : slice_get (instrs_of code s.capsule) s.at ≡ Some (instr.StoreNew found.word found.from) = found.stores in
+          cc
