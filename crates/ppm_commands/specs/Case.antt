@@ -12,7 +12,7 @@ use Rattle.ppm_program.specs.Programs.{HasProgram}
 use Rattle.ppm_program.specs.Refusals.{IsRefusal}
 use Rattle.ppm_case.specs.Rules.{case_limit}
 use Rattle.ppm_case.specs.Case.{IsCaseOf}
-use Rattle.ppm_case.specs.Correct.{case_text}
+use Rattle.ppm_case.specs.Text.{case_text}
 use Rattle.ppm_answers.specs.declared.refusal.Refusal.{Refusal}
 use Rattle.ppm_answers.specs.declared.answer.Answer.{Answer}
 use Rattle.ppm_answers.specs.declared.answer.Answer.TheVariants as answers

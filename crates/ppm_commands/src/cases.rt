@@ -52,11 +52,7 @@ pub(crate) fn counts_told(run: &DepthRun) -> Counts
 }
 
 /// A store that is not tidy, as an answer tells it, of a case with so many arrays.
-pub(crate) fn store_told(
-    code: &Code,
-    arrays: usize,
-    store: UntidyStore,
-) -> ppm_answers::UntidyStore
+pub(crate) fn store_told(code: &Code, arrays: usize, store: UntidyStore) -> ppm_answers::UntidyStore
     requires { arrays ≤ array_limit }
     ensures { result ≡ told_store arrays code.now store }
 {
