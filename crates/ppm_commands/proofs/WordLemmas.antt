@@ -43,7 +43,7 @@ pub record IsSoFar (arrays : List NamedArray) (word : ℕ) (left : List NamedArr
 
 -- at the start
 pub so_far : (arrays : List NamedArray) (word : ℕ) → word < value_count arrays → IsSoFar arrays word arrays 0 word
-so_far arrays word less = record { front = []; all = refl; number_is = refl; address = refl; inside = less }
+so_far arrays word less = record { front = []; all = refl; number_is = refl; address = omega arith; inside = less }
 
 -- an array more behind others
 count_push : (front : List NamedArray) (a : NamedArray) → value_count (front ++ (a ∷ [])) ≡ value_count front + length a.values

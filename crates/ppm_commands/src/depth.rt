@@ -82,7 +82,7 @@ fn tidy_answer(alloc: Global, capsules: u64, code: &Code, input: &Input) -> Answ
     ensures { DepthMayOf capsules code.now input.now result }
 {
     match depth_first(alloc, code, input, capsules) {
-        Ok(run) => run_answer(capsules, run),
+        Ok(done) => run_answer(capsules, done),
         Err(NoMemory) => Answer::NoMemory,
     }
 }
