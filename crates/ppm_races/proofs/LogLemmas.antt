@@ -1,6 +1,7 @@
 -- A capsule under way with its log: what was noted, and the touches that are to come, are the touches of the whole; and these are what it reads
 -- and writes.
-use Rattle.std.proofs.Common.{◌≡◌, ◌<◌, ◌≤◌, ℕ, zero, suc, ◌+◌, ◌-◌, max, Bool, true, false, List, [], ◌∷◌, ◌++◌, length, get_or, refl, sym, ap, ◌∙◌, subst, arith, cond, slice_set, inl, inr, Some, add-zero, zero-add}
+use Rattle.std.proofs.Common.{◌≡◌, ◌<◌, ◌≤◌, ℕ, zero, suc, ◌+◌, ◌-◌, max, Bool, true, false, List, [], ◌∷◌, ◌++◌, length, get_or, refl, sym, ap, ◌∙◌, subst}
+use Rattle.std.proofs.Common.{arith, cond, slice_set, inl, inr, Some, add-zero, zero-add}
 use Rattle.std.specs.Prelude.{◌⊎◌, ◌↔◌, slice_get, replicate}
 use Rattle.std.proofs.lemmas.Option.{slice_get_read}
 use Rattle.std.proofs.lemmas.List.{append-nil, append_assoc}

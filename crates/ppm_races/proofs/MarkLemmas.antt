@@ -1,5 +1,6 @@
 -- The marks of the open forks say what stands beside a strand, and stand in order.
-use Rattle.std.proofs.Common.{◌≡◌, ◌<◌, ◌≤◌, ℕ, zero, suc, ◌+◌, ◌-◌, ◌*◌, Bool, true, false, ◌&&◌, ◌||◌, nat_le, nat_lt, List, [], ◌∷◌, ◌++◌, length, get_or, replicate, take, drop, refl, sym, ap, ◌∙◌, subst, arith, inl, inr, Option, Some, None}
+use Rattle.std.proofs.Common.{◌≡◌, ◌<◌, ◌≤◌, ℕ, zero, suc, ◌+◌, ◌-◌, ◌*◌, Bool, true, false, ◌&&◌, ◌||◌, nat_le, nat_lt, List, [], ◌∷◌, ◌++◌, length, get_or}
+use Rattle.std.proofs.Common.{replicate, take, drop, refl, sym, ap, ◌∙◌, subst, arith, inl, inr, Option, Some, None}
 use Rattle.std.specs.Prelude.{◌⊎◌, ◌↔◌, cond}
 use Rattle.std.specs.List.{AllByRecursion}
 use Rattle.std.proofs.Math.Path.{fun_ext}
@@ -19,7 +20,8 @@ use Rattle.ppm_code.specs.Locations.{Where, code_locations}
 use Rattle.ppm_code.specs.Sizes.{procedure_at, size_at, slots_at}
 use Rattle.ppm_code.specs.Strands.{Point, Result, opens, table_of, instrs_of}
 use Rattle.ppm_depth.specs.Moves.{now_after, stack_after, waiting_after, resumed, stack_resumed, waiting_resumed, turns_of}
-use Rattle.ppm_depth.specs.Stack.{Own, Strands, result_of, Waits, ForCallee, ForLeft, ForRight, Above, Root, On, listed, tree_at, end_of, Holds, AreOne, IsLaidOut, IsNow, IsShown, IsShownAt}
+use Rattle.ppm_depth.specs.Stack.{Own, Strands, result_of, Waits, ForCallee, ForLeft, ForRight, Above, Root, On, listed, tree_at, end_of, Holds, AreOne}
+use Rattle.ppm_depth.specs.Stack.{IsLaidOut, IsNow, IsShown, IsShownAt}
 use Rattle.ppm_depth.specs.Start.{words_of}
 use Rattle.ppm_depth.specs.Store.{Shows}
 use Rattle.ppm_depth.specs.Turns.{strands_over}
