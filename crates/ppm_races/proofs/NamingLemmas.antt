@@ -212,6 +212,7 @@ module _ (code : CodeParts) (input : List NamedArray) where
             first = subst (λ (k : ℕ). IsFirst (meets_at (beside_of it.moment.above) it.moment.stamps) (log_of code n it.moment.frame it.moment.words)
                 (record { word = m.met.touch.word; writes = m.met.touch.writes; at = k })) (sym same) it.first;
           };
+          there = it.there;
           run = met ∙ it.left;
           left = left_is left visit;
           mid = m.met.fork.mid;

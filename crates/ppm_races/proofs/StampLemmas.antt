@@ -42,6 +42,11 @@ pub in_written : (front rest : List Touch) (t : Touch) → t.writes ≡ true →
 in_written [] rest t e = one_written t.writes t.word (written_in rest) e
 in_written (x ∷ front) rest t e = more_written x.writes x.word t.word (written_in (front ++ (t ∷ rest))) (in_written front rest t e)
 
+-- a touch of a log of array words is of one
+pub word_there : (n : ℕ) (front rest : List Touch) (t : Touch) → AreThere n (front ++ (t ∷ rest)) → t.word < n
+word_there n [] rest t h = h.0
+word_there n (x ∷ front) rest t h = word_there n front rest t h.1
+
 -- what a test says of a list and of one more
 all_push : (test : Touch → Bool) (front : List Touch) (t : Touch) → AllByRecursion (λ x. test x ≡ false) front → test t ≡ false
     → AllByRecursion (λ x. test x ≡ false) (front ++ (t ∷ []))

@@ -30,12 +30,13 @@ use Rattle.ppm_stamps.specs.Stamps.{Passes, Marks}
 use Rattle.ppm_stamps.specs.Moments.{beside_of, Comes, Runs}
 use Rattle.ppm_races.specs.Beside.{stands_beside, IsOneOf, stamps_of, meets, IsFirst, IsFirstMet, NoneMeets, AreMarked}
 use Rattle.ppm_races.specs.Verdicts.{MomentOf, log_of, meets_at}
-use Rattle.ppm_races.specs.Touches.{words_in, touches_of}
+use Rattle.ppm_races.specs.Touches.{AreThere, words_in, touches_of}
 use Rattle.ppm_races.specs.Walks.{rise, marks_of, opens_fork, marks_with, IsLogged, IsMeetingOf}
 use Rattle.ppm_races.specs.declared.stamps.Mark.{Mark}
 use Rattle.ppm_races.specs.declared.stamps.Met.{Met}
 use Rattle.ppm_races.specs.declared.touch.Touch.{Touch}
 use Rattle.ppm_races.proofs.AccessLemmas.{IsLogOf, is_log as touches_are_log}
+use Rattle.ppm_races.proofs.StampLemmas.{word_there}
 use Rattle.ppm_races.proofs.MarkLemmas.{same_beside, open_of, forks_after, entered, marks_entered}
 
 module _ (code : CodeParts) (is_code : IsCode code) (frame : Frame) (block : ℕ) (before_blocks opened blocks words_before words : List ℕ) (done : Finished)
@@ -129,9 +130,9 @@ module _ (code : CodeParts) (is_code : IsCode code) (frame : Frame) (block : ℕ
   has_logged = record { moment = moment; same = ap (λ (p : Point). p.capsule) at.at.2.point; all = log_is }
 
   -- a touch that meets something
-  pub has_met : (met : Met) → IsFirstMet marks wrote touched log met
+  pub has_met : (met : Met) → AreThere (length words_before) log → IsFirstMet marks wrote touched log met
       → IsMeetingOf code root input (length words_before) (record { run = time; capsule = frame.capsule; met = met })
-  has_met met h =
+  has_met met there h =
       let fork = h.whom.fork in
       let some = fork.before in
       record {
@@ -139,6 +140,8 @@ module _ (code : CodeParts) (is_code : IsCode code) (frame : Frame) (block : ℕ
         capsule = ap (λ (p : Point). p.capsule) at.at.2.point;
         first = subst (λ (l : List Touch). IsFirst (meets_at (beside_of (rise above forks)) (stamps_of time wrote touched)) l met.touch) log_is
             (subst (λ (q : ℕ → Bool). IsFirst (meets q wrote touched) log met.touch) q_is h.first);
+        there = word_there (length words_before) h.first.front h.first.rest met.touch
+            (subst (λ (l : List Touch). AreThere (length words_before) l) h.first.all there);
         left = h.whom.left ∙ ap (λ (q : ℕ → Bool). cond (q (get_or wrote met.touch.word 0)) (get_or wrote met.touch.word 0)
             (get_or touched met.touch.word 0)) q_is;
         beside = said true met.left fork.beside;

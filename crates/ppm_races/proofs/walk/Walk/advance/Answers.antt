@@ -80,7 +80,7 @@ returns-in-Some-clause-turn c = λ root input at.
           block_is opens_block c.in_ok-done.ensures.whole c.in_ok-done.ensures.kept c.in_ok-done.ensures.words c.in_ok-done.ensures.end
           c.run_logged.new.log.items c.in_ok-done.ensures.log (walk.strand.counts.capsules + 1) walk.visits.wrote.items walk.visits.touched.items
           walk.visits.wrote.items walk.visits.touched.items walk.marks.items root input walk.strand.waiting.items at.above at.leaf at.forks at.shown come at.marks
-          c.in-Some.met first),
+          c.in-Some.met c.in_ok-done.ensures.there first),
       refl,
     )
 
