@@ -1,4 +1,5 @@
-//! The capsules of a race, by their numbers in the code: the depth-first run is made again up to each.
+//! The capsules of a race, by their numbers in the code: the depth-first run is made again up to
+//! each.
 ghost use Rattle.std.specs.Prelude.{◌≡◌, ◌≤◌, ◌^◌, IfOk};
 ghost use Rattle.ppm_code.specs.Tidy.{IsTidy};
 ghost use Rattle.ppm_depth.specs.Start.{NamesArrays};
@@ -61,6 +62,8 @@ pub(crate) fn race_of(
     ensures race { IfOk result (IsRaceWith code.now input.now) }
     ensures run { IfOk result (λ race. race.right.run ≡ meeting.run) }
 {
+    // The limits of a code are known by this call, so the cast fits.
+    let _ = code.parts();
     let met = meeting.met;
     let word = met.touch.word;
     let opener = visit_of(alloc, code, input, met.fork.start - 1, word)?;

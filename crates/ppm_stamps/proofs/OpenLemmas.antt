@@ -1,5 +1,5 @@
 -- The forks that are open began one after another, so a stamp is in one left branch at most; and each was opened by the capsule before.
-use Rattle.std.proofs.Common.{◌≡◌, ◌⊎◌, inl, inr, refl, sym, ap, subst, ℕ, ◌+◌, ◌≤◌, ◌<◌, List, [], ◌∷◌, Bool, true, false, arith}
+use Rattle.std.proofs.Common.{◌≡◌, ◌⊎◌, inl, inr, refl, sym, subst, ℕ, ◌≤◌, ◌<◌, List, [], ◌∷◌, true, arith}
 use Rattle.std.proofs.lemmas.Bool.{cases_eq}
 use Rattle.ppm_strands.specs.Tree.{Words, Tree, Fork, forks_in, Code}
 use Rattle.ppm_strands.specs.Run.{joined}
@@ -135,12 +135,15 @@ module _ {F O : Type 0} (c : Code F O) (plain : IsPlain c) (root : Tree F O) (in
   opened none Begins = (inl none, tt)
   opened none (Runs {above = above} {f = f} {a = a} {s = s} {m = m} come passes marks) = (
     elim (cases_eq (forks_in (c.next f a)) 1) [
-      | inl e ↦ inr (plain.next f a, record {
-        number = s.time;
-        moment = record { above = above; frame = f; words = a; stamps = s; come = come; time = refl };
-        before = let next = marks.time in omega (arith, next);
-        opens = e;
-      })
+      | inl e ↦ inr (
+        plain.next f a,
+        record {
+          number = s.time;
+          moment = record { above = above; frame = f; words = a; stamps = s; come = come; time = refl };
+          before = let next = marks.time in omega (arith, next);
+          opens = e;
+        },
+      )
       | inr ne ↦ inl (no_fork (forks_in (c.next f a)) (plain.next f a) ne)
     ],
     (opened none come).1,

@@ -1,5 +1,4 @@
-use Rattle.std.proofs.Common.{◌≡◌, ◌<◌, ◌≤◌, ◌+◌, length, List, [], ℕ, refl, sym, ap, ◌∙◌, subst, arith}
-use Rattle.ppm_strands.specs.Tree.{Strand, Over}
+use Rattle.std.proofs.Common.{◌≡◌, ◌<◌, ◌+◌, length, List, ℕ, refl, sym, ap, ◌∙◌, subst, arith}
 use Rattle.ppm_depth.specs.Moves.{pending, pending_for, turns_of}
 use Rattle.ppm_depth.specs.Order.{StepsInOrder}
 use Rattle.ppm_depth.specs.Stack.{Strands, result_of, tree_at, IsShown, IsShownAt}
@@ -15,7 +14,8 @@ use Rattle.ppm_depth.proofs.ResumeLemmas.{resumed_turn, slots_there, resumed_les
 use Rattle.ppm_races.specs.Walks.{rise, stamps_in, Chains, IsAt, IsMeetingOf, KeptBy, TurnedTo}
 use Rattle.ppm_races.specs.declared.stamps.Visits.{Visits}
 use Rattle.ppm_races.specs.declared.walk.Turn.{Turn}
-use Rattle.ppm_races.proofs.WalkLemmas.{now_clear, now_sorted, over_root, few_turns, smaller_at}
+use Rattle.ppm_races.proofs.MarkLemmas.{now_clear, now_sorted}
+use Rattle.ppm_races.proofs.ReturnLemmas.{over_root, few_turns, smaller_at}
 use Rattle.ppm_races.proofs.walk.Walk.run.Goals as goal
 
 -- at the beginning nothing is run
