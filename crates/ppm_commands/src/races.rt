@@ -133,7 +133,7 @@ fn verdict_answer(
     ensures { RacesMayOf capsules code.now input.now result }
 {
     match verdict {
-        Verdict::Calm(run) => Answer::Sound(counts_told(&run)),
+        Verdict::Calm(done) => Answer::Sound(counts_told(&done)),
         Verdict::Races(race) => race_answer(alloc, capsules, code, input, race),
         Verdict::NotWithin => Answer::NotWithinCapsules(capsules),
     }
