@@ -18,6 +18,7 @@ touches_at (Frame own) writes at = []
 touches_at (New offset) writes at = []
 touches_at (Array word) writes at = record { word = word; writes = writes; at = at } ∷ []
 
+-- an ask touches no array word
 abbrev pub touches_by : Step → (at : ℕ) → List Touch
 touches_by (Loads location to) at = touches_at location false at
 touches_by (Stores location word) at = touches_at location true at
@@ -33,6 +34,7 @@ abbrev pub with_written : Bool → ℕ → List ℕ → List ℕ
 with_written false x xs = xs
 with_written true x xs = x ∷ xs
 
+-- the words that a log writes
 abbrev pub written_in : List Touch → List ℕ
 written_in [] = []
 written_in (t ∷ log) = with_written t.writes t.word (written_in log)
