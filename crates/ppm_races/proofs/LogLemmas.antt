@@ -27,7 +27,7 @@ same_step p q next (Loads l d) g m same = same next (slice_set g d.index (m (loc
 same_step p q next (Stores l v) g m same = same next g (store code_locations m (location_of l) v) (omega arith)
 same_step p q next (Asks n) g m same = same next g m (omega arith)
 
--- likewise for an act
+-- for an act
 same_act : (p q : ℕ → List ℕ → Memory Where → List Touch) (here : ℕ) (a : Act) (g : List ℕ) (m : Memory Where)
     → ((t : ℕ) (h : List ℕ) (n : Memory Where) → here + 1 ≤ t → p t h n ≡ q t h n) → after_act p here a g m ≡ after_act q here a g m
 same_act p q here (Sets d v) g m same = same (here + 1) (slice_set g d.index v) m (omega arith)

@@ -59,7 +59,7 @@ beside_marks (InRight g o start mid ∷ p) k =
     stands_append (marks_of p) (record { start = start; mid = mid }) k
     ∙ ap (λ (b : Bool). b || is_left_of (record { start = start; mid = mid }) k) (beside_marks p k)
 
--- likewise as tests
+-- and as tests they are one
 pub same_beside : (marks : List Mark) (p : List (Standing Own Result)) → marks ≡ marks_of p → stands_beside marks ≡ beside_of p
 same_beside marks p e = ap (λ (ms : List Mark). stands_beside ms) e ∙ fun_ext (beside_marks p)
 

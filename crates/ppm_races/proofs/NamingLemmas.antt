@@ -170,7 +170,7 @@ module _ (code : CodeParts) (input : List NamedArray) where
     pub opener_low : m.met.fork.start - 1 ≤ m.run
     opener_low = let low = left_low in let since = it.from in omega (arith, low, since)
 
-    -- so is that of the one that is met
+    -- and the number of the one that is met
     pub left_first : 1 ≤ m.met.left
     left_first = from_one m.met.left named.moment
 
@@ -185,7 +185,7 @@ module _ (code : CodeParts) (input : List NamedArray) where
           written = visit.written;
         }
 
-    -- likewise the opener
+    -- the opener is one
     fork_is : (v : Visit) → IsVisitTo code input (m.met.fork.start - 1) m.met.touch.word v
         → IsOpener code root words n (record { run = v.run; capsule = v.capsule })
     fork_is v visit =

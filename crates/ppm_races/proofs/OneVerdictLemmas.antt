@@ -52,7 +52,7 @@ first_by test t u yes_t yes_u (x ∷ front) rest [] rest' e no_t no_u =
 first_by test t u yes_t yes_u (x ∷ front) rest (y ∷ front') rest' e no_t no_u =
     first_by test t u yes_t yes_u front rest front' rest' (ap (λ (l : List Touch). rest_of l) e) no_t.1 no_u.1
 
--- so a log has one
+-- a log has one
 first_one : (test : Touch → Bool) (log : List Touch) (t u : Touch) → IsFirst test log t → IsFirst test log u → t ≡ u
 first_one test log t u p q = first_by test t u p.here q.here p.front p.rest q.front q.rest (sym p.all ∙ q.all) p.none q.none
 
@@ -94,7 +94,7 @@ module _ (code : CodeParts) (root : Strands) (input : Words) (n : ℕ) where
       (touch_meets code n it.moment.frame it.moment.words (beside_of it.moment.above) it.moment.stamps it.first.front it.first.rest (touch_of word r)
       it.first.all it.first.here)
 
-  -- so two that do have one number
+  -- two that do have one number
   same_run : (word word' : ℕ) (r s : Touching) → IsMeeting code root input n word r → IsMeeting code root input n word' s → r.run ≡ s.run
   same_run word word' r s p q = elim (cases_lt r.run s.run) [
     | inl h ↦ absurd (meeting_meets word r s.run p q.moment h)
@@ -138,7 +138,7 @@ module _ (code : CodeParts) (root : Strands) (input : Words) (n : ℕ) where
       (subst₂ (λ (f : Own) (a : Words). (v.writes ≡ true) ↔ Has word' (c.writes f a)) same.frame same.words one) q.written in
       λ i. record { run = run i; capsule = capsule i; writes = writes i }
 
-  -- likewise openers
+  -- and openers
   same_fork : (o u : Opener) → o.run ≡ u.run → IsOpener code root input n o → IsOpener code root input n u → o ≡ u
   same_fork o u run p q =
       let capsule = same_capsule o.run u.run o.capsule u.capsule run p.moment q.moment p.capsule q.capsule in

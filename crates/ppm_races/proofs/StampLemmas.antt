@@ -42,7 +42,7 @@ pub in_words : (front rest : List Touch) (t : Touch) → Has t.word (words_in (f
 in_words [] rest t = inl refl
 in_words (x ∷ front) rest t = inr (in_words front rest t)
 
--- likewise of those that are written
+-- and of those that are written
 pub in_written : (front rest : List Touch) (t : Touch) → t.writes ≡ true → Has t.word (written_in (front ++ (t ∷ rest)))
 in_written [] rest t e = one_written t.writes t.word (written_in rest) e
 in_written (x ∷ front) rest t e = more_written x.writes x.word t.word (written_in (front ++ (t ∷ rest))) (in_written front rest t e)
@@ -187,7 +187,7 @@ module _ (q : ℕ → Bool) (time : ℕ) (now : q time ≡ false) (wrote touched
     wrote_long true = length-set wrote t.word time
     wrote_long false = refl
 
-    -- likewise of touches
+    -- the list of touches keeps its length
     touched_long : (b : Bool) → length (touched_with b t.word time touched) ≡ length touched
     touched_long true = refl
     touched_long false = length-set touched t.word time
@@ -269,7 +269,7 @@ pub wrote_kept : (b : Bool) (word time : ℕ) (wrote : List ℕ) → length (wro
 wrote_kept true word time wrote = length-set wrote word time
 wrote_kept false word time wrote = refl
 
--- likewise of touches
+-- the list of touches keeps its length
 pub touched_kept : (b : Bool) (word time : ℕ) (touched : List ℕ) → length (touched_with b word time touched) ≡ length touched
 touched_kept true word time touched = refl
 touched_kept false word time touched = length-set touched word time

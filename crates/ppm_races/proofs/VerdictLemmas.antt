@@ -117,7 +117,7 @@ module _ (code : CodeParts) (array_words : ℕ) where
   meets_of root input m it = touch_meets it.moment.frame it.moment.words (beside_of it.moment.above) it.moment.stamps it.first.front it.first.rest
       m.met.touch it.first.all it.first.here
 
-  -- so the code is not calm
+  -- by which the code is not calm
   pub meeting_not_calm : (root : Strands) (input : Words) (m : Meeting) → IsMeetingOf code root input array_words m
       → Calm (strands_over code array_words) root input → ⊥
   meeting_not_calm root input m it = met_not_calm (strands_over code array_words) (code_is_local code_locations (table_of code array_words)) root input

@@ -50,7 +50,7 @@ after_step go next (Loads l d) g m = go next (slice_set g d.index (m (location_o
 after_step go next (Stores l v) g m = go next g (store code_locations m (location_of l) v)
 after_step go next (Asks n) g m = go next g m
 
--- likewise of an act, with its own touch first; a branch that does not lead forward goes on at the next instruction
+-- the touches of an act, with its own touch first; a branch that does not lead forward goes on at the next instruction
 abbrev pub after_act : (go : ℕ → List ℕ → Memory Where → List Touch) → (here : ℕ) → Act → List ℕ → Memory Where → List Touch
 after_act go here (Sets d v) g m = go (here + 1) (slice_set g d.index v) m
 after_act go here Passes g m = go (here + 1) g m

@@ -94,7 +94,7 @@ pub record IsAtWith (code : CodeParts) (root : Strands) (input : Words) (blocks 
       (words_of walk.strand.store.words.items) (stamps_in walk)
   pub marks : walk.marks.items ≡ marks_of (rise above forks)
 
--- likewise, with the walk's own stack and frames
+-- a walk stands there with its own stack and frames
 abbrev pub IsAt : (code : CodeParts) (root : Strands) (input : Words) → Walk → Now → Type 0
 IsAt code root input walk current = IsAtWith code root input walk.strand.store.blocks.items walk.strand.waiting.items walk current
 

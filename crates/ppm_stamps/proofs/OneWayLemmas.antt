@@ -96,7 +96,7 @@ module _ {F O : Type 0} (c : Code F O) where
   PassesAt above (Fork g l r) a s = Unit {0}
   PassesAt above (Over o) a s = Unit {0}
 
-  -- likewise of a state
+  -- of a state
   abbrev IsPassed : State F O → Type 0
   IsPassed m = PassesAt m.above m.tree m.words m.stamps
 
@@ -203,7 +203,7 @@ module _ {F O : Type 0} (c : Code F O) where
         ]
       ]
 
-      -- so both are one state
+      -- both are one state
       one_state : state p.above (Strand p.frame) p.words p.stamps ≡ state q.above (Strand q.frame) q.words q.stamps
       one_state = sym (reached p.come).same ∙ ap (λ (i : ℕ). at i) same_steps ∙ (reached q.come).same
 

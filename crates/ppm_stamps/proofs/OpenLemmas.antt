@@ -56,7 +56,7 @@ module _ {F O : Type 0} where
     | inr y ↦ right_more (beside_of above) start mid k (open_beside above s m k y from before)
   ]
 
-  -- so one fork alone has the stamp
+  -- one fork alone has the stamp
   in_one_left : (above : List (Above F O)) → Ascends above → (k : ℕ) → beside_of above k ≡ true → IsInOneLeft above k
   in_one_left [] are k h = absurd (cc)
   in_one_left (InCallee g ∷ above) are k h =
