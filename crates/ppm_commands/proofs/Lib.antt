@@ -10,3 +10,16 @@ pub mod FaithfulLemmas
 pub mod CodeRows
 pub mod SerialAnswers
 pub mod SerialRows
+pub mod CaseAnswers
+pub mod FirstStore
+pub mod DepthAnswers
+pub mod DepthRows
+pub mod WordLemmas
+pub mod RacesAnswers
+pub mod RacesRows
+pub mod LineLemmas
+pub mod TouchLemmas
+pub mod CaseTextAnswers
+pub mod NameLemmas
+pub mod WrittenLemmas
+pub mod CaseRows

@@ -1,6 +1,7 @@
 -- What stamps show of a stretch of a run, whatever tree it is of: which words it wrote and touched, for all who ask later.
-use Rattle.std.proofs.Common.{◌≡◌, ◌⊎◌, inl, inr, refl, sym, ap, ◌∙◌, subst, ◌↔◌, ◌<◌, ◌≤◌, ℕ, suc, Bool, true, false, ◌&&◌, ◌||◌, nat_le, nat_lt, arith, le_trans, lt_of_lt_of_le, lt_irrefl}
-use Rattle.std.proofs.lemmas.Bool.{both_ways, cases_Bool, or_cases, and_parts, and_from, le-leb, lt-ltb, leb-true, ltb-true}
+use Rattle.std.proofs.Common.{◌≡◌, ◌⊎◌, inl, inr, refl, sym, ◌∙◌, ◌↔◌, ◌<◌, ◌≤◌, ℕ, Bool, true, false, ◌&&◌, ◌||◌, nat_le, nat_lt, arith}
+use Rattle.std.proofs.Common.{le_trans, lt_of_lt_of_le}
+use Rattle.std.proofs.lemmas.Bool.{both_ways, or_cases, and_parts, and_from, le-leb, lt-ltb, leb-true, ltb-true}
 use Rattle.ppm_stamps.specs.Stamps.{Stamps, right_of}
 
 -- who asks by q about new stamps is told what the old ones said, and that p
@@ -49,7 +50,7 @@ told_as q i j p r x same told = record {
   only = λ h. elim (told.only h) [ inl y ↦ inl y | inr y ↦ inr (same.0 y) ];
 }
 
--- the same of other words for what it wrote and touched
+-- it covers other words for what it wrote and touched
 pub covers_as : (beside : ℕ → Bool) (w t v r : ℕ → Type 0) (s u : Stamps) → ((x : ℕ) → w x ↔ v x) → ((x : ℕ) → t x ↔ r x)
     → Covers beside w t s u → Covers beside v r s u
 covers_as beside w t v r s u wv tr it = record {

@@ -1,22 +1,23 @@
 -- The stamps of words are of capsules of the run that wrote and touched them.
-use Rattle.std.proofs.Common.{◌≡◌, ◌⊎◌, inl, inr, refl, sym, ap, ◌∙◌, subst, ℕ, ◌+◌, ◌≤◌, List, [], ◌∷◌, Bool, true, false, arith}
+use Rattle.std.proofs.Common.{◌≡◌, ◌⊎◌, inl, inr, refl, sym, subst, ℕ, ◌≤◌, List, [], ◌∷◌, true, arith}
 use Rattle.std.proofs.lemmas.Bool.{cases_Bool}
-use Rattle.ppm_strands.specs.Tree.{Words, Tree, Strand, Code, Has}
+use Rattle.ppm_strands.specs.Tree.{Words, Tree, Code}
 use Rattle.ppm_strands.specs.Calm.{touches}
 use Rattle.ppm_strands.proofs.CalmLemmas.{has_or_not}
-use Rattle.ppm_stamps.specs.Stamps.{Stamps, right_of, Marks}
-use Rattle.ppm_stamps.specs.Moments.{Above, InCallee, InLeft, InRight, beside_of, Comes, Begins, Runs, Calls, Forks, Returns, GoesRight, Joins, Was, TouchesAreNamed}
+use Rattle.ppm_stamps.specs.Stamps.{Stamps}
+use Rattle.ppm_stamps.specs.Moments.{Above, InCallee, InLeft, InRight, beside_of, Comes, Begins, Runs, Calls, Forks, Returns, GoesRight, Joins, Was}
+use Rattle.ppm_stamps.specs.Moments.{TouchesAreNamed}
 use Rattle.ppm_stamps.proofs.CoverLemmas.{right_only}
 
 module _ {F O : Type 0} (c : Code F O) where
   -- branches began with a capsule
-  abbrev AreStarted : List (Above F O) → Type 0
+  abbrev pub AreStarted : List (Above F O) → Type 0
   AreStarted [] = Unit {0}
   AreStarted (InCallee g ∷ above) = AreStarted above
   AreStarted (InLeft g r start ∷ above) = (1 ≤ start) × AreStarted above
   AreStarted (InRight g o start mid ∷ above) = (1 ≤ start) × AreStarted above
 
-  started : {root : Tree F O} {input : Words} {above : List (Above F O)} {t : Tree F O} {a : Words} {s : Stamps} → Comes c root input above t a s
+  pub started : {root : Tree F O} {input : Words} {above : List (Above F O)} {t : Tree F O} {a : Words} {s : Stamps} → Comes c root input above t a s
       → (1 ≤ s.time) × AreStarted above
   started Begins = (omega arith, tt)
   started (Runs come passes marks) = let it = started come in let time = marks.time in let first = it.0 in (omega (arith, time, first), it.1)
