@@ -147,11 +147,11 @@ no_other_broken turns place e = cc
 no_other_room : (turns place : ℕ) → answers.OutOfRoom place ≡ answers.Unfinished turns → ⊥
 no_other_room turns place e = cc
 
-past_most : {some most : ℕ} → 2 ^ 34 < some → some ≤ most → most ≤ 2 ^ 34 → ⊥
+pub past_most : {some most : ℕ} → 2 ^ 34 < some → some ≤ most → most ≤ 2 ^ 34 → ⊥
 past_most many few most = omega (arith, many, few, most)
 
 -- in their ranges so many processors make no more work turns of all than tags can count
-few_turns : (processors turns : ℕ) → processors ≤ 64 → turns ≤ 268435456 → processors * turns ≤ 2 ^ 34
+pub few_turns : (processors turns : ℕ) → processors ≤ 64 → turns ≤ 268435456 → processors * turns ≤ 2 ^ 34
 few_turns processors turns few most = let all = mul-le processors turns 64 268435456 few most in omega (arith, all)
 
 module _ (law : RunsAreAsPrograms) (text : List ℕ) (t : ProgramTree) (has : HasProgram text t) where

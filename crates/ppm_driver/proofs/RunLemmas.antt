@@ -150,7 +150,7 @@ module _ (limits : Limits) (start : Situation) (unset : finish_in start ≡ 0) (
   abbrev HasEnd : Type 0
   HasEnd = Finishes start.shape start.code limits start.state turns (finish_behind start turns)
 
-  kind_said : HasEnd → (a : Answer) → Said a → IsOfProgram start.shape.processors a
+  pub kind_said : HasEnd → (a : Answer) → Said a → IsOfProgram start.shape.processors a
   kind_said (Proposed w filled) a h =
       of_finish start.shape start.array_lengths (words_behind start turns) arrays start.shape.processors w.finish w.is_proposed a
       (proposed_of start.shape start.array_lengths (words_behind start turns) arrays start.shape.processors w a h)
@@ -163,7 +163,7 @@ module _ (limits : Limits) (start : Situation) (unset : finish_in start ≡ 0) (
   abbrev IsSpentOf : ℕ → Type 0
   IsSpentOf c = (c < start.shape.processors) × (work_made start.shape start.code c start.state turns ≡ limits.turns)
 
-  spent_said : (processor : ℕ) → HasEnd → Said (answers.OutOfTurns processor) → IsSpentOf processor
+  pub spent_said : (processor : ℕ) → HasEnd → Said (answers.OutOfTurns processor) → IsSpentOf processor
   spent_said processor (Proposed w filled) h =
       absurd (not_spent start.shape start.array_lengths (words_behind start turns) arrays start.shape.processors w.finish w.is_proposed processor
       (proposed_of start.shape start.array_lengths (words_behind start turns) arrays start.shape.processors w (answers.OutOfTurns processor) h))

@@ -2,9 +2,12 @@ pub mod Watchers
 pub mod Orders
 pub mod RunOf
 pub mod Meant
+pub mod AsCode
 pub mod Runs
 pub mod Strikes
+pub mod CodeRuns
 pub mod Completeness
+pub mod CompleteAsCode
 pub mod Headline
 pub mod RunRows
 pub mod Replays
@@ -12,6 +15,8 @@ pub mod ReplayRows
 pub mod Stops
 pub mod StopRows
 pub mod Legs
+pub mod LegsAsCode
+pub mod CompleteLegsAsCode
 pub mod Resumes
 pub mod ResumeCompleteness
 pub mod ResumeRows

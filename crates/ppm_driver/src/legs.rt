@@ -1,5 +1,6 @@
-//! That runs in legs end as their programs do, shown by a call that does nothing.
+//! That runs in legs end as their codes and their programs do, shown by calls that do nothing.
 ghost use Rattle.ppm_driver.specs.Legs.{RunsInLegsAreAsPrograms, TagsMayRiseInLegs};
+ghost use Rattle.ppm_driver.specs.LegsAsCode.{RunsInLegsAreAsCode, TagsMayRiseInLegsOfCode};
 ghost use Rattle.ppm_driver.specs.Resumes.{LeftWordsComeBack, ResumesLeaveStates, RunsLeaveStates, StopsLeaveStates};
 ghost use Rattle.ppm_driver.specs.Strikes.{FaultsAreScheduled};
 
@@ -14,6 +15,32 @@ use ppm_runs::{
     runs_end_so, tags_stay_low, work_is_bounded, work_over_legs,
 };
 use ppm_saved_reader::faults_tell_saved_texts;
+
+/// With takeover by places, from the machine with which a run of a sound code begins, whoever wrote the
+/// code, whatever the turns are that its processors make, and however often the words come back behind
+/// them: over all of it no right branch is forked or taken twice. Where the finish word says an outcome,
+/// it is that of the code, run depth first, with the arrays of the words then, or its trap; and each
+/// right branch that was forked was taken. Where it says that a pool is full, that run takes more words
+/// than a pool has, or has no end. All work turns are fewer than 256 for each capsule of that run, each
+/// fault that strikes a row of work, and each fresh processor. That words are broken it says only behind
+/// more than 2^34 work turns, if words came back at most 2^50 times. And no place's holder has the last
+/// tag then.
+pub fn runs_in_legs_are_as_code()
+    ensures law { RunsInLegsAreAsCode }
+    ensures tags { TagsMayRiseInLegsOfCode }
+{
+    // The law rests on these; the calls do nothing.
+    images_begin_the_depth_first_run();
+    runs_end_so();
+    room_is_spent();
+    work_is_bounded();
+    nothing_breaks();
+    legs_come_to();
+    room_over_legs();
+    work_over_legs();
+    nothing_breaks_over_legs();
+    tags_stay_low();
+}
 
 /// With takeover by places, from the machine with which a run of a text's program begins, whatever
 /// the turns are that its processors make, and however often the words come back behind them: over
@@ -36,16 +63,7 @@ pub fn runs_in_legs_are_as_programs()
     name_arrays();
     ends_serially();
     end_as_meant();
-    images_begin_the_depth_first_run();
-    runs_end_so();
-    room_is_spent();
-    work_is_bounded();
-    nothing_breaks();
-    legs_come_to();
-    room_over_legs();
-    work_over_legs();
-    nothing_breaks_over_legs();
-    tags_stay_low();
+    runs_in_legs_are_as_code();
 }
 
 /// With takeover by places, whatever turns are made from the machine with which a run of a text's

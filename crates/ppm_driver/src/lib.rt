@@ -13,7 +13,9 @@
 //! such an answer (`specs/Examples`). What follows from each status: `specs/RunRows`,
 //! `specs/ReplayRows`, `specs/StopRows`, `specs/ResumeRows`, `specs/ExampleRows`; where turns and
 //! room are enough, a run ends (`specs/Completeness`, `specs/ResumeCompleteness`). What is stopped
-//! and resumed ends as its program does (`specs/Stopped`).
+//! and resumed ends as its program does (`specs/Stopped`). The laws of runs are of each sound code
+//! on an input, whoever wrote it (`specs/AsCode`, `specs/LegsAsCode`), and of a text's program as
+//! an instance.
 //! Stands on `ppm_threads`, `ppm_following`, `ppm_loading`, `ppm_saved`, `ppm_saved_reader` and
 //! `ppm_answers`; `ppm_top` calls it. The schedules and limits and their rules are this project's.
 //! `stop` and `resume` come after the persistent memory of Blelloch et al., SPAA 2018, which
@@ -39,15 +41,15 @@ mod stop;
 mod stopped;
 mod sums;
 
-pub use complete::runs_complete;
-pub use complete_resume::resumes_complete;
+pub use complete::{runs_complete, runs_of_code_complete};
+pub use complete_resume::{resumes_complete, runs_of_code_complete_in_legs};
 pub use example::self_command;
 pub use fronts::fronts_decide_resumed;
 pub use legs::{
-    left_words_come_back, resumes_leave_states, runs_in_legs_are_as_programs, runs_leave_states,
-    stops_leave_states,
+    left_words_come_back, resumes_leave_states, runs_in_legs_are_as_code,
+    runs_in_legs_are_as_programs, runs_leave_states, stops_leave_states,
 };
-pub use meant::runs_are_as_programs;
+pub use meant::{answers_are_as_code, runs_are_as_code, runs_are_as_programs};
 pub use one_replay::replays_have_one_answer;
 pub use one_run::answers_are_one;
 pub use one_stop::stops_have_one_answer;
