@@ -1,4 +1,4 @@
--- What answers of runs of a sound code say: each names the finish that stands behind the run, and that is as the code is.
+-- What answers of runs of a sound code say: each names the finish that stands after the run, and that is as the code is.
 use Rattle.std.proofs.Common.{◌≡◌, ◌≤◌, ◌*◌, ◌^◌, ℕ, List, Some, sym, ap, ◌∙◌, subst, arith}
 use Rattle.std.proofs.lemmas.List.Elements.{recursion_from_All}
 use Rattle.ppm_words.specs.declared.named_array.NamedArray.{NamedArray}
@@ -17,9 +17,9 @@ use Rattle.ppm_loading.specs.Says.{IsOfFinish}
 use Rattle.ppm_loading.proofs.LoadingLemmas.{opens_processors, opens_room}
 use Rattle.ppm_loading.proofs.SayLemmas.{said_of_word}
 use Rattle.ppm_driver.specs.AsCode.{MayRun, CodeNeedsMoreRoom, CodeNeedsMoreTurns, EndsAsCode, IsAsCode, RunsAreAsCode}
-use Rattle.ppm_driver.specs.CodeRuns.{CodeHas, SaysAsCode, AnswersAreAsCode}
+use Rattle.ppm_driver.specs.CodeRuns.{SaysAsCode, AnswersAreAsCode}
 use Rattle.ppm_driver.specs.RunOf.{words_behind, finish_behind}
-use Rattle.ppm_driver.specs.Runs.{sizes_of, limits_of, plan_of}
+use Rattle.ppm_driver.specs.Runs.{sizes_of, limits_of, plan_of, CodeHas}
 use Rattle.ppm_driver.specs.Strikes.{fault_count}
 use Rattle.ppm_driver.proofs.EndLemmas.{unset_opened}
 use Rattle.ppm_driver.proofs.MeantRows.{ended_run, trapped_run, full_run, broken_run, past_most, few_turns}

@@ -5,32 +5,15 @@ use Rattle.ppm_words.specs.declared.outcome.Outcome.TheVariants as outcome
 use Rattle.ppm_ports.specs.Outside.{ToldLists}
 use Rattle.ppm_code.specs.declared.code.CodeParts.{CodeParts}
 use Rattle.ppm_plan.specs.declared.plan_item.PlanItem.{PlanItem}
-use Rattle.ppm_plan.specs.Forms.{plan_form}
-use Rattle.ppm_plan.specs.Refusals.{IsKeeper}
 use Rattle.ppm_step.specs.declared.turn.Turn.{Turn}
 use Rattle.ppm_core.specs.Situation.{Situation}
 use Rattle.ppm_answers.specs.declared.answer.Answer.{Answer}
 use Rattle.ppm_answers.specs.declared.answer.Answer.TheVariants as answers
 use Rattle.ppm_cli.specs.declared.run.RunOptions.{RunOptions}
 use Rattle.ppm_cli.specs.Words.{AreRun}
-use Rattle.ppm_loading.specs.Loading.{OpensRun}
 use Rattle.ppm_driver.specs.AsCode.{MayRun, CodeNeedsMoreRoom, CodeNeedsMoreTurns, EndsAsCode, IsAsCode}
-use Rattle.ppm_driver.specs.RunOf.{RunOf}
-use Rattle.ppm_driver.specs.Runs.{sizes_of, limits_of, plan_of, IsSaid}
+use Rattle.ppm_driver.specs.Runs.{CodeHas}
 use Rattle.ppm_driver.specs.Strikes.{fault_count}
-use Rattle.ppm_driver.specs.Watchers.{AreTold}
-
--- the answer of a code on an input by the items of a plan, as `ProgramHas` is of a program: that of a run from the machine with which a run of the
--- code begins, with the plan's keeper
-pub record CodeHas (options : RunOptions) (watching : ℕ) (before now : ToldLists) (items : List PlanItem) (code : CodeParts) (input : List NamedArray)
-    (answer : Answer) : Type 0 where
-  pub keeper : ℕ
-  pub spared : IsKeeper plan_form items keeper
-  pub start : Situation
-  pub opens : OpensRun (sizes_of options) code input keeper start
-  pub run : RunOf (plan_of options items) (limits_of options) start
-      (AreTold watching (plan_of options items) (limits_of options) before now start)
-      (IsSaid start.shape start.array_lengths input) answer
 
 -- What it says: an outcome is that of the code, run depth first, and this run ends so; else the turns of a processor are fewer than 256 for each
 -- capsule of that run and each fault of the plan, or that run takes more words than a pool has, or has no end. No other answer comes.
