@@ -80,6 +80,9 @@ TellsOfRun Tells (answers.SourceRefused r) before now = TellsNothing (answers.So
 TellsOfRun Tells (answers.ListingRefused r) before now = TellsNothing (answers.ListingRefused r) before now
 TellsOfRun Tells (answers.SavedRefused r) before now = TellsNothing (answers.SavedRefused r) before now
 TellsOfRun Tells (answers.Conflicting c) before now = TellsNothing (answers.Conflicting c) before now
+TellsOfRun Tells (answers.ConflictingAt c read write) before now = TellsNothing (answers.ConflictingAt c read write) before now
+TellsOfRun Tells (answers.Untidy u) before now = TellsNothing (answers.Untidy u) before now
+TellsOfRun Tells (answers.InputRefused r) before now = TellsNothing (answers.InputRefused r) before now
 TellsOfRun Tells (answers.Ended arrays) before now = Tells (answers.Ended arrays) before now
 TellsOfRun Tells (answers.Trapped t line) before now = Tells (answers.Trapped t line) before now
 TellsOfRun Tells (answers.EndedWith arrays tally) before now = Tells (answers.EndedWith arrays tally) before now
@@ -93,6 +96,11 @@ TellsOfRun Tells (answers.Summed sums) before now = Tells (answers.Summed sums) 
 TellsOfRun Tells (answers.Listed listing) before now = Tells (answers.Listed listing) before now
 TellsOfRun Tells (answers.Saved text) before now = Tells (answers.Saved text) before now
 TellsOfRun Tells answers.Accepted before now = Tells answers.Accepted before now
+TellsOfRun Tells (answers.Counted arrays counts) before now = Tells (answers.Counted arrays counts) before now
+TellsOfRun Tells (answers.TrappedAfter t line counts) before now = Tells (answers.TrappedAfter t line counts) before now
+TellsOfRun Tells (answers.Sound counts) before now = Tells (answers.Sound counts) before now
+TellsOfRun Tells (answers.NotWithinCapsules capsules) before now = Tells (answers.NotWithinCapsules capsules) before now
+TellsOfRun Tells (answers.Raced race) before now = Tells (answers.Raced race) before now
 
 -- an answer that may come was delivered, also where a port failed at its text; and watchers were told what belongs to it
 pub record Answers (may : Answer → Type 0) (Tells : Answer → ToldLists → ToldLists → Type 0) (o : Outside) (status : Status) : Type 0 where

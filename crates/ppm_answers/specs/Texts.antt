@@ -13,6 +13,15 @@ use Rattle.ppm_answers.specs.declared.conflict.Class.{Class}
 use Rattle.ppm_answers.specs.declared.conflict.Class.TheVariants as class
 use Rattle.ppm_answers.specs.declared.conflict.Conflict.{Conflict}
 use Rattle.ppm_answers.specs.declared.conflict.ListingRefusal.{ListingRefusal}
+use Rattle.ppm_answers.specs.declared.case.InputRefusal.{InputRefusal}
+use Rattle.ppm_answers.specs.declared.case.UntidyStore.{UntidyStore}
+use Rattle.ppm_answers.specs.declared.counts.Counts.{Counts}
+use Rattle.ppm_answers.specs.declared.race.Touch.{Touch}
+use Rattle.ppm_answers.specs.declared.race.Touch.TheVariants as touches
+use Rattle.ppm_answers.specs.declared.race.Opener.{Opener}
+use Rattle.ppm_answers.specs.declared.race.Visit.{Visit}
+use Rattle.ppm_answers.specs.declared.race.Touching.{Touching}
+use Rattle.ppm_answers.specs.declared.race.Race.{Race}
 use Rattle.ppm_answers.specs.declared.sums.Sums.{Sums}
 use Rattle.ppm_answers.specs.declared.tally.Tally.{Tally}
 use Rattle.ppm_answers.specs.declared.answer.Answer.{Answer}
@@ -113,10 +122,22 @@ class_text class.Value = codes "value"
 class_text class.Room = codes "room"
 class_text class.Array = codes "array"
 
--- a line with a conflict: its capsule, the instruction that reads, the one that writes, and the class
+-- the words of a conflict: its capsule, the instruction that reads, the one that writes, and the class
+abbrev pub conflict_words : Conflict → List ℕ
+conflict_words c = codes "conflict: capsule " ++ decimal c.capsule ++ codes " read " ++ decimal c.read_at
+    ++ codes " write " ++ decimal c.write_at ++ codes " class " ++ class_text c.class
+
+-- a line with a conflict
 abbrev pub conflict_text : Conflict → List ℕ
-conflict_text c = ended_line (codes "conflict: capsule " ++ decimal c.capsule ++ codes " read " ++ decimal c.read_at
-    ++ codes " write " ++ decimal c.write_at ++ codes " class " ++ class_text c.class)
+conflict_text c = ended_line (conflict_words c)
+
+-- the end of a line with the lines of an instruction that reads and of one that writes
+abbrev pub lines_end : ℕ → ℕ → List ℕ
+lines_end read write = ended_line (codes " lines " ++ decimal read ++ codes " " ++ decimal write)
+
+-- a line with a conflict, and with the lines of its two instructions
+abbrev pub conflict_at_text : Conflict → ℕ → ℕ → List ℕ
+conflict_at_text c read write = conflict_words c ++ lines_end read write
 
 -- a line with the fault of a text that is no listing, and where that is
 abbrev pub listing_text : ListingRefusal → List ℕ
@@ -125,6 +146,54 @@ listing_text r = ended_line (codes "listing refused: " ++ decimal r.number ++ co
 -- a line with the fault of a text that is none of a saved state, and where that is
 abbrev pub saved_line : SavedRefusal → List ℕ
 saved_line r = ended_line (codes "saved refused: " ++ decimal r.number ++ codes " line " ++ decimal r.line)
+
+-- a line with the counts of a depth-first run
+abbrev pub counts_text : Counts → List ℕ
+counts_text c = ended_line (codes "capsules " ++ decimal c.capsules ++ codes " forks " ++ decimal c.forks
+    ++ codes " pool words " ++ decimal c.pool_words)
+
+-- a line with the counts of a code that is sound with its input
+abbrev pub sound_text : Counts → List ℕ
+sound_text c = codes "sound: " ++ counts_text c
+
+-- a line with the capsules within which a depth-first run did not end
+abbrev pub not_within_capsules_text : ℕ → List ℕ
+not_within_capsules_text capsules = ended_line (codes "not within " ++ decimal capsules ++ codes " capsules")
+
+-- the word for a touch
+abbrev pub touch_name : Touch → List ℕ
+touch_name touches.Read = codes "read"
+touch_name touches.Write = codes "write"
+
+-- a line with the word on which a race is: its array and its index there
+abbrev pub word_line : List ℕ → ℕ → List ℕ
+word_line array index = ended_line (codes "race: word " ++ array ++ codes " " ++ decimal index)
+
+-- a line with the capsule that opened the fork, and which one of the run it is
+abbrev pub fork_line : Opener → List ℕ
+fork_line f = ended_line (codes "fork: run " ++ decimal f.run ++ codes " capsule " ++ decimal f.capsule)
+
+-- a line with the capsule of the left branch, and what it did
+abbrev pub left_line : Visit → List ℕ
+left_line v = ended_line (codes "left: run " ++ decimal v.run ++ codes " capsule " ++ decimal v.capsule ++ codes " " ++ touch_name v.touch)
+
+-- a line with the capsule of the right branch, its instruction, the line of that in the text, and what it does
+abbrev pub right_line : Touching → List ℕ
+right_line t = ended_line (codes "right: run " ++ decimal t.run ++ codes " capsule " ++ decimal t.capsule ++ codes " at " ++ decimal t.at
+    ++ codes " line " ++ decimal t.line ++ codes " " ++ touch_name t.touch)
+
+-- the four lines of a race
+abbrev pub race_text : Race → List ℕ
+race_text r = word_line r.array r.index ++ fork_line r.fork ++ left_line r.left ++ right_line r.right
+
+-- a line with a store that is not tidy, and where that is
+abbrev pub untidy_text : UntidyStore → List ℕ
+untidy_text u =
+    ended_line (codes "untidy: capsule " ++ decimal u.capsule ++ codes " store " ++ decimal u.store ++ codes " line " ++ decimal u.line)
+
+-- a line with the fault of a text that is no case, and where that is
+abbrev pub input_text : InputRefusal → List ℕ
+input_text r = ended_line (codes "input refused: " ++ decimal r.number ++ codes " line " ++ decimal r.line)
 
 -- what is written on out
 abbrev pub out_text : Answer → List ℕ
@@ -136,6 +205,9 @@ out_text (answers.Summed sums) = sums_text sums
 out_text (answers.Listed listing) = listing
 out_text (answers.Saved text) = text
 out_text answers.Accepted = accepted_text
+out_text (answers.Counted arrays counts) = arrays_text arrays ++ counts_text counts
+out_text (answers.TrappedAfter t line counts) = trap_text t line ++ counts_text counts
+out_text (answers.Sound counts) = sound_text counts
 out_text (answers.NotWithin turns) = []
 out_text (answers.OutOfTurns processor) = []
 out_text (answers.OutOfRoom place) = []
@@ -146,6 +218,11 @@ out_text (answers.SourceRefused r) = []
 out_text (answers.Conflicting c) = []
 out_text (answers.ListingRefused r) = []
 out_text (answers.SavedRefused r) = []
+out_text (answers.NotWithinCapsules capsules) = []
+out_text (answers.Raced race) = []
+out_text (answers.Untidy u) = []
+out_text (answers.ConflictingAt c read write) = []
+out_text (answers.InputRefused r) = []
 out_text answers.WordsRefused = []
 out_text answers.ReadFault = []
 out_text answers.NoMemory = []
@@ -162,6 +239,11 @@ err_text (answers.SourceRefused r) = refusal_text r
 err_text (answers.Conflicting c) = conflict_text c
 err_text (answers.ListingRefused r) = listing_text r
 err_text (answers.SavedRefused r) = saved_line r
+err_text (answers.NotWithinCapsules capsules) = not_within_capsules_text capsules
+err_text (answers.Raced race) = race_text race
+err_text (answers.Untidy u) = untidy_text u
+err_text (answers.ConflictingAt c read write) = conflict_at_text c read write
+err_text (answers.InputRefused r) = input_text r
 err_text answers.WordsRefused = ended_line (codes "words refused")
 err_text answers.ReadFault = ended_line (codes "read fault")
 err_text answers.NoMemory = ended_line (codes "out of memory")
@@ -173,6 +255,9 @@ err_text (answers.Summed sums) = []
 err_text (answers.Listed listing) = []
 err_text (answers.Saved text) = []
 err_text answers.Accepted = []
+err_text (answers.Counted arrays counts) = []
+err_text (answers.TrappedAfter t line counts) = []
+err_text (answers.Sound counts) = []
 
 -- what is written on err where out failed
 abbrev pub write_fault_text : List ℕ

@@ -1,5 +1,8 @@
 //! What a command answers.
+use crate::case::{InputRefusal, UntidyStore};
 use crate::conflict::{Conflict, ListingRefusal};
+use crate::counts::Counts;
+use crate::race::Race;
 use crate::refusal::Refusal;
 use crate::saved::SavedRefusal;
 use crate::sums::Sums;
@@ -46,6 +49,25 @@ pub enum Answer {
     ListingRefused(ListingRefusal),
     /// The text is that of no saved state, for this fault.
     SavedRefused(SavedRefusal),
+    /// The depth-first run of the case ended with these arrays, in the order of its lines, and with
+    /// these counts.
+    Counted(Items<NamedArray>, Counts),
+    /// The depth-first run of the case ended by a trap with this line of the source, and with these
+    /// counts; lines count from 1.
+    TrappedAfter(Trap, u32, Counts),
+    /// The code of the case is sound with its input, and its depth-first run has these counts.
+    Sound(Counts),
+    /// The depth-first run of the case did not end within so many capsules.
+    NotWithinCapsules(u64),
+    /// The code of the case has this race with its input.
+    Raced(Race),
+    /// The code of the case has this store, which is not tidy.
+    Untidy(UntidyStore),
+    /// The code of the case has this conflict; the two lines of the text are those of the
+    /// instruction that reads and of the one that writes, from 1.
+    ConflictingAt(Conflict, u64, u64),
+    /// The text is no case, for this fault of an array line or of its root.
+    InputRefused(InputRefusal),
     /// The words give no command.
     WordsRefused,
     /// The plan or schedule among the words has the fault of this number, from 1 to 4.

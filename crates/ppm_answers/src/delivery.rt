@@ -56,16 +56,19 @@ fn own_status(answer: &Answer) -> Status
     ensures { result ≡ status_of answer.now }
 {
     match answer {
-        Answer::Ended(_) | Answer::EndedWith(_, _) => Status::Ended,
-        Answer::Trapped(_, _) | Answer::TrappedWith(_, _, _) => Status::Trapped,
-        Answer::NotWithin(_) => Status::NotWithin,
+        Answer::Ended(_) | Answer::EndedWith(_, _) | Answer::Counted(_, _) => Status::Ended,
+        Answer::Trapped(_, _) | Answer::TrappedWith(_, _, _) | Answer::TrappedAfter(_, _, _) =>
+            Status::Trapped,
+        Answer::NotWithin(_) | Answer::NotWithinCapsules(_) => Status::NotWithin,
         Answer::OutOfTurns(_) | Answer::Unfinished(_) => Status::OutOfTurns,
         Answer::OutOfRoom(_) => Status::OutOfRoom,
         Answer::Broken(_) => Status::Broken,
         Answer::SourceRefused(_) => Status::SourceRefused,
-        Answer::Summed(_) | Answer::Listed(_) | Answer::Saved(_) | Answer::Accepted =>
-            Status::Ended,
+        Answer::Summed(_) | Answer::Listed(_) | Answer::Saved(_) => Status::Ended,
+        Answer::Accepted | Answer::Sound(_) => Status::Ended,
         Answer::Conflicting(_) | Answer::ListingRefused(_) => Status::CodeRefused,
+        Answer::ConflictingAt(_, _, _) | Answer::Untidy(_) => Status::CodeRefused,
+        Answer::Raced(_) | Answer::InputRefused(_) => Status::CodeRefused,
         Answer::SavedRefused(_) => Status::SavedRefused,
         Answer::WordsRefused | Answer::PlanRefused(_) => Status::WordsRefused,
         Answer::ReadFault => Status::ReadFault,

@@ -8,8 +8,11 @@
 #![tactic(auto)]
 
 mod answer;
+mod case;
 mod conflict;
+mod counts;
 mod delivery;
+mod race;
 mod refusal;
 mod saved;
 mod status;
@@ -19,8 +22,11 @@ mod texts;
 mod unread;
 
 pub use answer::Answer;
+pub use case::{InputRefusal, UntidyStore};
 pub use conflict::{Class, Conflict, ListingRefusal};
+pub use counts::Counts;
 pub use delivery::deliver;
+pub use race::{Opener, Race, Touch, Touching, Visit};
 pub use refusal::{Pass, Refusal};
 pub use saved::SavedRefusal;
 pub use status::Status;

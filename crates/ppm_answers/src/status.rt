@@ -5,8 +5,8 @@ ghost use Rattle.ppm_answers.specs.Statuses.{number_of};
 /// How the program ends, by the number that it hands to its caller.
 #[derive(Clone, Copy, Debug, PartialEq, Eq)]
 pub enum Status {
-    /// The run ended, and its arrays are on out; or the listing of a code is; or `check` accepts a
-    /// code.
+    /// The run ended, and its arrays are on out; or the listing of a code is; or `check` or `races`
+    /// accepts a code.
     Ended = 0,
     /// The run ended by a trap, which is reported on out.
     Trapped = 1,
@@ -24,9 +24,10 @@ pub enum Status {
     WriteFault = 8,
     /// Memory was refused.
     NoMemory = 9,
-    /// `check` refuses a code: what was read is no listing, or its code has a conflict.
+    /// A code is refused: what was read is no listing or no case, or its code has a conflict, an
+    /// untidy store or a race.
     CodeRefused = 10,
-    /// The serial run did not end within its turns.
+    /// The serial run did not end within its turns, or the depth-first run within its capsules.
     NotWithin = 11,
     /// What `resume` has read is the text of no saved state.
     SavedRefused = 12,

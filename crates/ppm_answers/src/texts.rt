@@ -2,19 +2,20 @@
 ghost use Rattle.std.specs.Prelude.{◌≡◌, ◌++◌, IfOk, IsOk, OnOk};
 ghost use Rattle.std.specs.Cow.{cow_slice_items};
 ghost use Rattle.std.specs.List.{flat_map};
-ghost use Rattle.std.specs.String.{string_bytes};
 ghost use Rattle.ppm_answers.specs.Texts.{IsFixed, out_text, err_text, refusal_text, fault_text};
 ghost use Rattle.ppm_answers.specs.Texts.{pass_name as name_of_pass, place_name as name_of_place};
-ghost use Rattle.ppm_answers.specs.Texts.{class_text, conflict_text, listing_text, not_within_text};
-ghost use Rattle.ppm_answers.specs.Texts.{turns_text, room_text};
-ghost use Rattle.ppm_answers.specs.Texts.{unfinished_text, broken_text, plan_text, saved_line};
+ghost use Rattle.ppm_answers.specs.Texts.{not_within_text, turns_text, room_text};
+ghost use Rattle.ppm_answers.specs.Texts.{unfinished_text, broken_text, plan_text};
 ghost use Rattle.ppm_answers.specs.Texts.{arrays_text, array_text, value_text, trap_text};
 ghost use Rattle.ppm_answers.specs.Texts.{trap_name as name_of_trap};
 
 use crate::answer::Answer;
-use crate::conflict::{Class, Conflict, ListingRefusal};
+use crate::case::{input_text_of, untidy_text_of};
+use crate::conflict::{conflict_at_text_of, conflict_text_of, listing_text_of};
+use crate::counts::{not_within_capsules_text_of, sound_text_of, with_counts};
+use crate::race::race_text_of;
 use crate::refusal::{Pass, Refusal};
-use crate::saved::SavedRefusal;
+use crate::saved::saved_line_of;
 use crate::sums::sums_text_of;
 use crate::tally::with_tally;
 use ppm_words::{NamedArray, Trap};
@@ -65,6 +66,24 @@ pub fn texts_of(alloc: Global, answer: &Answer) -> Result<(Text, Text), AllocErr
                 CowSlice::Borrowed(none),
             ))
         }
+        Answer::Counted(arrays, counts) => {
+            let text = arrays_text_of(alloc, arrays.as_slice())?;
+            Ok((
+                CowSlice::Owned(with_counts(alloc, text, *counts)?),
+                CowSlice::Borrowed(none),
+            ))
+        }
+        Answer::TrappedAfter(trap, line, counts) => {
+            let text = trap_text_of(alloc, *trap, *line)?;
+            Ok((
+                CowSlice::Owned(with_counts(alloc, text, *counts)?),
+                CowSlice::Borrowed(none),
+            ))
+        }
+        Answer::Sound(counts) => Ok((
+            CowSlice::Owned(sound_text_of(alloc, *counts)?),
+            CowSlice::Borrowed(none),
+        )),
         Answer::Summed(sums) => Ok((
             CowSlice::Owned(sums_text_of(alloc, *sums)?),
             CowSlice::Borrowed(none),
@@ -76,6 +95,10 @@ pub fn texts_of(alloc: Global, answer: &Answer) -> Result<(Text, Text), AllocErr
         Answer::NotWithin(turns) => Ok((
             CowSlice::Borrowed(none),
             CowSlice::Owned(not_within_text_of(alloc, *turns)?),
+        )),
+        Answer::NotWithinCapsules(capsules) => Ok((
+            CowSlice::Borrowed(none),
+            CowSlice::Owned(not_within_capsules_text_of(alloc, *capsules)?),
         )),
         Answer::OutOfTurns(processor) => Ok((
             CowSlice::Borrowed(none),
@@ -110,6 +133,22 @@ pub fn texts_of(alloc: Global, answer: &Answer) -> Result<(Text, Text), AllocErr
             CowSlice::Borrowed(none),
             CowSlice::Owned(conflict_text_of(alloc, *conflict)?),
         )),
+        Answer::ConflictingAt(conflict, read, write) => Ok((
+            CowSlice::Borrowed(none),
+            CowSlice::Owned(conflict_at_text_of(alloc, *conflict, *read, *write)?),
+        )),
+        Answer::Raced(race) => Ok((
+            CowSlice::Borrowed(none),
+            CowSlice::Owned(race_text_of(alloc, race)?),
+        )),
+        Answer::Untidy(untidy) => Ok((
+            CowSlice::Borrowed(none),
+            CowSlice::Owned(untidy_text_of(alloc, *untidy)?),
+        )),
+        Answer::InputRefused(refusal) => Ok((
+            CowSlice::Borrowed(none),
+            CowSlice::Owned(input_text_of(alloc, *refusal)?),
+        )),
         Answer::ListingRefused(refusal) => Ok((
             CowSlice::Borrowed(none),
             CowSlice::Owned(listing_text_of(alloc, *refusal)?),
@@ -122,54 +161,6 @@ pub fn texts_of(alloc: Global, answer: &Answer) -> Result<(Text, Text), AllocErr
         Answer::ReadFault => Ok((CowSlice::Borrowed(none), CowSlice::Borrowed(READ_FAULT))),
         Answer::NoMemory => Ok((CowSlice::Borrowed(none), CowSlice::Borrowed(OUT_OF_MEMORY))),
     }
-}
-
-/// The line of a conflict.
-fn conflict_text_of(alloc: Global, conflict: Conflict) -> Result<Vec<u8>, AllocError>
-    ensures { IfOk result (λ text. text.items ≡ conflict_text conflict) }
-{
-    let class = class_text_of(alloc, conflict.class)?;
-    let Conflict {
-        capsule,
-        read_at,
-        write_at,
-        ..
-    } = conflict;
-    let line = format!(in alloc;
-        "conflict: capsule {capsule} read {read_at} write {write_at} class {class}\n"
-    )?;
-    Ok(line.into_bytes())
-}
-
-/// The name of a class, with its number.
-fn class_text_of(alloc: Global, class: Class) -> Result<String, AllocError>
-    ensures { IfOk result (λ text. string_bytes text ≡ class_text class) }
-{
-    match class {
-        Class::Cur(slot) => format!(in alloc; "cur {slot}"),
-        Class::New(word) => format!(in alloc; "new {word}"),
-        Class::Value => String::from_str(alloc, "value"),
-        Class::Room => String::from_str(alloc, "room"),
-        Class::Array => String::from_str(alloc, "array"),
-    }
-}
-
-/// The line of a text that is no listing.
-fn listing_text_of(alloc: Global, refusal: ListingRefusal) -> Result<Vec<u8>, AllocError>
-    ensures { IfOk result (λ text. text.items ≡ listing_text refusal) }
-{
-    let ListingRefusal { number, line } = refusal;
-    let text = format!(in alloc; "listing refused: {number} line {line}\n")?;
-    Ok(text.into_bytes())
-}
-
-/// The line of a text that is none of a saved state.
-fn saved_line_of(alloc: Global, refusal: SavedRefusal) -> Result<Vec<u8>, AllocError>
-    ensures { IfOk result (λ text. text.items ≡ saved_line refusal) }
-{
-    let SavedRefusal { number, line } = refusal;
-    let text = format!(in alloc; "saved refused: {number} line {line}\n")?;
-    Ok(text.into_bytes())
 }
 
 /// The line of a processor that has no turns left.

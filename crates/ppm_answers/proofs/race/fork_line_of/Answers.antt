@@ -1,6 +1,6 @@
 use Rattle.std.proofs.Common.{◌≡◌, ◌++◌, ℕ, List, [], ◌∷◌, ◌∙◌, ap, codes, append_assoc}
 use Rattle.std.specs.Prelude.{decimal}
-use Rattle.ppm_answers.proofs.texts.listing_text_of.Goals as goal
+use Rattle.ppm_answers.proofs.race.fork_line_of.Goals as goal
 
 -- the parts of the line, put together from the right
 from_the_right : (a m b : List ℕ) → a ++ (m ++ (b ++ 10 ∷ [])) ≡ (a ++ m ++ b) ++ 10 ∷ []
@@ -8,6 +8,5 @@ from_the_right a m b = simp (append_assoc)
 
 -- the bytes of the string
 pub returns : goal.returns
-returns c = ap (λ v. v.items) c.into_bytes.ensures.value ∙ c.in_ok-text.ensures.ok ∙
-    ap (λ l. codes "listing refused: " ++ l)
-    (from_the_right (decimal c.args.refusal.number) (codes " line ") (decimal c.args.refusal.line))
+returns c = ap (λ v. v.items) c.into_bytes.ensures.value ∙ c.in_ok-line.ensures.ok ∙
+    ap (λ l. codes "fork: run " ++ l) (from_the_right (decimal c.args.fork.run) (codes " capsule ") (decimal c.args.fork.capsule))
