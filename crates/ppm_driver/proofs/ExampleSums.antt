@@ -12,6 +12,8 @@ use Rattle.ppm_plan.specs.Faults.{is_at}
 use Rattle.ppm_plan.specs.Sources.{value_at}
 use Rattle.ppm_plan.specs.declared.plan_item.PlanItem.{PlanItem}
 use Rattle.ppm_tree.specs.Tree.{ProgramTree}
+use Rattle.ppm_tree.specs.Program.{initial_arrays}
+use Rattle.ppm_cut_code.specs.Routines.{code_of}
 use Rattle.ppm_program.specs.Programs.{HasProgram}
 use Rattle.ppm_cut_correct.specs.Correct.{words_taken}
 use Rattle.ppm_program.specs.Correct.{HaveOneAnswer as TextsHaveOneProgram}

@@ -10,6 +10,9 @@ pub mod Completeness
 pub mod CompleteAsCode
 pub mod Headline
 pub mod RunRows
+pub mod CaseRuns
+pub mod CaseHeadline
+pub mod CaseRows
 pub mod Replays
 pub mod ReplayRows
 pub mod Stops

@@ -114,3 +114,7 @@ module _ (Has : CodeParts → List NamedArray → Answer → Type 0) where
   none_may source (answers.InputRefused r) h = h
   none_may source (answers.ListingRefused r) h = h
   none_may source a h = absurd h.2.has
+
+-- no text has a read fault
+pub no_fault : (text : List ℕ) → ¬ RefusedHas text answers.ReadFault
+no_fault text h = h.has

@@ -8,5 +8,6 @@ pub mod SayLemmas
 pub mod PlannedLemmas
 pub mod ProgramLemmas
 pub mod CaseLemmas
+pub mod CaseInputLemmas
 pub mod LoadingLemmas
 pub mod ArrayLemmas

@@ -1,16 +1,19 @@
 -- What a command answers of a text that runs its case: a code on an input.
 use Rattle.std.specs.Prelude.{◌≡◌, ℕ, List}
 use Rattle.ppm_words.specs.declared.named_array.NamedArray.{NamedArray}
+use Rattle.ppm_ports.specs.Ports.{Port}
 use Rattle.ppm_code.specs.declared.code.CodeParts.{CodeParts}
 use Rattle.ppm_listing_reader.specs.ErrorNumbers.{fault_number}
 use Rattle.ppm_listing_reader.specs.declared.listing_error.Fault.{Fault}
 use Rattle.ppm_case.specs.Case.{IsCaseOf}
+use Rattle.ppm_case.specs.Rules.{case_limit}
 use Rattle.ppm_case.specs.Faults.{HasFault, input_number}
 use Rattle.ppm_case.specs.declared.case_error.CaseFault.{CaseFault}
 use Rattle.ppm_case.specs.declared.case_error.CaseFault.TheVariants as faults
 use Rattle.ppm_case.specs.declared.case_error.InputFault.{InputFault}
 use Rattle.ppm_answers.specs.declared.answer.Answer.{Answer}
 use Rattle.ppm_answers.specs.declared.answer.Answer.TheVariants as answers
+use Rattle.ppm_answers.specs.Reading.{Reads, JudgingMay}
 use Rattle.ppm_answers.specs.declared.case.InputRefusal.{InputRefusal}
 use Rattle.ppm_answers.specs.declared.conflict.ListingRefusal.{ListingRefusal}
 
@@ -47,3 +50,11 @@ TextHas Has text answer = OfCase text (λ code input. Has code input answer)
 -- the answer of a text that has none: its refusal
 abbrev pub RefusedHas : List ℕ → Answer → Type 0
 RefusedHas text answer = TextHas (λ code input a. ⊥) text answer
+
+-- the text that was read is that of this code with this input
+abbrev pub ReadsCase : Port → CodeParts → List NamedArray → Type 0
+ReadsCase source code input = (text : List ℕ) × Reads case_limit source text × IsCaseOf text code input
+
+-- the answers where the text that was read is of no case, or was not read
+abbrev pub NoCaseMay : Port → Answer → Type 0
+NoCaseMay source answer = JudgingMay case_limit RefusedHas source answer
