@@ -35,6 +35,7 @@ pub mod LegsMeant
 pub mod MeantRows
 pub mod RunLemmas
 pub mod CodeRows
+pub mod CodeReplayRows
 pub mod OneRun
 pub mod StrikeLemmas
 pub mod CompleteLemmas

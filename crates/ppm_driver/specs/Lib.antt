@@ -15,6 +15,7 @@ pub mod CaseHeadline
 pub mod CaseRows
 pub mod Replays
 pub mod ReplayRows
+pub mod CodeReplays
 pub mod Stops
 pub mod StopRows
 pub mod Legs
