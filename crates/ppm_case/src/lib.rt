@@ -1,0 +1,28 @@
+//! Cases: a code with the arrays that it starts from, as a text, read and written.
+//! Model: a text is lines of arrays, each of words, and then a listing (`specs/Spelling`,
+//! `specs/Case`).
+//! Contract: `read_case` answers the case of a text or its first fault (`specs/Faults`), and
+//! `write_case` writes a text of a case (`specs/Text`).
+//! Stands on `ppm_listing` and `ppm_listing_reader`; the commands that judge cases stand on it.
+//! After the readers of listings; the form of the arrays is this project's.
+#![tactic(auto)]
+
+mod arrays;
+mod case;
+mod case_error;
+mod line;
+mod reading;
+mod row;
+mod run;
+#[cfg(test)]
+mod tests;
+mod values;
+mod writing;
+
+pub use case::Case;
+pub use case_error::{CaseError, CaseFault, InputFault};
+pub use line::{Numbers, Room};
+pub use reading::{CASE_LIMIT, read_case};
+pub use row::Row;
+pub use run::Run;
+pub use writing::write_case;
