@@ -1,3 +1,7 @@
+pub mod Cases
 pub mod Check
 pub mod Code
+pub mod Case
+pub mod Depth
+pub mod Races
 pub mod Serial

@@ -1,13 +1,18 @@
 //! That a text has one answer by each command, shown by calls that do nothing.
+ghost use Rattle.ppm_commands.specs.Case.{AreCases, HaveOneAnswer as CaseTextsHaveOneAnswer};
 ghost use Rattle.ppm_commands.specs.Check.{HaveOneAnswer as ListingsHaveOneAnswer};
 ghost use Rattle.ppm_commands.specs.Code.{CodesAreFaithful, HaveOneAnswer as CodesHaveOneAnswer};
+ghost use Rattle.ppm_commands.specs.Depth.{HaveOneAnswer as DepthRunsHaveOneAnswer};
+ghost use Rattle.ppm_commands.specs.Races.{HaveOneAnswer as CasesHaveOneAnswer};
 ghost use Rattle.ppm_commands.specs.Serial.{HaveOneAnswer as OutcomesHaveOneAnswer};
 
+use ppm_case::{faults_tell_cases, written_cases_are_read};
 use ppm_cut_code::keeps_the_rules;
-use ppm_cut_correct::end_as_meant;
+use ppm_cut_correct::{end_as_meant, name_arrays, start_with_input};
 use ppm_cut_sound::{code_is_sound, may_be_stopped, store_tidily};
 use ppm_listing_reader::faults_tell_listings;
 use ppm_program::have_one_answer as have_one_program;
+use ppm_races::verdicts_are_one;
 use ppm_rows::trees_are_within;
 use ppm_tree::{have_one_end, none_is_stuck, spend_their_turns};
 
@@ -54,4 +59,47 @@ pub fn outcomes_have_one_answer()
     have_one_end();
     none_is_stuck();
     spend_their_turns();
+}
+
+/// Where its code is written with its arrays, a text has one answer: it is refused for one reason,
+/// or its program has one such text.
+pub fn case_texts_have_one_answer()
+    ensures law { CaseTextsHaveOneAnswer }
+{
+    // The law rests on this; the call does nothing.
+    have_one_program();
+}
+
+/// What is written of a program's code with its arrays is a text of just this code and these
+/// arrays.
+pub fn case_texts_are_cases()
+    ensures law { AreCases }
+{
+    // The law rests on these; the calls do nothing.
+    trees_are_within();
+    keeps_the_rules();
+    start_with_input();
+    name_arrays();
+    written_cases_are_read();
+}
+
+/// Within each number of capsules a text has one answer where its case is run depth first: it is
+/// refused for one fault, its code has a first untidy store, or its run comes to one end or takes
+/// more capsules.
+pub fn depth_runs_have_one_answer()
+    ensures law { DepthRunsHaveOneAnswer }
+{
+    // The law rests on this; the call does nothing.
+    faults_tell_cases();
+}
+
+/// Within each number of capsules a text has one answer where races of its case are sought: it is
+/// refused for one fault, its code has a first conflict or a first untidy store, or it has one
+/// verdict.
+pub fn cases_have_one_answer()
+    ensures law { CasesHaveOneAnswer }
+{
+    // The law rests on these; the calls do nothing.
+    faults_tell_cases();
+    verdicts_are_one();
 }

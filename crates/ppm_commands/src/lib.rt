@@ -12,14 +12,24 @@
 //! answers are this project's.
 #![tactic(auto)]
 
+mod case;
+mod cases;
 mod check;
 mod code;
+mod depth;
 mod laws;
+mod race;
+mod races;
 mod serial;
 
+pub use case::case_command;
 pub use check::check_command;
 pub use code::code_command;
+pub use depth::depth_command;
 pub use laws::{
-    codes_are_faithful, codes_have_one_answer, listings_have_one_answer, outcomes_have_one_answer,
+    case_texts_are_cases, case_texts_have_one_answer, cases_have_one_answer, codes_are_faithful,
+    codes_have_one_answer, depth_runs_have_one_answer, listings_have_one_answer,
+    outcomes_have_one_answer,
 };
+pub use races::races_command;
 pub use serial::serial_command;

@@ -22,7 +22,7 @@ use Rattle.ppm_depth.specs.Store.{Shows, own_at}
 use Rattle.ppm_depth.specs.Whole.{block_at, kept_of}
 use Rattle.ppm_depth.specs.declared.frame.Frame.{Frame}
 use Rattle.ppm_depth.specs.declared.frame.For.TheVariants.{Callee, Left}
-use Rattle.ppm_depth.proofs.StackLemmas.{holds_still, laid_still}
+use Rattle.ppm_depth.proofs.StackLemmas.{holds_still, laid_still, shown_by}
 
 -- an end opens a fork where it says so
 pub forks_opened : (code : CodeParts) (e : End) (own : FrameWord → ℕ) (new : ℕ → ℕ) → forks_in (opens code e own new) ≡ forks_by e
@@ -121,94 +121,6 @@ module _ (code : CodeParts) (is_code : IsCode code) (frame : Frame) (block : ℕ
       omega (arith, is, few)
 
   -- by each end
-  pub followed : (e : End) → EndFits code (procedure_at code frame.capsule) (instrs_of code frame.capsule) e
-      → IsShown code (stack_after block blocks e) (waiting_after code frame block (listed s) e) (now_after code frame block blocks e)
-      (tree_at s (opens code e (own_of m) (new_of m)))
-  followed (Next k) h = record {
-    above = s;
-    waits = refl;
-    leaf = Strand (record { own = own_of m; point = at_capsule k });
-    tree = refl;
-    at = (
-      record { own = own_of m; point = at_capsule k },
-      refl,
-      holds_below k h,
-      subst (λ (n : ℕ). n ≤ length below) (sym (moved_size k h)) below_fits,
-      subst (λ (n : ℕ). IsLaidOut code below s frame.base n (length below)) (sym (moved_size k h)) below_laid,
-    );
-  }
-    where
-      holds_below : (k : ℕ) (h : IsCapsuleOf code (procedure_at code frame.capsule) k)
-          → Holds code below (moved frame k) None None (record { own = own_of m; point = at_capsule k })
-      holds_below k h = holds_still code blocks below (moved frame k) None None (record { own = own_of m; point = at_capsule k })
-          (λ x from to. get_or-take block blocks x 0 (let size = moved_size k h in omega (arith, to, size, fits))) (moved_holds k h None None tt tt)
-  followed Finish h = record {
-    above = s;
-    waits = refl;
-    leaf = Over (Gave (get_or blocks (own_at frame.base Value) 0));
-    tree = ap (λ (v : ℕ). tree_at s (Over (Gave v))) shows.value;
-    at = (refl, frame.base, end_of code frame, omega arith, below_fits, below_laid);
-  }
-  followed (Trap trap line) h = record {
-    above = s;
-    waits = refl;
-    leaf = Over (Trapped trap line);
-    tree = refl;
-    at = (refl, frame.base, end_of code frame, omega arith, below_fits, below_laid);
-  }
-  followed (Call q k to) h =
-      let size = kept_is (frame_size code q) (let few = slots_small code is_code q in omega (arith, few)) h.3 in
-      let ends = built_end q block h.0 in
-      record {
-        above = On (record { frame = moved frame k; block = block; on = Callee to })
-            (ForCallee (record { own = own_of m; point = record { capsule = k; left_to = None; to = to } })) s;
-        waits = refl;
-        leaf = begun code q (built (slots_of code q) 0 (new_of m));
-        tree = refl;
-        at = (
-          record { own = built (slots_of code q) 0 (new_of m); point = at_capsule (entry_of code q) },
-          refl,
-          built_holds q block 0 h.0 (omega arith) (omega (arith, size)),
-          omega (arith, ends, size, stack),
-          (
-            omega arith,
-            subst (λ (n : ℕ). n ≤ block) (sym (moved_size k h.1)) fits,
-            moved_holds k h.1 None to tt (moved_target k h.1 to h.2),
-            subst (λ (n : ℕ). IsLaidOut code blocks s frame.base n block) (sym (moved_size k h.1)) laid,
-          ),
-        );
-      }
-  followed (Fork q r k left_to right_to) h =
-      let size = kept_is (fork_size code q r)
-      (let few = slots_small code is_code q in let less = slots_small code is_code r in omega (arith, few, less)) h.5 in
-      let left_end = built_end q (block + left_at) h.0 in
-      let right_end = built_end r (block + right_at code q) h.1 in
-      record {
-        above = On (record { frame = moved frame k; block = block; on = Left (entry_at code r (block + right_at code q)) left_to right_to })
-            (ForLeft (record { own = own_of m; point = record { capsule = k; left_to = left_to; to = right_to } })
-            (record { own = built (slots_of code r) (right_at code q) (new_of m); point = at_capsule (entry_of code r) })) s;
-        waits = refl;
-        leaf = begun code q (built (slots_of code q) left_at (new_of m));
-        tree = refl;
-        at = (
-          record { own = built (slots_of code q) left_at (new_of m); point = at_capsule (entry_of code q) },
-          refl,
-          built_holds q (block + left_at) left_at h.0 refl (omega (arith, size)),
-          omega (arith, left_end, size, stack),
-          (
-            omega arith,
-            subst (λ (n : ℕ). n ≤ block) (sym (moved_size k h.2)) fits,
-            (
-              moved_holds k h.2 left_to right_to (moved_target k h.2 left_to h.3) (moved_target k h.2 right_to h.4),
-              built_holds r (block + right_at code q) (right_at code q) h.1 refl (omega (arith, size)),
-              omega (arith, left_end),
-              omega (arith, right_end, size, stack),
-            ),
-            subst (λ (n : ℕ). IsLaidOut code blocks s frame.base n block) (sym (moved_size k h.2)) laid,
-          ),
-        );
-      }
-
   pub followed_at : (e : End) → EndFits code (procedure_at code frame.capsule) (instrs_of code frame.capsule) e
       → IsShownAt code (stack_after block blocks e) (waiting_after code frame block (listed s) e) (now_after code frame block blocks e)
       (above_after code frame block m s e) (leaf_after code m e)
@@ -278,3 +190,17 @@ module _ (code : CodeParts) (is_code : IsCode code) (frame : Frame) (block : ℕ
           ),
         );
       }
+
+  -- the tree that is shown then
+  tree_after : (e : End) → tree_at s (opens code e (own_of m) (new_of m)) ≡ tree_at (above_after code frame block m s e) (leaf_after code m e)
+  tree_after (Next k) = refl
+  tree_after Finish = refl
+  tree_after (Trap trap line) = refl
+  tree_after (Call q k to) = refl
+  tree_after (Fork q r k left_to right_to) = refl
+
+  pub followed : (e : End) → EndFits code (procedure_at code frame.capsule) (instrs_of code frame.capsule) e
+      → IsShown code (stack_after block blocks e) (waiting_after code frame block (listed s) e) (now_after code frame block blocks e)
+      (tree_at s (opens code e (own_of m) (new_of m)))
+  followed e h = shown_by code (stack_after block blocks e) (waiting_after code frame block (listed s) e) (now_after code frame block blocks e)
+      (above_after code frame block m s e) (leaf_after code m e) (tree_at s (opens code e (own_of m) (new_of m))) (tree_after e) (followed_at e h)

@@ -20,7 +20,7 @@ use Rattle.ppm_depth.specs.declared.frame.For.{For}
 use Rattle.ppm_depth.specs.declared.frame.For.TheVariants.{Callee, Left, Right}
 use Rattle.ppm_depth.specs.declared.frame.Now.TheVariants.{Over as IsOver}
 use Rattle.ppm_depth.specs.declared.frame.Waiting.{Waiting}
-use Rattle.ppm_depth.proofs.StackLemmas.{holds_still, laid_still, innermost, lifted}
+use Rattle.ppm_depth.proofs.StackLemmas.{holds_still, laid_still, innermost, lifted, shown_by}
 use Rattle.ppm_depth.proofs.TurnLemmas.{gone_shown, gone_at, holds_with, with_laid, with_length, own_is}
 
 module _ (code : CodeParts) (array_words : ℕ) where
@@ -48,27 +48,32 @@ module _ (code : CodeParts) (array_words : ℕ) where
       subst (λ (n : ℕ). IsLaidOut code (take block blocks) s frame.base (end_of code frame) n) (sym (length-take-le block blocks within))
       (laid_still code blocks (take block blocks) s frame.base (end_of code frame) block (λ x out less. get_or-take block blocks x 0 less) (omega arith) fits laid)
 
-  -- after both branches
-  joined_shown : (blocks : List ℕ) (s : Above) (frame : Frame) (left_to to : Option ℕ) (f : Own) (l r : Finish) → Holds code blocks frame left_to to f
+  -- after both branches: what stands above them stays
+  joined_at : (blocks : List ℕ) (s : Above) (frame : Frame) (left_to to : Option ℕ) (f : Own) (l r : Finish) → Holds code blocks frame left_to to f
       → end_of code frame ≤ length blocks → IsLaidOut code blocks s frame.base (end_of code frame) (length blocks)
-      → IsShown code (stack_joined frame left_to l to r blocks) (listed s) (joined frame l r) (tree_at s (rejoin c f (result_of l) (result_of r)))
-  joined_shown blocks s frame left_to to f (finish.Trapped trap line) r holds fits laid = record {
-    above = s;
+      → IsShownAt code (stack_joined frame left_to l to r blocks) (listed s) (joined frame l r) s (rejoin c f (result_of l) (result_of r))
+  joined_at blocks s frame left_to to f (finish.Trapped trap line) r holds fits laid = record {
     waits = refl;
-    leaf = Over (Trapped trap line);
-    tree = refl;
     at = (refl, frame.base, end_of code frame, omega arith, fits, laid);
   }
-  joined_shown blocks s frame left_to to f (finish.Gave v) r holds fits laid =
+  joined_at blocks s frame left_to to f (finish.Gave v) r holds fits laid =
       let g : Own = record { own = with_value left_to v f.own; point = record { capsule = frame.capsule; left_to = None; to = to } } in
       let same : kept (record { own = f.own; point = record { capsule = frame.capsule; left_to = left_to; to = to } }) (Gave v) ≡ kept f (Gave v) =
       ap (λ (h : Own). kept h (Gave v)) (own_is code blocks frame left_to to f holds) in
-      subst (λ (h : Own). IsShown code (stack_gone_on frame to r (with_slot frame left_to v blocks)) (listed s) (gone_on frame r)
-      (tree_at s (resume h (result_of r)))) same
-      (gone_shown code (with_slot frame left_to v blocks) s frame to g r
+      subst (λ (h : Own). IsShownAt code (stack_gone_on frame to r (with_slot frame left_to v blocks)) (listed s) (gone_on frame r) s
+      (resume h (result_of r))) same
+      (gone_at code (with_slot frame left_to v blocks) s frame to g r
       (holds_with code blocks frame left_to to f left_to v None to fits holds.left_target tt holds.target holds)
       (subst (λ (n : ℕ). end_of code frame ≤ n) (sym (with_length code blocks frame left_to v)) fits)
       (with_laid code blocks frame left_to v s fits holds.left_target laid))
+
+  -- and the tree with it
+  joined_shown : (blocks : List ℕ) (s : Above) (frame : Frame) (left_to to : Option ℕ) (f : Own) (l r : Finish) → Holds code blocks frame left_to to f
+      → end_of code frame ≤ length blocks → IsLaidOut code blocks s frame.base (end_of code frame) (length blocks)
+      → IsShown code (stack_joined frame left_to l to r blocks) (listed s) (joined frame l r) (tree_at s (rejoin c f (result_of l) (result_of r)))
+  joined_shown blocks s frame left_to to f l r holds fits laid =
+      shown_by code (stack_joined frame left_to l to r blocks) (listed s) (joined frame l r) s (rejoin c f (result_of l) (result_of r))
+      (tree_at s (rejoin c f (result_of l) (result_of r))) refl (joined_at blocks s frame left_to to f l r holds fits laid)
 
   -- by what the frame waits for
   resumed_one : (w : Waiting) (on : For) (v : Waits) (s : Above) (done : Finish) (blocks : List ℕ) (a : Words) (begin end : ℕ)
@@ -134,25 +139,6 @@ module _ (code : CodeParts) (array_words : ℕ) where
             subst (λ (zs : List Waiting). IsShown code (stack_resumed w w.on done blocks) (waiting_resumed w w.on done zs) (resumed w w.on done) turn.0)
                 last.1 turn.2,
           )
-
-  -- after both branches, with what stands above them
-  joined_at : (blocks : List ℕ) (s : Above) (frame : Frame) (left_to to : Option ℕ) (f : Own) (l r : Finish) → Holds code blocks frame left_to to f
-      → end_of code frame ≤ length blocks → IsLaidOut code blocks s frame.base (end_of code frame) (length blocks)
-      → IsShownAt code (stack_joined frame left_to l to r blocks) (listed s) (joined frame l r) s (rejoin c f (result_of l) (result_of r))
-  joined_at blocks s frame left_to to f (finish.Trapped trap line) r holds fits laid = record {
-    waits = refl;
-    at = (refl, frame.base, end_of code frame, omega arith, fits, laid);
-  }
-  joined_at blocks s frame left_to to f (finish.Gave v) r holds fits laid =
-      let g : Own = record { own = with_value left_to v f.own; point = record { capsule = frame.capsule; left_to = None; to = to } } in
-      let same : kept (record { own = f.own; point = record { capsule = frame.capsule; left_to = left_to; to = to } }) (Gave v) ≡ kept f (Gave v) =
-      ap (λ (h : Own). kept h (Gave v)) (own_is code blocks frame left_to to f holds) in
-      subst (λ (h : Own). IsShownAt code (stack_gone_on frame to r (with_slot frame left_to v blocks)) (listed s) (gone_on frame r) s
-      (resume h (result_of r))) same
-      (gone_at code (with_slot frame left_to v blocks) s frame to g r
-      (holds_with code blocks frame left_to to f left_to v None to fits holds.left_target tt holds.target holds)
-      (subst (λ (n : ℕ). end_of code frame ≤ n) (sym (with_length code blocks frame left_to v)) fits)
-      (with_laid code blocks frame left_to v s fits holds.left_target laid))
 
   -- what stands above the strand then, and the strand
   abbrev pub above_resumed : Waiting → For → Waits → Finish → Above → Above

@@ -10,11 +10,12 @@ use Rattle.ppm_depth.proofs.OrderLemmas.{under, left, right}
 use Rattle.ppm_code.specs.declared.code.CodeParts.{CodeParts}
 use Rattle.ppm_code.specs.Strands.{Result}
 use Rattle.ppm_code.specs.declared.location.FrameWord.TheVariants.{Slot, Value}
-use Rattle.ppm_depth.specs.Stack.{Own, Strands, Waits, ForCallee, ForLeft, ForRight, waits_for, Above, Root, On, listed, tree_at, end_of, Holds, AreOne, IsLaidOut}
+use Rattle.ppm_depth.specs.Stack.{Own, Strands, Waits, ForCallee, ForLeft, ForRight, waits_for, Above, Root, On, listed, tree_at, end_of, Holds, AreOne, IsLaidOut, IsShown, IsShownAt}
 use Rattle.ppm_depth.specs.Store.{own_at}
 use Rattle.ppm_depth.specs.declared.frame.Frame.{Frame}
 use Rattle.ppm_depth.specs.declared.frame.For.{For}
 use Rattle.ppm_depth.specs.declared.frame.For.TheVariants as for
+use Rattle.ppm_depth.specs.declared.frame.Now.{Now}
 
 module _ (code : CodeParts) where
   -- the words of a frame are as they were
@@ -115,3 +116,8 @@ module _ (c : Code Own Result) where
       → StepsInOrder c k (tree_at above t) a (tree_at above u) b
   lifted Root s = s
   lifted (On w v above) s = lifted above (one_lifted v s)
+
+-- what is shown with what stands above it is shown as a tree
+pub shown_by : (code : CodeParts) (blocks : List ℕ) (waiting : List Waiting) (current : Now) (s : Above) (leaf t : Strands) → t ≡ tree_at s leaf
+    → IsShownAt code blocks waiting current s leaf → IsShown code blocks waiting current t
+shown_by code blocks waiting current s leaf t tree it = record { above = s; waits = it.waits; leaf = leaf; tree = tree; at = it.at }

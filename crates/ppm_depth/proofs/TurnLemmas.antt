@@ -13,7 +13,7 @@ use Rattle.ppm_depth.specs.declared.frame.Frame.{Frame}
 use Rattle.ppm_depth.specs.declared.frame.Finish.{Finish}
 use Rattle.ppm_depth.specs.declared.frame.Finish.TheVariants as finish
 use Rattle.ppm_depth.proofs.RestLemmas.{put_word, is_number, is_no_number}
-use Rattle.ppm_depth.proofs.StackLemmas.{laid_still}
+use Rattle.ppm_depth.proofs.StackLemmas.{laid_still, shown_by}
 
 -- a list of zeros has 0 everywhere
 pub zeros : (n i : ℕ) → ◌≡◌ {A = ℕ} (get_or (replicate n 0) i 0) 0
@@ -72,32 +72,7 @@ module _ (code : CodeParts) where
       → record { own = f.own; point = record { capsule = frame.capsule; left_to = left_to; to = to } } ≡ f
   own_is blocks frame left_to to f h = ap (λ (p : Point). record { own = f.own; point = p }) (sym h.point)
 
-  -- a frame goes on, or is over by a trap
-  pub gone_shown : (blocks : List ℕ) (s : Above) (frame : Frame) (to : Option ℕ) (f : Own) (done : Finish) → Holds code blocks frame None to f
-      → end_of code frame ≤ length blocks → IsLaidOut code blocks s frame.base (end_of code frame) (length blocks)
-      → IsShown code (stack_gone_on frame to done blocks) (listed s) (gone_on frame done) (tree_at s (resume f (result_of done)))
-  gone_shown blocks s frame to f (finish.Trapped trap line) holds fits laid = record {
-    above = s;
-    waits = refl;
-    leaf = Over (Trapped trap line);
-    tree = refl;
-    at = (refl, frame.base, end_of code frame, omega arith, fits, laid);
-  }
-  gone_shown blocks s frame to f (finish.Gave v) holds fits laid = record {
-    above = s;
-    waits = refl;
-    leaf = Strand (record { own = with_value to v f.own; point = at_capsule frame.capsule });
-    tree = ap (λ (g : Own). tree_at s (resume g (Gave v))) (sym (own_is blocks frame None to f holds));
-    at = (
-      record { own = with_value to v f.own; point = at_capsule frame.capsule },
-      refl,
-      holds_with blocks frame None to f to v None None fits holds.target tt tt holds,
-      subst (λ (n : ℕ). end_of code frame ≤ n) (sym (with_length blocks frame to v)) fits,
-      with_laid blocks frame to v s fits holds.target laid,
-    );
-  }
-
-  -- likewise, with what stands above it
+  -- a frame goes on, or is over by a trap: what stands above it stays
   pub gone_at : (blocks : List ℕ) (s : Above) (frame : Frame) (to : Option ℕ) (f : Own) (done : Finish) → Holds code blocks frame None to f
       → end_of code frame ≤ length blocks → IsLaidOut code blocks s frame.base (end_of code frame) (length blocks)
       → IsShownAt code (stack_gone_on frame to done blocks) (listed s) (gone_on frame done) s (resume f (result_of done))
@@ -115,3 +90,11 @@ module _ (code : CodeParts) where
       with_laid blocks frame to v s fits holds.target laid,
     );
   }
+
+  -- and the tree with it
+  pub gone_shown : (blocks : List ℕ) (s : Above) (frame : Frame) (to : Option ℕ) (f : Own) (done : Finish) → Holds code blocks frame None to f
+      → end_of code frame ≤ length blocks → IsLaidOut code blocks s frame.base (end_of code frame) (length blocks)
+      → IsShown code (stack_gone_on frame to done blocks) (listed s) (gone_on frame done) (tree_at s (resume f (result_of done)))
+  gone_shown blocks s frame to f done holds fits laid =
+      shown_by code (stack_gone_on frame to done blocks) (listed s) (gone_on frame done) s (resume f (result_of done)) (tree_at s (resume f (result_of done)))
+      refl (gone_at blocks s frame to f done holds fits laid)

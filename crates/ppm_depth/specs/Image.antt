@@ -1,5 +1,5 @@
 -- The words with which a run begins, and the arrays that words stand for.
-use Rattle.std.specs.Prelude.{ℕ, ◌+◌, ◌-◌, List, [], ◌∷◌, ◌++◌, length, map, take, drop, replicate, Option, Some, None}
+use Rattle.std.specs.Prelude.{◌≡◌, ℕ, ◌+◌, ◌-◌, List, [], ◌∷◌, ◌++◌, length, map, take, drop, replicate, Option, Some, None}
 use Rattle.ppm_words.specs.TwosComplement.{value_of}
 use Rattle.ppm_words.specs.declared.named_array.NamedArray.{NamedArray}
 use Rattle.ppm_code.specs.declared.code.CodeParts.{CodeParts}
@@ -7,8 +7,10 @@ use Rattle.ppm_code.specs.Sizes.{slots_of}
 use Rattle.ppm_words.specs.declared.outcome.Outcome.{Outcome}
 use Rattle.ppm_words.specs.declared.outcome.Outcome.TheVariants.{Ended, Trapped as TrappedAt, NotWithin}
 use Rattle.ppm_depth.specs.Start.{root_regions}
+use Rattle.ppm_depth.specs.declared.depth.DepthRun.{DepthRun}
 use Rattle.ppm_depth.specs.declared.frame.Finish.{Finish}
 use Rattle.ppm_depth.specs.declared.frame.Finish.TheVariants.{Gave, Trapped}
+use Rattle.ppm_depth.specs.declared.strand.Strand.{Strand}
 
 -- how many words arrays have
 abbrev pub word_count : List NamedArray → ℕ
@@ -30,3 +32,10 @@ abbrev pub outcome_in : List NamedArray → List ℕ → Option Finish → Outco
 outcome_in arrays words (Some (Gave value)) = Ended (arrays_in arrays words)
 outcome_in arrays words (Some (Trapped trap line)) = TrappedAt trap line
 outcome_in arrays words None = NotWithin
+
+-- what is said of a strand that has come to this, with its counts, where the root's frame has so many words
+pub record IsRunOf (arrays : List NamedArray) (strand : Strand) (frame_words : ℕ) (finish : Option Finish) (run : DepthRun) : Type 0 where
+  pub outcome : run.outcome ≡ outcome_in arrays strand.store.words.items finish
+  pub capsules : run.capsules ≡ strand.counts.capsules
+  pub forks : run.forks ≡ strand.counts.forks
+  pub pool_words : run.pool_words ≡ frame_words + strand.counts.block_words

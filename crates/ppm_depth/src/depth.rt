@@ -1,9 +1,9 @@
 //! The depth-first run of a code.
-ghost use Rattle.std.specs.Prelude.{◌≡◌, ◌≤◌, ◌^◌, IfOk, length};
+ghost use Rattle.std.specs.Prelude.{◌≡◌, ◌<◌, ◌≤◌, ◌^◌, ◌+◌, IfOk, length};
 ghost use Rattle.ppm_code.specs.Tidy.{IsTidy};
 ghost use Rattle.ppm_depth.specs.Start.{NamesArrays};
 ghost use Rattle.ppm_depth.specs.Run.{IsDepthRun};
-ghost use Rattle.ppm_depth.specs.Image.{outcome_in, word_count};
+ghost use Rattle.ppm_depth.specs.Image.{IsRunOf, outcome_in, word_count};
 
 use crate::frame::Finish;
 use crate::image::{root_store, to_arrays};
@@ -40,6 +40,28 @@ fn outcome_of(
     }
 }
 
+/// What is said of a strand that has come to this, over the words of arrays, with its counts; its
+/// root's frame has so many words.
+pub fn depth_run(
+    alloc: Global,
+    arrays: &[NamedArray],
+    strand: &Strand,
+    frame_words: u64,
+    finish: Option<Finish>,
+) -> Result<DepthRun, NoMemory>
+    requires words { word_count arrays.now ≤ length strand.now.store.words.items }
+    requires room { frame_words + strand.now.counts.block_words < 2 ^ 64 }
+    ensures { IfOk result (IsRunOf arrays.now strand.now frame_words finish) }
+{
+    let outcome = outcome_of(alloc, arrays, &strand.store.words, finish)?;
+    Ok(DepthRun {
+        outcome,
+        capsules: strand.counts.capsules,
+        forks: strand.counts.forks,
+        pool_words: frame_words + strand.counts.block_words,
+    })
+}
+
 /// Runs a code depth first from an input, with a stack of its own: at most `capsules` capsules, up
 /// to 2^40. `NotWithin` exactly where more would be run; the counts are then those of the first so
 /// many.
@@ -60,11 +82,6 @@ pub fn depth_first(
     let mut strand = Strand::new(alloc, store);
     let root = entry(code, code.parts().root, 0);
     let finish = strand.run(code, root, capsules)?;
-    let outcome = outcome_of(alloc, arrays, &strand.store.words, finish)?;
-    Ok(DepthRun {
-        outcome,
-        capsules: strand.counts.capsules,
-        forks: strand.counts.forks,
-        pool_words: frame_words + strand.counts.block_words,
-    })
+    let run = depth_run(alloc, arrays, &strand, frame_words, finish)?;
+    Ok(run)
 }

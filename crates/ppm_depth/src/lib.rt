@@ -17,7 +17,7 @@ mod store;
 mod strand;
 
 pub use capsule::{Done, block_words, instrs_of};
-pub use depth::{DepthRun, depth_first};
+pub use depth::{DepthRun, depth_first, depth_run};
 pub use frame::{Finish, For, Frame, Now, Waiting};
 pub use image::root_store;
 pub use laws::orders_come_to_one_end;

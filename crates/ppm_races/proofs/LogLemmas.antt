@@ -1,211 +1,205 @@
--- A capsule under way with its log: what is left of it comes to what the whole of it comes to, and what is noted and is left is what the whole
--- touches.
-use Rattle.std.proofs.Common.{◌≡◌, ◌<◌, ◌≤◌, ℕ, ◌+◌, Bool, true, false, List, [], ◌∷◌, ◌++◌, length, get_or, refl, sym, ap, ◌∙◌, subst, arith, cond, slice_set, inl, inr}
-use Rattle.std.specs.Prelude.{◌⊎◌, ◌↔◌}
-use Rattle.ppm_strands.specs.Tree.{Has}
-use Rattle.ppm_strands.proofs.PartsLemmas.{has_left, has_right, has_cases}
+-- A capsule under way with its log: what was noted, and the touches that are to come, are the touches of the whole; and these are what it reads
+-- and writes.
+use Rattle.std.proofs.Common.{◌≡◌, ◌<◌, ◌≤◌, ℕ, zero, suc, ◌+◌, ◌-◌, max, Bool, true, false, List, [], ◌∷◌, ◌++◌, length, get_or, refl, sym, ap, ◌∙◌, subst, arith, cond, slice_set, inl, inr, Some, add-zero, zero-add}
+use Rattle.std.specs.Prelude.{◌⊎◌, ◌↔◌, slice_get, replicate}
+use Rattle.std.proofs.lemmas.Option.{slice_get_read}
+use Rattle.std.proofs.lemmas.List.{append-nil, append_assoc}
 use Rattle.std.proofs.lemmas.Bool.{cond-false}
+use Rattle.ppm_strands.specs.Tree.{Has}
 use Rattle.ppm_capsules.proofs.LocationLemmas.{in_or_not}
-use Rattle.ppm_capsules.specs.Capsule.{Capsule, Reads, Writes, Asks as AsksFor, Ends, Memory, In, is_in, store, ending, leaves, asked, written, exposed, exposed_past}
-use Rattle.ppm_capsules.specs.Strand.{Location as Places, Own, New as NewWord, Shared, addresses}
+use Rattle.ppm_capsules.specs.Capsule.{Capsule, Reads, Writes, Asks as AsksFor, Ends, Memory, In, is_in, store, written, exposed, exposed_past}
+use Rattle.ppm_capsules.specs.Strand.{Own, New as NewWord, Shared, addresses}
 use Rattle.ppm_code.specs.declared.act.Act.{Act}
+use Rattle.ppm_code.specs.declared.act.Act.TheVariants.{Sets, Passes, Jumps, Steps, Ends as Stops}
 use Rattle.ppm_code.specs.declared.act.End.{End}
 use Rattle.ppm_code.specs.declared.act.End.TheVariants.{Finish}
 use Rattle.ppm_code.specs.declared.act.Step.{Step}
 use Rattle.ppm_code.specs.declared.act.Step.TheVariants.{Loads, Stores, Asks}
-use Rattle.ppm_code.specs.declared.code.CodeParts.{CodeParts}
 use Rattle.ppm_code.specs.declared.instr.Instr.{Instr}
 use Rattle.ppm_code.specs.declared.location.Location.{Location}
 use Rattle.ppm_code.specs.declared.location.Location.TheVariants.{Frame, New, Array}
 use Rattle.ppm_code.specs.Acts.{does}
-use Rattle.ppm_code.specs.Capsules.{at_act, at_step, capsule_from, capsule_of}
+use Rattle.ppm_code.specs.Capsules.{at_act, capsule_from, capsule_of}
 use Rattle.ppm_code.specs.Locations.{Where, code_locations, location_of}
-use Rattle.ppm_code.specs.Strands.{instrs_of}
-use Rattle.ppm_code.specs.Sizes.{slots_at}
-use Rattle.ppm_code.proofs.CapsuleLemmas.{worked, past_end}
-use Rattle.ppm_depth.specs.Store.{Shows, IsWithin, found, registers_after, blocks_after, words_after, asked_by}
-use Rattle.ppm_depth.specs.Whole.{IsWhole, block_at}
+use Rattle.ppm_depth.specs.Store.{Shows, IsWithin, found, registers_after, blocks_after, words_after}
 use Rattle.ppm_depth.specs.declared.store.Place.{Place}
-use Rattle.ppm_depth.specs.declared.capsule.Done.{Done}
-use Rattle.ppm_depth.proofs.RestLemmas.{IsLaid, IsLeft, IsStepWithin, loaded, stored}
-use Rattle.ppm_depth.proofs.WholeLemmas.{whole_ends}
-use Rattle.ppm_races.specs.Touches.{touches_at, touches_by, words_in, with_written, written_in, AreThere, IsLogOf}
+use Rattle.ppm_depth.proofs.RestLemmas.{IsLaid, IsStepWithin, loaded, stored}
+use Rattle.ppm_races.specs.Touches.{touches_at, touches_by, words_in, with_written, written_in, AreThere, after_step, after_act, touches_from, touches_of}
 use Rattle.ppm_races.specs.declared.touch.Touch.{Touch}
 
+-- how the touches go on matters at later instructions alone
+same_step : (p q : ℕ → List ℕ → Memory Where → List Touch) (next : ℕ) (s : Step) (g : List ℕ) (m : Memory Where)
+    → ((t : ℕ) (h : List ℕ) (n : Memory Where) → next ≤ t → p t h n ≡ q t h n) → after_step p next s g m ≡ after_step q next s g m
+same_step p q next (Loads l d) g m same = same next (slice_set g d.index (m (location_of l))) m (omega arith)
+same_step p q next (Stores l v) g m same = same next g (store code_locations m (location_of l) v) (omega arith)
+same_step p q next (Asks n) g m same = same next g m (omega arith)
+
+same_act : (p q : ℕ → List ℕ → Memory Where → List Touch) (here : ℕ) (a : Act) (g : List ℕ) (m : Memory Where)
+    → ((t : ℕ) (h : List ℕ) (n : Memory Where) → here + 1 ≤ t → p t h n ≡ q t h n) → after_act p here a g m ≡ after_act q here a g m
+same_act p q here (Sets d v) g m same = same (here + 1) (slice_set g d.index v) m (omega arith)
+same_act p q here Passes g m same = same (here + 1) g m (omega arith)
+same_act p q here (Jumps t) g m same = same (max t (here + 1)) g m (omega arith)
+same_act p q here (Steps s) g m same = ap (λ (ts : List Touch). touches_by s here ++ ts) (same_step p q (here + 1) s g m same)
+same_act p q here (Stops e) g m same = refl
+
+module _ (words : ℕ) where
+  later : (here t : ℕ) (i : Instr) (is : List Instr) (h : List ℕ) (m : Memory Where) → here + 1 ≤ t
+      → touches_from words (here + 1) (t - (here + 1)) is h m ≡ touches_from words here (t - here) (i ∷ is) h m
+  later here t i is h m less =
+      let e : t - here ≡ suc (t - (here + 1)) = omega arith in
+      rw e refl
+
+  from_here : (here skip : ℕ) (is : List Instr) (g : List ℕ) (m : Memory Where) (i : Instr) → slice_get is skip ≡ Some i
+      → touches_from words here skip is g m ≡ after_act (λ t h n. touches_from words here (t - here) is h n) (here + skip) (does words i g) g m
+  from_here here skip [] g m i none = cc
+  from_here here zero (j ∷ is) g m i one =
+      let e : j ≡ i = cc in
+      same_act (λ t h n. touches_from words (here + 1) (t - (here + 1)) is h n) (λ t h n. touches_from words here (t - here) (j ∷ is) h n)
+      here (does words j g) g m (λ t h n less. later here t j is h n less)
+      ∙ ap (λ (k : Instr). after_act (λ t h n. touches_from words here (t - here) (j ∷ is) h n) here (does words k g) g m) e
+      ∙ ap (λ (k : ℕ). after_act (λ t h n. touches_from words here (t - here) (j ∷ is) h n) k (does words i g) g m) (sym (add-zero here))
+  from_here here (suc skip) (j ∷ is) g m i some =
+      let e : (here + 1) + skip ≡ here + suc skip = omega arith in
+      from_here (here + 1) skip is g m i some
+      ∙ ap (λ (k : ℕ). after_act (λ t h n. touches_from words (here + 1) (t - (here + 1)) is h n) k (does words i g) g m) e
+      ∙ same_act (λ t h n. touches_from words (here + 1) (t - (here + 1)) is h n) (λ t h n. touches_from words here (t - here) (j ∷ is) h n)
+      (here + suc skip) (does words i g) g m (λ t h n less. later here t j is h n (omega arith))
+
+  past : (here skip : ℕ) (is : List Instr) (g : List ℕ) (m : Memory Where) → length is ≤ skip → touches_from words here skip is g m ≡ []
+  past here skip [] g m h = refl
+  past here zero (j ∷ is) g m h = absurd (omega arith)
+  past here (suc skip) (j ∷ is) g m h = past (here + 1) skip is g m (omega arith)
+
+  -- the touches at an instruction
+  at_instr : (at : ℕ) (is : List Instr) (g : List ℕ) (m : Memory Where) (i : Instr) → slice_get is at ≡ Some i
+      → touches_from words 0 at is g m ≡ after_act (λ t h n. touches_from words 0 t is h n) at (does words i g) g m
+  at_instr at is g m i some =
+      from_here 0 at is g m i some
+      ∙ ap (λ (k : ℕ). after_act (λ t h n. touches_from words 0 (t - 0) is h n) k (does words i g) g m) (zero-add at)
+      ∙ same_act (λ t h n. touches_from words 0 (t - 0) is h n) (λ t h n. touches_from words 0 t is h n) at (does words i g) g m
+      (λ t h n less. ap (λ (k : ℕ). touches_from words 0 k is h n) (omega arith))
+
+module _ (slots size : ℕ) (p : Place) where
+  -- what was noted, and the touches that are to come, are those of the whole
+  pub record IsNoting (whole : List Touch) (blocks words : List ℕ) (log : List Touch) (rest : Memory Where → List Touch) : Type 0 where
+    pub now : Memory Where
+    pub shows : Shows slots size p blocks words now
+    pub all : log ++ rest now ≡ whole
+
+  module _ (whole : List Touch) where
+    pub begins : (blocks words : List ℕ) (m : Memory Where) (rest : Memory Where → List Touch) → Shows slots size p blocks words m → rest m ≡ whole
+        → IsNoting whole blocks words [] rest
+    begins blocks words m rest shows is = record { now = m; shows = shows; all = is }
+
+    -- a step is made
+    step_noted_by : (s : Step) (at : ℕ) (go : ℕ → List ℕ → Memory Where → List Touch) (next : ℕ) (blocks words : List ℕ) (log : List Touch) (g : List ℕ)
+        → IsLaid slots size p blocks → IsStepWithin slots size p (length words) s
+        → IsNoting whole blocks words log (λ m. touches_by s at ++ after_step go next s g m)
+        → IsNoting whole (blocks_after p s blocks) (words_after s words) (log ++ touches_by s at) (go next (registers_after p s blocks words g))
+    step_noted_by (Loads l d) at go next blocks words log g laid within it = record {
+      now = it.now;
+      shows = it.shows;
+      all = append_assoc log (touches_at l false at) (go next (slice_set g d.index (found p l blocks words)) it.now)
+          ∙ ap (λ (v : ℕ). log ++ (touches_at l false at ++ go next (slice_set g d.index v) it.now))
+          (sym (loaded slots size p l blocks words it.now it.shows within)) ∙ it.all;
+    }
+    step_noted_by (Stores l v) at go next blocks words log g laid within it = record {
+      now = store code_locations it.now (location_of l) v;
+      shows = stored slots size p l v blocks words it.now laid it.shows within;
+      all = append_assoc log (touches_at l true at) (go next g (store code_locations it.now (location_of l) v)) ∙ it.all;
+    }
+    step_noted_by (Asks n) at go next blocks words log g laid within it = record {
+      now = it.now;
+      shows = it.shows;
+      all = append_assoc log [] (go next g it.now) ∙ it.all;
+    }
+
+    pub notes_step : (s : Step) (at : ℕ) (go : ℕ → List ℕ → Memory Where → List Touch) (next : ℕ) (blocks words g blocks' words' g' : List ℕ) (log log' : List Touch)
+        → IsLaid slots size p blocks → IsStepWithin slots size p (length words) s → blocks' ≡ blocks_after p s blocks
+        → words' ≡ words_after s words → g' ≡ registers_after p s blocks words g → log' ≡ log ++ touches_by s at
+        → IsNoting whole blocks words log (λ m. touches_by s at ++ after_step go next s g m) → IsNoting whole blocks' words' log' (go next g')
+    notes_step s at go next blocks words g blocks' words' g' log log' laid within is_blocks is_words is_registers is_log it =
+        rw (is_blocks, is_words, is_registers, is_log) (step_noted_by s at go next blocks words log g laid within it)
+
+    module _ (blocks words : List ℕ) (log : List Touch) (array_words at : ℕ) (is : List Instr) (g : List ℕ) where
+      -- what an instruction does
+      pub notes_act : (i : Instr) (a : Act) → at < length is → i ≡ get_or is at i → a ≡ does array_words i g
+          → IsNoting whole blocks words log (λ m. touches_from array_words 0 at is g m)
+          → IsNoting whole blocks words log (λ m. after_act (λ t h n. touches_from array_words 0 t is h n) at a g m)
+      notes_act i a there read acts it = record {
+        now = it.now;
+        shows = it.shows;
+        all = ap (λ (b : Act). log ++ after_act (λ t h n. touches_from array_words 0 t is h n) at b g it.now) acts
+            ∙ ap (λ (ts : List Touch). log ++ ts) (sym (at_instr array_words at is g it.now i (slice_get_read is (length is) at i refl there read)))
+            ∙ it.all;
+      }
+
+      -- past the last one nothing is to come
+      pub notes_past : length is ≤ at → IsNoting whole blocks words log (λ m. touches_from array_words 0 at is g m)
+          → IsNoting whole blocks words log (λ m. [])
+      notes_past far it = record {
+        now = it.now;
+        shows = it.shows;
+        all = ap (λ (ts : List Touch). log ++ ts) (sym (past array_words 0 at is g it.now far)) ∙ it.all;
+      }
+
+    -- nothing is to come: the log is whole
+    pub log_whole : (blocks words : List ℕ) (log : List Touch) → IsNoting whole blocks words log (λ m. []) → log ≡ whole
+    log_whole blocks words log it = sym (append-nil log) ∙ it.all
+
 -- all that a capsule reads and writes, in the order in which it does
-abbrev pub accessed : Capsule Where End → Memory Where → List Where
+abbrev accessed : Capsule Where End → Memory Where → List Where
 accessed (Reads l go) m = l ∷ accessed (go (m l)) m
 accessed (Writes l v go) m = l ∷ accessed go (store code_locations m l v)
 accessed (AsksFor n go) m = accessed go m
 accessed (Ends e) m = []
 
--- the words of a log and of what follows it
-words_more : (log more : List Touch) (x : ℕ) → Has x (words_in (log ++ more)) ↔ (Has x (words_in log) ⊎ Has x (words_in more))
-words_more [] more x = (λ h. inr h, λ h. elim h [ inl y ↦ absurd y | inr y ↦ y ])
-words_more (t ∷ log) more x = (
-  λ h. elim h [ inl y ↦ inl (inl y) | inr y ↦ elim ((words_more log more x).0 y) [ inl z ↦ inl (inr z) | inr z ↦ inr z ] ],
-  λ h. elim h [
-    | inl y ↦ elim y [ inl z ↦ inl z | inr z ↦ inr ((words_more log more x).1 (inl z)) ]
-    | inr y ↦ inr ((words_more log more x).1 (inr y))
-  ],
-)
+-- what a step touches is what its location's address is
+address_first : (l : Location) (b : Bool) (at : ℕ) (log : List Touch) (ls : List Where) → words_in log ≡ addresses ls
+    → words_in (touches_at l b at ++ log) ≡ addresses (location_of l ∷ ls)
+address_first (Frame own) b at log ls same = same
+address_first (New offset) b at log ls same = same
+address_first (Array word) b at log ls same = ap (λ (xs : List ℕ). word ∷ xs) same
 
-with_cases : (b : Bool) (y x : ℕ) (xs : List ℕ) → Has x (with_written b y xs) ↔ (Has x (with_written b y []) ⊎ Has x xs)
-with_cases true y x xs = (
-  λ h. elim h [ inl z ↦ inl (inl z) | inr z ↦ inr z ],
-  λ h. elim h [ inl z ↦ elim z [ inl w ↦ inl w | inr w ↦ absurd w ] | inr z ↦ inr z ],
-)
-with_cases false y x xs = (λ h. inr h, λ h. elim h [ inl z ↦ absurd z | inr z ↦ z ])
+written_first : (l : Location) (at : ℕ) (log : List Touch) (ls : List Where) → written_in log ≡ addresses ls
+    → written_in (touches_at l true at ++ log) ≡ addresses (location_of l ∷ ls)
+written_first (Frame own) at log ls same = same
+written_first (New offset) at log ls same = same
+written_first (Array word) at log ls same = ap (λ (xs : List ℕ). word ∷ xs) same
 
-written_more : (log more : List Touch) (x : ℕ) → Has x (written_in (log ++ more)) ↔ (Has x (written_in log) ⊎ Has x (written_in more))
-written_more [] more x = (λ h. inr h, λ h. elim h [ inl y ↦ absurd y | inr y ↦ y ])
-written_more (t ∷ log) more x = (
-  λ h. elim ((with_cases t.writes t.word x (written_in (log ++ more))).0 h) [
-    | inl y ↦ inl ((with_cases t.writes t.word x (written_in log)).1 (inl y))
-    | inr y ↦ elim ((written_more log more x).0 y) [
-      | inl z ↦ inl ((with_cases t.writes t.word x (written_in log)).1 (inr z))
-      | inr z ↦ inr z
-    ]
-  ],
-  λ h. (with_cases t.writes t.word x (written_in (log ++ more))).1 (elim h [
-    | inl y ↦ elim ((with_cases t.writes t.word x (written_in log)).0 y) [ inl z ↦ inl z | inr z ↦ inr ((written_more log more x).1 (inl z)) ]
-    | inr y ↦ inr ((written_more log more x).1 (inr y))
-  ]),
-)
+read_first : (l : Location) (at : ℕ) (log : List Touch) (ls : List Where) → written_in log ≡ addresses ls
+    → written_in (touches_at l false at ++ log) ≡ addresses ls
+read_first (Frame own) at log ls same = same
+read_first (New offset) at log ls same = same
+read_first (Array word) at log ls same = same
 
--- what is noted of a location is its address
-noted : (l : Location) (b : Bool) (at x : ℕ) (ls : List Where)
-    → (Has x (words_in (touches_at l b at)) ⊎ Has x (addresses ls)) ↔ Has x (addresses (location_of l ∷ ls))
-noted (Frame own) b at x ls = (λ h. elim h [ inl y ↦ absurd y | inr y ↦ y ], λ h. inr h)
-noted (New offset) b at x ls = (λ h. elim h [ inl y ↦ absurd y | inr y ↦ y ], λ h. inr h)
-noted (Array word) b at x ls = (
-  λ h. elim h [ inl y ↦ elim y [ inl z ↦ inl z | inr z ↦ absurd z ] | inr y ↦ inr y ],
-  λ h. elim h [ inl y ↦ inl (inl y) | inr y ↦ inr y ],
-)
+-- touches and a capsule have the same words
+pub record AreOf (log : List Touch) (c : Capsule Where End) (m : Memory Where) : Type 0 where
+  pub all : words_in log ≡ addresses (accessed c m)
+  pub written : written_in log ≡ addresses (written code_locations c m)
 
-noted_write : (l : Location) (at x : ℕ) (ls : List Where)
-    → (Has x (written_in (touches_at l true at)) ⊎ Has x (addresses ls)) ↔ Has x (addresses (location_of l ∷ ls))
-noted_write (Frame own) at x ls = (λ h. elim h [ inl y ↦ absurd y | inr y ↦ y ], λ h. inr h)
-noted_write (New offset) at x ls = (λ h. elim h [ inl y ↦ absurd y | inr y ↦ y ], λ h. inr h)
-noted_write (Array word) at x ls = (
-  λ h. elim h [ inl y ↦ elim y [ inl z ↦ inl z | inr z ↦ absurd z ] | inr y ↦ inr y ],
-  λ h. elim h [ inl y ↦ inl (inl y) | inr y ↦ inr y ],
-)
+step_of : (log_at : ℕ → List ℕ → Memory Where → List Touch) (capsule_at : ℕ → List ℕ → Capsule Where End)
+    → ((t : ℕ) (h : List ℕ) (n : Memory Where) → AreOf (log_at t h n) (capsule_at t h) n) → (here : ℕ) (a : Act) (g : List ℕ) (m : Memory Where)
+    → AreOf (after_act log_at here a g m) (at_act capsule_at (here + 1) a g) m
+step_of log_at capsule_at same here (Sets d v) g m = same (here + 1) (slice_set g d.index v) m
+step_of log_at capsule_at same here Passes g m = same (here + 1) g m
+step_of log_at capsule_at same here (Jumps t) g m = same (max t (here + 1)) g m
+step_of log_at capsule_at same here (Steps (Loads l d)) g m =
+    let rest = same (here + 1) (slice_set g d.index (m (location_of l))) m in
+    record { all = address_first l false here _ _ rest.all; written = read_first l here _ _ rest.written }
+step_of log_at capsule_at same here (Steps (Stores l v)) g m =
+    let rest = same (here + 1) g (store code_locations m (location_of l) v) in
+    record { all = address_first l true here _ _ rest.all; written = written_first l here _ _ rest.written }
+step_of log_at capsule_at same here (Steps (Asks n)) g m = let rest = same (here + 1) g m in record { all = rest.all; written = rest.written }
+step_of log_at capsule_at same here (Stops e) g m = record { all = refl; written = refl }
 
--- a read is noted as none
-noted_read : (l : Location) (at x : ℕ) → Has x (written_in (touches_at l false at)) → ⊥
-noted_read (Frame own) at x h = h
-noted_read (New offset) at x h = h
-noted_read (Array word) at x h = h
-
--- three parts in another grouping
-regroup : {A B C D E : Type 0} → E ↔ (A ⊎ B) → (B ⊎ C) ↔ D → (E ⊎ C) ↔ (A ⊎ D)
-regroup e d = (
-  λ h. elim h [
-    | inl y ↦ elim (e.0 y) [ inl z ↦ inl z | inr z ↦ inr (d.0 (inl z)) ]
-    | inr y ↦ inr (d.0 (inr y))
-  ],
-  λ h. elim h [
-    | inl y ↦ inl (e.1 (inl y))
-    | inr y ↦ elim (d.1 y) [ inl z ↦ inl (e.1 (inr z)) | inr z ↦ inr z ]
-  ],
-)
-
-trans : {A B C : Type 0} → A ↔ B → B ↔ C → A ↔ C
-trans f g = (λ h. g.0 (f.0 h), λ h. f.1 (g.1 h))
-
-module _ (slots size : ℕ) (p : Place) where
-  -- what is left of a capsule, as of `IsLeft` of `ppm_depth`, and what was noted
-  pub record IsGoing (whole : Capsule Where End) (m : Memory Where) (so_far : ℕ) (blocks words : List ℕ) (log : List Touch)
-      (rest : Capsule Where End) : Type 0 where
-    pub now : Memory Where
-    pub end : ending code_locations rest now ≡ ending code_locations whole m
-    pub memory : leaves code_locations rest now ≡ leaves code_locations whole m
-    pub asks : so_far + asked code_locations rest now ≡ asked code_locations whole m
-    pub shows : Shows slots size p blocks words now
-    pub touched : (x : ℕ) → (Has x (words_in log) ⊎ Has x (addresses (accessed rest now))) ↔ Has x (addresses (accessed whole m))
-    pub written : (x : ℕ) → (Has x (written_in log) ⊎ Has x (addresses (written code_locations rest now))) ↔ Has x (addresses (written code_locations whole m))
-
-  module _ (whole : Capsule Where End) (m : Memory Where) where
-    pub begun : (blocks words : List ℕ) → Shows slots size p blocks words m → IsGoing whole m 0 blocks words [] whole
-    begun blocks words shows = record {
-      now = m;
-      end = refl;
-      memory = refl;
-      asks = omega arith;
-      shows = shows;
-      touched = λ x. (λ h. elim h [ inl y ↦ absurd y | inr y ↦ y ], λ h. inr h);
-      written = λ x. (λ h. elim h [ inl y ↦ absurd y | inr y ↦ y ], λ h. inr h);
-    }
-
-    -- without the log
-    pub is_left : (so_far : ℕ) (blocks words : List ℕ) (log : List Touch) (rest : Capsule Where End) → IsGoing whole m so_far blocks words log rest
-        → IsLeft slots size p whole m so_far blocks words rest
-    is_left so_far blocks words log rest it = record { now = it.now; end = it.end; memory = it.memory; asks = it.asks; shows = it.shows }
-
-    -- a step is made
-    step_going : (s : Step) (at : ℕ) (go : ℕ → List ℕ → Capsule Where End) (next so_far : ℕ) (blocks words : List ℕ) (log : List Touch) (g : List ℕ)
-        → IsLaid slots size p blocks → IsStepWithin slots size p (length words) s → IsGoing whole m so_far blocks words log (at_step go next s g)
-        → IsGoing whole m (so_far + asked_by s) (blocks_after p s blocks) (words_after s words) (log ++ touches_by s at)
-        (go next (registers_after p s blocks words g))
-    step_going (Loads l to) at go next so_far blocks words log g laid within it =
-        let same : go next (slice_set g to.index (it.now (location_of l))) ≡ go next (slice_set g to.index (found p l blocks words)) =
-        ap (λ (v : ℕ). go next (slice_set g to.index v)) (loaded slots size p l blocks words it.now it.shows within) in
-        record {
-          now = it.now;
-          end = sym (ap (λ (c : Capsule Where End). ending code_locations c it.now) same) ∙ it.end;
-          memory = sym (ap (λ (c : Capsule Where End). leaves code_locations c it.now) same) ∙ it.memory;
-          asks =
-              let count = sym (ap (λ (c : Capsule Where End). asked code_locations c it.now) same) in
-              let all = it.asks in
-              omega (arith, count, all);
-          shows = it.shows;
-          touched = λ x. subst (λ (c : Capsule Where End). (Has x (words_in (log ++ touches_at l false at)) ⊎ Has x (addresses (accessed c it.now)))
-              ↔ Has x (addresses (accessed whole m))) same
-              (trans (regroup (words_more log (touches_at l false at) x) (noted l false at x _)) (it.touched x));
-          written = λ x. subst (λ (c : Capsule Where End). (Has x (written_in (log ++ touches_at l false at)) ⊎ Has x (addresses (written code_locations c it.now)))
-              ↔ Has x (addresses (written code_locations whole m))) same
-              (trans (regroup (written_more log (touches_at l false at) x)
-              (λ h. elim h [ inl y ↦ absurd (noted_read l at x y) | inr y ↦ y ], λ h. inr h)) (it.written x));
-        }
-    step_going (Stores l v) at go next so_far blocks words log g laid within it = record {
-      now = store code_locations it.now (location_of l) v;
-      end = it.end;
-      memory = it.memory;
-      asks = let all = it.asks in omega (arith, all);
-      shows = stored slots size p l v blocks words it.now laid it.shows within;
-      touched = λ x. trans (regroup (words_more log (touches_at l true at) x) (noted l true at x _)) (it.touched x);
-      written = λ x. trans (regroup (written_more log (touches_at l true at) x) (noted_write l at x _)) (it.written x);
-    }
-    step_going (Asks n) at go next so_far blocks words log g laid within it = record {
-      now = it.now;
-      end = it.end;
-      memory = it.memory;
-      asks = let all = it.asks in omega (arith, all);
-      shows = it.shows;
-      touched = λ x. trans (regroup (words_more log [] x) (λ h. elim h [ inl y ↦ absurd y | inr y ↦ y ], λ h. inr h)) (it.touched x);
-      written = λ x. trans (regroup (written_more log [] x) (λ h. elim h [ inl y ↦ absurd y | inr y ↦ y ], λ h. inr h)) (it.written x);
-    }
-
-    pub went : (s : Step) (at : ℕ) (go : ℕ → List ℕ → Capsule Where End) (next so_far count : ℕ) (blocks words g blocks' words' g' : List ℕ) (log log' : List Touch)
-        → IsLaid slots size p blocks → IsStepWithin slots size p (length words) s → count ≡ asked_by s → blocks' ≡ blocks_after p s blocks
-        → words' ≡ words_after s words → g' ≡ registers_after p s blocks words g → log' ≡ log ++ touches_by s at
-        → IsGoing whole m so_far blocks words log (at_step go next s g) → IsGoing whole m (so_far + count) blocks' words' log' (go next g')
-    went s at go next so_far count blocks words g blocks' words' g' log log' laid within counts is_blocks is_words is_registers is_log it =
-        rw (counts, is_blocks, is_words, is_registers, is_log) (step_going s at go next so_far blocks words log g laid within it)
-
-    module _ (so_far : ℕ) (blocks words : List ℕ) (log : List Touch) where
-      pub act_going : (array_words at : ℕ) (is : List Instr) (g : List ℕ) (i : Instr) (a : Act) → at < length is → i ≡ get_or is at i
-          → a ≡ does array_words i g → IsGoing whole m so_far blocks words log (capsule_from array_words 0 at is g)
-          → IsGoing whole m so_far blocks words log (at_act (λ t h. capsule_from array_words 0 t is h) (at + 1) a g)
-      act_going array_words at is g i a there read acts it =
-          subst (λ (q : Capsule Where End). IsGoing whole m so_far blocks words log q)
-          (sym (worked array_words at is g i a _ there read acts refl)) it
-
-      pub past_going : (array_words at : ℕ) (is : List Instr) (g : List ℕ) → length is ≤ at
-          → IsGoing whole m so_far blocks words log (capsule_from array_words 0 at is g) → IsGoing whole m so_far blocks words log (Ends Finish)
-      past_going array_words at is g past it =
-          subst (λ (q : Capsule Where End). IsGoing whole m so_far blocks words log q) (past_end array_words at is g past) it
+touches_are : (array_words here skip : ℕ) (is : List Instr) (g : List ℕ) (m : Memory Where)
+    → AreOf (touches_from array_words here skip is g m) (capsule_from array_words here skip is g) m
+touches_are array_words here skip [] g m = record { all = refl; written = refl }
+touches_are array_words here (suc skip) (i ∷ is) g m = touches_are array_words (here + 1) skip is g m
+touches_are array_words here zero (i ∷ is) g m =
+    step_of (λ t h n. touches_from array_words (here + 1) (t - (here + 1)) is h n) (λ t h. capsule_from array_words (here + 1) (t - (here + 1)) is h)
+    (λ t h n. touches_are array_words (here + 1) (t - (here + 1)) is h n) here (does array_words i g) g m
 
 -- what is read without having been written, and what is written, is all that is accessed
 address_in : (x : ℕ) (ls : List Where) → In (Shared x) ls → Has x (addresses ls)
@@ -274,16 +268,24 @@ back x w (AsksFor n go) m h = back x w go m h
 back x w (Ends e) m (inl h) = absurd h
 back x w (Ends e) m (inr h) = absurd h
 
--- at the end of a capsule its log is complete
-pub log_whole : (slots size : ℕ) (p : Place) (whole : Capsule Where End) (m : Memory Where) (so_far : ℕ) (blocks words : List ℕ) (log : List Touch) (e : End)
-    → IsGoing slots size p whole m so_far blocks words log (Ends e) → IsLogOf log whole m
-log_whole slots size p whole m so_far blocks words log e it = record {
-  touched = λ x. (
-    λ h. elim (forth x [] whole m ((it.touched x).0 (inl h))) [ inl y ↦ absurd y | inr y ↦ y ],
-    λ h. elim ((it.touched x).1 (back x [] whole m h)) [ inl y ↦ y | inr y ↦ absurd y ],
-  );
-  written = λ x. (λ h. (it.written x).0 (inl h), λ h. elim ((it.written x).1 h) [ inl y ↦ y | inr y ↦ absurd y ]);
-}
+-- the touches of a capsule are what it reads and writes
+pub record IsLogOf (log : List Touch) (p : Capsule Where End) (m : Memory Where) : Type 0 where
+  pub touched : (x : ℕ) → Has x (words_in log) ↔ (Has x (addresses (exposed code_locations p m)) ⊎ Has x (addresses (written code_locations p m)))
+  pub written : (x : ℕ) → Has x (written_in log) ↔ Has x (addresses (written code_locations p m))
+
+pub is_log : (array_words : ℕ) (is : List Instr) (m : Memory Where) → IsLogOf (touches_of array_words is m) (capsule_of array_words is) m
+is_log array_words is m =
+    let same = touches_are array_words 0 0 is (replicate 64 0) m in
+    record {
+      touched = λ x. (
+        λ h. elim (forth x [] (capsule_of array_words is) m (subst (λ (xs : List ℕ). Has x xs) same.all h)) [ inl y ↦ absurd y | inr y ↦ y ],
+        λ h. subst (λ (xs : List ℕ). Has x xs) (sym same.all) (back x [] (capsule_of array_words is) m h),
+      );
+      written = λ x. (
+        λ h. subst (λ (xs : List ℕ). Has x xs) same.written h,
+        λ h. subst (λ (xs : List ℕ). Has x xs) (sym same.written) h,
+      );
+    }
 
 -- what is noted are array words
 pub there_more : (n : ℕ) (log more : List Touch) → AreThere n log → AreThere n more → AreThere n (log ++ more)

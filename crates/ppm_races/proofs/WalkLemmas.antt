@@ -40,7 +40,7 @@ use Rattle.ppm_stamps.specs.Stamps.{Stamps, right_of, Passes, Marks}
 use Rattle.ppm_stamps.specs.Moments.{Above as Standing, InCallee, InLeft, InRight, beside_of, Comes, Runs, Calls, Forks, Returns, GoesRight, Joins}
 use Rattle.ppm_stamps.proofs.MomentLemmas.{beside_low}
 use Rattle.ppm_races.specs.Beside.{is_left_of, stands_beside, stamps_of, NoneMeets, OneMeets, AreMarked}
-use Rattle.ppm_races.specs.Touches.{words_in, written_in, IsLogOf}
+use Rattle.ppm_races.specs.Touches.{words_in, written_in, touches_of}
 use Rattle.ppm_races.specs.Walks.{start_of, mid_of, outside_of, rise, marks_of, opens_fork, marks_with, MarksResumed, IsRaceBy}
 use Rattle.ppm_races.specs.declared.stamps.Mark.{Mark}
 use Rattle.ppm_races.specs.declared.touch.Touch.{Touch}

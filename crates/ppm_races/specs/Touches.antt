@@ -1,14 +1,15 @@
 -- The array words that a capsule touches, as it is run.
-use Rattle.std.specs.Prelude.{◌≡◌, ◌<◌, ◌⊎◌, ◌↔◌, ℕ, Bool, true, false, List, [], ◌∷◌}
-use Rattle.ppm_strands.specs.Tree.{Has}
-use Rattle.ppm_capsules.specs.Capsule.{Capsule, Memory, exposed, written}
-use Rattle.ppm_capsules.specs.Strand.{addresses}
-use Rattle.ppm_code.specs.declared.act.End.{End}
+use Rattle.std.specs.Prelude.{◌<◌, ℕ, zero, suc, ◌+◌, ◌-◌, max, Bool, true, false, List, [], ◌∷◌, ◌++◌, replicate, slice_set}
+use Rattle.ppm_capsules.specs.Capsule.{Memory, store}
+use Rattle.ppm_code.specs.Acts.{does}
+use Rattle.ppm_code.specs.declared.act.Act.{Act}
+use Rattle.ppm_code.specs.declared.act.Act.TheVariants.{Sets, Passes, Jumps, Steps, Ends as Stops}
+use Rattle.ppm_code.specs.declared.instr.Instr.{Instr}
 use Rattle.ppm_code.specs.declared.act.Step.{Step}
 use Rattle.ppm_code.specs.declared.act.Step.TheVariants.{Loads, Stores, Asks}
 use Rattle.ppm_code.specs.declared.location.Location.{Location}
 use Rattle.ppm_code.specs.declared.location.Location.TheVariants.{Frame, New, Array}
-use Rattle.ppm_code.specs.Locations.{Where, code_locations}
+use Rattle.ppm_code.specs.Locations.{Where, code_locations, location_of}
 use Rattle.ppm_races.specs.declared.touch.Touch.{Touch}
 
 -- what is noted of a location, and of a step
@@ -41,7 +42,27 @@ abbrev pub AreThere : ℕ → List Touch → Type 0
 AreThere array_words [] = Unit {0}
 AreThere array_words (t ∷ log) = (t.word < array_words) × AreThere array_words log
 
--- a log has the array words that a capsule reads and writes from a memory
-pub record IsLogOf (log : List Touch) (p : Capsule Where End) (m : Memory Where) : Type 0 where
-  pub touched : (x : ℕ) → Has x (words_in log) ↔ (Has x (addresses (exposed code_locations p m)) ⊎ Has x (addresses (written code_locations p m)))
-  pub written : (x : ℕ) → Has x (written_in log) ↔ Has x (addresses (written code_locations p m))
+-- the touches after a step of instruction `here`, where `go` is how it goes on at an instruction with the registers and the memory then
+abbrev pub after_step : (go : ℕ → List ℕ → Memory Where → List Touch) → (next : ℕ) → Step → List ℕ → Memory Where → List Touch
+after_step go next (Loads l d) g m = go next (slice_set g d.index (m (location_of l))) m
+after_step go next (Stores l v) g m = go next g (store code_locations m (location_of l) v)
+after_step go next (Asks n) g m = go next g m
+
+-- likewise of an act, with its own touch first; a branch that does not lead forward goes on at the next instruction
+abbrev pub after_act : (go : ℕ → List ℕ → Memory Where → List Touch) → (here : ℕ) → Act → List ℕ → Memory Where → List Touch
+after_act go here (Sets d v) g m = go (here + 1) (slice_set g d.index v) m
+after_act go here Passes g m = go (here + 1) g m
+after_act go here (Jumps t) g m = go (max t (here + 1)) g m
+after_act go here (Steps s) g m = touches_by s here ++ after_step go (here + 1) s g m
+after_act go here (Stops e) g m = []
+
+-- the touches of instructions from the one past the next `skip` on, in their order; `here` is the number of the first of these
+abbrev pub touches_from : (array_words here skip : ℕ) → List Instr → List ℕ → Memory Where → List Touch
+touches_from array_words here skip [] g m = []
+touches_from array_words here (suc skip) (i ∷ is) g m = touches_from array_words (here + 1) skip is g m
+touches_from array_words here zero (i ∷ is) g m =
+    after_act (λ t h n. touches_from array_words (here + 1) (t - (here + 1)) is h n) here (does array_words i g) g m
+
+-- the touches of a capsule's instructions from a memory, from the first one on, with 0 in all registers
+abbrev pub touches_of : (array_words : ℕ) → List Instr → Memory Where → List Touch
+touches_of array_words is m = touches_from array_words 0 0 is (replicate 64 0) m

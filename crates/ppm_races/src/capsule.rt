@@ -1,8 +1,6 @@
 //! One capsule, run whole, with the array words that it touches.
 ghost use Rattle.std.specs.Prelude.{◌≡◌, ◌<◌, ◌≤◌, IfOk, OnOk, length};
-ghost use Rattle.std.specs.List.{AllByRecursion};
 ghost use Rattle.ppm_capsules.specs.Capsule.{Memory};
-ghost use Rattle.ppm_code.specs.Capsules.{capsule_of};
 ghost use Rattle.ppm_code.specs.Code.{EndFits, IsCode};
 ghost use Rattle.ppm_code.specs.Limits.{room_limit};
 ghost use Rattle.ppm_code.specs.Locations.{Where};
@@ -11,7 +9,7 @@ ghost use Rattle.ppm_code.specs.Strands.{instrs_of as instrs_in_code};
 ghost use Rattle.ppm_code.specs.Tidy.{IsTidy};
 ghost use Rattle.ppm_depth.specs.Store.{Shows};
 ghost use Rattle.ppm_depth.specs.Whole.{IsPlace, IsWhole, Keeps, block_at};
-ghost use Rattle.ppm_races.specs.Touches.{AreThere, IsLogOf};
+ghost use Rattle.ppm_races.specs.Touches.{AreThere, touches_of};
 
 use crate::touch::{Touch, note};
 use ppm_code::{Act, Code, End};
@@ -19,7 +17,7 @@ use ppm_depth::{Done, Place, Store, instrs_of};
 use ppm_words::NoMemory;
 
 /// Runs the capsule with a number whole, in the frame and the new block at a place, and notes which
-/// array words it touches.
+/// array words it touches, in this order.
 pub(crate) fn run_logged(
     code: &Code,
     number: u32,
@@ -35,7 +33,7 @@ pub(crate) fn run_logged(
         → IsWhole code.now number place store.new.blocks.items store.new.words.items m done) }
     ensures log { OnOk result ((m : Memory Where)
         → Shows (slots_at code.now number) (block_at code.now number) place store.old.blocks.items store.old.words.items m
-        → IsLogOf log.new.items (capsule_of (length store.old.words.items) (instrs_in_code code.now number)) m) }
+        → log.new.items ≡ touches_of (length store.old.words.items) (instrs_in_code code.now number) m) }
     ensures there { OnOk result (AreThere (length store.old.words.items) log.new.items) }
     ensures kept { OnOk result (Keeps place (size_at code.now number) store.old.blocks.items store.new.blocks.items) }
     ensures words { OnOk result (length store.new.words.items ≡ length store.old.words.items) }

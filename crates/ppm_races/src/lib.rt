@@ -6,8 +6,12 @@
 
 mod capsule;
 mod judging;
+mod laws;
+mod race;
 mod stamps;
 mod touch;
 mod walk;
 
 pub use judging::{Verdict, races};
+pub use laws::verdicts_are_one;
+pub use race::{Opener, Race, Touching, Visit};

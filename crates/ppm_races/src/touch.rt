@@ -5,7 +5,8 @@ ghost use Rattle.ppm_races.specs.Touches.{touches_at, touches_by};
 use ppm_code::{Location, Step};
 use ppm_words::NoMemory;
 
-/// An array word that an instruction of a capsule reads or writes.
+/// An array word that an instruction of a capsule reads or writes; words and instructions count
+/// from 0.
 #[derive(Clone, Copy, Debug, PartialEq, Eq)]
 pub struct Touch {
     pub word: u64,

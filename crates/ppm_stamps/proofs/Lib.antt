@@ -4,3 +4,5 @@ pub mod MomentLemmas
 pub mod NameLemmas
 pub mod RaceLemmas
 pub mod ToldLemmas
+pub mod OneWayLemmas
+pub mod OpenLemmas

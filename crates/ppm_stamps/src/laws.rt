@@ -1,6 +1,8 @@
 //! What stamps tell of every code and every tree, shown by calls that do nothing.
 ghost use Rattle.ppm_strands.specs.Tree.{Code, Local};
-ghost use Rattle.ppm_stamps.specs.Moments.{EndedIsCalm, MetIsNotCalm, NextIsCounted, TouchesAreNamed};
+ghost use Rattle.ppm_stamps.specs.Moments.{EarlierPass, EndedIsCalm, ForksAreOpened, IsPlain};
+ghost use Rattle.ppm_stamps.specs.Moments.{LeftsAreOne, MetIsNotCalm, MomentsAreOne, NextIsCounted};
+ghost use Rattle.ppm_stamps.specs.Moments.{TouchesAreNamed};
 ghost use Rattle.ppm_stamps.specs.Stamps.{CleanIsCalm, EndsAreTold, FoundIsARace};
 
 /// Where a depth-first run comes to its end and its stamps have shown no race, the tree is calm.
@@ -31,4 +33,18 @@ pub fn moments_tell_of_calm<F, O>()
 /// touched it.
 pub fn touches_are_named<F, O>()
     ensures { (c : Code F O) → TouchesAreNamed c }
+{}
+
+/// Two moments of a run at which the capsule with one number is next are one, and the capsule of an
+/// earlier moment met nothing.
+pub fn moments_are_one<F, O>()
+    ensures one { (c : Code F O) → MomentsAreOne c }
+    ensures earlier { (c : Code F O) → EarlierPass c }
+{}
+
+/// A capsule that stands beside a moment is in the left branch of one open fork. Where capsules open
+/// one fork at most, the capsule before that branch opened the fork.
+pub fn forks_are_named<F, O>()
+    ensures one { (c : Code F O) → LeftsAreOne c }
+    ensures opened { (c : Code F O) → IsPlain c → ForksAreOpened c }
 {}

@@ -14,3 +14,4 @@ pub mod MarkLemmas
 pub mod MaskLemmas
 pub mod SampleLemmas
 pub mod TidyLemmas
+pub mod UntidyLemmas

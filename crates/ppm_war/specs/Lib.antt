@@ -4,3 +4,4 @@ pub mod Marks
 pub mod Masks
 pub mod Search
 pub mod Stores
+pub mod Untidy

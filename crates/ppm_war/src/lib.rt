@@ -18,8 +18,9 @@ mod paths;
 #[cfg(test)]
 mod tests;
 mod tidiness;
+mod untidy_store;
 
 pub use checked::{Checked, Conflict, check};
 pub use conflict::{Found, conflict_in};
 pub use laws::accepted_code_runs_again;
-pub use tidiness::tidy;
+pub use untidy_store::{UntidyStore, tidy, untidy};

@@ -1,7 +1,7 @@
 //! Worked capsules, with their first conflict.
 ghost use Rattle.std.specs.Prelude.{◌<◌};
 
-use crate::{Found, accepted_code_runs_again, check, conflict_in, tidy};
+use crate::{Found, UntidyStore, accepted_code_runs_again, check, conflict_in, tidy, untidy};
 use ppm_code::{Capsule, Class, Code, CodeParts, End, Instr, Procedure, Register};
 use ppm_words::Items;
 use std::alloc::Global;
@@ -98,9 +98,11 @@ fn a_slot_alone_is_tidy(rt: HostRuntime) -> Result<(), Fail> {
     let from = register(0)?;
     let code = calling(alloc, from, 6)?;
     assert!(rt; check(&code).is_ok());
+    assert_eq!(rt; untidy(&code), None);
     assert!(rt; tidy(&code));
     let code = calling(alloc, from, 5)?;
     assert!(rt; check(&code).is_ok());
+    assert_eq!(rt; untidy(&code), Some(UntidyStore { capsule: 0, at: 1 }));
     assert!(rt; !tidy(&code));
     Ok(())
 }

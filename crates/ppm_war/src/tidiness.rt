@@ -2,10 +2,10 @@
 ghost use Rattle.std.specs.Prelude.{◌≡◌, ◌↔◌, ◌+◌, ◌<◌, ◌≤◌, false, IsTrue, length};
 ghost use Rattle.ppm_code.specs.Limits.{instr_limit, slot_limit};
 ghost use Rattle.ppm_code.specs.Sizes.{slots_of as slots_in_code};
-ghost use Rattle.ppm_code.specs.Tidy.{Builds, IsBuilder, IsTidy, IsTidyCapsule, IsTidyStore};
+ghost use Rattle.ppm_code.specs.Tidy.{Builds, IsBuilder, IsTidyStore};
 ghost use Rattle.ppm_code.specs.Tidy.{LeadsToBuild, MayFollow};
 ghost use Rattle.ppm_code.specs.Tidy.{can_trap as traps};
-ghost use Rattle.ppm_war.specs.Stores.{HasBuilder, IsTidyAt, IsTidyIn, IsWithinFrame, end_in};
+ghost use Rattle.ppm_war.specs.Stores.{HasBuilder, IsTidyAt, IsWithinFrame, end_in};
 ghost use Rattle.ppm_war.specs.Stores.{stored_in};
 ghost use Rattle.ppm_war.specs.Marks.{IsMarked};
 ghost use Rattle.ppm_code.specs.Paths.{Any, Path};
@@ -217,7 +217,7 @@ fn stored_by(instr: &Instr) -> Option<u32>
 }
 
 /// Whether the instruction at a place is no store into the new block, or a tidy one.
-fn is_tidy_at(code: &Code, instrs: &[Instr], at: usize) -> bool
+pub(crate) fn is_tidy_at(code: &Code, instrs: &[Instr], at: usize) -> bool
     requires most { length instrs.now ≤ instr_limit }
     requires there { at < length instrs.now }
     ensures { IsTrue result ↔ IsTidyAt code.now instrs.now at }
@@ -226,45 +226,4 @@ fn is_tidy_at(code: &Code, instrs: &[Instr], at: usize) -> bool
         Some(word) => is_tidy_store(code, instrs, at, word),
         None => true,
     }
-}
-
-/// Whether each store of a capsule into the new block is tidy.
-fn is_tidy_capsule(code: &Code, instrs: &[Instr]) -> bool
-    requires { length instrs.now ≤ instr_limit }
-    ensures { IsTrue result ↔ IsTidyCapsule code.now instrs.now }
-{
-    let mut at = 0;
-    while at < instrs.len() {
-        if !is_tidy_at(code, instrs, at) {
-            return false;
-        }
-        at += 1;
-    }
-    true
-}
-
-/// Whether the capsule with a number is tidy.
-fn is_tidy_in(code: &Code, number: usize) -> bool
-    requires { number < length code.now.capsules }
-    ensures { IsTrue result ↔ IsTidyIn code.now number }
-{
-    let parts = code.parts();
-    let capsule = &parts.capsules.as_slice()[number];
-    is_tidy_capsule(code, capsule.instrs.as_slice())
-}
-
-/// Whether a code is tidy: what a capsule stores into a new block is a slot of a frame that its end
-/// builds, and nothing can trap between the store and that end. No memory is taken.
-pub fn tidy(code: &Code) -> bool
-    ensures { IsTrue result ↔ IsTidy code.now }
-{
-    let count = code.parts().capsules.as_slice().len();
-    let mut number = 0;
-    while number < count {
-        if !is_tidy_in(code, number) {
-            return false;
-        }
-        number += 1;
-    }
-    true
 }

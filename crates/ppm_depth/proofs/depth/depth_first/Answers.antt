@@ -30,14 +30,13 @@ run-requires-clause-shown c =
     )
 
 -- the words are as many as those of the arrays
-pub outcome_of-requires : goal.outcome_of-requires
-outcome_of-requires c =
-    let now = ap (λ (ws : List ℕ). length ws) c.deref.ensures.value in
+pub depth_run-requires-clause-words : goal.depth_run-requires-clause-words
+depth_run-requires-clause-words c =
     let kept = c.in_ok-finish.ensures.words in
     let begun = ap (λ (s : Store). length s.words.items) c.new-strand.ensures.store in
     let words = ap (λ (ws : List ℕ). length ws) c.in_ok-store.ensures.words in
     let same = length_words c.arrays-arrays.result.now in
-    omega (arith, now, kept, begun, words, same)
+    omega (arith, kept, begun, words, same)
 
 -- what the strand has come to is what is said
 pub returns : goal.returns
@@ -63,7 +62,8 @@ returns c =
     record {
       run = answered code input c.new-strand.result.store.words.items begins c.args.capsules strand c.in_ok-finish.finish
           (c.in_ok-finish.ensures.come (root_strand code input) shown) c.in_ok-finish.ensures.limit (omega (arith, kept, words, same)) _
-          (c.in_ok-outcome.ensures ∙ ap₂ (λ (as_ : List NamedArray) (ws : List ℕ). outcome_in as_ ws c.in_ok-finish.finish)
-          c.arrays-arrays.ensures.value c.deref.ensures.value)
-          refl refl (ap (λ (n : ℕ). n + strand.counts.block_words) frame);
+          (c.in_ok-run.ensures.outcome ∙ ap (λ (as_ : List NamedArray). outcome_in as_ strand.store.words.items c.in_ok-finish.finish)
+          c.arrays-arrays.ensures.value)
+          c.in_ok-run.ensures.capsules c.in_ok-run.ensures.forks
+          (c.in_ok-run.ensures.pool_words ∙ ap (λ (n : ℕ). n + strand.counts.block_words) frame);
     }

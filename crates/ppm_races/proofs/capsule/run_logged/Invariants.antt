@@ -6,17 +6,23 @@ use Rattle.ppm_code.specs.Locations.{Where}
 use Rattle.ppm_code.specs.Sizes.{size_at, slots_at}
 use Rattle.ppm_depth.specs.Store.{Shows}
 use Rattle.ppm_depth.specs.Whole.{Keeps, block_at}
-use Rattle.ppm_races.specs.Touches.{AreThere}
-use Rattle.ppm_races.proofs.LogLemmas.{IsGoing}
+use Rattle.ppm_depth.proofs.RestLemmas.{IsLeft}
+use Rattle.ppm_races.specs.Touches.{AreThere, touches_from, touches_of}
+use Rattle.ppm_races.proofs.LogLemmas.{IsNoting}
 use Rattle.ppm_races.proofs.capsule.run_logged.Given as goal
 
--- what is left of the capsule comes to what the whole of it comes to, and its frame and block alone have changed
+-- what is left of the capsule comes to what the whole of it comes to, its frame and block alone have changed, and what was noted is the front
+-- of its touches
 abbrev pub invariant-loop-at : goal.invariant-loop-at
 invariant-loop-at l = record {
   left : (m : Memory Where)
       → Shows (slots_at l.code l.number) (block_at l.code l.number) l.place l.fn.store.blocks.items l.fn.store.words.items m
-      → IsGoing (slots_at l.code l.number) (block_at l.code l.number) l.place (capsule_of l.array_words l.instrs) m l.asked
-      l.store.blocks.items l.store.words.items l.log.items (capsule_from l.array_words 0 l.at l.instrs l.registers);
+      → IsLeft (slots_at l.code l.number) (block_at l.code l.number) l.place (capsule_of l.array_words l.instrs) m l.asked
+      l.store.blocks.items l.store.words.items (capsule_from l.array_words 0 l.at l.instrs l.registers);
+  noted : (m : Memory Where)
+      → Shows (slots_at l.code l.number) (block_at l.code l.number) l.place l.fn.store.blocks.items l.fn.store.words.items m
+      → IsNoting (slots_at l.code l.number) (block_at l.code l.number) l.place (touches_of l.array_words l.instrs m)
+      l.store.blocks.items l.store.words.items l.log.items (λ n. touches_from l.array_words 0 l.at l.instrs l.registers n);
   kept : Keeps l.place (size_at l.code l.number) l.fn.store.blocks.items l.store.blocks.items;
   words : length l.store.words.items ≡ length l.fn.store.words.items;
   asked : l.asked ≤ room_limit;

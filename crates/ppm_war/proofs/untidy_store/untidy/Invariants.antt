@@ -1,6 +1,6 @@
 use Rattle.std.proofs.Common.{◌-◌, ◌<◌, ℕ}
 use Rattle.ppm_war.specs.Stores.{IsTidyIn}
-use Rattle.ppm_war.proofs.tidiness.tidy.Given as goal
+use Rattle.ppm_war.proofs.untidy_store.untidy.Given as goal
 
 -- the capsules so far are tidy
 abbrev pub invariant-loop-number : goal.invariant-loop-number

@@ -1,6 +1,6 @@
 use Rattle.std.proofs.Common.{length, ◌-◌, ◌<◌, ℕ}
 use Rattle.ppm_war.specs.Stores.{IsTidyAt}
-use Rattle.ppm_war.proofs.tidiness.is_tidy_capsule.Given as goal
+use Rattle.ppm_war.proofs.untidy_store.first_untidy.Given as goal
 
 -- each instruction so far is no store into the new block, or a tidy one
 abbrev pub invariant-loop-at : goal.invariant-loop-at

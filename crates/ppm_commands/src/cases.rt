@@ -1,0 +1,90 @@
+//! What commands tell of cases: where an instruction stands in the text, counts, stores, faults.
+ghost use Rattle.std.specs.Prelude.{◌≡◌, ◌<◌, ◌≤◌, ◌^◌, length};
+ghost use Rattle.std.specs.List.{All};
+ghost use Rattle.ppm_words.specs.Limits.{array_limit, capsule_limit};
+ghost use Rattle.ppm_code.specs.Limits.{instr_limit};
+ghost use Rattle.ppm_commands.specs.Cases.{capsule_lines, counts_told as told_counts};
+ghost use Rattle.ppm_commands.specs.Cases.{error_answer as answer_of, fault_answer as answer_of_fault};
+ghost use Rattle.ppm_commands.specs.Cases.{line_at as line_in, store_told as told_store};
+
+use ppm_answers::{Answer, Counts, InputRefusal, ListingRefusal};
+use ppm_case::{CaseError, CaseFault};
+use ppm_code::{Capsule, Code};
+use ppm_depth::DepthRun;
+use ppm_war::UntidyStore;
+
+/// How many lines capsules have in a listing.
+fn lines_of(capsules: &[Capsule]) -> u64
+    requires few { length capsules.now ≤ capsule_limit }
+    requires short { All (λ c. length c.instrs ≤ instr_limit) capsules.now }
+    ensures value { result ≡ capsule_lines capsules.now }
+    ensures bound { result ≤ 2 ^ 32 }
+{
+    let mut lines = 0;
+    for capsule in capsules {
+        lines += 1 + capsule.instrs.as_slice().len() as u64;
+    }
+    lines
+}
+
+/// The line of a case in which an instruction of a capsule stands, where so many arrays stand in
+/// front of the listing. Lines count from 1.
+pub(crate) fn line_at(code: &Code, arrays: usize, capsule: u32, at: u32) -> u64
+    requires { arrays ≤ array_limit }
+    ensures { result ≡ line_in arrays code.now capsule at }
+{
+    let parts = code.parts();
+    let capsules = parts.capsules.as_slice();
+    let earlier = &capsules[..capsules.len().min(capsule as usize)];
+    let head = arrays as u64 + 2 + parts.procedures.as_slice().len() as u64;
+    head + lines_of(earlier) + 1 + at as u64 + 1
+}
+
+/// The counts of a run, as an answer tells them.
+pub(crate) fn counts_told(run: &DepthRun) -> Counts
+    ensures { result ≡ told_counts run.now }
+{
+    Counts {
+        capsules: run.capsules,
+        forks: run.forks,
+        pool_words: run.pool_words,
+    }
+}
+
+/// A store that is not tidy, as an answer tells it, of a case with so many arrays.
+pub(crate) fn store_told(code: &Code, arrays: usize, store: UntidyStore) -> ppm_answers::UntidyStore
+    requires { arrays ≤ array_limit }
+    ensures { result ≡ told_store arrays code.now store }
+{
+    ppm_answers::UntidyStore {
+        capsule: store.capsule,
+        store: store.at,
+        line: line_at(code, arrays, store.capsule, store.at),
+    }
+}
+
+/// The answer of a text that is of no case, for a fault at a line.
+fn fault_answer(fault: CaseFault, line: u32) -> Answer
+    ensures { result ≡ answer_of_fault fault line }
+{
+    match fault {
+        CaseFault::OfInput(rule) => Answer::InputRefused(InputRefusal {
+            number: rule.number(),
+            line,
+        }),
+        CaseFault::OfListing(rule) => Answer::ListingRefused(ListingRefusal {
+            number: rule.number(),
+            line,
+        }),
+    }
+}
+
+/// The answer of a text that was not read as a case.
+pub(crate) fn error_answer(error: CaseError) -> Answer
+    ensures { result ≡ answer_of error }
+{
+    match error {
+        CaseError::Refused(fault, line) => fault_answer(fault, line),
+        CaseError::NoMemory => Answer::NoMemory,
+    }
+}
