@@ -185,7 +185,7 @@ module _ (laws : Laws) (code : CodeParts) (input : List NamedArray) (may : MayRu
           laws.room code input s keeper b.image fair opened calm turns among place says e
           (ends_as (sym shown.strands) (sym shown.root) (sym shown.arrays) e comes)
 
-      -- words are broken only behind more than 2^34 work turns
+      -- words are broken only after more than 2^34 work turns
       breaks : (place : ℕ) → Says (finishes.Broken place) → 2 ^ 34 < worked_in start turns
       breaks place says =
           elim (cases_lt (2 ^ 34) (worked_in start turns)) [

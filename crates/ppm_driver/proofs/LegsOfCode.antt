@@ -175,7 +175,7 @@ module _ (laws : Laws) (code : CodeParts) (input : List NamedArray) (may : MayRu
           laws.pools code input s keeper b.image by_places fair_code opened calm legs are turns among e
           (ends_as (sym shown.strands) (sym shown.root) (sym shown.arrays) e comes)
 
-      -- the finish word stands for a finish, and for broken words behind much work alone
+      -- the finish word stands for a finish, and for broken words after much work alone
       stands : finish_of (read s last.words FinishWord) ≢ None
       stands none =
           let k = laws.stands code input s keeper b.image fair_code opened legs are turns among in

@@ -55,9 +55,9 @@ module _ (m : Situation) (turns : List Turn) (code : CodeParts) (input : List Na
     pub branches : EachIsTakenOnce m turns
     pub forks : (e : CapsuleEnd Result) → ComesTo code input e → length (forked_in m turns) ≡ e.counts.forks
 
-  -- What holds behind these turns. No branch is taken twice. Where the finish word says an outcome the run ends as the code does, with the arrays
+  -- What holds after these turns. No branch is taken twice. Where the finish word says an outcome the run ends as the code does, with the arrays
   -- of the words then, or this trap; where it says that a pool is full, it is that of a place, and the code takes more words. That words are
-  -- broken it says only behind more than 2^34 work turns. All work turns are fewer than 256 for each capsule that the code runs depth first, if
+  -- broken it says only after more than 2^34 work turns. All work turns are fewer than 256 for each capsule that the code runs depth first, if
   -- that run ends, and each fault that undoes work; no more do so than turns are faults. No place has given out more of its pool than that run
   -- takes.
   pub record IsAsCode : Type 0 where

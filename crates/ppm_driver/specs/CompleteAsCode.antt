@@ -31,7 +31,7 @@ pub record CodeIsEnough (code : CodeParts) (input : List NamedArray) (faults tur
   pub for_turns : 256 * (end.counts.capsules + faults) ≤ turns
   pub for_room : pool_words code end.counts ≤ room
 
--- the finish word behind these turns says this outcome, and its arrays are those of the words then
+-- the finish word after these turns says this outcome, and its arrays are those of the words then
 abbrev pub SaysOutcome : Situation → List Turn → List NamedArray → Outcome → Type 0
 SaysOutcome m turns input (outcome.Ended arrays) =
     (finish_of (finish_behind m turns) ≡ Some finishes.Ended)

@@ -1,4 +1,4 @@
--- With takeover by places, what goes on behind legs of a run of a sound code, with turns and room enough, ends as the code does.
+-- With takeover by places, what goes on after legs of a run of a sound code, with turns and room enough, ends as the code does.
 use Rattle.std.specs.Prelude.{◌≡◌, ◌≤◌, ◌<◌, ℕ, ◌+◌, ◌*◌, ◌^◌, List, Option, Some, length}
 use Rattle.ppm_words.specs.declared.named_array.NamedArray.{NamedArray}
 use Rattle.ppm_words.specs.declared.outcome.Outcome.{Outcome}
@@ -49,7 +49,7 @@ module _ (m : Situation) (legs : List Leg) where
   abbrev pub lost_before : ℕ
   lost_before = strikes_then m.shape m.code m.state.words legs + m.shape.processors * length legs
 
-  -- the finish word behind these turns says this outcome, and its arrays are those of the words then
+  -- the finish word after these turns says this outcome, and its arrays are those of the words then
   abbrev pub SaysOutcomeAtLast : List Turn → List NamedArray → Outcome → Type 0
   SaysOutcomeAtLast turns input (outcome.Ended arrays) =
       (finish_of (finish_at_last m legs turns) ≡ Some finishes.Ended)
@@ -57,7 +57,7 @@ module _ (m : Situation) (legs : List Leg) where
   SaysOutcomeAtLast turns input (outcome.Trapped trap line) = finish_of (finish_at_last m legs turns) ≡ Some (finishes.Trapped trap line)
   SaysOutcomeAtLast turns input outcome.NotWithin = ⊥
 
--- From the machine with which a run of a sound code begins, behind legs of it, at most 2^50: where turns and room are enough for the code, what was
+-- From the machine with which a run of a sound code begins, after legs of it, at most 2^50: where turns and room are enough for the code, what was
 -- lost, and the faults of a plan that spares a processor, and each fresh processor obeys the plan and the limits, the finish word says an outcome,
 -- and the run ends so.
 abbrev pub RunsOfCodeCompleteInLegs : Type 0

@@ -26,7 +26,7 @@ use Rattle.ppm_loading.specs.declared.loading.Sizes.{Sizes}
 use Rattle.ppm_driver.specs.AsCode.{MayRun, CodeEnds, CodeNeedsMoreRoom, CodeNeedsMoreTurns}
 use Rattle.ppm_driver.specs.Legs.{words_at_last, finish_at_last, forked_in_all, worked_in_all, faults_in_all, struck_in_all, lost_in_all, NoneIsTakenTwiceInAll, EachIsTakenOnceInAll}
 
--- the legs of a run from a machine, the latest first, and the turns behind them
+-- the legs of a run from a machine, the latest first, and the turns after them
 module _ (m : Situation) (legs : List Leg) (turns : List Turn) (code : CodeParts) (input : List NamedArray) where
   -- such a run ends as the code does, run depth first: with its outcome, with each branch that was forked taken once, and as many of them as forks
   -- that the code makes
@@ -35,11 +35,11 @@ module _ (m : Situation) (legs : List Leg) (turns : List Turn) (code : CodeParts
     pub branches : EachIsTakenOnceInAll m legs turns
     pub forks : (e : CapsuleEnd Result) → ComesTo code input e → length (forked_in_all m legs turns) ≡ e.counts.forks
 
-  -- What holds behind them. No branch is taken twice. Where the finish word says an outcome the run ends as the code does, with the arrays of the
+  -- What holds after them. No branch is taken twice. Where the finish word says an outcome the run ends as the code does, with the arrays of the
   -- words then, or this trap; where it says that a pool is full, it is that of a place, and the code takes more words. All work turns are fewer
   -- than 256 for each capsule that the code runs depth first, if that run ends, each fault that strikes a row of work, and each fresh processor; no
   -- more faults strike one than turns are faults. No place has given out more of its pool than that run takes. The finish word stands for a finish;
-  -- that words are broken it says only behind more than 2^34 work turns, where words came back at most 2^50 times.
+  -- that words are broken it says only after more than 2^34 work turns, where words came back at most 2^50 times.
   pub record IsAsCodeInAll : Type 0 where
     pub once : NoneIsTakenTwiceInAll m legs turns
     pub ended : finish_of (finish_at_last m legs turns) ≡ Some finishes.Ended

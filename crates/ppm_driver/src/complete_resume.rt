@@ -23,7 +23,7 @@ pub fn resumes_complete()
     faults_tell_saved_texts();
 }
 
-/// With such turns and such room, and at most 2^34 turns for each processor, what goes on behind at most
+/// With such turns and such room, and at most 2^34 turns for each processor, what goes on after at most
 /// 2^50 legs of a run of a sound code ends, whoever wrote the code: where each fresh processor obeys a
 /// plan that spares one, the finish word says an outcome, and it is that of the code, run depth first.
 /// That it says no mere limit when they begin is so of the words that they find.

@@ -1,5 +1,6 @@
 //! That runs end as their codes and their programs do, shown by calls that do nothing.
 ghost use Rattle.ppm_driver.specs.AsCode.{RunsAreAsCode};
+ghost use Rattle.ppm_driver.specs.CodeReplays.{ReplaysAreAsCode};
 ghost use Rattle.ppm_driver.specs.CodeRuns.{AnswersAreAsCode};
 ghost use Rattle.ppm_driver.specs.Meant.{RunsAreAsPrograms};
 
@@ -15,7 +16,7 @@ use ppm_runs::{nothing_breaks, room_is_spent, runs_end_so, work_is_bounded};
 /// says an outcome, it is that of the code, run depth first, with the arrays of the words then, or its
 /// trap; and each right branch that was forked was taken: as many as that run forks. Where it says that
 /// a pool is full, that run takes more words than a pool has, or has no end. That words are broken it
-/// says only behind more than 2^34 work turns. All work turns are fewer than 256 for each capsule of
+/// says only after more than 2^34 work turns. All work turns are fewer than 256 for each capsule of
 /// that run and each fault that undoes work.
 pub fn runs_are_as_code()
     ensures law { RunsAreAsCode }
@@ -32,6 +33,16 @@ pub fn runs_are_as_code()
 /// obeys is the outcome of the code, run depth first; or that turns or room are not enough for it.
 pub fn answers_are_as_code()
     ensures law { AnswersAreAsCode }
+{
+    // The law rests on this one; the call does nothing.
+    runs_are_as_code();
+}
+
+/// With options in their ranges, and a schedule that is accepted: the answer of a replay of a sound code
+/// is the outcome of the code, run depth first, with the forks of its run, and as many takes; or that all
+/// acts were made, or that room is not enough for it.
+pub fn replays_are_as_code()
+    ensures law { ReplaysAreAsCode }
 {
     // The law rests on this one; the call does nothing.
     runs_are_as_code();
