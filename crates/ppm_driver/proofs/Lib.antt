@@ -10,7 +10,7 @@
 -- of them ends (`CompleteOfCode`, `CompleteLegsOfCode`). A resumed run is the latest leg of each run that left its state (`OfResume`), whose words
 -- come back (`LeftLemmas`); so it is complete as a run is (`ResumeComplete`).
 -- `run` of a case is shown as `run` of a program, with the code and the input of the case in their place (`RunCaseLemmas`, `OneCase`,
--- `CaseHeadlineLemmas`, `OfRunCase`).
+-- `CaseHeadlineLemmas`, `OfRunCase`), and `replay` of a case likewise (`OneCase`, `OfReplayCase`).
 -- The arrays that an admitted program starts with have names of their own, none of them a keyword (`NamesLemmas`), so `stop` may name them in a saved
 -- text, and from that text the state is read back (`ReadBackLemmas`). After a run a program has one answer of `stop`, the text of the machine there
 -- (`StopLemmas`), which makes its law (`OneStop`) and its rows (`OfStop`) by the lemmas of `ppm_loading` on texts and plans.
@@ -48,6 +48,7 @@ pub mod RunCaseLemmas
 pub mod OneCase
 pub mod CaseHeadlineLemmas
 pub mod OfRunCase
+pub mod OfReplayCase
 pub mod ResumeLemmas
 pub mod OfResume
 pub mod TellLemmas

@@ -16,6 +16,8 @@ pub mod CaseRows
 pub mod Replays
 pub mod ReplayRows
 pub mod CodeReplays
+pub mod CaseReplays
+pub mod CaseReplayRows
 pub mod Stops
 pub mod StopRows
 pub mod Legs

@@ -35,6 +35,7 @@ mod one_run;
 mod one_stop;
 mod orders;
 mod replay;
+mod replay_case;
 mod resuming;
 mod run;
 mod run_case;
@@ -54,11 +55,12 @@ pub use legs::{
 pub use meant::{
     answers_are_as_code, replays_are_as_code, runs_are_as_code, runs_are_as_programs,
 };
-pub use one_case::case_answers_are_one;
+pub use one_case::{case_answers_are_one, case_replays_have_one_answer};
 pub use one_replay::replays_have_one_answer;
 pub use one_run::answers_are_one;
 pub use one_stop::stops_have_one_answer;
 pub use replay::replay_command;
+pub use replay_case::replay_case_command;
 pub use resuming::resume_command;
 pub use run::{WATCHERS, run_command};
 pub use run_case::run_case_command;

@@ -86,7 +86,7 @@ fn replayed(
 }
 
 /// What the replay of a code on an input comes to.
-fn replayed_code(
+pub(crate) fn replayed_code(
     alloc: Global,
     options: ReplayOptions,
     schedule: &Schedule,

@@ -93,6 +93,13 @@ module _ (Has : CodeParts → List NamedArray → Answer → Type 0) where
     pub plain : (text : List ℕ) (number : ℕ) → ¬ TextHas Has text (answers.PlanRefused number)
     plain text number h = kinds.no_plan number (of_code h.code h.input (answers.PlanRefused number) h.has)
 
+    -- an answer of a code on its input is one of its text
+    pub of_text : (text : List ℕ) (code : CodeParts) (input : List NamedArray) → IsCaseOf text code input → (a : Answer) → Has code input a
+        → TextHas Has text a
+    of_text text code input is (answers.InputRefused r) h = absurd (kinds.no_input r (of_code code input (answers.InputRefused r) h))
+    of_text text code input is (answers.ListingRefused r) h = absurd (kinds.no_listing r (of_code code input (answers.ListingRefused r) h))
+    of_text text code input is a h = record { code = code; input = input; is = is; has = h }
+
     module _ (source : Port) (text : List ℕ) (read : Reads case_limit source text) (code : CodeParts) (input : List NamedArray)
         (is : IsCaseOf text code input) where
       -- that of the case that was read may be given
