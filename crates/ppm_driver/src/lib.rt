@@ -15,9 +15,11 @@
 //! room are enough, a run ends (`specs/Completeness`, `specs/ResumeCompleteness`). What is stopped
 //! and resumed ends as its program does (`specs/Stopped`). The laws of runs are of each sound code
 //! on an input, whoever wrote it (`specs/AsCode`, `specs/LegsAsCode`), and of a text's program as
-//! an instance.
-//! Stands on `ppm_threads`, `ppm_following`, `ppm_loading`, `ppm_saved`, `ppm_saved_reader` and
-//! `ppm_answers`; `ppm_top` calls it. The schedules and limits and their rules are this project's.
+//! an instance. `run_case_command` and `replay_case_command` run the case that is read, sound or not
+//! (`specs/CaseRuns`, `specs/CaseReplays`); what follows: `specs/CaseHeadline`, `specs/CaseRows` and
+//! `specs/CaseReplayRows`.
+//! Stands on `ppm_threads`, `ppm_following`, `ppm_loading`, `ppm_case`, `ppm_saved`,
+//! `ppm_saved_reader` and `ppm_answers`; `ppm_top` calls it. The schedules and limits and their rules are this project's.
 //! `stop` and `resume` come after the persistent memory of Blelloch et al., SPAA 2018, which
 //! outlives its processors.
 #![tactic(auto)]
