@@ -19,8 +19,8 @@
 //! (`specs/CaseRuns`, `specs/CaseReplays`); what follows: `specs/CaseHeadline`, `specs/CaseRows` and
 //! `specs/CaseReplayRows`.
 //! Stands on `ppm_threads`, `ppm_following`, `ppm_loading`, `ppm_case`, `ppm_saved`,
-//! `ppm_saved_reader` and `ppm_answers`; `ppm_top` calls it. The schedules and limits and their rules are this project's.
-//! `stop` and `resume` come after the persistent memory of Blelloch et al., SPAA 2018, which
+//! `ppm_saved_reader` and `ppm_answers`; `ppm_top` calls it. The schedules and limits and their rules
+//! are this project's. `stop` and `resume` come after the persistent memory of Blelloch et al., SPAA 2018, which
 //! outlives its processors.
 #![tactic(auto)]
 

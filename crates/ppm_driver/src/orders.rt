@@ -7,6 +7,7 @@ ghost use Rattle.ppm_plan.specs.Correct.{HaveOneAnswer, HasOneAnswer};
 ghost use Rattle.ppm_plan.specs.Forms.{Form};
 ghost use Rattle.ppm_plan.specs.Refusals.{IsAccepted, IsRefused};
 ghost use Rattle.ppm_answers.specs.Reading.{JudgingMay};
+ghost use Rattle.ppm_answers.specs.declared.answer.Answer.{Answer};
 ghost use Rattle.ppm_answers.specs.declared.answer.Answer.TheVariants.{PlanRefused};
 ghost use Rattle.ppm_driver.specs.Orders.{NoTaskMay, ReadsTask};
 
