@@ -57,8 +57,7 @@ module _ (texts : FaultsTellCases) (images : ImagesAreOne) (plans : PlansHaveOne
       let has = texts.covers text free in
       let m = some_opening (replays_of.sizes_of options) has.code has.input accepted.keeper (replayed_sizes options are) accepted.obeyed.below
       (case_input text has.code has.input has.is) in
-      let a = some_has options items has.code has.input accepted.keeper m.0 accepted.obeyed.kept m.1 has.is.listed.code in
-      (
+      let a = some_has options items has.code has.input accepted.keeper m.0 accepted.obeyed.kept m.1 has.is.listed.code in (
         a.0,
         of_text (replays_of.CodeHas options items) (replay_kinds options.processors options.turns) (replay_lemmas.of_code options items) text has.code
             has.input has.is a.0 a.1,
@@ -72,9 +71,11 @@ module _ (texts : FaultsTellCases) (images : ImagesAreOne) (plans : PlansHaveOne
       go : SomeAccepted schedule_form schedule options.processors ⊎ SomeRefused schedule_form schedule options.processors
           → (a : Answer) × ReplayCaseHas options schedule text a
       go (inl h) =
-          let a = some_by_items options are schedule h.items text h.accepted free in
-          (a.0, lifted schedule_form schedule options.processors (replays.TextHas options) case_limit (steady options) text a.0
-              (record { items = h.items; accepted = h.accepted; has = a.1 }))
+          let a = some_by_items options are schedule h.items text h.accepted free in (
+            a.0,
+            lifted schedule_form schedule options.processors (replays.TextHas options) case_limit (steady options) text a.0
+                (record { items = h.items; accepted = h.accepted; has = a.1 }),
+          )
       go (inr h) = (
         answers.PlanRefused (number_of h.error),
         record { error = h.error; of_text = h.of_text; refused = h.refused; number_is = refl },

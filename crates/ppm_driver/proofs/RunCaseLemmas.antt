@@ -81,9 +81,11 @@ of_case options plan source Run text read code input is items accepted ran = rec
 pub case_tells : (options : RunOptions) (watching : ℕ) (before now : ToldLists) (items : List PlanItem) (code : CodeParts) (input : List NamedArray)
     (source : Port) → ReadsCase source code input → (plan : List ℕ) → IsAccepted plan_form plan options.processors items → (a : Answer)
     → RunTold watching (CodeWants options watching before now items code input) a before now → RunCaseTells options watching plan source a before now
-case_tells options watching before now items code input source r plan accepted a told =
-    (told.0, told.1,
-    map_wanting {T = CodeWants options watching before now items code input} {S = RunCaseWants options watching plan before now source} lifted a told.2)
+case_tells options watching before now items code input source r plan accepted a told = (
+  told.0,
+  told.1,
+  map_wanting {T = CodeWants options watching before now items code input} {S = RunCaseWants options watching plan before now source} lifted a told.2,
+)
   where
     lifted : CodeWants options watching before now items code input → RunCaseWants options watching plan before now source
     lifted w =

@@ -54,9 +54,7 @@ pub use legs::{
     left_words_come_back, resumes_leave_states, runs_in_legs_are_as_code,
     runs_in_legs_are_as_programs, runs_leave_states, stops_leave_states,
 };
-pub use meant::{
-    answers_are_as_code, replays_are_as_code, runs_are_as_code, runs_are_as_programs,
-};
+pub use meant::{answers_are_as_code, replays_are_as_code, runs_are_as_code, runs_are_as_programs};
 pub use one_case::{case_answers_are_one, case_replays_have_one_answer};
 pub use one_replay::replays_have_one_answer;
 pub use one_run::answers_are_one;
