@@ -1,9 +1,9 @@
-//! Commands that run a machine: `replay` follows a schedule, `stop` does so for some acts and
-//! saves the state then, `run` lets processors, each a thread, obey a plan of faults and limits,
-//! `resume` lets fresh ones go on from a saved state, and `self` runs a source of its own.
+//! Commands that run a machine: `replay` follows a schedule, `stop` does so for some acts and saves
+//! the state then, `run` lets processors, each a thread, obey a plan of faults and limits, `resume`
+//! lets fresh ones go on from a saved state, and `self` runs a source of its own.
 //! Model: what a schedule says, and obedience, are those of `ppm_choice`; what a schedule makes of
-//! a machine is that of `ppm_following`, and the text of a state that of `ppm_saved`; a run in
-//! legs is turns, the words after them that came back, turns of fresh processors, and so on
+//! a machine is that of `ppm_following`, and the text of a state that of `ppm_saved`; a run in legs
+//! is turns, the words after them that came back, turns of fresh processors, and so on
 //! (`specs/Legs`).
 //! Contract: `replay_command` delivers the one answer of a text (`specs/Replays`), and so does
 //! `stop_command`, the saved text of the machine after exactly that run (`specs/Stops`). Neither
@@ -15,13 +15,13 @@
 //! room are enough, a run ends (`specs/Completeness`, `specs/ResumeCompleteness`). What is stopped
 //! and resumed ends as its program does (`specs/Stopped`). The laws of runs are of each sound code
 //! on an input, whoever wrote it (`specs/AsCode`, `specs/LegsAsCode`), and of a text's program as
-//! an instance. `run_case_command` and `replay_case_command` run the case that is read, sound or not
-//! (`specs/CaseRuns`, `specs/CaseReplays`); what follows: `specs/CaseHeadline`, `specs/CaseRows` and
-//! `specs/CaseReplayRows`.
+//! an instance. `run_case_command` and `replay_case_command` run the case that is read, sound or
+//! not (`specs/CaseRuns`, `specs/CaseReplays`); what follows: `specs/CaseHeadline`,
+//! `specs/CaseRows` and `specs/CaseReplayRows`.
 //! Stands on `ppm_threads`, `ppm_following`, `ppm_loading`, `ppm_case`, `ppm_saved`,
-//! `ppm_saved_reader` and `ppm_answers`; `ppm_top` calls it. The schedules and limits and their rules
-//! are this project's. `stop` and `resume` come after the persistent memory of Blelloch et al., SPAA 2018, which
-//! outlives its processors.
+//! `ppm_saved_reader` and `ppm_answers`; `ppm_top` calls it. The schedules and limits and their
+//! rules are this project's. `stop` and `resume` come after the persistent memory of Blelloch et
+//! al., SPAA 2018, which outlives its processors.
 #![tactic(auto)]
 
 mod complete;

@@ -7,9 +7,9 @@ use ppm_choice::has_one_run;
 use ppm_layout::images_are_one;
 use ppm_plan::have_one_answer as plans_have_one_answer;
 
-/// Where there is one processor, two answers of a text whose case is run are one, whatever the other
-/// options and the plan. With all options, what stands after more bytes than a case may have changes
-/// no answer.
+/// Where there is one processor, two answers of a text whose case is run are one, whatever the
+/// other options and the plan. With all options, what stands after more bytes than a case may have
+/// changes no answer.
 pub fn case_answers_are_one()
     ensures one { CaseAnswersAreOne }
     ensures front { CaseFrontsDecide }
@@ -22,8 +22,8 @@ pub fn case_answers_are_one()
 }
 
 /// With all options and each schedule a text whose case is replayed has one answer at most: the
-/// schedule is refused by one number, or the text is refused for one reason, or its case's replay comes
-/// to one answer. With options in their ranges a text without a fault has one.
+/// schedule is refused by one number, or the text is refused for one reason, or its case's replay
+/// comes to one answer. With options in their ranges a text without a fault has one.
 pub fn case_replays_have_one_answer()
     ensures law { HaveOneCaseAnswer }
 {

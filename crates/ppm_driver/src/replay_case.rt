@@ -20,9 +20,9 @@ use ppm_words::NoMemory;
 use std::alloc::Global;
 
 /// Replays the case that is read, sound or not, on a machine whose processors act as the schedule
-/// says, with at most so many acts: its arrays or its trap, and how many forks and takes there were,
-/// are written on `out`, why there are none on `err`. Where the schedule is refused, the source is
-/// left unread.
+/// says, with at most so many acts: its arrays or its trap, and how many forks and takes there
+/// were, are written on `out`, why there are none on `err`. Where the schedule is refused, the
+/// source is left unread.
 pub fn replay_case_command<S: Source, K: Sink, E: Sink>(
     alloc: Global,
     options: ReplayOptions,

@@ -26,8 +26,8 @@ use std::thread::Threads;
 /// Runs the case that is read, sound or not, on a machine whose processors, each a thread, obey the
 /// plan of faults and the limits of the options: its arrays or its trap are written on `out`, why
 /// there are none on `err`. Where the plan is refused, the source is left unread. It may never
-/// return. There is a watcher for each of 64 processors; those of the run's processors are told every
-/// turn, and where they park. Where one refuses, the answer is out of memory.
+/// return. There is a watcher for each of 64 processors; those of the run's processors are told
+/// every turn, and where they park. Where one refuses, the answer is out of memory.
 pub fn run_case_command<R: Threads + Wait + Sync, S: Source, K: Sink, E: Sink, W: Watch>(
     rt: &R,
     alloc: Global,
@@ -41,10 +41,10 @@ pub fn run_case_command<R: Threads + Wait + Sync, S: Source, K: Sink, E: Sink, W
     requires options { AreRun options }
     requires watchers { length watch.old.items ≡ watcher_count }
 
-    // An answer that the command's causes allow, and its texts. After a run each processor's watcher
-    // was told its turns, and where it parked. Where memory is wanting, or a watcher refused, either
-    // nobody was told anything, or the lists are those of one run: up to where watchers refused, or
-    // whole. The other watchers are told nothing.
+    // An answer that the command's causes allow, and its texts. After a run each processor's
+    // watcher was told its turns, and where it parked. Where memory is wanting, or a watcher
+    // refused, either nobody was told anything, or the lists are those of one run: up to where
+    // watchers refused, or whole. The other watchers are told nothing.
     ensures answers { let o = outside (port S.left S.fault_count source.old source.new)
         (port K.written K.fault_count out.old out.new) (port E.written E.fault_count err.old err.new)
         (map W.told watch.old.items) (map W.told watch.new.items)

@@ -5,10 +5,11 @@
 //! plan or a schedule (`specs/Planned`).
 //! Contract: `read_program` gives the program of what is read, `program_code` its code, and
 //! `case_of_source` the case of it, or the answer where there is none; `load_code` and `share_code`
-//! give what opens a code, and `load` what opens a program's; `arrays_of` and `arrays_of_closed` the
-//! arrays of the words. What statuses say of such a command: `specs/MachineRows`.
-//! Stands on `ppm_case`, `ppm_program`, `ppm_cut`, `ppm_core`, `ppm_table`, `ppm_plan` and `ppm_answers`; the
-//! commands that run a machine stand on it. The answers and their order are this project's.
+//! give what opens a code, and `load` what opens a program's; `arrays_of` and `arrays_of_closed`
+//! the arrays of the words. What statuses say of such a command: `specs/MachineRows`.
+//! Stands on `ppm_case`, `ppm_program`, `ppm_cut`, `ppm_core`, `ppm_table`, `ppm_plan` and
+//! `ppm_answers`; the commands that run a machine stand on it. The answers and their order are this
+//! project's.
 #![tactic(auto)]
 
 mod arrays;

@@ -89,8 +89,8 @@ fn opened(
     Ok(words)
 }
 
-/// The machine with these sizes on which a run of a code on an input begins. `Err` only where memory
-/// is refused.
+/// The machine with these sizes on which a run of a code on an input begins. `Err` only where
+/// memory is refused.
 pub fn load_code(
     alloc: Global,
     sizes: Sizes,
