@@ -1,4 +1,6 @@
+pub mod ForkLemmas
 pub mod LogLemmas
+pub mod NamingLemmas
 pub mod StampLemmas
-pub mod WalkLemmas
 pub mod VerdictLemmas
+pub mod WalkLemmas

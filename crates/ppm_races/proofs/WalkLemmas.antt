@@ -1,6 +1,7 @@
 -- A capsule that is run, marked and followed leads from a moment of the run to the next one.
 use Rattle.std.proofs.Common.{◌≡◌, ◌<◌, ◌≤◌, ℕ, zero, suc, ◌+◌, ◌-◌, ◌*◌, Bool, true, false, ◌&&◌, ◌||◌, nat_le, nat_lt, List, [], ◌∷◌, ◌++◌, length, get_or, replicate, take, drop, refl, sym, ap, ◌∙◌, subst, arith, inl, inr, Option, Some, None}
-use Rattle.std.specs.Prelude.{◌⊎◌, ◌↔◌}
+use Rattle.std.specs.Prelude.{◌⊎◌, ◌↔◌, cond}
+use Rattle.std.specs.List.{AllByRecursion}
 use Rattle.std.proofs.Math.Path.{fun_ext}
 use Rattle.std.proofs.lemmas.Bool.{le-ltb, and_right}
 use Rattle.std.proofs.lemmas.List.{length_push}
@@ -32,18 +33,26 @@ use Rattle.ppm_depth.specs.declared.frame.Now.{Now}
 use Rattle.ppm_depth.specs.declared.frame.Now.TheVariants.{At, Over as IsOver}
 use Rattle.ppm_depth.specs.declared.frame.Waiting.{Waiting}
 use Rattle.ppm_depth.specs.declared.store.Place.{Place}
-use Rattle.ppm_depth.proofs.AdvanceLemmas.{began_shows, capsule_is, came_next, came_after, advanced_at}
+use Rattle.ppm_depth.proofs.AdvanceLemmas.{began_shows, came_next, came_after, advanced_at}
 use Rattle.ppm_depth.proofs.FollowLemmas.{above_after, leaf_after}
 use Rattle.ppm_depth.proofs.ResumeLemmas.{above_resumed, leaf_resumed, resumed_at}
 use Rattle.ppm_depth.proofs.StackLemmas.{innermost}
 use Rattle.ppm_stamps.specs.Stamps.{Stamps, right_of, Passes, Marks}
-use Rattle.ppm_stamps.specs.Moments.{Above as Standing, InCallee, InLeft, InRight, beside_of, Comes, Runs, Calls, Forks, Returns, GoesRight, Joins}
+use Rattle.ppm_stamps.specs.Moments.{Above as Standing, InCallee, InLeft, InRight, beside_of, Comes, Runs, Calls, Forks, Returns, GoesRight, Joins, IsOpen}
 use Rattle.ppm_stamps.proofs.MomentLemmas.{beside_low}
-use Rattle.ppm_races.specs.Beside.{is_left_of, stands_beside, stamps_of, NoneMeets, OneMeets, AreMarked}
+use Rattle.ppm_stamps.proofs.OpenLemmas.{AreBelow, Ascends, ascends}
+use Rattle.ppm_races.specs.Beside.{is_left_of, stands_beside, IsOneOf, IsInside, AreInOrder, stamps_of, meets, IsFirst, IsFirstMet, NoneMeets, AreMarked}
+use Rattle.ppm_races.specs.Verdicts.{MomentOf, log_of, meets_at}
 use Rattle.ppm_races.specs.Touches.{words_in, written_in, touches_of}
-use Rattle.ppm_races.specs.Walks.{start_of, mid_of, outside_of, rise, marks_of, opens_fork, marks_with, MarksResumed, IsRaceBy}
+use Rattle.ppm_races.specs.Walks.{start_of, mid_of, outside_of, rise, marks_of, opens_fork, marks_with, MarksResumed, IsLogged, IsMeetingOf}
 use Rattle.ppm_races.specs.declared.stamps.Mark.{Mark}
+use Rattle.ppm_races.specs.declared.stamps.Met.{Met}
 use Rattle.ppm_races.specs.declared.touch.Touch.{Touch}
+use Rattle.ppm_races.proofs.LogLemmas.{IsLogOf, is_log as touches_are_log}
+
+all_push : (P : Mark → Type 0) (ms : List Mark) (n : Mark) → AllByRecursion P ms → P n → AllByRecursion P (ms ++ (n ∷ []))
+all_push P [] n all one = (one, tt)
+all_push P (m ∷ ms) n all one = (all.0, all_push P ms n all.1 one)
 
 or_false : (x : Bool) → (x || false) ≡ x
 or_false true = refl
@@ -86,7 +95,51 @@ now_clear c root input marks p t a s e come = by (stands_beside marks s.time) re
         let less = beside_low c come s.time (sym (ap (λ (q : ℕ → Bool). q s.time) (same_beside marks p e)) ∙ is) in
         absurd (omega (arith, less))
 
--- the forks that are open behind an end
+-- the marks stand in order
+order_push : (ms : List Mark) (n : Mark) → AreInOrder ms → AllByRecursion (λ (m : Mark). IsInside m n) ms → AreInOrder (ms ++ (n ∷ []))
+order_push [] n are all = (tt, tt)
+order_push (m ∷ ms) n are all = (all_push (IsInside m) ms n are.0 all.0, order_push ms n are.1 all.1)
+
+all_inside : (p : List (Standing Own Result)) (n : Mark) → AreBelow p n.start → AllByRecursion (λ (m : Mark). IsInside m n) (marks_of p)
+all_inside [] n below = tt
+all_inside (InCallee g ∷ p) n below = all_inside p n below
+all_inside (InLeft g r start ∷ p) n below =
+    all_push (λ (m : Mark). IsInside m n) (marks_of p) (record { start = start; mid = 0 }) (all_inside p n below.1)
+    (let le = below.0 in record { start = omega (arith, le); mid = omega arith })
+all_inside (InRight g o start mid ∷ p) n below =
+    all_push (λ (m : Mark). IsInside m n) (marks_of p) (record { start = start; mid = mid }) (all_inside p n below.2)
+    (record { start = below.0; mid = below.1 })
+
+in_order : (p : List (Standing Own Result)) → Ascends p → AreInOrder (marks_of p)
+in_order [] are = tt
+in_order (InCallee g ∷ p) are = in_order p are
+in_order (InLeft g r start ∷ p) are =
+    order_push (marks_of p) (record { start = start; mid = 0 }) (in_order p are.1) (all_inside p (record { start = start; mid = 0 }) are.0)
+in_order (InRight g o start mid ∷ p) are =
+    order_push (marks_of p) (record { start = start; mid = mid }) (in_order p are.1) (all_inside p (record { start = start; mid = mid }) are.0)
+
+pub now_sorted : (c : Code Own Result) (root : Strands) (input : Words) (marks : List Mark) (p : List (Standing Own Result)) (t : Strands) (a : Words) (s : Stamps)
+    → marks ≡ marks_of p → Comes c root input p t a s → AreInOrder marks
+now_sorted c root input marks p t a s e come = subst (λ (ms : List Mark). AreInOrder ms) (sym e) (in_order p (ascends c come).1)
+
+-- a mark with a right branch is of a fork that is open
+one_split : (ms : List Mark) (m n : Mark) → IsOneOf m (ms ++ (n ∷ [])) → IsOneOf m ms ⊎ (m ≡ n)
+one_split [] m n h = elim h [ inl e ↦ inr e | inr y ↦ absurd y ]
+one_split (x ∷ ms) m n h = elim h [ inl e ↦ inl (inl e) | inr y ↦ elim (one_split ms m n y) [ inl z ↦ inl (inr z) | inr e ↦ inr e ] ]
+
+open_of : (p : List (Standing Own Result)) (m : Mark) → 0 < m.mid → IsOneOf m (marks_of p) → IsOpen m.start m.mid p
+open_of [] m some h = absurd h
+open_of (InCallee g ∷ p) m some h = open_of p m some h
+open_of (InLeft g r start ∷ p) m some h = elim (one_split (marks_of p) m (record { start = start; mid = 0 }) h) [
+  | inl y ↦ open_of p m some y
+  | inr e ↦ absurd (let none = ap (λ (n : Mark). n.mid) e in omega (arith, none, some))
+]
+open_of (InRight g o start mid ∷ p) m some h = elim (one_split (marks_of p) m (record { start = start; mid = mid }) h) [
+  | inl y ↦ inr (open_of p m some y)
+  | inr e ↦ inl (ap (λ (n : Mark). n.start) e, ap (λ (n : Mark). n.mid) e)
+]
+
+-- the forks that are open after an end
 abbrev pub forks_after : ℕ → End → List Mark → List Mark
 forks_after time (Next k) ms = ms
 forks_after time Finish ms = ms
@@ -125,7 +178,7 @@ module _ (code : CodeParts) (is_code : IsCode code) (frame : Frame) (block : ℕ
     (log : List Touch)
     (is_log : (m : Memory Where) → Shows (slots_at code frame.capsule) (block_at code frame.capsule)
     (record { frame = frame.base; block = block }) opened words_before m
-    → IsLogOf log (capsule_of (length words_before) (instrs_of code frame.capsule)) m)
+    → log ≡ touches_of (length words_before) (instrs_of code frame.capsule) m)
     (time : ℕ) (wrote touched wrote' touched' : List ℕ) (marks : List Mark)
     (root : Strands) (input : Words) (waiting : List Waiting) (above : Above) (leaf : Strands) (forks : List Mark)
     (at : IsShownAt code before_blocks waiting (At frame) above leaf)
@@ -150,10 +203,6 @@ module _ (code : CodeParts) (is_code : IsCode code) (frame : Frame) (block : ℕ
   shows = began_shows code is_code frame block before_blocks opened blocks words_before words done block_is opens_block whole keeps same_words fits waiting
       (tree_at above leaf) shown
 
-  run_is : capsule_of (length words_before) (instrs_of code f.point.capsule) ≡ capsule_of (length words_before) (instrs_of code frame.capsule)
-  run_is = capsule_is code is_code frame block before_blocks opened blocks words_before words done block_is opens_block whole keeps same_words fits waiting
-      (tree_at above leaf) shown
-
   next_is : c.next f (words_of words_before) ≡ opens code done.end (own_of behind) (new_of behind)
   next_is = came_next code is_code frame block before_blocks opened blocks words_before words done block_is opens_block whole keeps same_words fits waiting
       (tree_at above leaf) shown
@@ -163,8 +212,13 @@ module _ (code : CodeParts) (is_code : IsCode code) (frame : Frame) (block : ℕ
       (tree_at above leaf) shown
 
   -- what is noted is what the strand's capsule touches
+  log_is : log ≡ log_of code (length words_before) f (words_of words_before)
+  log_is = is_log before shows
+      ∙ ap (λ (p : Point). touches_of (length words_before) (instrs_of code p.capsule) before) (sym at.at.2.point)
+
   logged : IsLogOf log (capsule_of (length words_before) (instrs_of code f.point.capsule)) before
-  logged = subst (λ (p : Capsule Where End). IsLogOf log p before) (sym run_is) (is_log before shows)
+  logged = subst (λ (l : List Touch). IsLogOf l (capsule_of (length words_before) (instrs_of code f.point.capsule)) before) (sym log_is)
+      (touches_are_log (length words_before) (instrs_of code f.point.capsule) before)
 
   all_touched : (x : ℕ) → Has x (words_in log) → Has x (touches c f (words_of words_before))
   all_touched x h = elim ((logged.touched x).0 h) [
@@ -187,22 +241,39 @@ module _ (code : CodeParts) (is_code : IsCode code) (frame : Frame) (block : ℕ
   at_strand : Comes c root input (rise above forks) (Strand f) (words_of words_before) (stamps_of time wrote touched)
   at_strand = subst (λ (t : Strands). Comes c root input (rise above forks) t (words_of words_before) (stamps_of time wrote touched)) at.at.1 come
 
+  -- the moment
+  abbrev moment : MomentOf code root input (length words_before) time
+  moment = record {
+    above = rise above forks;
+    frame = f;
+    words = words_of words_before;
+    stamps = stamps_of time wrote touched;
+    come = at_strand;
+    time = refl;
+  }
+
+  pub has_logged : IsLogged code root input (length words_before) time frame.capsule log
+  has_logged = record { moment = moment; same = ap (λ (p : Point). p.capsule) at.at.2.point; all = log_is }
+
   -- a touch that meets something
-  pub has_met : (x : ℕ) → OneMeets (stands_beside marks) wrote touched log x → IsRaceBy code root input (length words_before) time x
-  has_met x h = (
-    record {
-      above = rise above forks;
-      frame = f;
-      words = words_of words_before;
-      stamps = stamps_of time wrote touched;
-      come = at_strand;
-      meets = elim h [
-        | inl y ↦ inl (all_touched x y.0, said true (get_or wrote x 0) y.1)
-        | inr y ↦ inr ((logged.written x).0 y.0, said true (get_or touched x 0) y.1)
-      ];
-    },
-    refl,
-  )
+  pub has_met : (met : Met) → IsFirstMet marks wrote touched log met
+      → IsMeetingOf code root input (length words_before) (record { run = time; capsule = frame.capsule; met = met })
+  has_met met h =
+      let fork = h.whom.fork in
+      let some = fork.before in
+      record {
+        moment = moment;
+        capsule = ap (λ (p : Point). p.capsule) at.at.2.point;
+        first = subst (λ (l : List Touch). IsFirst (meets_at (beside_of (rise above forks)) (stamps_of time wrote touched)) l met.touch) log_is
+            (subst (λ (q : ℕ → Bool). IsFirst (meets q wrote touched) log met.touch) q_is h.first);
+        left = h.whom.left ∙ ap (λ (q : ℕ → Bool). cond (q (get_or wrote met.touch.word 0)) (get_or wrote met.touch.word 0)
+            (get_or touched met.touch.word 0)) q_is;
+        beside = said true met.left fork.beside;
+        fork = open_of (rise above forks) met.fork (omega (arith, some))
+            (subst (λ (ms : List Mark). IsOneOf met.fork ms) marks_are fork.one_of);
+        from = fork.from;
+        before = fork.before;
+      }
 
   module _ (none : NoneMeets (stands_beside marks) wrote touched log)
       (marked : AreMarked (stands_beside marks) wrote touched time log wrote' touched') where
