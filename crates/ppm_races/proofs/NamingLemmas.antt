@@ -1,13 +1,27 @@
 -- The capsules of a race, looked up by their numbers in the run.
-use Rattle.std.proofs.Common.{◌≡◌, ◌≤◌, ◌<◌, inl, inr, ℕ, ◌+◌, ◌-◌, List, [], refl, sym, ap, ◌∙◌, subst, subst₂, arith, length, Bool, true, false}
-use Rattle.std.specs.Prelude.{◌↔◌, cond}
+use Rattle.std.proofs.Common.{◌≡◌, ◌≤◌, ◌<◌, inl, inr, ℕ, zero, suc, ◌+◌, ◌-◌, ◌^◌, max, List, [], ◌∷◌, ◌++◌, refl, sym, ap, ◌∙◌, subst, subst₂, arith, length, Bool, true, false, Option, Some, None, replicate, slice_set}
+use Rattle.std.specs.Prelude.{◌↔◌, cond, slice_get}
+use Rattle.std.specs.List.{AllByRecursion}
 use Rattle.ppm_words.specs.declared.named_array.NamedArray.{NamedArray}
+use Rattle.ppm_capsules.specs.Capsule.{Memory, store}
+use Rattle.ppm_capsules.specs.Strand.{start}
+use Rattle.ppm_code.specs.declared.act.Act.{Act}
+use Rattle.ppm_code.specs.declared.act.Act.TheVariants.{Sets, Passes as PassesBy, Jumps, Steps, Ends as Stops}
+use Rattle.ppm_code.specs.declared.act.Step.TheVariants.{Loads, Stores, Asks}
 use Rattle.ppm_code.specs.declared.act.End.{End}
 use Rattle.ppm_code.specs.declared.act.End.TheVariants.{Next, Finish, Trap, Call, Fork}
+use Rattle.ppm_code.specs.declared.code.Capsule.{Capsule}
 use Rattle.ppm_code.specs.declared.code.CodeParts.{CodeParts}
+use Rattle.ppm_code.specs.declared.instr.Instr.{Instr}
 use Rattle.ppm_code.specs.declared.location.FrameWord.{FrameWord}
+use Rattle.ppm_code.specs.declared.location.Location.{Location}
+use Rattle.ppm_code.specs.declared.location.Location.TheVariants.{Frame, New, Array}
+use Rattle.ppm_code.specs.Acts.{does}
+use Rattle.ppm_code.specs.Code.{IsCapsule, IsCode}
 use Rattle.ppm_code.specs.Inputs.{words_in}
-use Rattle.ppm_code.specs.Strands.{Result, Gave, Trapped, opens, resume}
+use Rattle.ppm_code.specs.Locations.{Where, code_locations, location_of}
+use Rattle.ppm_code.specs.Strands.{Result, Gave, Trapped, instrs_in, instrs_of, opens, resume, table_of}
+use Rattle.ppm_code.proofs.CodeLemmas.{all_at}
 use Rattle.ppm_depth.specs.Stack.{Own, Strands}
 use Rattle.ppm_depth.specs.Start.{words_of, root_strand}
 use Rattle.ppm_depth.specs.Turns.{strands_over}
@@ -21,7 +35,7 @@ use Rattle.ppm_stamps.proofs.NameLemmas.{started, touches_are_named}
 use Rattle.ppm_stamps.proofs.OneWayLemmas.{moments_are_one, earlier_pass, moments_before}
 use Rattle.ppm_stamps.proofs.OpenLemmas.{forks_are_opened}
 use Rattle.ppm_races.specs.Judged.{IsMeetingWith, IsVisitTo, MomentWith}
-use Rattle.ppm_races.specs.Touches.{written_in}
+use Rattle.ppm_races.specs.Touches.{written_in, touches_at, after_act, touches_from}
 use Rattle.ppm_races.specs.Verdicts.{IsOpener, IsRaceWith, IsVisit, MomentOf, log_of, meets_at, touch_of}
 use Rattle.ppm_races.specs.Beside.{IsFirst}
 use Rattle.ppm_races.specs.Walks.{IsLogged, IsMeetingOf}
@@ -101,7 +115,7 @@ module _ (code : CodeParts) (input : List NamedArray) where
     opener = forks_are_opened c (is_plain code n) root words it.moment.above (Strand it.moment.frame) it.moment.words it.moment.stamps refl it.moment.come
         m.met.fork.start m.met.fork.mid it.fork
 
-    opener_is : opener.number ≡ m.met.fork.start - 1
+    pub opener_is : opener.number ≡ m.met.fork.start - 1
     opener_is = let one = opener.before in omega (arith, one)
 
     pub opener_moment : MomentWith code input (m.met.fork.start - 1)
@@ -162,7 +176,9 @@ module _ (code : CodeParts) (input : List NamedArray) where
     fork_is : (v : Visit) → IsVisitTo code input (m.met.fork.start - 1) m.met.touch.word v
         → IsOpener code root words n (record { run = v.run; capsule = v.capsule })
     fork_is v visit =
-        let one = moments_are_one c root words (m.met.fork.start - 1) opener_moment visit.moment in
+        let one = moments_are_one c root words opener.number opener.moment
+        (record { above = visit.moment.above; frame = visit.moment.frame; words = visit.moment.words; stamps = visit.moment.stamps; come = visit.moment.come;
+        time = visit.moment.time ∙ sym opener_is }) in
         record {
           moment = subst (λ (k : ℕ). MomentWith code input k) (sym visit.number) visit.moment;
           capsule = visit.capsule;
@@ -199,3 +215,57 @@ module _ (code : CodeParts) (input : List NamedArray) where
           before = omega (arith, met, until);
           fork = fork_is v opened;
         }
+
+-- instructions have small numbers
+at_one : (k : ℕ) (l : Location) (b : Bool) (at : ℕ) → at < k → AllByRecursion (λ (t : Touch). t.at < k) (touches_at l b at)
+at_one k (Frame own) b at less = tt
+at_one k (New offset) b at less = tt
+at_one k (Array word) b at less = (less, tt)
+
+all_append : (k : ℕ) (log more : List Touch) → AllByRecursion (λ (t : Touch). t.at < k) log → AllByRecursion (λ (t : Touch). t.at < k) more
+    → AllByRecursion (λ (t : Touch). t.at < k) (log ++ more)
+all_append k [] more h g = g
+all_append k (t ∷ log) more h g = (h.0, all_append k log more h.1 g)
+
+act_low : (k : ℕ) (go : ℕ → List ℕ → Memory Where → List Touch)
+    → ((t : ℕ) (h : List ℕ) (m : Memory Where) → AllByRecursion (λ (t : Touch). t.at < k) (go t h m)) → (here : ℕ) (a : Act) (g : List ℕ) (m : Memory Where)
+    → here < k → AllByRecursion (λ (t : Touch). t.at < k) (after_act go here a g m)
+act_low k go low here (Sets d v) g m less = low (here + 1) (slice_set g d.index v) m
+act_low k go low here PassesBy g m less = low (here + 1) g m
+act_low k go low here (Jumps t) g m less = low (max t (here + 1)) g m
+act_low k go low here (Steps (Loads l d)) g m less =
+    all_append k (touches_at l false here) (go (here + 1) (slice_set g d.index (m (location_of l))) m) (at_one k l false here less)
+    (low (here + 1) (slice_set g d.index (m (location_of l))) m)
+act_low k go low here (Steps (Stores l v)) g m less =
+    all_append k (touches_at l true here) (go (here + 1) g (store code_locations m (location_of l) v)) (at_one k l true here less)
+    (low (here + 1) g (store code_locations m (location_of l) v))
+act_low k go low here (Steps (Asks q)) g m less = low (here + 1) g m
+act_low k go low here (Stops e) g m less = tt
+
+touches_low : (array_words k here skip : ℕ) (is : List Instr) (g : List ℕ) (m : Memory Where) → here + length is ≤ k
+    → AllByRecursion (λ (t : Touch). t.at < k) (touches_from array_words here skip is g m)
+touches_low array_words k here skip [] g m le = tt
+touches_low array_words k here (suc skip) (i ∷ is) g m le = touches_low array_words k (here + 1) skip is g m (omega (arith, le))
+touches_low array_words k here zero (i ∷ is) g m le =
+    act_low k (λ t h m. touches_from array_words (here + 1) (t - (here + 1)) is h m)
+    (λ t h m. touches_low array_words k (here + 1) (t - (here + 1)) is h m (omega (arith, le))) here (does array_words i g) g m (omega (arith, le))
+
+one_low : (k : ℕ) (front rest : List Touch) (t : Touch) → AllByRecursion (λ (t : Touch). t.at < k) (front ++ (t ∷ rest)) → t.at < k
+one_low k [] rest t all = all.0
+one_low k (x ∷ front) rest t all = one_low k front rest t all.1
+
+instrs_few : (code : CodeParts) → IsCode code → (number : ℕ) → length (instrs_of code number) ≤ 160
+instrs_few code is_code number = by (slice_get code.capsules number) refl
+  where
+    by : (o : Option Capsule) → slice_get code.capsules number ≡ o → length (instrs_in o) ≤ 160
+    by None e = omega arith
+    by (Some q) e = (all_at (IsCapsule code) code.capsules number q is_code.capsules e).most
+
+pub at_few : (code : CodeParts) → IsCode code → (input : List NamedArray) (m : Meeting) → IsMeetingWith code input m → m.met.touch.at < 160
+at_few code is_code input m it =
+    let is = instrs_of code it.moment.frame.point.capsule in
+    let few = instrs_few code is_code it.moment.frame.point.capsule in
+    one_low 160 it.first.front it.first.rest m.met.touch
+    (subst (λ (l : List Touch). AllByRecursion (λ (t : Touch). t.at < 160) l) it.first.all
+    (touches_low (length (words_in input)) 160 0 0 is (replicate 64 0)
+    (start code_locations (table_of code (length (words_in input))) it.moment.frame it.moment.words) (omega (arith, few))))

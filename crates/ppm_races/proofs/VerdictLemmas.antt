@@ -39,7 +39,7 @@ use Rattle.ppm_races.specs.declared.touch.Touch.{Touch}
 use Rattle.ppm_races.specs.declared.walk.Meeting.{Meeting}
 use Rattle.ppm_races.proofs.LogLemmas.{is_log}
 use Rattle.ppm_races.proofs.StampLemmas.{in_words, in_written}
-use Rattle.ppm_races.proofs.WalkLemmas.{Stands}
+use Rattle.ppm_races.proofs.ReturnLemmas.{Stands}
 use Rattle.ppm_strands.specs.Tree.{Words, Tree, Strand, Over, Code, Local, Has}
 use Rattle.ppm_strands.specs.Run.{End, Ends}
 use Rattle.ppm_strands.specs.Calm.{touches, Calm}

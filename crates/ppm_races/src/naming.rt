@@ -61,6 +61,8 @@ pub(crate) fn race_of(
     ensures race { IfOk result (IsRaceWith code.now input.now) }
     ensures run { IfOk result (λ race. race.right.run ≡ meeting.run) }
 {
+    // The limits of a code are known by this call, so the cast fits.
+    let _ = code.parts();
     let met = meeting.met;
     let word = met.touch.word;
     let opener = visit_of(alloc, code, input, met.fork.start - 1, word)?;

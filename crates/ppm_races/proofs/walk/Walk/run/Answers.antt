@@ -15,7 +15,8 @@ use Rattle.ppm_depth.proofs.ResumeLemmas.{resumed_turn, slots_there, resumed_les
 use Rattle.ppm_races.specs.Walks.{rise, stamps_in, Chains, IsAt, IsMeetingOf, KeptBy, TurnedTo}
 use Rattle.ppm_races.specs.declared.stamps.Visits.{Visits}
 use Rattle.ppm_races.specs.declared.walk.Turn.{Turn}
-use Rattle.ppm_races.proofs.WalkLemmas.{now_clear, now_sorted, over_root, few_turns, smaller_at}
+use Rattle.ppm_races.proofs.MarkLemmas.{now_clear, now_sorted}
+use Rattle.ppm_races.proofs.ReturnLemmas.{over_root, few_turns, smaller_at}
 use Rattle.ppm_races.proofs.walk.Walk.run.Goals as goal
 
 -- at the beginning nothing is run
