@@ -84,15 +84,15 @@ fn judge<'a>(arrays: &[NamedArray], words: u64, line: &'a [u8]) -> Result<Next<'
     })
 }
 
-/// The array that a line says.
-fn make_array(alloc: Global, next: Next<'_>) -> Result<NamedArray, NoMemory>
-    requires { CanStand next.name.now next.numbers.now next.len }
-    ensures { (a : Written) → IsWordsOf a next.name.now next.numbers.now next.len
+/// The array of a name, and the words after it.
+fn make_array(alloc: Global, name: &[u8], numbers: &[u8], len: u64) -> Result<NamedArray, NoMemory>
+    requires { CanStand name.now numbers.now len }
+    ensures { (a : Written) → IsWordsOf a name.now numbers.now len
         → IfOk result (λ array. array ≡ array_of a) }
 {
-    let values = values_of(alloc, next.numbers, next.len)?;
+    let values = values_of(alloc, numbers, len)?;
     Ok(NamedArray {
-        name: Name::from_bytes(Vec::from_slice(alloc, next.name)?),
+        name: Name::from_bytes(Vec::from_slice(alloc, name)?),
         values: Items::from_vec(values),
     })
 }
@@ -125,7 +125,8 @@ pub(crate) fn read_arrays<'a>(alloc: Global, text: &'a [u8]) -> Result<Arrays<'a
             Ok(next) => next,
             Err(fault) => return Err(CaseError::of_input(fault, lines + 1)),
         };
-        arrays.push(make_array(alloc, next)?)?;
+        let array = make_array(alloc, next.name, next.numbers, next.len)?;
+        arrays.push(array)?;
         words += next.len;
         lines += 1;
         left = rest;

@@ -10,6 +10,7 @@
 mod arrays;
 mod case;
 mod case_error;
+mod laws;
 mod line;
 mod reading;
 mod row;
@@ -21,6 +22,7 @@ mod writing;
 
 pub use case::Case;
 pub use case_error::{CaseError, CaseFault, InputFault};
+pub use laws::{faults_tell_cases, written_cases_are_read};
 pub use line::{Numbers, Room};
 pub use reading::{CASE_LIMIT, read_case};
 pub use row::Row;

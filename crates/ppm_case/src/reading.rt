@@ -1,7 +1,9 @@
 //! Reads cases.
-ghost use Rattle.std.specs.Prelude.{◌≡◌, ◌<◌, ◌↔◌, IsTrue, nat_lt, IfOk, IfErr};
-ghost use Rattle.std.specs.List.{list_all, All};
+ghost use Rattle.std.specs.Prelude.{◌≡◌, ◌↔◌, IsTrue, nat_lt, IfOk, IfErr};
+ghost use Rattle.std.specs.List.{list_all};
 ghost use Rattle.ppm_code.specs.Code.{IsCode};
+ghost use Rattle.ppm_depth.specs.Start.{NamesArrays};
+ghost use Rattle.ppm_case.specs.Rules.{case_limit};
 ghost use Rattle.ppm_case.specs.Case.{IsCaseOf};
 ghost use Rattle.ppm_case.specs.Faults.{IsRefusal};
 
@@ -10,7 +12,7 @@ use crate::case::Case;
 use crate::case_error::{CaseError, InputFault};
 use ppm_code::Code;
 use ppm_listing_reader::read_listing;
-use ppm_words::Input;
+use ppm_words::{Input, NamedArray};
 use std::alloc::Global;
 
 /// The bytes of a case, at most.
@@ -30,12 +32,19 @@ fn are_below(numbers: &[u32], limit: usize) -> bool
     true
 }
 
-/// Whether the root of a code names none but so many arrays.
-fn names_arrays(code: &Code, arrays: usize) -> bool
-    ensures exactly { IsTrue result ↔ All (λ number. number < arrays) code.now.arrays }
+/// Whether the root of a code names none but these arrays.
+fn names_arrays(code: &Code, arrays: &[NamedArray]) -> bool
+    ensures exactly { IsTrue result ↔ NamesArrays code.now arrays.now }
     ensures code { IsCode code.now }
 {
-    are_below(code.parts().arrays.as_slice(), arrays)
+    are_below(code.parts().arrays.as_slice(), arrays.len())
+}
+
+/// Whether so many bytes are more than a case may have.
+fn is_too_long(bytes: usize) -> bool
+    ensures { result ≡ nat_lt case_limit bytes }
+{
+    bytes > CASE_LIMIT
 }
 
 /// The case of a text. `Err` with the first fault of a text that is of none, or where memory is
@@ -44,7 +53,7 @@ pub fn read_case(alloc: Global, text: &[u8]) -> Result<Case, CaseError>
     ensures ok { IfOk result (λ case. IsCaseOf text.now case.code case.input) }
     ensures err { IfErr result (IsRefusal text.now) }
 {
-    if text.len() > CASE_LIMIT {
+    if is_too_long(text.len()) {
         return Err(CaseError::of_input(InputFault::TooMuch, 1));
     }
     let read = read_arrays(alloc, text)?;
@@ -52,7 +61,7 @@ pub fn read_case(alloc: Global, text: &[u8]) -> Result<Case, CaseError>
         Ok(code) => code,
         Err(error) => return Err(CaseError::of_listing(read.lines, error)),
     };
-    if !names_arrays(&code, read.arrays.len()) {
+    if !names_arrays(&code, &read.arrays) {
         return Err(CaseError::of_input(InputFault::NotThere, read.lines + 2));
     }
     Ok(Case {

@@ -1,7 +1,8 @@
 //! Rows of equal values.
-ghost use Rattle.std.specs.Prelude.{◌≡◌, ◌∷◌, [], ◌+◌, ◌<◌, ◌≤◌, length, MatchOption};
+ghost use Rattle.std.specs.Prelude.{◌≡◌, ◌∷◌, [], ◌+◌, ◌<◌, ◌≤◌, ◌^◌, ◌&&◌, pos, length, MatchOption};
 ghost use Rattle.std.specs.List.{prefix_len};
-ghost use Rattle.ppm_case.specs.Text.{same_value, rows_of};
+ghost use Rattle.ppm_pieces.specs.Numbers.{is_empty as is_nil};
+ghost use Rattle.ppm_case.specs.Text.{same_value, row, rows_of};
 
 use ppm_pieces::behind;
 
@@ -36,6 +37,39 @@ fn front_len(values: &[i64], value: i64) -> usize
     count
 }
 
+/// Whether a value is 0, and none follow.
+fn is_last_zero(value: i64, left: &[i64]) -> bool
+    ensures { result ≡ (same_value value (pos 0) && is_nil left.now) }
+{
+    is_same(value, 0) && left.is_empty()
+}
+
+/// A value, and so many more of it.
+fn row_of(number: i64, more: usize) -> Row
+    requires { 1 + more < 2 ^ 64 }
+    ensures { result ≡ row number (1 + more) }
+{
+    Row {
+        number,
+        times: 1 + more as u64,
+    }
+}
+
+/// The row of a value in front of others, and the values behind it; `None` where all are zeros.
+fn front_row(value: i64, rest: &[i64]) -> Option<(Row, &[i64])>
+    ensures rows { MatchOption result
+        (rows_of (value ∷ rest.now) ≡ [])
+        (λ p. rows_of (value ∷ rest.now) ≡ p.0 ∷ rows_of p.1.now) }
+    ensures shorter { MatchOption result (Unit {0}) (λ p. length p.1.now ≤ length rest.now) }
+{
+    let more = front_len(rest, value);
+    let left = behind(rest, more);
+    if is_last_zero(value, left) {
+        return None;
+    }
+    Some((row_of(value, more), left))
+}
+
 /// The first of the longest rows of values, and the values behind it; `None` where there are none
 /// but zeros.
 pub(crate) fn first_row(values: &[i64]) -> Option<(Row, &[i64])>
@@ -46,17 +80,6 @@ pub(crate) fn first_row(values: &[i64]) -> Option<(Row, &[i64])>
 {
     match values {
         [] => None,
-        [value, rest @ ..] => {
-            let more = front_len(rest, *value);
-            let left = behind(rest, more);
-            if *value == 0 && left.is_empty() {
-                return None;
-            }
-            let row = Row {
-                number: *value,
-                times: 1 + more as u64,
-            };
-            Some((row, left))
-        }
+        [value, rest @ ..] => front_row(*value, rest),
     }
 }

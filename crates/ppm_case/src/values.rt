@@ -1,5 +1,6 @@
 //! Puts the values of an array into memory.
 ghost use Rattle.std.specs.Prelude.{◌≡◌, ◌++◌, ◌≤◌, ◌∷◌, IfOk, OnOk, Some, ℕ, List, true};
+ghost use Rattle.std.specs.Prelude.{◌-◌, pos, length, take, replicate};
 ghost use Rattle.ppm_words.specs.Limits.{word_limit};
 ghost use Rattle.ppm_pieces.specs.Pieces.{split};
 ghost use Rattle.ppm_case.specs.Spelling.{run_in as run, run_values, values_in, filled};
@@ -56,6 +57,27 @@ fn push_values(values: &mut Vec<i64>, words: &[u8]) -> Result<(), NoMemory>
     Ok(())
 }
 
+/// Appends the values of the words after the first.
+fn push_given(values: &mut Vec<i64>, words: &[u8]) -> Result<(), NoMemory>
+    requires { (l : List ℕ) (ws : List (List ℕ)) → split 32 words.now ≡ l ∷ ws → HasRoom ws }
+    ensures { (l : List ℕ) (ws : List (List ℕ)) → split 32 words.now ≡ l ∷ ws
+        → OnOk result (values.new.items ≡ values.old.items ++ values_in ws) }
+{
+    match split_once(words, b' ') {
+        Some((_, rest)) => push_values(values, rest),
+        None => Ok(()),
+    }
+}
+
+/// Cuts values to a length, or appends zeros up to it.
+fn fill_up(values: &mut Vec<i64>, len: usize) -> Result<(), NoMemory>
+    ensures { OnOk result (values.new.items
+        ≡ take len values.old.items ++ replicate (len - length values.old.items) (pos 0)) }
+{
+    values.resize(len, 0)?;
+    Ok(())
+}
+
 /// The values of an array of so many words, by the words after its name.
 pub(crate) fn values_of(alloc: Global, words: &[u8], len: u64) -> Result<Vec<i64>, NoMemory>
     requires few { len ≤ word_limit }
@@ -65,9 +87,7 @@ pub(crate) fn values_of(alloc: Global, words: &[u8], len: u64) -> Result<Vec<i64
         → IfOk result (λ values. values.items ≡ filled len (values_in ws)) }
 {
     let mut values = Vec::with_capacity(alloc, len as usize)?;
-    if let Some((_, rest)) = split_once(words, b' ') {
-        push_values(&mut values, rest)?;
-    }
-    values.resize(len as usize, 0)?;
+    push_given(&mut values, words)?;
+    fill_up(&mut values, len as usize)?;
     Ok(values)
 }

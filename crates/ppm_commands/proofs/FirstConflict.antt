@@ -25,7 +25,7 @@ in_its_capsule code c f = f.first.first.conflict
 not_earlier : (code : CodeParts) (c d : Conflict) → IsFirstConflictOf code c → IsFirstConflictOf code d → d.capsule < c.capsule → ⊥
 not_earlier code c d f g less = f.earlier d.capsule less d.read_at d.write_at d.class (in_its_capsule code d g)
 
-same_number : (m n : ℕ) → (m < n → ⊥) → (n < m → ⊥) → m ≡ n
+pub same_number : (m n : ℕ) → (m < n → ⊥) → (n < m → ⊥) → m ≡ n
 same_number m n f g = omega (arith, f, g)
 
 -- a conflict by its parts

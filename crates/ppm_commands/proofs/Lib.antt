@@ -10,3 +10,10 @@ pub mod FaithfulLemmas
 pub mod CodeRows
 pub mod SerialAnswers
 pub mod SerialRows
+pub mod CaseAnswers
+pub mod FirstStore
+pub mod DepthAnswers
+pub mod DepthRows
+pub mod WordLemmas
+pub mod RacesAnswers
+pub mod RacesRows

@@ -1,5 +1,5 @@
 -- What commands say of cases: the refusals of a text that is of none, what a case has, and where an instruction of it stands in the text.
-use Rattle.std.specs.Prelude.{◌≡◌, ℕ, ◌+◌, List, length, map, take}
+use Rattle.std.specs.Prelude.{◌≡◌, ℕ, ◌+◌, List, length, map, take, ⊤}
 use Rattle.std.specs.List.{sum}
 use Rattle.ppm_words.specs.declared.named_array.NamedArray.{NamedArray}
 use Rattle.ppm_code.specs.declared.code.Capsule.{Capsule}
@@ -63,6 +63,11 @@ abbrev pub HasOfCase : (CodeParts → List NamedArray → Answer → Type 0) →
 HasOfCase Of text (answers.InputRefused r) = HasInputFault text r
 HasOfCase Of text (answers.ListingRefused r) = HasListingFault text r
 HasOfCase Of text answer = (c : HasCase text) × Of c.code c.input answer
+
+-- an answer that a case has, or want of memory
+abbrev pub MayOf : (CodeParts → List NamedArray → Answer → Type 0) → CodeParts → List NamedArray → Answer → Type 0
+MayOf Of code input answers.NoMemory = ⊤
+MayOf Of code input answer = Of code input answer
 
 -- the answer of a fault
 abbrev pub fault_answer : CaseFault → (line : ℕ) → Answer

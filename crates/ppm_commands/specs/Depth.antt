@@ -1,5 +1,5 @@
 -- The command `depth`: what it says of a text, when it may give each answer, and what follows from each status.
-use Rattle.std.specs.Prelude.{◌≡◌, ◌⊎◌, ℕ, List, ◌++◌, ⊤}
+use Rattle.std.specs.Prelude.{◌≡◌, ◌⊎◌, ℕ, List, ◌++◌}
 use Rattle.ppm_words.specs.declared.named_array.NamedArray.{NamedArray}
 use Rattle.ppm_words.specs.declared.outcome.Outcome.{Outcome}
 use Rattle.ppm_words.specs.declared.outcome.Outcome.TheVariants as outcome
@@ -22,7 +22,7 @@ use Rattle.ppm_answers.specs.declared.status.Status.TheVariants as statuses
 use Rattle.ppm_answers.specs.Texts.{arrays_text, trap_text, counts_text, untidy_text, input_text, listing_text, not_within_capsules_text}
 use Rattle.ppm_answers.specs.Reading.{ReadHas, JudgingMay, AreOne, FrontsDecide}
 use Rattle.ppm_answers.specs.Rows.{PortsSay, TextRows, IsShown, IsDone}
-use Rattle.ppm_commands.specs.Cases.{counts_told, IsUntidy, HasOfCase}
+use Rattle.ppm_commands.specs.Cases.{counts_told, IsUntidy, HasOfCase, MayOf}
 
 -- a tidy code, run depth first from the input, comes within so many capsules to this, with these counts
 pub record EndsWithin (capsules : ℕ) (code : CodeParts) (input : List NamedArray) (o : Outcome) (k : Counts) : Type 0 where
@@ -57,8 +57,7 @@ run_answer capsules run = answer_by capsules run.outcome (counts_told run)
 
 -- the answers of a case, and want of memory
 abbrev pub DepthMayOf : ℕ → CodeParts → List NamedArray → Answer → Type 0
-DepthMayOf capsules code input answers.NoMemory = ⊤
-DepthMayOf capsules code input answer = DepthOf capsules code input answer
+DepthMayOf capsules = MayOf (DepthOf capsules)
 
 -- the answer that a text has
 abbrev pub DepthHas : ℕ → List ℕ → Answer → Type 0

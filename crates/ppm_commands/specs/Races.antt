@@ -1,5 +1,5 @@
 -- The command `races`: what it says of a text, when it may give each answer, and what follows from each status.
-use Rattle.std.specs.Prelude.{◌≡◌, ◌<◌, ◌⊎◌, ℕ, ◌+◌, Bool, true, false, List, ◌∷◌, ◌++◌, length, ⊤}
+use Rattle.std.specs.Prelude.{◌≡◌, ◌<◌, ◌⊎◌, ℕ, ◌+◌, Bool, true, false, List, ◌∷◌, ◌++◌, length}
 use Rattle.ppm_words.specs.declared.named_array.NamedArray.{NamedArray}
 use Rattle.ppm_words.specs.Inputs.{value_count}
 use Rattle.ppm_ports.specs.Ports.{Port, Gets}
@@ -38,7 +38,7 @@ use Rattle.ppm_answers.specs.Reading.{ReadHas, JudgingMay, AreOne, FrontsDecide}
 use Rattle.ppm_answers.specs.Rows.{PortsSay, TextRows, IsShown, IsDone}
 use Rattle.ppm_commands.specs.declared.race.Cell.{Cell}
 use Rattle.ppm_commands.specs.Check.{conflict_told}
-use Rattle.ppm_commands.specs.Cases.{line_at, counts_told, IsUntidy, HasOfCase}
+use Rattle.ppm_commands.specs.Cases.{line_at, counts_told, IsUntidy, HasOfCase, MayOf}
 
 -- arrays lie one after the other: the word with an address is that with an index in the array of a name
 pub record IsWordOf (input : List NamedArray) (word : ℕ) (name : List ℕ) (index : ℕ) : Type 0 where
@@ -131,8 +131,7 @@ RacesOf capsules code input _ = ⊥
 
 -- the answers of a case, and want of memory
 abbrev pub RacesMayOf : ℕ → CodeParts → List NamedArray → Answer → Type 0
-RacesMayOf capsules code input answers.NoMemory = ⊤
-RacesMayOf capsules code input answer = RacesOf capsules code input answer
+RacesMayOf capsules = MayOf (RacesOf capsules)
 
 -- the answer that a text has
 abbrev pub RacesHas : ℕ → List ℕ → Answer → Type 0

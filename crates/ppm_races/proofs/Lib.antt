@@ -1,4 +1,11 @@
+-- `LogLemmas`: what a capsule touches. `ForkLemmas`, `StampLemmas`: what stands beside, and what meets it. `MarkLemmas`, `WalkLemmas`,
+-- `ReturnLemmas`: a walk goes from moment to moment. `VerdictLemmas`, `NamingLemmas`, `OneVerdictLemmas`: what is said of it.
+pub mod ForkLemmas
 pub mod LogLemmas
+pub mod MarkLemmas
+pub mod NamingLemmas
+pub mod OneVerdictLemmas
+pub mod ReturnLemmas
 pub mod StampLemmas
-pub mod WalkLemmas
 pub mod VerdictLemmas
+pub mod WalkLemmas

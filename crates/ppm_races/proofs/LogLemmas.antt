@@ -185,11 +185,19 @@ step_of log_at capsule_at same here (Sets d v) g m = same (here + 1) (slice_set 
 step_of log_at capsule_at same here Passes g m = same (here + 1) g m
 step_of log_at capsule_at same here (Jumps t) g m = same (max t (here + 1)) g m
 step_of log_at capsule_at same here (Steps (Loads l d)) g m =
-    let rest = same (here + 1) (slice_set g d.index (m (location_of l))) m in
-    record { all = address_first l false here _ _ rest.all; written = read_first l here _ _ rest.written }
+    let h = slice_set g d.index (m (location_of l)) in
+    let rest = same (here + 1) h m in
+    record {
+      all = address_first l false here (log_at (here + 1) h m) (accessed (capsule_at (here + 1) h) m) rest.all;
+      written = read_first l here (log_at (here + 1) h m) (written code_locations (capsule_at (here + 1) h) m) rest.written;
+    }
 step_of log_at capsule_at same here (Steps (Stores l v)) g m =
-    let rest = same (here + 1) g (store code_locations m (location_of l) v) in
-    record { all = address_first l true here _ _ rest.all; written = written_first l here _ _ rest.written }
+    let n = store code_locations m (location_of l) v in
+    let rest = same (here + 1) g n in
+    record {
+      all = address_first l true here (log_at (here + 1) g n) (accessed (capsule_at (here + 1) g) n) rest.all;
+      written = written_first l here (log_at (here + 1) g n) (written code_locations (capsule_at (here + 1) g) n) rest.written;
+    }
 step_of log_at capsule_at same here (Steps (Asks n)) g m = let rest = same (here + 1) g m in record { all = rest.all; written = rest.written }
 step_of log_at capsule_at same here (Stops e) g m = record { all = refl; written = refl }
 

@@ -2,72 +2,136 @@
 use Rattle.std.proofs.Common.{◌≡◌, ◌<◌, ◌≤◌, ℕ, ◌+◌, Bool, true, false, ◌&&◌, ◌||◌, nat_le, nat_lt, List, [], ◌∷◌, ◌++◌, length, get_or, set, take, drop, ◌-◌, refl, sym, ap, ◌∙◌, subst, arith, inl, inr}
 use Rattle.std.specs.Prelude.{◌⊎◌, ◌↔◌}
 use Rattle.std.proofs.lemmas.Bool.{both_ways, cases_Bool, cases_eq, or_cases, and_parts}
-use Rattle.std.proofs.lemmas.List.{get_or-set_same, get_or-set_other, length-set, take_all}
+use Rattle.std.specs.List.{AllByRecursion}
+use Rattle.std.proofs.lemmas.List.{append-nil, append_assoc, get_or-set_same, get_or-set_other, length-set, take_all}
 use Rattle.ppm_strands.specs.Tree.{Has}
 use Rattle.ppm_strands.proofs.CalmLemmas.{has_or_not}
 use Rattle.ppm_races.specs.Touches.{words_in, with_written, written_in, AreThere}
-use Rattle.ppm_races.specs.Beside.{met_by, wrote_with, touched_with, NoneMeets, OneMeets, AreMarked}
+use Rattle.ppm_races.specs.Beside.{stands_beside, meets, HasMet, IsFirst, IsFirstMet, wrote_with, touched_with, NoneMeets, AreMarked}
+use Rattle.ppm_races.specs.declared.stamps.Mark.{Mark}
+use Rattle.ppm_races.specs.declared.stamps.Met.{Met}
 use Rattle.ppm_races.specs.declared.touch.Touch.{Touch}
+
+-- what is after the first of a list
+rest_is : {X : Type 0} (x : X) (xs : List X) → take (length (x ∷ xs) - 1) (drop 1 (x ∷ xs)) ≡ xs
+rest_is x xs = take_all (length (x ∷ xs) - 1) xs (omega arith)
 
 or_none : (x y : Bool) → (x || y) ≡ false → (x ≡ false) × (y ≡ false)
 or_none true y h = absurd (cc)
 or_none false y h = (refl, h)
 
+written_one : (b : Bool) (y x : ℕ) (xs : List ℕ) → Has x (with_written b y xs) → ((b ≡ true) × (x ≡ y)) ⊎ Has x xs
+written_one true y x xs h = elim h [ inl e ↦ inl (refl, e) | inr z ↦ inr z ]
+written_one false y x xs h = inr h
+
+one_written : (b : Bool) (y : ℕ) (xs : List ℕ) → b ≡ true → Has y (with_written b y xs)
+one_written true y xs h = inl refl
+one_written false y xs h = absurd (cc)
+
+more_written : (b : Bool) (y x : ℕ) (xs : List ℕ) → Has x xs → Has x (with_written b y xs)
+more_written true y x xs h = inr h
+more_written false y x xs h = h
+
+-- a touch of a log is of one of its words, and, where it writes, of one of those that are written
+pub in_words : (front rest : List Touch) (t : Touch) → Has t.word (words_in (front ++ (t ∷ rest)))
+in_words [] rest t = inl refl
+in_words (x ∷ front) rest t = inr (in_words front rest t)
+
+pub in_written : (front rest : List Touch) (t : Touch) → t.writes ≡ true → Has t.word (written_in (front ++ (t ∷ rest)))
+in_written [] rest t e = one_written t.writes t.word (written_in rest) e
+in_written (x ∷ front) rest t e = more_written x.writes x.word t.word (written_in (front ++ (t ∷ rest))) (in_written front rest t e)
+
+-- what a test says of a list and of one more
+all_push : (test : Touch → Bool) (front : List Touch) (t : Touch) → AllByRecursion (λ x. test x ≡ false) front → test t ≡ false
+    → AllByRecursion (λ x. test x ≡ false) (front ++ (t ∷ []))
+all_push test [] t h e = (e, tt)
+all_push test (x ∷ front) t h e = (h.0, all_push test front t h.1 e)
+
+-- a log is looked through up to here: a front of which a test says no, and what is left
+pub record IsPassed (test : Touch → Bool) (log left : List Touch) : Type 0 where
+  pub front : List Touch
+  pub all : log ≡ front ++ left
+  pub none : AllByRecursion (λ x. test x ≡ false) front
+
+pub none_passed : (test : Touch → Bool) (log : List Touch) → IsPassed test log log
+none_passed test log = record { front = []; all = refl; none = tt }
+
+one_passed : (test : Touch → Bool) (log left : List Touch) (t : Touch) → test t ≡ false → IsPassed test log (t ∷ left) → IsPassed test log left
+one_passed test log left t e it = record {
+  front = it.front ++ (t ∷ []);
+  all = it.all ∙ sym (append_assoc it.front (t ∷ []) left);
+  none = all_push test it.front t it.none e;
+}
+
 module _ (q : ℕ → Bool) (wrote touched : List ℕ) where
-  -- what is left of a log decides as the whole log
-  pub record DecidesAs (log left : List Touch) : Type 0 where
-    pub none : NoneMeets q wrote touched left → NoneMeets q wrote touched log
-    pub some : (x : ℕ) → OneMeets q wrote touched left x → OneMeets q wrote touched log x
-
-  pub decides_whole : (log : List Touch) → DecidesAs log log
-  decides_whole log = record { none = λ h. h; some = λ x h. h }
-
-  written_one : (b : Bool) (y x : ℕ) (xs : List ℕ) → Has x (with_written b y xs) → ((b ≡ true) × (x ≡ y)) ⊎ Has x xs
-  written_one true y x xs h = elim h [ inl e ↦ inl (refl, e) | inr z ↦ inr z ]
-  written_one false y x xs h = inr h
-
-  one_written : (b : Bool) (y : ℕ) (xs : List ℕ) → b ≡ true → Has y (with_written b y xs)
-  one_written true y xs h = inl refl
-  one_written false y xs h = absurd (cc)
-
-  more_written : (b : Bool) (y x : ℕ) (xs : List ℕ) → Has x xs → Has x (with_written b y xs)
-  more_written true y x xs h = inr h
-  more_written false y x xs h = h
-
   not_met : (b w : Bool) → (w && b) ≡ false → w ≡ true → b ≡ false
   not_met b true h e = h
   not_met b false h e = absurd (cc)
 
-  -- a touch that meets nothing
-  pub passed_one : (log left : List Touch) (t : Touch) → met_by q wrote touched t ≡ false → DecidesAs log (t ∷ left) → DecidesAs log left
-  passed_one log left t out it =
-      let parts = or_none (q (get_or wrote t.word 0)) (t.writes && q (get_or touched t.word 0)) out in
+  -- of a log of which no touch meets anything
+  none_meets : (log : List Touch) → AllByRecursion (λ x. meets q wrote touched x ≡ false) log → NoneMeets q wrote touched log
+  none_meets [] h = record { unwritten = λ x has. absurd has; untouched = λ x has. absurd has }
+  none_meets (t ∷ log) h =
+      let rest = none_meets log h.1 in
+      let parts = or_none (q (get_or wrote t.word 0)) (t.writes && q (get_or touched t.word 0)) h.0 in
       record {
-        none = λ h. it.none (record {
-          unwritten = λ x has. elim has [
-            | inl e ↦ ap (λ (y : ℕ). q (get_or wrote y 0)) e ∙ parts.0
-            | inr y ↦ h.unwritten x y
-          ];
-          untouched = λ x has. elim (written_one t.writes t.word x (written_in left) has) [
-            | inl e ↦ ap (λ (y : ℕ). q (get_or touched y 0)) e.1 ∙ not_met (q (get_or touched t.word 0)) t.writes parts.1 e.0
-            | inr y ↦ h.untouched x y
-          ];
-        });
-        some = λ x h. it.some x (elim h [ inl y ↦ inl (inr y.0, y.1) | inr y ↦ inr (more_written t.writes t.word x (written_in left) y.0, y.1) ]);
+        unwritten = λ x has. elim has [
+          | inl e ↦ ap (λ (y : ℕ). q (get_or wrote y 0)) e ∙ parts.0
+          | inr y ↦ rest.unwritten x y
+        ];
+        untouched = λ x has. elim (written_one t.writes t.word x (written_in log) has) [
+          | inl e ↦ ap (λ (y : ℕ). q (get_or touched y 0)) e.1 ∙ not_met (q (get_or touched t.word 0)) t.writes parts.1 e.0
+          | inr y ↦ rest.untouched x y
+        ];
       }
 
-  -- one that meets something
-  pub met_one : (log left : List Touch) (t : Touch) → met_by q wrote touched t ≡ true → DecidesAs log (t ∷ left) → OneMeets q wrote touched log t.word
-  met_one log left t is it = it.some t.word (elim (or_cases (q (get_or wrote t.word 0)) (t.writes && q (get_or touched t.word 0)) is) [
-    | inl y ↦ inl (inl refl, y)
-    | inr y ↦
-        let parts = and_parts t.writes (q (get_or touched t.word 0)) y in
-        inr (one_written t.writes t.word (written_in left) parts.0, parts.1)
-  ])
+  -- the next touch of what is left meets nothing
+  pub passed_next : (log left : List Touch) (d : Touch) → 1 ≤ length left → meets q wrote touched (get_or left 0 d) ≡ false
+      → IsPassed (meets q wrote touched) log left → IsPassed (meets q wrote touched) log (take (length left - 1) (drop 1 left))
+  passed_next log [] d some e it = absurd (omega (arith, some))
+  passed_next log (t ∷ left) d some e it =
+      subst (λ (xs : List Touch). IsPassed (meets q wrote touched) log xs) (sym (rest_is t left)) (one_passed (meets q wrote touched) log left t e it)
 
-  -- nothing is left
-  pub none_left : (log : List Touch) → DecidesAs log [] → NoneMeets q wrote touched log
-  none_left log it = it.none (record { unwritten = λ x h. absurd h; untouched = λ x h. absurd h })
+  -- none is left
+  pub passed_all : (log left : List Touch) → length left < 1 → IsPassed (meets q wrote touched) log left → NoneMeets q wrote touched log
+  passed_all log [] none it = none_meets log (subst (λ (xs : List Touch). AllByRecursion (λ x. meets q wrote touched x ≡ false) xs)
+      (sym (it.all ∙ append-nil it.front)) it.none)
+  passed_all log (t ∷ left) none it = absurd (omega (arith, none))
+
+-- the next one meets something
+pub met_next : (marks : List Mark) (wrote touched : List ℕ) (log left : List Touch) (d : Touch) (met : Met) → 1 ≤ length left
+    → HasMet marks wrote touched (get_or left 0 d) met → IsPassed (meets (stands_beside marks) wrote touched) log left
+    → IsFirstMet marks wrote touched log met
+met_next marks wrote touched log [] d met some h it = absurd (omega (arith, some))
+met_next marks wrote touched log (t ∷ left) d met some h it = record {
+  first = subst (λ (u : Touch). IsFirst (meets (stands_beside marks) wrote touched) log u) (sym h.touch)
+      (record { front = it.front; rest = left; all = it.all; none = it.none; here = h.met_there });
+  whom = subst (λ (u : Touch). HasMet marks wrote touched u met) (sym h.touch) h;
+}
+
+-- what is left decides whether a word is written
+abbrev pub WritesAs : (word : ℕ) → List Touch → List Touch → Type 0
+WritesAs word log left = Has word (written_in log) ↔ Has word (written_in left)
+
+pub writes_next : (word : ℕ) (log left : List Touch) (d : Touch) → 1 ≤ length left
+    → ((get_or left 0 d).writes ≡ true → word ≡ (get_or left 0 d).word → ⊥) → WritesAs word log left
+    → WritesAs word log (take (length left - 1) (drop 1 left))
+writes_next word log [] d some other it = absurd (omega (arith, some))
+writes_next word log (t ∷ left) d some other it =
+    subst (λ (xs : List Touch). WritesAs word log xs) (sym (rest_is t left)) (
+      λ h. elim (written_one t.writes t.word word (written_in left) (it.0 h)) [ inl e ↦ absurd (other e.0 e.1) | inr y ↦ y ],
+      λ h. it.1 (more_written t.writes t.word word (written_in left) h),
+    )
+
+pub writes_here : (word : ℕ) (log left : List Touch) (d : Touch) → 1 ≤ length left → (get_or left 0 d).writes ≡ true → word ≡ (get_or left 0 d).word
+    → WritesAs word log left → Has word (written_in log)
+writes_here word log [] d some e same it = absurd (omega (arith, some))
+writes_here word log (t ∷ left) d some e same it =
+    it.1 (subst (λ (z : ℕ). Has z (with_written t.writes t.word (written_in left))) (sym same) (one_written t.writes t.word (written_in left) e))
+
+pub writes_none : (word : ℕ) (log left : List Touch) → length left < 1 → WritesAs word log left → Has word (written_in log) → ⊥
+writes_none word log [] none it h = it.0 h
+writes_none word log (t ∷ left) none it h = absurd (omega (arith, none))
 
 -- of what is left to mark the whole log comes
 abbrev pub MarksAs : (q : ℕ → Bool) (time : ℕ) (wrote touched : List ℕ) → List Touch → (wrote' touched' : List ℕ) → List Touch → Type 0
@@ -140,14 +204,14 @@ module _ (q : ℕ → Bool) (time : ℕ) (now : q time ≡ false) (wrote touched
       touched_length = it.touched_length ∙ touched_long b;
       wrote = λ x h. elim (has_or_not x (written_in left)) [
         | inl y ↦ it.wrote x y
-        | inr n ↦ elim (written_one q wrote touched t.writes t.word x (written_in left) h) [
+        | inr n ↦ elim (written_one t.writes t.word x (written_in left) h) [
           | inl e ↦ it.unwritten x n ∙ set_wrote t.writes x e.1 e.0
           | inr y ↦ absurd (n y)
         ]
       ];
-      unwritten = λ x h. it.unwritten x (λ y. h (more_written q wrote touched t.writes t.word x (written_in left) y))
+      unwritten = λ x h. it.unwritten x (λ y. h (more_written t.writes t.word x (written_in left) y))
           ∙ kept_wrote t.writes x (λ e y. h (subst (λ (z : ℕ). Has z (with_written t.writes t.word (written_in left))) (sym e)
-          (one_written q wrote touched t.writes t.word (written_in left) y)));
+          (one_written t.writes t.word (written_in left) y)));
       stays = λ x h y. elim (has_or_not x (words_in left)) [
         | inl has ↦ it.stays x has (says x ∙ y) ∙ stays_here x y
         | inr n ↦ it.untouched x n ∙ stays_here x y
@@ -168,10 +232,6 @@ module _ (q : ℕ → Bool) (time : ℕ) (now : q time ≡ false) (wrote touched
           | inl e ↦ same_true (sym is ∙ sym (ap (λ (z : ℕ). q (get_or touched z 0)) e) ∙ y) x
           | inr ne ↦ other x ne
         ]
-
--- what is behind the first of a list
-rest_is : {X : Type 0} (x : X) (xs : List X) → take (length (x ∷ xs) - 1) (drop 1 (x ∷ xs)) ≡ xs
-rest_is x xs = take_all (length (x ∷ xs) - 1) xs (omega arith)
 
 pub there_next : (n m : ℕ) (left : List Touch) → 1 ≤ length left → m ≡ n → AreThere n left → AreThere m (take (length left - 1) (drop 1 left))
 there_next n m [] some same h = absurd (omega (arith, some))

@@ -1,54 +1,61 @@
--- What a run has come to is what is said of the code.
-use Rattle.std.proofs.Common.{◌≡◌, ◌≤◌, ◌<◌, ◌⊎◌, inl, inr, ℕ, ◌+◌, List, [], refl, sym, ap, subst, arith, length, get_or, replicate}
+-- What a walk has come to is what is said of the code.
+use Rattle.std.proofs.Common.{◌≡◌, ◌≤◌, ◌<◌, ◌⊎◌, inl, inr, ℕ, ◌+◌, List, [], ◌∷◌, ◌++◌, refl, sym, ap, ◌∙◌, subst, arith, length, get_or, replicate, Some, Bool, true, false}
 use Rattle.std.proofs.Math.Path.{fun_ext}
+use Rattle.std.proofs.lemmas.Bool.{or_cases, and_parts}
 use Rattle.std.proofs.lemmas.List.{length_push}
+use Rattle.std.specs.Prelude.{◌||◌, ◌&&◌}
 use Rattle.ppm_words.specs.declared.named_array.NamedArray.{NamedArray}
+use Rattle.ppm_words.specs.declared.outcome.Outcome.TheVariants.{NotWithin}
 use Rattle.ppm_capsules.proofs.StrandLemmas.{code_is_local}
+use Rattle.ppm_capsules.specs.Strand.{start}
 use Rattle.ppm_code.specs.Code.{IsCode}
 use Rattle.ppm_code.specs.Inputs.{words_in}
 use Rattle.ppm_code.specs.Locations.{code_locations}
-use Rattle.ppm_code.specs.Strands.{Result, table_of}
+use Rattle.ppm_code.specs.Sizes.{frame_size}
+use Rattle.ppm_code.specs.Strands.{Result, instrs_of, table_of}
 use Rattle.ppm_code.specs.declared.code.CodeParts.{CodeParts}
-use Rattle.ppm_depth.specs.Image.{root_frame}
+use Rattle.ppm_depth.specs.Image.{IsRunOf, outcome_in, root_frame, word_count}
 use Rattle.ppm_depth.specs.Moves.{entry_at}
-use Rattle.ppm_depth.specs.Run.{strands_of}
+use Rattle.ppm_depth.specs.Run.{strands_of, IsWithin}
 use Rattle.ppm_depth.specs.Stack.{Own, Strands, Above as Standing, Root, On, listed, tree_at, IsNow, IsShown, IsShownAt}
 use Rattle.ppm_depth.specs.Start.{words_of, root_strand}
-use Rattle.ppm_depth.specs.Turns.{strands_over}
+use Rattle.ppm_depth.specs.Turns.{HasCome, strands_over}
+use Rattle.ppm_depth.specs.declared.depth.DepthRun.{DepthRun}
+use Rattle.ppm_depth.specs.declared.frame.Finish.{Finish}
+use Rattle.ppm_depth.specs.declared.frame.Finish.TheVariants.{Gave, Trapped}
 use Rattle.ppm_depth.specs.declared.frame.Frame.{Frame}
 use Rattle.ppm_depth.specs.declared.frame.Now.{Now}
 use Rattle.ppm_depth.specs.declared.frame.Now.TheVariants.{At}
 use Rattle.ppm_depth.specs.declared.frame.Waiting.{Waiting}
-use Rattle.ppm_depth.proofs.EndLemmas.{begins_shown}
+use Rattle.ppm_depth.specs.declared.strand.Strand.{Strand as StrandState}
+use Rattle.ppm_depth.proofs.EndLemmas.{answered, begins_shown}
 use Rattle.ppm_depth.proofs.TurnLemmas.{zeros}
 use Rattle.ppm_races.specs.Beside.{stamps_of}
-use Rattle.ppm_races.specs.Verdicts.{IsVerdict, SaidOf}
-use Rattle.ppm_races.specs.Walks.{HasTold, IsRaceBy, IsRaceOn}
-use Rattle.ppm_races.specs.declared.judging.Verdict.{Verdict}
-use Rattle.ppm_races.specs.declared.judging.Verdict.TheVariants as verdict
+use Rattle.ppm_races.specs.Touches.{words_in as words_of_log, written_in}
+use Rattle.ppm_races.specs.Verdicts.{MomentOf, log_of, meets_at}
+use Rattle.ppm_races.specs.Walks.{IsMeetingOf}
 use Rattle.ppm_races.specs.declared.stamps.Mark.{Mark}
-use Rattle.ppm_races.specs.declared.walk.Told.{Told}
-use Rattle.ppm_races.specs.declared.walk.Told.TheVariants as told
-use Rattle.ppm_races.proofs.WalkLemmas.{Stands}
+use Rattle.ppm_races.specs.declared.touch.Touch.{Touch}
+use Rattle.ppm_races.specs.declared.walk.Meeting.{Meeting}
+use Rattle.ppm_races.proofs.LogLemmas.{is_log}
+use Rattle.ppm_races.proofs.StampLemmas.{in_words, in_written}
+use Rattle.ppm_races.proofs.ReturnLemmas.{Stands}
 use Rattle.ppm_strands.specs.Tree.{Words, Tree, Strand, Over, Code, Local, Has}
 use Rattle.ppm_strands.specs.Run.{End, Ends}
 use Rattle.ppm_strands.specs.Calm.{touches, Calm}
-use Rattle.ppm_strands.proofs.PartsLemmas.{over_end}
-use Rattle.ppm_stamps.specs.Stamps.{Stamps, Meets, nothing, fresh}
-use Rattle.ppm_stamps.specs.Moments.{Above, beside_of, Comes, Begins}
-use Rattle.ppm_stamps.proofs.CountLemmas.{no_more, one_more}
+use Rattle.ppm_strands.proofs.PartsLemmas.{over_end, has_left, has_right}
+use Rattle.ppm_stamps.specs.Stamps.{Stamps, Passes, Meets, nothing, fresh}
+use Rattle.ppm_stamps.specs.Moments.{Above, beside_of, Comes, Begins, Moment}
+use Rattle.ppm_stamps.proofs.CountLemmas.{one_more}
 use Rattle.ppm_stamps.proofs.MomentLemmas.{clean_back, found_back}
 use Rattle.ppm_stamps.proofs.RaceLemmas.{clean, found}
 
 module _ {F O : Type 0} (c : Code F O) (local : Local c) (root : Tree F O) (input : Words) where
   -- at its end
-  pub ended_calm : (o : O) (a : Words) (s : Stamps) (limit : ℕ) → Comes c root input [] (Over o) a s → s.time ≤ limit + 1
-      → Calm c root input × ((e : End O) × Ends c root input e × (e.counts.capsules ≤ limit))
-  ended_calm o a s limit come few =
+  pub ended_calm : (o : O) (a : Words) (s : Stamps) → Comes c root input [] (Over o) a s → Calm c root input
+  ended_calm o a s come =
       let back = clean_back c come s (s, over_end o a, (1, refl), (1, refl), refl) in
-      let it = clean c local back.2.0 nothing root input fresh back.0 (λ k none. absurd (cc)) (λ x. omega arith) (λ x. omega arith) back.2.1 in
-      let all = no_more c come it.end.0 it.end.1 in
-      (it.calm, (it.end.0, it.end.1, omega (arith, all, few)))
+      (clean c local back.2.0 nothing root input fresh back.0 (λ k none. absurd (cc)) (λ x. omega arith) (λ x. omega arith) back.2.1).calm
 
   -- where the next capsule meets something
   pub met_not_calm : (above : List (Above F O)) (f : F) (a : Words) (s : Stamps) → Comes c root input above (Strand f) a s → Meets c (beside_of above) f a s
@@ -65,6 +72,48 @@ module _ {F O : Type 0} (c : Code F O) (local : Local c) (root : Tree F O) (inpu
   pub more_come : (above : List (Above F O)) (f : F) (a : Words) (s : Stamps) (limit : ℕ) → Comes c root input above (Strand f) a s → s.time ≡ limit + 1
       → (e : End O) → Ends c root input e → limit < e.counts.capsules
   more_come above f a s limit come all e ends = let more = one_more c come e ends in omega (arith, more, all)
+
+-- what meets nothing does not meet something
+pub passes_not_meets : {F O : Type 0} (c : Code F O) (beside : ℕ → Bool) (f : F) (a : Words) (s : Stamps) → Passes c beside f a s → Meets c beside f a s → ⊥
+passes_not_meets c beside f a s passes meets = elim meets.1 [
+  | inl y ↦ let out = passes.unwritten meets.0 y.0 in let is = y.1 in cc
+  | inr y ↦ let out = passes.untouched meets.0 y.0 in let is = y.1 in cc
+]
+
+module _ (code : CodeParts) (array_words : ℕ) where
+  -- the words of a log are those that the capsule touches, and writes
+  pub log_touches : (f : Own) (a : Words) (x : ℕ) → Has x (words_of_log (log_of code array_words f a)) → Has x (touches (strands_over code array_words) f a)
+  log_touches f a x h =
+      elim (((is_log array_words (instrs_of code f.point.capsule) (start code_locations (table_of code array_words) f a)).touched x).0 h) [
+        | inl y ↦ has_left x ((strands_over code array_words).reads f a) _ y
+        | inr y ↦ has_right x ((strands_over code array_words).reads f a) _ y
+      ]
+
+  pub log_writes : (f : Own) (a : Words) (x : ℕ) → Has x (written_in (log_of code array_words f a)) → Has x ((strands_over code array_words).writes f a)
+  log_writes f a x h = ((is_log array_words (instrs_of code f.point.capsule) (start code_locations (table_of code array_words) f a)).written x).0 h
+
+  pub writes_log : (f : Own) (a : Words) (x : ℕ) → Has x ((strands_over code array_words).writes f a) → Has x (written_in (log_of code array_words f a))
+  writes_log f a x h = ((is_log array_words (instrs_of code f.point.capsule) (start code_locations (table_of code array_words) f a)).written x).1 h
+
+  -- a touch of a capsule that meets something is one by which the capsule does
+  pub touch_meets : (f : Own) (a : Words) (beside : ℕ → Bool) (s : Stamps) (front rest : List Touch) (t : Touch)
+      → log_of code array_words f a ≡ front ++ (t ∷ rest) → meets_at beside s t ≡ true → Meets (strands_over code array_words) beside f a s
+  touch_meets f a beside s front rest t all is = (t.word, elim (or_cases (beside (s.wrote t.word)) (t.writes && beside (s.touched t.word)) is) [
+    | inl y ↦ inl (log_touches f a t.word (subst (λ (l : List Touch). Has t.word (words_of_log l)) (sym all) (in_words front rest t)), y)
+    | inr y ↦
+        let parts = and_parts t.writes (beside (s.touched t.word)) y in
+        inr (log_writes f a t.word (subst (λ (l : List Touch). Has t.word (written_in l)) (sym all) (in_written front rest t parts.0)), parts.1)
+  ])
+
+  pub meets_of : (root : Strands) (input : Words) (m : Meeting) (it : IsMeetingOf code root input array_words m)
+      → Meets (strands_over code array_words) (beside_of it.moment.above) it.moment.frame it.moment.words it.moment.stamps
+  meets_of root input m it = touch_meets it.moment.frame it.moment.words (beside_of it.moment.above) it.moment.stamps it.first.front it.first.rest
+      m.met.touch it.first.all it.first.here
+
+  pub meeting_not_calm : (root : Strands) (input : Words) (m : Meeting) → IsMeetingOf code root input array_words m
+      → Calm (strands_over code array_words) root input → ⊥
+  meeting_not_calm root input m it = met_not_calm (strands_over code array_words) (code_is_local code_locations (table_of code array_words)) root input
+      it.moment.above it.moment.frame it.moment.words it.moment.stamps it.moment.come (meets_of root input m it)
 
 -- where nothing waits, nothing stands above
 shown_root : (code : CodeParts) (blocks : List ℕ) (current : Now) (t : Strands) → IsShown code blocks [] current t → IsShownAt code blocks [] current Root t
@@ -97,35 +146,20 @@ module _ (code : CodeParts) (input : List NamedArray) (is_code : IsCode code) wh
     marks_are = refl;
   })
 
-  local : Local (strands_of code input)
-  local = code_is_local code_locations (table_of code (length (words_in input)))
+-- a run that has come to its end is told so
+module _ (code : CodeParts) (input : List NamedArray) (ws : List ℕ) (begins : ws ≡ words_in input) (limit : ℕ) (strand : StrandState) (r : DepthRun)
+    (arrays : List NamedArray) (arrays_are : arrays ≡ input) (frame_words : ℕ) (frame_is : frame_words ≡ frame_size code code.root) where
+  not_within : (finish : Finish) → r.outcome ≡ outcome_in input strand.store.words.items (Some finish) → r.outcome ≡ NotWithin → ⊥
+  not_within (Gave value) is none = cc
+  not_within (Trapped trap line) is none = cc
 
-  -- what a run that is left so tells of the code
-  pub told_verdict : (array_words limit : ℕ) (t : Told) (v : Verdict) → array_words ≡ length (words_in input)
-      → HasTold code (root_strand code input) (words_of (words_in input)) array_words limit t → SaidOf t v → IsVerdict code input limit v
-  told_verdict array_words limit told.Ended verdict.Calm same h said =
-      let come = subst (λ (n : ℕ). Comes (strands_over code n) (root_strand code input) (words_of (words_in input)) [] (Over h.0) h.1 h.2) same h.3 in
-      ended_calm (strands_of code input) local (root_strand code input) (words_of (words_in input)) h.0 h.1 h.2 limit come h.4
-  told_verdict array_words limit (told.Meets touch) (verdict.Races word) same h said =
-      let by = subst (λ (n : ℕ). IsRaceBy code (root_strand code input) (words_of (words_in input)) n h.0 touch.word) same h.1 in
-      let race = by.0 in
-      let time = by.1 in
-      let le = h.2 in
-      let few : race.stamps.time ≤ limit = omega (arith, time, le) in
-      subst (λ (x : ℕ). ((Calm (strands_of code input) (root_strand code input) (words_of (words_in input)) → ⊥)
-      × ((race : IsRaceOn code (root_strand code input) (words_of (words_in input)) (length (words_in input)) x) × (race.stamps.time ≤ limit)))) said (
-        met_not_calm (strands_of code input) local (root_strand code input) (words_of (words_in input)) race.above race.frame race.words race.stamps race.come
-            (touch.word, race.meets),
-        (race, few),
-      )
-  told_verdict array_words limit told.NotWithin verdict.NotWithin same h said =
-      let come = subst (λ (n : ℕ). Comes (strands_over code n) (root_strand code input) (words_of (words_in input)) h.0 (Strand h.1) h.2 h.3) same h.4 in (
-        more_come (strands_of code input) local (root_strand code input) (words_of (words_in input)) h.0 h.1 h.2 h.3 limit come h.5,
-        record { above = h.0; frame = h.1; words = h.2; stamps = h.3; come = come; all = h.5 },
-      )
-  told_verdict array_words limit told.Ended (verdict.Races word) same h said = absurd said
-  told_verdict array_words limit told.Ended verdict.NotWithin same h said = absurd said
-  told_verdict array_words limit (told.Meets touch) verdict.Calm same h said = absurd said
-  told_verdict array_words limit (told.Meets touch) verdict.NotWithin same h said = absurd said
-  told_verdict array_words limit told.NotWithin verdict.Calm same h said = absurd said
-  told_verdict array_words limit told.NotWithin (verdict.Races word) same h said = absurd said
+  pub within_of : (finish : Finish) → HasCome code (length ws) limit (root_strand code input) (words_of ws) strand (Some finish)
+      → strand.counts.capsules ≤ limit → word_count input ≤ length strand.store.words.items → IsRunOf arrays strand frame_words (Some finish) r
+      → IsWithin code input limit r
+  within_of finish come few enough is =
+      let outcome = is.outcome ∙ ap (λ (as_ : List NamedArray). outcome_in as_ strand.store.words.items (Some finish)) arrays_are in
+      elim (answered code input ws begins limit strand (Some finish) come few enough r outcome is.capsules is.forks
+      (is.pool_words ∙ ap (λ (n : ℕ). n + strand.counts.block_words) frame_is)) [
+        | inl it ↦ it
+        | inr it ↦ absurd (not_within finish outcome it.outcome)
+      ]

@@ -1,4 +1,5 @@
 pub mod Beside
+pub mod Judged
 pub mod Touches
 pub mod Verdicts
 pub mod Walks

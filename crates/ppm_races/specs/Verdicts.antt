@@ -1,7 +1,6 @@
 -- What is said of a code with its input.
-use Rattle.std.specs.Prelude.{◌≡◌, ◌≤◌, ◌<◌, ◌↔◌, ℕ, ◌+◌, Bool, true, false, ◌&&◌, ◌||◌, List, ◌∷◌, ◌++◌, length}
-use Rattle.std.specs.List.{AllByRecursion}
-use Rattle.ppm_strands.specs.Tree.{Words, Code, Has, forks_in}
+use Rattle.std.specs.Prelude.{◌≡◌, ◌≤◌, ◌<◌, ◌↔◌, ℕ, ◌+◌, Bool, true, cond, ◌&&◌, ◌||◌, List, length}
+use Rattle.ppm_strands.specs.Tree.{Words, Has, forks_in}
 use Rattle.ppm_strands.specs.Calm.{Calm as IsCalm, touches}
 use Rattle.ppm_strands.specs.Run.{End}
 use Rattle.ppm_words.specs.declared.named_array.NamedArray.{NamedArray}
@@ -16,6 +15,7 @@ use Rattle.ppm_depth.specs.Stack.{Own, Strands}
 use Rattle.ppm_depth.specs.Turns.{strands_over}
 use Rattle.ppm_stamps.specs.Stamps.{Stamps}
 use Rattle.ppm_stamps.specs.Moments.{beside_of, IsOpen, Moment}
+use Rattle.ppm_races.specs.Beside.{IsFirst}
 use Rattle.ppm_races.specs.Touches.{touches_of}
 use Rattle.ppm_races.specs.declared.judging.Verdict.{Verdict}
 use Rattle.ppm_races.specs.declared.judging.Verdict.TheVariants.{Calm, Races, NotWithin}
@@ -26,34 +26,25 @@ use Rattle.ppm_races.specs.declared.race.Visit.{Visit}
 use Rattle.ppm_races.specs.declared.touch.Touch.{Touch}
 
 -- a touch meets what stands beside it: a word that was written there, or, where it writes, one that was touched there
-abbrev pub meets : (beside : ℕ → Bool) → Stamps → Touch → Bool
-meets beside s t = beside (s.wrote t.word) || (t.writes && beside (s.touched t.word))
+abbrev pub meets_at : (beside : ℕ → Bool) → Stamps → Touch → Bool
+meets_at beside s t = beside (s.wrote t.word) || (t.writes && beside (s.touched t.word))
 
 -- whom a touch of a word meets: who wrote it last, where that stands beside, else the one that touched it
-abbrev pub met_in : (beside_wrote : Bool) → Stamps → (word : ℕ) → ℕ
-met_in true s word = s.wrote word
-met_in false s word = s.touched word
-
--- the first of a log that meets anything
-pub record IsFirstMet (beside : ℕ → Bool) (s : Stamps) (log : List Touch) (t : Touch) : Type 0 where
-  pub front : List Touch
-  pub rest : List Touch
-  pub all : log ≡ front ++ (t ∷ rest)
-  pub none : AllByRecursion (λ x. meets beside s x ≡ false) front
-  pub met : meets beside s t ≡ true
+abbrev pub met_at : (beside : ℕ → Bool) → Stamps → (word : ℕ) → ℕ
+met_at beside s word = cond (beside (s.wrote word)) (s.wrote word) (s.touched word)
 
 -- a touch of a race, without the capsule's number
 abbrev pub touch_of : (word : ℕ) → Touching → Touch
 touch_of word right = record { word = word; writes = right.writes; at = right.at }
 
+-- what the capsule of a frame touches, in its order
+abbrev pub log_of : CodeParts → (array_words : ℕ) → Own → Words → List Touch
+log_of code array_words frame words = touches_of array_words (instrs_of code frame.point.capsule) (start code_locations (table_of code array_words) frame words)
+
 module _ (code : CodeParts) (root : Strands) (input : Words) (array_words : ℕ) where
   -- the moment of the run at which the capsule with a number is next; none before it met anything
   abbrev pub MomentOf : (number : ℕ) → Type 0
   MomentOf number = Moment (strands_over code array_words) root input number
-
-  -- what the capsule of a frame touches, in its order
-  abbrev pub log_of : Own → Words → List Touch
-  log_of frame words = touches_of array_words (instrs_of code frame.point.capsule) (start code_locations (table_of code array_words) frame words)
 
   -- this capsule of the run opened a fork
   pub record IsOpener (o : Opener) : Type 0 where
@@ -72,12 +63,12 @@ module _ (code : CodeParts) (root : Strands) (input : Words) (array_words : ℕ)
   pub record IsMeeting (word : ℕ) (right : Touching) : Type 0 where
     pub moment : MomentOf right.run
     pub capsule : moment.frame.point.capsule ≡ right.capsule
-    pub first : IsFirstMet (beside_of moment.above) moment.stamps (log_of moment.frame moment.words) (touch_of word right)
+    pub first : IsFirst (meets_at (beside_of moment.above) moment.stamps) (log_of code array_words moment.frame moment.words) (touch_of word right)
 
   -- a race: a touch meets another one, in the left branch of a fork in whose right branch it is itself
   pub record IsRace (race : Race) : Type 0 where
     pub right : IsMeeting race.word race.right
-    pub run : race.left.run ≡ met_in (beside_of right.moment.above (right.moment.stamps.wrote race.word)) right.moment.stamps race.word
+    pub run : race.left.run ≡ met_at (beside_of right.moment.above) right.moment.stamps race.word
     pub left : IsVisit race.word race.left
     pub mid : ℕ
     pub both : IsOpen (race.fork.run + 1) mid right.moment.above

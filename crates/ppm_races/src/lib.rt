@@ -7,6 +7,7 @@
 mod capsule;
 mod judging;
 mod laws;
+mod naming;
 mod race;
 mod stamps;
 mod touch;

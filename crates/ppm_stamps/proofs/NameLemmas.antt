@@ -10,13 +10,13 @@ use Rattle.ppm_stamps.proofs.CoverLemmas.{right_only}
 
 module _ {F O : Type 0} (c : Code F O) where
   -- branches began with a capsule
-  abbrev AreStarted : List (Above F O) → Type 0
+  abbrev pub AreStarted : List (Above F O) → Type 0
   AreStarted [] = Unit {0}
   AreStarted (InCallee g ∷ above) = AreStarted above
   AreStarted (InLeft g r start ∷ above) = (1 ≤ start) × AreStarted above
   AreStarted (InRight g o start mid ∷ above) = (1 ≤ start) × AreStarted above
 
-  started : {root : Tree F O} {input : Words} {above : List (Above F O)} {t : Tree F O} {a : Words} {s : Stamps} → Comes c root input above t a s
+  pub started : {root : Tree F O} {input : Words} {above : List (Above F O)} {t : Tree F O} {a : Words} {s : Stamps} → Comes c root input above t a s
       → (1 ≤ s.time) × AreStarted above
   started Begins = (omega arith, tt)
   started (Runs come passes marks) = let it = started come in let time = marks.time in let first = it.0 in (omega (arith, time, first), it.1)

@@ -29,6 +29,13 @@ record State (F O : Type 0) : Type 0 where
 abbrev state : {F O : Type 0} → List (Above F O) → Tree F O → Words → Stamps → State F O
 state above t a s = record { above = above; tree = t; words = a; stamps = s }
 
+-- a tree is a strand
+abbrev is_strand : {F O : Type 0} → Tree F O → Bool
+is_strand (Strand f) = true
+is_strand (Call g t) = false
+is_strand (Fork g l r) = false
+is_strand (Over o) = false
+
 -- the frame of a strand
 abbrev frame_in : {F O : Type 0} → F → Tree F O → F
 frame_in d (Strand f) = f
@@ -151,24 +158,31 @@ module _ {F O : Type 0} (c : Code F O) where
         let one = goes_time (at (k + n)).above (at (k + n)).tree (at (k + n)).words (at (k + n)).stamps in
         subst (λ (i : ℕ). (at n).stamps.time ≤ (at i).stamps.time) (sym e) (omega (arith, more, one))
 
+    -- what comes after a strand has a larger number
+    after_strand : (above above' : List (Above F O)) (f : F) (t : Tree F O) (a a' : Words) (s s' : Stamps) (one : Reached above (Strand f) a s)
+        (two : Reached above' t a' s') → one.steps < two.steps → s.time < s'.time
+    after_strand above above' f t a a' s s' one two less =
+        let k = two.steps - suc one.steps in
+        let e : k + suc one.steps ≡ two.steps = omega (arith, less) in
+        let on = later k (suc one.steps) in
+        let now = ap (λ (z : State F O). (next z).stamps.time) one.same in
+        let there = ap (λ (i : ℕ). (at i).stamps.time) e ∙ ap (λ (z : State F O). z.stamps.time) two.same in
+        omega (arith, on, now, there)
+
+    -- where all is over nothing more is run
+    stays_over : (k n : ℕ) (o : O) (a : Words) (s : Stamps) → at n ≡ state [] (Over o) a s → at (k + n) ≡ state [] (Over o) a s
+    stays_over zero n o a s is = let e : 0 + n ≡ n = omega arith in ap (λ (i : ℕ). at i) e ∙ is
+    stays_over (suc k) n o a s is =
+        let e : suc k + n ≡ suc (k + n) = omega arith in
+        ap (λ (i : ℕ). at i) e ∙ ap (λ (z : State F O). next z) (stays_over k n o a s is)
+
     module _ (n m : ℕ) (p : Moment c root input n) (q : Moment c root input m) where
-      abbrev first : Reached p.above (Strand p.frame) p.words p.stamps
-      first = reached p.come
-
-      abbrev second : Reached q.above (Strand q.frame) q.words q.stamps
-      second = reached q.come
-
-      -- what comes later has a larger number
-      rises : first.steps < second.steps → n < m
+      rises : (reached p.come).steps < (reached q.come).steps → n < m
       rises less =
-          let k = second.steps - suc first.steps in
-          let e : k + suc first.steps ≡ second.steps = omega (arith, less) in
-          let on = later k (suc first.steps) in
-          let now = ap (λ (z : State F O). (next z).stamps.time) first.same in
-          let there = ap (λ (i : ℕ). (at i).stamps.time) e ∙ ap (λ (z : State F O). z.stamps.time) second.same in
+          let up = after_strand p.above q.above p.frame (Strand q.frame) p.words q.words p.stamps q.stamps (reached p.come) (reached q.come) less in
           let n_is = p.time in
           let m_is = q.time in
-          omega (arith, on, now, there, n_is, m_is)
+          omega (arith, up, n_is, m_is)
 
     module _ (n : ℕ) (p q : Moment c root input n) where
       same_steps : (reached p.come).steps ≡ (reached q.come).steps
@@ -212,3 +226,21 @@ module _ {F O : Type 0} (c : Code F O) where
               omega (arith, state_is, n_is, m_is, less)
         ])
       ]))
+
+  -- where all is over, each moment was before
+  pub moments_before : (root : Tree F O) (input : Words) (o : O) (a : Words) (s : Stamps) → Comes c root input [] (Over o) a s
+      → (n : ℕ) → Moment c root input n → n < s.time
+  moments_before root input o a s come n p =
+      let one = reached root input p.come in
+      let two = reached root input come in
+      let number = p.time in
+      elim (cases_lt one.steps two.steps) [
+        | inl h ↦
+            let up = after_strand root input p.above [] p.frame (Over o) p.words a p.stamps s one two h in
+            omega (arith, up, number)
+        | inr h ↦ absurd (
+            let e : (one.steps - two.steps) + two.steps ≡ one.steps = omega (arith, h) in
+            let over = stays_over root input (one.steps - two.steps) two.steps o a s two.same in
+            let same = ap (λ (z : State F O). is_strand z.tree) (sym over ∙ ap (λ (i : ℕ). at root input i) e ∙ one.same) in
+            cc)
+      ]

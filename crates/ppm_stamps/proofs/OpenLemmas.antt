@@ -6,7 +6,7 @@ use Rattle.ppm_strands.specs.Run.{joined}
 use Rattle.ppm_stamps.specs.Stamps.{Stamps}
 use Rattle.ppm_stamps.specs.Moments.{Above, InCallee, InLeft, InRight, beside_of, Comes, Begins, Runs, Calls, Forks, Returns, GoesRight, Joins}
 use Rattle.ppm_stamps.specs.Moments.{IsOpen, IsInOneLeft, LeftsAreOne, IsPlain, Opened, ForksAreOpened}
-use Rattle.ppm_stamps.proofs.CoverLemmas.{right_only}
+use Rattle.ppm_stamps.proofs.CoverLemmas.{right_all, right_more, right_only}
 
 module _ {F O : Type 0} where
   -- all branches that are open began, or ended, no later than at a stamp
@@ -40,6 +40,19 @@ module _ {F O : Type 0} where
   open_below (InRight g o start mid ∷ above) k s m below h = elim h [
     | inl e ↦ let same = e.1 in let le = below.1 in omega (arith, same, le)
     | inr y ↦ open_below above k s m below.2 y
+  ]
+
+  -- who is in the left branch of an open fork stands beside
+  pub open_beside : (above : List (Above F O)) (s m k : ℕ) → IsOpen s m above → s ≤ k → k < m → beside_of above k ≡ true
+  open_beside [] s m k h from before = absurd h
+  open_beside (InCallee g ∷ above) s m k h from before = open_beside above s m k h from before
+  open_beside (InLeft g r start ∷ above) s m k h from before = open_beside above s m k h from before
+  open_beside (InRight g o start mid ∷ above) s m k h from before = elim h [
+    | inl e ↦
+        let first = e.0 in
+        let second = e.1 in
+        right_all (beside_of above) start mid k (omega (arith, first, from)) (omega (arith, second, before))
+    | inr y ↦ right_more (beside_of above) start mid k (open_beside above s m k y from before)
   ]
 
   in_one_left : (above : List (Above F O)) → Ascends above → (k : ℕ) → beside_of above k ≡ true → IsInOneLeft above k

@@ -1,2 +1,3 @@
-use Rattle.ppm_races.proofs.WalkLemmas.{resumed_then, come_then}
+use Rattle.ppm_races.proofs.WalkLemmas.{come_then}
+use Rattle.ppm_races.proofs.ReturnLemmas.{resumed_then}
 use Rattle.ppm_races.proofs.walk.close.Goals as goal

@@ -5,7 +5,7 @@ use Rattle.ppm_depth.specs.declared.strand.Counts.{Counts}
 use Rattle.ppm_stamps.specs.Moments.{Comes}
 use Rattle.ppm_races.specs.Beside.{stamps_of}
 use Rattle.ppm_races.specs.Walks.{rise, stamps_in}
-use Rattle.ppm_races.proofs.WalkLemmas.{Stands, resumed_then}
+use Rattle.ppm_races.proofs.ReturnLemmas.{Stands, resumed_then}
 use Rattle.ppm_races.proofs.walk.Walk.resume.Goals as goal
 
 -- a return, the beginning of a right branch, or a join

@@ -1,0 +1,109 @@
+-- A text has one fault or one case, so its answer is that of its fault or one of its case.
+use Rattle.std.proofs.Common.{◌≡◌, ◌⊎◌, ◌<◌, ℕ, List, ◌++◌, length, refl, sym, ◌∙◌, ap, ap₂, subst, inl, inr, arith}
+use Rattle.ppm_words.specs.declared.named_array.NamedArray.{NamedArray}
+use Rattle.ppm_code.specs.declared.code.CodeParts.{CodeParts}
+use Rattle.ppm_case.specs.declared.case_error.CaseError.{CaseError}
+use Rattle.ppm_case.specs.declared.case_error.CaseError.TheVariants as error
+use Rattle.ppm_case.specs.declared.case_error.CaseFault.{CaseFault}
+use Rattle.ppm_case.specs.declared.case_error.CaseFault.TheVariants as fault
+use Rattle.ppm_case.specs.Case.{IsCaseOf}
+use Rattle.ppm_case.specs.Correct.{HasCase, FaultsTellCases}
+use Rattle.ppm_case.specs.Faults.{HasFault, IsRefusal, input_number}
+use Rattle.ppm_case.specs.Rules.{case_limit}
+use Rattle.ppm_listing_reader.specs.ErrorNumbers.{fault_number}
+use Rattle.ppm_answers.specs.declared.case.InputRefusal.{InputRefusal}
+use Rattle.ppm_answers.specs.declared.conflict.ListingRefusal.{ListingRefusal}
+use Rattle.ppm_answers.specs.declared.answer.Answer.{Answer}
+use Rattle.ppm_answers.specs.declared.answer.Answer.TheVariants as answers
+use Rattle.ppm_answers.specs.Reading.{AreOne, FrontsDecide, TextMay}
+use Rattle.ppm_commands.specs.Cases.{HasInputFault, HasListingFault, HasOfCase, MayOf, fault_answer, error_answer}
+
+-- refusals by their parts
+input_path : (q r : InputRefusal) → q.number ≡ r.number → q.line ≡ r.line → q ≡ r
+input_path q r number line = λ i. record { number = number i; line = line i }
+
+listing_path : (q r : ListingRefusal) → q.number ≡ r.number → q.line ≡ r.line → q ≡ r
+listing_path q r number line = λ i. record { number = number i; line = line i }
+
+-- the answer is that of a fault of the text
+record OfFault (text : List ℕ) (a : Answer) : Type 0 where
+  pub rule : CaseFault
+  pub line : ℕ
+  pub has : HasFault text rule line
+  pub is : a ≡ fault_answer rule line
+
+-- that of a fault of its arrays, and of its listing
+of_input : (text : List ℕ) (r : InputRefusal) → HasInputFault text r → OfFault text (answers.InputRefused r)
+of_input text r h = record {
+  rule = fault.OfInput h.rule;
+  line = r.line;
+  has = h.has;
+  is = ap (λ x. answers.InputRefused x) (input_path r (record { number = input_number h.rule; line = r.line }) h.number refl);
+}
+
+of_listing : (text : List ℕ) (r : ListingRefusal) → HasListingFault text r → OfFault text (answers.ListingRefused r)
+of_listing text r h = record {
+  rule = fault.OfListing h.rule;
+  line = r.line;
+  has = h.has;
+  is = ap (λ x. answers.ListingRefused x) (listing_path r (record { number = fault_number h.rule; line = r.line }) h.number refl);
+}
+
+module _ (Of : CodeParts → List NamedArray → Answer → Type 0) where
+  -- it is an answer of the case of the text
+  abbrev OfIts : List ℕ → Answer → Type 0
+  OfIts text a = (c : HasCase text) × Of c.code c.input a
+
+  -- each answer is one or the other
+  by_parts : (text : List ℕ) (a : Answer) → HasOfCase Of text a → OfFault text a ⊎ OfIts text a
+  by_parts text (answers.InputRefused r) h = inl (of_input text r h)
+  by_parts text (answers.ListingRefused r) h = inl (of_listing text r h)
+  by_parts text a h = inr h
+
+  -- the answer of a fault
+  pub error_has : (text : List ℕ) (e : CaseError) → IsRefusal text e → TextMay (HasOfCase Of) text (error_answer e)
+  error_has text (error.Refused (fault.OfInput rule) line) h = record { rule = rule; has = h; number = refl }
+  error_has text (error.Refused (fault.OfListing rule) line) h = record { rule = rule; has = h; number = refl }
+  error_has text error.NoMemory h = tt
+
+  -- the answer of a case
+  pub case_has : ((code : CodeParts) (input : List NamedArray) (r : InputRefusal) → ¬ Of code input (answers.InputRefused r))
+      → ((code : CodeParts) (input : List NamedArray) (r : ListingRefusal) → ¬ Of code input (answers.ListingRefused r))
+      → (text : List ℕ) (code : CodeParts) (input : List NamedArray) (a : Answer) → IsCaseOf text code input → MayOf Of code input a
+      → TextMay (HasOfCase Of) text a
+  case_has no_input no_listing text code input answers.NoMemory is h = tt
+  case_has no_input no_listing text code input (answers.InputRefused r) is h = absurd (no_input code input r h)
+  case_has no_input no_listing text code input (answers.ListingRefused r) is h = absurd (no_listing code input r h)
+  case_has no_input no_listing text code input a is h = (record { code = code; input = input; is = is }, h)
+
+  module _ (law : FaultsTellCases) where
+    -- two faults of a text are one
+    one_fault : (text : List ℕ) (a b : Answer) → OfFault text a → OfFault text b → a ≡ b
+    one_fault text a b f g =
+        let same = law.one_fault text f.rule g.rule f.line g.line f.has g.has in
+        f.is ∙ ap₂ fault_answer same.0 same.1 ∙ sym g.is
+
+    -- a text of a case has none
+    not_both : (text : List ℕ) (a : Answer) → HasCase text → OfFault text a → ⊥
+    not_both text a c f = law.excludes text c.code c.input f.rule f.line c.is f.has
+
+    -- two answers of a text are one, where those of a case are
+    pub one : ((code : CodeParts) (input : List NamedArray) (a b : Answer) → Of code input a → Of code input b → a ≡ b) → AreOne (HasOfCase Of)
+    one one_of text a b h k = go (by_parts text a h) (by_parts text b k)
+      where
+        go : OfFault text a ⊎ OfIts text a → OfFault text b ⊎ OfIts text b → a ≡ b
+        go (inl f) (inl g) = one_fault text a b f g
+        go (inl f) (inr d) = absurd (not_both text a d.0 f)
+        go (inr c) (inl g) = absurd (not_both text b c.0 g)
+        go (inr c) (inr d) =
+            let same = law.one_case text c.0.code d.0.code c.0.input d.0.input c.0.is d.0.is in
+            let at_code = subst (λ code. Of code c.0.input a) same.0 c.1 in
+            one_of d.0.code d.0.input a b (subst (λ input. Of d.0.code input a) same.1 at_code) d.1
+
+    -- a text that is too long is of no case, so its answer is that of a fault, which its front has as well
+    pub front : FrontsDecide case_limit (HasOfCase Of)
+    front text rest (answers.InputRefused r) long h =
+        record { rule = h.rule; has = law.front text rest (fault.OfInput h.rule) r.line long h.has; number = h.number }
+    front text rest (answers.ListingRefused r) long h =
+        record { rule = h.rule; has = law.front text rest (fault.OfListing h.rule) r.line long h.has; number = h.number }
+    front text rest a long h = absurd (omega (arith, long, law.short text h.0.code h.0.input h.0.is))
