@@ -131,9 +131,13 @@ conflict_words c = codes "conflict: capsule " ++ decimal c.capsule ++ codes " re
 abbrev pub conflict_text : Conflict → List ℕ
 conflict_text c = ended_line (conflict_words c)
 
--- a line with a conflict, and with the lines of the instruction that reads and of the one that writes
+-- the end of a line with the lines of an instruction that reads and of one that writes
+abbrev pub lines_end : ℕ → ℕ → List ℕ
+lines_end read write = ended_line (codes " lines " ++ decimal read ++ codes " " ++ decimal write)
+
+-- a line with a conflict, and with the lines of its two instructions
 abbrev pub conflict_at_text : Conflict → ℕ → ℕ → List ℕ
-conflict_at_text c read write = ended_line (conflict_words c ++ codes " lines " ++ decimal read ++ codes " " ++ decimal write)
+conflict_at_text c read write = conflict_words c ++ lines_end read write
 
 -- a line with the fault of a text that is no listing, and where that is
 abbrev pub listing_text : ListingRefusal → List ℕ

@@ -2,7 +2,7 @@
 ghost use Rattle.std.specs.Prelude.{◌≡◌, ◌++◌, IfOk};
 ghost use Rattle.std.specs.String.{string_bytes};
 ghost use Rattle.ppm_answers.specs.Texts.{class_text, conflict_words, conflict_text};
-ghost use Rattle.ppm_answers.specs.Texts.{conflict_at_text, listing_text};
+ghost use Rattle.ppm_answers.specs.Texts.{conflict_at_text, lines_end, listing_text};
 
 use std::alloc::{AllocError, Global};
 
@@ -62,9 +62,17 @@ pub(crate) fn conflict_at_text_of(
     ensures { IfOk result (λ text. text.items ≡ conflict_at_text conflict read write) }
 {
     let mut line = conflict_words_of(alloc, conflict)?;
-    let lines = format!(in alloc; " lines {read} {write}\n")?;
-    line.extend_from_slice(lines.as_bytes())?;
+    let lines = lines_end_of(alloc, read, write)?;
+    line.extend_from_slice(&lines)?;
     Ok(line)
+}
+
+/// The end of a line with the lines of two instructions.
+fn lines_end_of(alloc: Global, read: u64, write: u64) -> Result<Vec<u8>, AllocError>
+    ensures { IfOk result (λ text. text.items ≡ lines_end read write) }
+{
+    let text = format!(in alloc; " lines {read} {write}\n")?;
+    Ok(text.into_bytes())
 }
 
 /// The words of a conflict: its capsule, its two instructions, and its class.

@@ -11,10 +11,12 @@ use Rattle.clap.proofs.ValueTestLemmas.{accepts-Accepts}
 use Rattle.ppm_cells.specs.Limits.{most_pool_words}
 use Rattle.ppm_cli.specs.Application.{ppm_application}
 use Rattle.ppm_cli.specs.CommandLine.{Number, OptionRule, processors, turns, room, slots, looks, seed, faults, schedule}
-use Rattle.ppm_cli.specs.CommandLine.{few_processors, after, small_room, few_slots, size, count}
+use Rattle.ppm_cli.specs.CommandLine.{few_processors, after, small_room, few_slots, size, count, capsules, arrays}
 use Rattle.ppm_cli.specs.Words.{number_in, number_given, value_of_digits, run_options, serial_in, replay_options, resume_options, self_in, self_options, stop_options, text_given}
 use Rattle.ppm_cli.specs.Words.{takeover_given, idle_given, command_named, command_in, without_fault, command_of}
-use Rattle.ppm_cli.specs.Words.{fitting_room, room_given, with_text, AreReplayed, AreResumed, AreRun, AreSelf, AreStopped, DoPoolsFit, IsInRange, IsOfForm}
+use Rattle.ppm_cli.specs.Words.{fitting_room, room_given, with_text, AreReplayed, AreResumed, AreRun, AreSelf, AreStopped, DoPoolsFit, IsInRange, IsLimit, IsOfForm}
+use Rattle.ppm_cli.specs.Words.{choice_given, code_in, capsule_limit, depth_in, races_in}
+use Rattle.ppm_cli.specs.declared.capsules.CapsuleLimit.{CapsuleLimit}
 use Rattle.ppm_cli.specs.declared.command.Command.{Command}
 use Rattle.ppm_cli.specs.declared.command.Command.TheVariants as commands
 use Rattle.ppm_cli.specs.declared.example.SelfOptions.{SelfOptions}
@@ -150,6 +152,26 @@ example_are rows = go (self_options rows) (self_are rows) where
   go None h = tt
   go (Some o) h = h
 
+-- a case has no number
+code_are : (rows : List Row) → IfSome (code_in rows) IsInRange
+code_are rows = go (choice_given arrays (false ∷ true ∷ []) rows) where
+  go : (yes : Option Bool) → IfSome (option_map (λ yes. if yes then commands.CodeCase else commands.Code) yes) IsInRange
+  go None = tt
+  go (Some true) = tt
+  go (Some false) = tt
+
+limit_are : (rows : List Row) → IfSome (capsule_limit rows) IsLimit
+limit_are rows = go (number_given capsules rows) (λ n e. given capsules _ _ n rows refl e) where
+  go : (n : Option ℕ) → ((m : ℕ) → n ≡ Some m → IsOfForm capsules.form m) → IfSome (option_map (λ n. record { capsules = n }) n) IsLimit
+  go None h = tt
+  go (Some n) h = h n refl
+
+-- a command with a limit alone is in range where the limit is
+limited_are : (make : CapsuleLimit → Command) → ((l : CapsuleLimit) → IsLimit l → IsInRange (make l)) → (limit : Option CapsuleLimit)
+    → IfSome limit IsLimit → IfSome (option_map make limit) IsInRange
+limited_are make in_range None h = tt
+limited_are make in_range (Some l) h = in_range l h
+
 -- ---- any command
 
 named_are : (name : Text) (rows : List Row) → IfSome (command_named name rows) IsInRange
@@ -157,8 +179,12 @@ named_are name rows =
     either IsInRange (bytes_eq name (codes "run")) _ _
     (with_text_are AreRun commands.Run faults (run_options rows) rows (λ o t h. h) (run_are rows))
     (either IsInRange (bytes_eq name (codes "serial")) _ _ (serial_are rows)
-    (either IsInRange (bytes_eq name (codes "code")) _ _ tt
+    (either IsInRange (bytes_eq name (codes "code")) _ _ (code_are rows)
     (either IsInRange (bytes_eq name (codes "check")) _ _ tt
+    (either IsInRange (bytes_eq name (codes "depth")) _ _
+    (limited_are (λ l. commands.Depth l) (λ l h. h) (capsule_limit rows) (limit_are rows))
+    (either IsInRange (bytes_eq name (codes "races")) _ _
+    (limited_are (λ l. commands.Races l) (λ l h. h) (capsule_limit rows) (limit_are rows))
     (either IsInRange (bytes_eq name (codes "replay")) _ _
     (with_text_are AreReplayed commands.Replay schedule (replay_options rows) rows (λ o t h. h) (replay_are rows))
     (either IsInRange (bytes_eq name (codes "self")) _ _ (example_are rows)
@@ -166,7 +192,7 @@ named_are name rows =
     (with_text_are AreStopped commands.Stop schedule (stop_options rows) rows (λ o t h. h) (stop_are rows))
     (either IsInRange (bytes_eq name (codes "resume")) _ _
     (with_text_are AreResumed commands.Resume faults (resume_options rows) rows (λ o t h. h) (resume_are rows))
-    tt)))))))
+    tt)))))))))
 
 -- the options of a command that words give
 pub is_in_range : (words : List Text) (command : Command) → command_of words ≡ Some command → IsInRange command

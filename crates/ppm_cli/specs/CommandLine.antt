@@ -1,4 +1,4 @@
--- The command line as a table of rules: the nine commands, their options with ranges and defaults, and which of these are admitted today.
+-- The command line as a table of rules: the eleven commands, their options with ranges and defaults, and which of these are admitted today.
 use Prim.Native.String.{String}
 use Rattle.std.specs.Prelude.{ℕ, Bool, true, false, List, [], ◌∷◌, codes, decimal, filter, not, nat_eq}
 use Rattle.clap.specs.Words.{Text}
@@ -71,6 +71,10 @@ few_processors = number "processors" 1 16 4
 abbrev pub turns : OptionRule
 turns = number "turns" 1 turn_limit 16777216
 
+-- the most capsules of a depth-first run
+abbrev pub capsules : OptionRule
+capsules = number "capsules" 1 4294967295 16777216
+
 -- the words of a place's pool of blocks; all pools together have no more than the most of one
 abbrev pub room : OptionRule
 room = number "room" 64 most_pool_words 65536
@@ -123,6 +127,10 @@ takeover = choice "takeover" "place" "entry"
 abbrev pub idle : OptionRule
 idle = choice "idle" "leave" "park"
 
+-- whether the arrays of a source are written before its code
+abbrev pub arrays : OptionRule
+arrays = choice "arrays" "no" "yes"
+
 -- ---- the commands
 
 -- the whole command line; a `later_command` becomes a `command` where it is admitted
@@ -131,8 +139,10 @@ command_line =
     command "run"
     (processors ∷ turns ∷ room ∷ slots ∷ looks ∷ seed ∷ faults ∷ takeover ∷ idle ∷ [])
     ∷ command "serial" (turns ∷ [])
-    ∷ command "code" []
+    ∷ command "code" (arrays ∷ [])
     ∷ command "check" []
+    ∷ command "depth" (capsules ∷ [])
+    ∷ command "races" (capsules ∷ [])
     ∷ command "replay" (processors ∷ turns ∷ room ∷ slots ∷ takeover ∷ schedule ∷ [])
     ∷ command "self" (few_processors ∷ size ∷ seed ∷ count ∷ [])
     ∷ command "stop" (few_processors ∷ after ∷ small_room ∷ few_slots ∷ schedule ∷ [])

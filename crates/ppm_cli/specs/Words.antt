@@ -1,5 +1,5 @@
 -- The command that the words of the command line give, as clap reads them.
-use Rattle.std.specs.Prelude.{◌≤◌, ◌*◌, ℕ, List, [], ◌∷◌, Option, Some, None, codes, if◌then◌else◌, nat_le, ◌&&◌, option_and_then, option_map, ⊤}
+use Rattle.std.specs.Prelude.{◌≤◌, ◌*◌, ℕ, true, false, List, [], ◌∷◌, Option, Some, None, codes, if◌then◌else◌, nat_le, ◌&&◌, option_and_then, option_map, ⊤}
 use Rattle.std.specs.Str.{bytes_eq}
 use Rattle.std.specs.Str.Parse.{digits_value, without_leading_plus}
 use Rattle.clap.specs.Words.{Kinds, Row, Text, fault_of, first_of, one_of, subcommand_of}
@@ -12,7 +12,8 @@ use Rattle.ppm_cells.specs.declared.shape.Takeover.TheVariants.{ByPlaces, ByEntr
 use Rattle.ppm_cli.specs.Application.{ppm_application}
 use Rattle.ppm_cli.specs.CommandLine.{Form, Number, Choice, AnyText, OptionRule, is_free_text}
 use Rattle.ppm_cli.specs.CommandLine.{processors, turns, room, slots, looks, seed, faults, schedule, takeover, idle}
-use Rattle.ppm_cli.specs.CommandLine.{few_processors, after, small_room, few_slots, size, count}
+use Rattle.ppm_cli.specs.CommandLine.{few_processors, after, small_room, few_slots, size, count, capsules, arrays}
+use Rattle.ppm_cli.specs.declared.capsules.CapsuleLimit.{CapsuleLimit}
 use Rattle.ppm_cli.specs.declared.command.Command.{Command}
 use Rattle.ppm_cli.specs.declared.command.Command.TheVariants as commands
 use Rattle.ppm_cli.specs.declared.example.SelfOptions.{SelfOptions}
@@ -159,13 +160,31 @@ self_options rows =
 abbrev pub self_in : List Row → Option Command
 self_in rows = option_map (λ o. commands.Example o) (self_options rows)
 
+-- the command `code`: with its option it writes a case
+abbrev pub code_in : List Row → Option Command
+code_in rows = option_map (λ yes. if yes then commands.CodeCase else commands.Code) (choice_given arrays (false ∷ true ∷ []) rows)
+
+-- the limit of a depth-first run, if it has a value of its form
+abbrev pub capsule_limit : List Row → Option CapsuleLimit
+capsule_limit rows = option_map (λ n. record { capsules = n }) (number_given capsules rows)
+
+-- the command `depth` with its limit
+abbrev pub depth_in : List Row → Option Command
+depth_in rows = option_map (λ l. commands.Depth l) (capsule_limit rows)
+
+-- the command `races` with its limit
+abbrev pub races_in : List Row → Option Command
+races_in rows = option_map (λ l. commands.Races l) (capsule_limit rows)
+
 -- the command of this name, with the options in its matches
 abbrev pub command_named : Text → List Row → Option Command
 command_named name rows =
     if bytes_eq name (codes "run") then run_in rows
     else if bytes_eq name (codes "serial") then serial_in rows
-    else if bytes_eq name (codes "code") then Some commands.Code
+    else if bytes_eq name (codes "code") then code_in rows
     else if bytes_eq name (codes "check") then Some commands.Check
+    else if bytes_eq name (codes "depth") then depth_in rows
+    else if bytes_eq name (codes "races") then races_in rows
     else if bytes_eq name (codes "replay") then replay_in rows
     else if bytes_eq name (codes "self") then self_in rows
     else if bytes_eq name (codes "stop") then stop_in rows
@@ -224,6 +243,10 @@ abbrev pub AreResumed : ResumeOptions → Type 0
 AreResumed options =
     IsOfForm turns.form options.turns × IsOfForm looks.form options.looks × IsOfForm seed.form options.seed
 
+-- the limit of a depth-first run is in its range
+abbrev pub IsLimit : CapsuleLimit → Type 0
+IsLimit limit = IsOfForm capsules.form limit.capsules
+
 -- each option of the command is in its range
 abbrev pub IsInRange : Command → Type 0
 IsInRange (commands.Run options _) = AreRun options
@@ -234,3 +257,6 @@ IsInRange (commands.Replay options _) = AreReplayed options
 IsInRange (commands.Example options) = AreSelf options
 IsInRange (commands.Stop options _) = AreStopped options
 IsInRange (commands.Resume options _) = AreResumed options
+IsInRange (commands.Depth limit) = IsLimit limit
+IsInRange (commands.Races limit) = IsLimit limit
+IsInRange commands.CodeCase = ⊤

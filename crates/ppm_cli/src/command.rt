@@ -3,6 +3,8 @@ ghost use Rattle.std.specs.Prelude.{◌≡◌, IfOk, IfSome};
 ghost use Rattle.clap.specs.Words.{found_of, rows_of, subcommand_rows_of};
 ghost use Rattle.ppm_cli.specs.Words.{IsInRange, command_in, command_named as named_by};
 
+use crate::capsules::{CapsuleLimit, depth_from, races_from};
+use crate::code::code_from;
 use crate::example::{SelfOptions, self_from};
 use crate::replay::{ReplayOptions, replay_from};
 use crate::resume::{ResumeOptions, resume_from};
@@ -34,6 +36,12 @@ pub enum Command {
     /// To go on from the words of the saved text that is read, under a plan of faults, of which
     /// these are the bytes.
     Resume(ResumeOptions, Items<u8>),
+    /// To run the code of the case that is read, depth first.
+    Depth(CapsuleLimit),
+    /// To judge whether the code of the case that is read is sound with its arrays.
+    Races(CapsuleLimit),
+    /// To write the case of the source that is read: its arrays and its code.
+    CodeCase,
 }
 
 /// The command of the subcommand that was met, with its options.
@@ -62,8 +70,10 @@ fn command_named(
     match name {
         "run" => run_from(alloc, matches),
         "serial" => Ok(serial_from(matches)),
-        "code" => Ok(Some(Command::Code)),
+        "code" => Ok(code_from(matches)),
         "check" => Ok(Some(Command::Check)),
+        "depth" => Ok(depth_from(matches)),
+        "races" => Ok(races_from(matches)),
         "replay" => replay_from(alloc, matches),
         "self" => Ok(self_from(matches)),
         "stop" => stop_from(alloc, matches),

@@ -8,6 +8,8 @@
 #![tactic(auto)]
 
 mod application;
+mod capsules;
+mod code;
 mod command;
 mod example;
 mod getters;
@@ -22,6 +24,7 @@ mod stop;
 mod table;
 mod takeover;
 
+pub use capsules::CapsuleLimit;
 pub use command::Command;
 pub use example::SelfOptions;
 pub use laws::any_rule_may_be_admitted;

@@ -94,6 +94,14 @@ pub(crate) const TURNS: NumberOption = NumberOption {
     default: "16777216",
 };
 
+/// How many capsules a depth-first run may have.
+pub(crate) const CAPSULES: NumberOption = NumberOption {
+    name: "capsules",
+    low: 1,
+    high: u32::MAX,
+    default: "16777216",
+};
+
 /// How many words the pool of a place has; all pools together have no more than the most of one.
 pub(crate) const ROOM: NumberOption = NumberOption {
     name: "room",
@@ -186,6 +194,13 @@ pub(crate) const IDLE: ChoiceOption = ChoiceOption {
     second: "park",
 };
 
+/// Whether arrays are written before the code.
+pub(crate) const ARRAYS: ChoiceOption = ChoiceOption {
+    name: "arrays",
+    first: "no",
+    second: "yes",
+};
+
 /// The schedule of acts.
 pub(crate) const SCHEDULE: TextOption = TextOption {
     name: "schedule",
@@ -193,7 +208,7 @@ pub(crate) const SCHEDULE: TextOption = TextOption {
 };
 
 /// The commands that are admitted, in the order of the help page.
-pub const COMMANDS: [CommandRow; 8] = [
+pub const COMMANDS: [CommandRow; 10] = [
     CommandRow {
         name: "run",
         options: &[
@@ -214,11 +229,19 @@ pub const COMMANDS: [CommandRow; 8] = [
     },
     CommandRow {
         name: "code",
-        options: &[],
+        options: &[OptionRow::Choice(ARRAYS)],
     },
     CommandRow {
         name: "check",
         options: &[],
+    },
+    CommandRow {
+        name: "depth",
+        options: &[OptionRow::Number(CAPSULES)],
+    },
+    CommandRow {
+        name: "races",
+        options: &[OptionRow::Number(CAPSULES)],
     },
     CommandRow {
         name: "replay",

@@ -72,6 +72,9 @@ module _ (options : RunOptions) (watching : ℕ) (plan : List ℕ) (before now :
   wants (answers.ListingRefused r) h told = ToldNothing told.0
   wants (answers.SavedRefused r) h told = ToldNothing told.0
   wants (answers.Conflicting c) h told = ToldNothing told.0
+  wants (answers.ConflictingAt c read write) h told = ToldNothing told.0
+  wants (answers.Untidy u) h told = ToldNothing told.0
+  wants (answers.InputRefused r) h told = ToldNothing told.0
   wants a h told = ToldWhole (
     a,
     of_source options plan source (λ items t. ProgramHas options watching before now items t a) h.0 h.1 h.2.has.0 h.2.has.1 h.2.items h.2.accepted

@@ -3,6 +3,8 @@ use Rattle.std.proofs.Common.{◌≡◌, ℕ, List, sym, subst}
 use Rattle.ppm_ports.specs.Ports.{Port}
 use Rattle.ppm_ports.specs.Outside.{Ports}
 use Rattle.ppm_text.specs.Limits.{text_limit}
+use Rattle.ppm_tree.specs.Program.{initial_arrays}
+use Rattle.ppm_cut_code.specs.Routines.{code_of}
 use Rattle.ppm_plan.specs.Correct.{HaveOneAnswer as PlansHaveOneAnswer}
 use Rattle.ppm_plan.specs.Forms.{schedule_form}
 use Rattle.ppm_answers.specs.declared.answer.Answer.{Answer}
@@ -75,7 +77,7 @@ module _ (law : RunsAreAsPrograms) (options : ReplayOptions) (are : AreReplayed 
     read = h;
     full = (
       of_program options h.2.items h.2.has.0 (answers.OutOfRoom place) h.2.has.2,
-      filled_has options h.2.items h.2.has.0 place h.2.has.2,
+      filled_has options h.2.items (code_of h.2.has.0) (initial_arrays h.2.has.0) place h.2.has.2,
     );
     needs = replay_needs law h.0 h.2.has.0 h.2.has.1 options schedule h.2.items h.2.accepted place h.2.has.2;
     once =

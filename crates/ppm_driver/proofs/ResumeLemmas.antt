@@ -378,6 +378,9 @@ module _ (options : ResumeOptions) (before now : ToldLists) where
   wants plan source (answers.ListingRefused r) h told = ToldNothing told.0
   wants plan source (answers.SavedRefused r) h told = ToldNothing told.0
   wants plan source (answers.Conflicting c) h told = ToldNothing told.0
+  wants plan source (answers.ConflictingAt c read write) h told = ToldNothing told.0
+  wants plan source (answers.Untidy u) h told = ToldNothing told.0
+  wants plan source (answers.InputRefused r) h told = ToldNothing told.0
   wants plan source (answers.Broken place) h told = broken h.2.has.has
     where
       broken : (IsBrokenBefore before now h.2.state × (place ≡ unknown_place)) ⊎ ResumedHas options before now h.2.has.items h.2.state (answers.Broken place)

@@ -42,6 +42,9 @@ told_none (answers.SourceRefused r) lists = refl
 told_none (answers.ListingRefused r) lists = refl
 told_none (answers.SavedRefused r) lists = refl
 told_none (answers.Conflicting c) lists = refl
+told_none (answers.ConflictingAt c read write) lists = refl
+told_none (answers.Untidy u) lists = refl
+told_none (answers.InputRefused r) lists = refl
 told_none (answers.Ended arrays) lists = tt
 told_none (answers.Trapped t line) lists = tt
 told_none (answers.EndedWith arrays tally) lists = tt
@@ -55,6 +58,11 @@ told_none (answers.Broken place) lists = tt
 told_none (answers.Listed listing) lists = tt
 told_none (answers.Saved text) lists = tt
 told_none answers.Accepted lists = tt
+told_none (answers.Counted arrays counts) lists = tt
+told_none (answers.TrappedAfter t line counts) lists = tt
+told_none (answers.Sound counts) lists = tt
+told_none (answers.NotWithinCapsules capsules) lists = tt
+told_none (answers.Raced race) lists = tt
 
 pub others_still : (watching : ℕ) (lists : ToldLists) → OthersKeep watching lists lists
 others_still watching lists c least = stays (get_or lists c None)

@@ -40,13 +40,13 @@ pub(crate) fn print_statuses(rt: &impl Print) -> io::Result<()> {
 fn meaning_of(status: Status) -> &'static str {
     match status {
         Status::Ended => {
-            "ended: the arrays, and of `replay` its forks and takes; of `code` the listing; of\n       \
-             `check` the line `ok`; of `stop` the saved text (docs/SAVED.md); of `self` the line\n       \
-             `size n forks g sum s last l`"
+            "ended: the arrays, and of `replay` its forks and takes, of `depth` its counts; of `code`\n       \
+             the listing or the case; of `check` the line `ok`, of `races` the line `sound: ..`; of\n       \
+             `stop` the saved text (docs/SAVED.md); of `self` `size n forks g sum s last l`"
         }
         Status::Trapped => {
             "trapped: `trap K line N`, K being overflow, divzero, index or split; of `replay`\n       \
-             its forks and takes too"
+             its forks and takes too, of `depth` its counts"
         }
         Status::SourceRefused => {
             "source refused: the fault and its place (docs/LANGUAGE.md, \"Refusals\")"
@@ -68,9 +68,13 @@ fn meaning_of(status: Status) -> &'static str {
         Status::WriteFault => "write fault: standard output or standard error failed",
         Status::NoMemory => "out of memory",
         Status::CodeRefused => {
-            "code refused by `check`: the first conflict, or why it is no listing (docs/CODE.md)"
+            "code refused by `check`, `depth` or `races`: a conflict, an untidy store or a race, the\n       \
+             first one; or why it is no listing or no case (docs/CODE.md)"
         }
-        Status::NotWithin => "not within: `serial` did not end within --turns",
+        Status::NotWithin => {
+            "not within: `serial` did not end within --turns, or `depth` or `races` within\n       \
+             --capsules"
+        }
         Status::SavedRefused => {
             "saved text refused by `resume`: the fault and its line (docs/SAVED.md)"
         }

@@ -10,8 +10,9 @@ Ppm: a small fork-join language, its capsules, and the machine that runs them wh
   ./ppm help [COMMAND]                 this page, or what it says of a command; also --help and -h
   ./ppm --version                      the kit, the sum of the sources, and whether they are built
 
-Input is standard input alone: a source (docs/LANGUAGE.md), of `check` a listing (docs/CODE.md), of
-`resume` a saved text (docs/SAVED.md), of `self` nothing. It has at most 1,048,576 bytes, a listing
+Input is standard input alone: a source (docs/LANGUAGE.md), of `check` a listing, of `depth` and
+`races` a case, which is arrays and a listing (docs/CODE.md), of `resume` a saved text
+(docs/SAVED.md), of `self` nothing. A source has at most 1,048,576 bytes, a listing and a case
 536,870,912, a saved text 671,088,640. An option is given as `--turns 5` or `--turns=5`, at most
 once. A value never begins with `-`.
 ";
@@ -24,8 +25,10 @@ pub(crate) fn purpose_of(command: &str) -> &'static str {
     match command {
         "run" => "compiles a source, and threads run its capsules under a plan of faults",
         "serial" => "interprets a source by its serial meaning",
-        "code" => "compiles a source, and writes the listing of its capsules",
+        "code" => "compiles a source, and writes the listing of its capsules, or a case",
         "check" => "whether the capsules of a listing may be run again; races are not asked",
+        "depth" => "runs the code of a case alone, left branch first, and counts what it takes",
+        "races" => "whether the code of a case is sound with its arrays, or its first race",
         "replay" => "compiles a source, and processors run its capsules along a schedule",
         "self" => "makes a source that sums so many values, runs it, and says what came of it",
         "stop" => "stops such a run after so many acts, and writes its words as a saved text",
@@ -41,6 +44,8 @@ pub(crate) fn example_of(command: &str) -> &'static str {
         "serial" => "< examples/mergesort.ppm",
         "code" => "< examples/first.ppm",
         "check" => "< examples/conflict.listing",
+        "depth" => "< examples/race.case",
+        "races" => "--capsules 1000 < examples/race.case",
         "replay" => "--processors 3 --schedule '0*200,1*30,1!h' < examples/sum.ppm",
         "self" => "--size 1000 --seed 7 --count 50",
         "stop" => "--processors 3 --after 300 < examples/sum.ppm > sum.saved",
@@ -56,6 +61,8 @@ pub(crate) fn meaning_of(command: &str, option: &str) -> &'static str {
         "turns" => turns_of(command),
         "after" => "acts that are made, those of the schedule too",
         "room" => room_of(command),
+        "capsules" => "capsules that the run may have",
+        "arrays" => "with yes the arrays stand before the listing",
         "slots" => "entries of a place's deque",
         "looks" => "looks for work in a row until a processor rests",
         "size" => "values that are made and summed",

@@ -1,6 +1,7 @@
 //! Answers that no small case of a command gives: their texts and statuses.
 ghost use Rattle.std.specs.Prelude.{◌<◌};
 
+use crate::case_answers::case_answer_of;
 use crate::said::number_at;
 use ppm_answers::{Answer, Class, Conflict, Sums, Tally, deliver};
 use ppm_ports::MemorySink;
@@ -14,7 +15,7 @@ const ROOM: usize = 1000;
 /// `answer KIND ..`: an answer, delivered to sinks that take as many bytes at a time as the case says
 /// and fail where it says so.
 pub(crate) fn answer(alloc: Global, call: &Call) -> Result<Shown, Fault> {
-    let answer = answer_of(call)?;
+    let answer = answer_of(alloc, call)?;
     let most = most_of(call);
     let mut out = sink(alloc, most, &call.outs)?;
     let mut err = sink(alloc, most, &call.errs)?;
@@ -28,7 +29,7 @@ pub(crate) fn answer(alloc: Global, call: &Call) -> Result<Shown, Fault> {
 }
 
 /// The answer that the words after the first give.
-fn answer_of(call: &Call) -> Result<Answer, Fault> {
+fn answer_of(alloc: Global, call: &Call) -> Result<Answer, Fault> {
     let Some(kind) = call.words.get(1) else {
         return Err(Fault::Line("an answer is wanted"));
     };
@@ -38,12 +39,12 @@ fn answer_of(call: &Call) -> Result<Answer, Fault> {
         "trapped" => Ok(Answer::TrappedWith(Trap::DivZero, number_at(call, 2)?, tally_of(call)?)),
         "room" => Ok(Answer::OutOfRoom(number_at(call, 2)?)),
         "within" => Ok(Answer::NotWithin(u64::from(number_at(call, 2)?))),
-        _ => Err(Fault::Line("an answer is wanted")),
+        kind => case_answer_of(alloc, call, kind),
     }
 }
 
 /// `CAPSULE READ WRITE CLASS`, and a number after the class of a slot or of a word of a new block.
-fn conflict_of(call: &Call) -> Result<Conflict, Fault> {
+pub(crate) fn conflict_of(call: &Call) -> Result<Conflict, Fault> {
     Ok(Conflict {
         capsule: number_at(call, 2)?,
         read_at: number_at(call, 3)?,

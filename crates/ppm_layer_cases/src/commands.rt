@@ -47,7 +47,10 @@ fn line_of(alloc: Global, command: &Command) -> Result<Vec<u8>, Fault> {
         }
         Command::Serial(it) => format!(in alloc; "serial turns {}", it.turns)?,
         Command::Code => String::from_str(alloc, "code")?,
+        Command::CodeCase => String::from_str(alloc, "code with arrays")?,
         Command::Check => String::from_str(alloc, "check")?,
+        Command::Depth(it) => format!(in alloc; "depth capsules {}", it.capsules)?,
+        Command::Races(it) => format!(in alloc; "races capsules {}", it.capsules)?,
         Command::Replay(it, schedule) => {
             front = " schedule=";
             plan = schedule.as_slice();

@@ -8,6 +8,7 @@
 #![tactic(auto)]
 
 mod answers;
+mod case_answers;
 mod cells;
 mod commands;
 mod draws;

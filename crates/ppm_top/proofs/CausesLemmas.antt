@@ -3,6 +3,7 @@ use Rattle.std.proofs.Common.{◌≡◌, ℕ, List, Option, Some, None, refl, sy
 use Rattle.ppm_ports.specs.Outside.{ToldLists, Outside, ports_of}
 use Rattle.ppm_text.specs.Limits.{text_limit}
 use Rattle.ppm_listing_reader.specs.Limits.{listing_limit}
+use Rattle.ppm_case.specs.Rules.{case_limit}
 use Rattle.ppm_answers.specs.declared.answer.Answer.{Answer}
 use Rattle.ppm_answers.specs.declared.answer.Answer.TheVariants as answers
 use Rattle.ppm_answers.specs.declared.status.Status.{Status}
@@ -11,8 +12,11 @@ use Rattle.ppm_answers.proofs.Delivered.{tells_nothing}
 use Rattle.ppm_answers.proofs.Judged as judged
 use Rattle.ppm_cli.specs.declared.command.Command.{Command}
 use Rattle.ppm_cli.specs.declared.command.Command.TheVariants as commands
+use Rattle.ppm_commands.specs.Case.{CaseReads}
 use Rattle.ppm_commands.specs.Check.{CheckHas}
 use Rattle.ppm_commands.specs.Code.{CodeReads}
+use Rattle.ppm_commands.specs.Depth.{DepthHas}
+use Rattle.ppm_commands.specs.Races.{RacesHas}
 use Rattle.ppm_commands.specs.Serial.{SerialHas}
 use Rattle.ppm_cli.specs.Words.{command_of}
 use Rattle.ppm_top.specs.Causes.{CommandMay, CommandTells, IsAnswered}
@@ -35,7 +39,10 @@ memory_before (Some (commands.Run options plan)) o h =
     planned.memory_before plan_form plan options.processors (RunTextHas options options.processors o.told_before o.told_now) text_limit o.source h
 memory_before (Some (commands.Serial options)) o h = judged.memory_before text_limit (SerialHas options.turns) o.source h
 memory_before (Some commands.Code) o h = judged.memory_before text_limit CodeReads o.source h
+memory_before (Some commands.CodeCase) o h = judged.memory_before text_limit CaseReads o.source h
 memory_before (Some commands.Check) o h = judged.memory_before listing_limit CheckHas o.source h
+memory_before (Some (commands.Depth limit)) o h = judged.memory_before case_limit (DepthHas limit.capsules) o.source h
+memory_before (Some (commands.Races limit)) o h = judged.memory_before case_limit (RacesHas limit.capsules) o.source h
 memory_before (Some (commands.Replay options schedule)) o h =
     planned.memory_before schedule_form schedule options.processors (ReplayTextHas options) text_limit o.source h
 memory_before (Some (commands.Resume options plan)) o h =
@@ -71,7 +78,10 @@ told_nothing None o answer lists = refl
 told_nothing (Some (commands.Run options plan)) o answer lists = untold options.processors _ _ answer lists
 told_nothing (Some (commands.Serial options)) o answer lists = refl
 told_nothing (Some commands.Code) o answer lists = refl
+told_nothing (Some commands.CodeCase) o answer lists = refl
 told_nothing (Some commands.Check) o answer lists = refl
+told_nothing (Some (commands.Depth limit)) o answer lists = refl
+told_nothing (Some (commands.Races limit)) o answer lists = refl
 told_nothing (Some (commands.Replay options schedule)) o answer lists = refl
 told_nothing (Some (commands.Resume options plan)) o answer lists = untold_source options plan o.source answer lists
 told_nothing (Some (commands.Stop options schedule)) o answer lists = refl

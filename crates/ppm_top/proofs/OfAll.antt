@@ -5,6 +5,7 @@ use Rattle.ppm_ports.specs.Ports.{Fails, Holds}
 use Rattle.ppm_ports.specs.Outside.{Outside, ports_of}
 use Rattle.ppm_text.specs.Limits.{text_limit}
 use Rattle.ppm_listing_reader.specs.Limits.{listing_limit}
+use Rattle.ppm_case.specs.Rules.{case_limit}
 use Rattle.ppm_answers.specs.declared.answer.Answer.{Answer}
 use Rattle.ppm_answers.specs.declared.answer.Answer.TheVariants as answers
 use Rattle.ppm_answers.specs.declared.status.Status.{Status}
@@ -20,11 +21,17 @@ use Rattle.ppm_cli.specs.declared.run.RunOptions.{RunOptions}
 use Rattle.ppm_cli.specs.declared.stop.StopOptions.{StopOptions}
 use Rattle.ppm_cli.specs.Words.{command_of}
 use Rattle.ppm_cli.proofs.RangeLemmas.{is_in_range}
+use Rattle.ppm_commands.specs.Case.{CaseReads}
 use Rattle.ppm_commands.specs.Check.{CheckHas}
 use Rattle.ppm_commands.specs.Code.{CodeReads}
+use Rattle.ppm_commands.specs.Depth.{DepthHas}
+use Rattle.ppm_commands.specs.Races.{RacesHas}
 use Rattle.ppm_commands.specs.Serial.{SerialHas}
+use Rattle.ppm_commands.proofs.CaseRows.{case_rows}
 use Rattle.ppm_commands.proofs.CheckRows.{check_rows}
 use Rattle.ppm_commands.proofs.CodeRows.{code_rows}
+use Rattle.ppm_commands.proofs.DepthRows.{depth_rows}
+use Rattle.ppm_commands.proofs.RacesRows.{races_rows}
 use Rattle.ppm_commands.proofs.SerialRows.{serial_rows}
 use Rattle.ppm_plan.specs.Forms.{Form, plan_form, schedule_form}
 use Rattle.ppm_loading.specs.Planned.{PlannedMay}
@@ -86,7 +93,10 @@ command_reports o None = none_reports o
 command_reports o (Some (commands.Run options plan)) = planned_reports plan_form plan options.processors (RunTextHas options options.processors o.told_before o.told_now) o
 command_reports o (Some (commands.Serial options)) = judging_reports text_limit (SerialHas options.turns) o
 command_reports o (Some commands.Code) = judging_reports text_limit CodeReads o
+command_reports o (Some commands.CodeCase) = judging_reports text_limit CaseReads o
 command_reports o (Some commands.Check) = judging_reports listing_limit CheckHas o
+command_reports o (Some (commands.Depth limit)) = judging_reports case_limit (DepthHas limit.capsules) o
+command_reports o (Some (commands.Races limit)) = judging_reports case_limit (RacesHas limit.capsules) o
 command_reports o (Some (commands.Replay options schedule)) =
     planned_reports schedule_form schedule options.processors (ReplayTextHas options) o
 command_reports o (Some (commands.Resume options plan)) = judging_reports saved_limit (ResumeTextHas options plan o.told_before o.told_now) o
@@ -144,12 +154,18 @@ no_command (Some (commands.Resume options plan)) o answer h e = inr (IsResume op
 no_command (Some (commands.Stop options schedule)) o answer h e = inr (IsStop options schedule refl)
 no_command (Some (commands.Serial options)) o answers.WordsRefused h e = absurd h.2
 no_command (Some commands.Code) o answers.WordsRefused h e = absurd h.2
+no_command (Some commands.CodeCase) o answers.WordsRefused h e = absurd h.2
 no_command (Some commands.Check) o answers.WordsRefused h e = absurd h.2
+no_command (Some (commands.Depth limit)) o answers.WordsRefused h e = absurd h.2.1
+no_command (Some (commands.Races limit)) o answers.WordsRefused h e = absurd h.2.1
 no_command (Some (commands.Example options)) o answers.WordsRefused h e =
     absurd (of_example.no_words_refused options o.told_before o.told_now h.1)
 no_command (Some (commands.Serial options)) o (answers.PlanRefused number) h e = absurd h.2
 no_command (Some commands.Code) o (answers.PlanRefused number) h e = absurd h.2
+no_command (Some commands.CodeCase) o (answers.PlanRefused number) h e = absurd h.2
 no_command (Some commands.Check) o (answers.PlanRefused number) h e = absurd h.2
+no_command (Some (commands.Depth limit)) o (answers.PlanRefused number) h e = absurd h.2.1
+no_command (Some (commands.Races limit)) o (answers.PlanRefused number) h e = absurd h.2.1
 no_command (Some (commands.Example options)) o (answers.PlanRefused number) h e =
     absurd (of_example.no_plan_refused options o.told_before o.told_now number h.1)
 no_command command o answer h e = cc
@@ -220,7 +236,16 @@ program_rows laws words o status a = record {
   );
   serial = λ options e. serial_rows options.turns (ports_of o) (laws.outcomes options.turns) status (by_words (Some (commands.Serial options)) e);
   code = λ e. code_rows laws.codes laws.faithful (ports_of o) status (by_words (Some commands.Code) e);
+  case = λ e. case_rows laws.texts laws.cases laws.faithful (ports_of o) status (by_words (Some commands.CodeCase) e);
   check = λ e. check_rows (ports_of o) laws.listings status (by_words (Some commands.Check) e);
+  depth = λ limit e. (
+    is_in_range words (commands.Depth limit) e,
+    depth_rows limit.capsules (ports_of o) (laws.depths limit.capsules) status (by_words (Some (commands.Depth limit)) e),
+  );
+  races = λ limit e. (
+    is_in_range words (commands.Races limit) e,
+    races_rows limit.capsules (ports_of o) (laws.races limit.capsules) status (by_words (Some (commands.Races limit)) e),
+  );
   replay = λ options schedule e. (
     is_in_range words (commands.Replay options schedule) e,
     of_replay.replay_rows laws.meant options (is_in_range words (commands.Replay options schedule) e) schedule (ports_of o) status

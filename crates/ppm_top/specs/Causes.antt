@@ -8,8 +8,11 @@ use Rattle.ppm_answers.specs.Reading.{IsUnread, TellsNothing, Answers}
 use Rattle.ppm_cli.specs.declared.command.Command.{Command}
 use Rattle.ppm_cli.specs.declared.command.Command.TheVariants as commands
 use Rattle.ppm_cli.specs.Words.{command_of}
+use Rattle.ppm_commands.specs.Case.{CaseMay}
 use Rattle.ppm_commands.specs.Check.{CheckMay}
 use Rattle.ppm_commands.specs.Code.{CodeMay}
+use Rattle.ppm_commands.specs.Depth.{DepthMay}
+use Rattle.ppm_commands.specs.Races.{RacesMay}
 use Rattle.ppm_commands.specs.Serial.{SerialMay}
 use Rattle.ppm_driver.specs.Examples.{ExampleMay, ExampleTells}
 use Rattle.ppm_driver.specs.Replays.{ReplayMay}
@@ -29,7 +32,10 @@ CommandMay None o answer = NoCommandMay o answer
 CommandMay (Some (commands.Run options plan)) o answer = RunMay options options.processors plan o.told_before o.told_now o.source answer
 CommandMay (Some (commands.Serial options)) o answer = SerialMay options.turns o.source answer
 CommandMay (Some commands.Code) o answer = CodeMay o.source answer
+CommandMay (Some commands.CodeCase) o answer = CaseMay o.source answer
 CommandMay (Some commands.Check) o answer = CheckMay o.source answer
+CommandMay (Some (commands.Depth limit)) o answer = DepthMay limit.capsules o.source answer
+CommandMay (Some (commands.Races limit)) o answer = RacesMay limit.capsules o.source answer
 CommandMay (Some (commands.Replay options schedule)) o answer = ReplayMay options schedule o.source answer
 CommandMay (Some (commands.Resume options plan)) o answer = ResumeMay options plan o.told_before o.told_now o.source answer
 CommandMay (Some (commands.Stop options schedule)) o answer = StopMay options schedule o.source answer
@@ -42,7 +48,10 @@ CommandTells None o = TellsNothing
 CommandTells (Some (commands.Run options plan)) o = RunTells options options.processors plan o.source
 CommandTells (Some (commands.Serial options)) o = TellsNothing
 CommandTells (Some commands.Code) o = TellsNothing
+CommandTells (Some commands.CodeCase) o = TellsNothing
 CommandTells (Some commands.Check) o = TellsNothing
+CommandTells (Some (commands.Depth limit)) o = TellsNothing
+CommandTells (Some (commands.Races limit)) o = TellsNothing
 CommandTells (Some (commands.Replay options schedule)) o = TellsNothing
 CommandTells (Some (commands.Resume options plan)) o = ResumeTells options plan o.source
 CommandTells (Some (commands.Stop options schedule)) o = TellsNothing

@@ -1,7 +1,10 @@
 -- The laws on which the rows of the program rest.
 use Rattle.ppm_plan.specs.Correct.{HaveOneAnswer as PlansHaveOneAnswer}
+use Rattle.ppm_commands.specs.Case.{AreCases, HaveOneAnswer as CaseTextsHaveOneAnswer}
 use Rattle.ppm_commands.specs.Check.{HaveOneAnswer as ListingsHaveOneAnswer}
 use Rattle.ppm_commands.specs.Code.{CodesAreFaithful, HaveOneAnswer as CodesHaveOneAnswer}
+use Rattle.ppm_commands.specs.Depth.{HaveOneAnswer as DepthRunsHaveOneAnswer}
+use Rattle.ppm_commands.specs.Races.{HaveOneAnswer as CasesHaveOneAnswer}
 use Rattle.ppm_commands.specs.Serial.{HaveOneAnswer as OutcomesHaveOneAnswer}
 use Rattle.ppm_driver.specs.Completeness.{RunsComplete}
 use Rattle.ppm_driver.specs.Examples.{ExamplesSumUp}
@@ -28,6 +31,10 @@ pub record ProgramLaws : Type 0 where
   pub codes : CodesHaveOneAnswer
   pub faithful : CodesAreFaithful
   pub listings : ListingsHaveOneAnswer
+  pub depths : DepthRunsHaveOneAnswer
+  pub races : CasesHaveOneAnswer
+  pub texts : CaseTextsHaveOneAnswer
+  pub cases : AreCases
   pub plans : PlansHaveOneAnswer
   pub replays : ReplaysHaveOneAnswer
   pub stops : StopsHaveOneAnswer

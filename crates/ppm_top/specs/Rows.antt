@@ -8,6 +8,7 @@ use Rattle.ppm_answers.specs.declared.status.Status.{Status}
 use Rattle.ppm_answers.specs.declared.status.Status.TheVariants as statuses
 use Rattle.ppm_answers.specs.Reading.{IsUnread}
 use Rattle.ppm_answers.specs.Rows.{IsOneOf}
+use Rattle.ppm_cli.specs.declared.capsules.CapsuleLimit.{CapsuleLimit}
 use Rattle.ppm_cli.specs.declared.command.Command.TheVariants as commands
 use Rattle.ppm_cli.specs.declared.example.SelfOptions.{SelfOptions}
 use Rattle.ppm_cli.specs.declared.serial.SerialOptions.{SerialOptions}
@@ -15,9 +16,12 @@ use Rattle.ppm_cli.specs.declared.replay.ReplayOptions.{ReplayOptions}
 use Rattle.ppm_cli.specs.declared.resume.ResumeOptions.{ResumeOptions}
 use Rattle.ppm_cli.specs.declared.run.RunOptions.{RunOptions}
 use Rattle.ppm_cli.specs.declared.stop.StopOptions.{StopOptions}
-use Rattle.ppm_cli.specs.Words.{command_of, AreReplayed, AreResumed, AreRun, AreSelf, AreStopped}
+use Rattle.ppm_cli.specs.Words.{command_of, AreReplayed, AreResumed, AreRun, AreSelf, AreStopped, IsLimit}
+use Rattle.ppm_commands.specs.Case.{CaseRows}
 use Rattle.ppm_commands.specs.Check.{CheckRows}
 use Rattle.ppm_commands.specs.Code.{CodeRows}
+use Rattle.ppm_commands.specs.Depth.{DepthRows}
+use Rattle.ppm_commands.specs.Races.{RacesRows}
 use Rattle.ppm_commands.specs.Serial.{SerialRows}
 use Rattle.ppm_loading.specs.MachineRows.{RefusesPlan}
 use Rattle.ppm_driver.specs.ExampleRows.{ExampleRows}
@@ -42,6 +46,20 @@ InterpretsByWords words o status =
 -- those of `code` where they ask for that
 abbrev pub ListsByWords : List (List ℕ) → Outside → Status → Type 0
 ListsByWords words o status = command_of words ≡ Some commands.Code → CodeRows (ports_of o) status
+
+-- those of `code` with arrays where they ask for that
+abbrev pub ListsCaseByWords : List (List ℕ) → Outside → Status → Type 0
+ListsCaseByWords words o status = command_of words ≡ Some commands.CodeCase → CaseRows (ports_of o) status
+
+-- those of `depth` where they ask for that, with this limit, which is in its range
+abbrev pub RunsDepthFirstByWords : List (List ℕ) → Outside → Status → Type 0
+RunsDepthFirstByWords words o status = (limit : CapsuleLimit) → command_of words ≡ Some (commands.Depth limit)
+    → IsLimit limit × DepthRows limit.capsules (ports_of o) status
+
+-- those of `races` where they ask for that, with this limit, which is in its range
+abbrev pub SeeksRacesByWords : List (List ℕ) → Outside → Status → Type 0
+SeeksRacesByWords words o status = (limit : CapsuleLimit) → command_of words ≡ Some (commands.Races limit)
+    → IsLimit limit × RacesRows limit.capsules (ports_of o) status
 
 -- and those of `check` where they ask for that
 abbrev pub ChecksByWords : List (List ℕ) → Outside → Status → Type 0
@@ -115,7 +133,10 @@ pub record ProgramRows (words : List (List ℕ)) (o : Outside) (status : Status)
   pub run : RunsByWords words o status
   pub serial : InterpretsByWords words o status
   pub code : ListsByWords words o status
+  pub case : ListsCaseByWords words o status
   pub check : ChecksByWords words o status
+  pub depth : RunsDepthFirstByWords words o status
+  pub races : SeeksRacesByWords words o status
   pub replay : ReplaysByWords words o status
   pub resume : ResumesByWords words o status
   pub stop : StopsByWords words o status

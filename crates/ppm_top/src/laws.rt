@@ -2,7 +2,9 @@
 ghost use Rattle.ppm_top.specs.Laws.{ProgramLaws};
 
 use ppm_commands::{
-    codes_are_faithful, codes_have_one_answer, listings_have_one_answer, outcomes_have_one_answer,
+    case_texts_are_cases, case_texts_have_one_answer, cases_have_one_answer, codes_are_faithful,
+    codes_have_one_answer, depth_runs_have_one_answer, listings_have_one_answer,
+    outcomes_have_one_answer,
 };
 use ppm_driver::{
     answers_are_one as runs_have_one_answer, examples_sum_up, left_words_come_back,
@@ -28,6 +30,10 @@ pub fn program_laws()
     codes_have_one_answer();
     codes_are_faithful();
     listings_have_one_answer();
+    depth_runs_have_one_answer();
+    cases_have_one_answer();
+    case_texts_have_one_answer();
+    case_texts_are_cases();
     plans_have_one_answer();
     replays_have_one_answer();
     stops_have_one_answer();

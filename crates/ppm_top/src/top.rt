@@ -10,7 +10,9 @@ ghost use Rattle.ppm_top.specs.Rows.{ProgramRows};
 use crate::laws::program_laws;
 use ppm_answers::{Answer, Status, deliver};
 use ppm_cli::{Command, read_words};
-use ppm_commands::{check_command, code_command, serial_command};
+use ppm_commands::{
+    case_command, check_command, code_command, depth_command, races_command, serial_command,
+};
 use ppm_driver::{replay_command, resume_command, run_command, self_command, stop_command};
 use ppm_ports::{Sink, Source, Watch};
 use ppm_words::NoMemory;
@@ -85,7 +87,10 @@ fn answer_words<R: Threads + Wait + Sync, S: Source, K: Sink, E: Sink, W: Watch>
             err,
         ),
         Ok(Some(Command::Code)) => code_command(alloc, source, out, err),
+        Ok(Some(Command::CodeCase)) => case_command(alloc, source, out, err),
         Ok(Some(Command::Check)) => check_command(alloc, source, out, err),
+        Ok(Some(Command::Depth(limit))) => depth_command(alloc, limit.capsules, source, out, err),
+        Ok(Some(Command::Races(limit))) => races_command(alloc, limit.capsules, source, out, err),
         Ok(Some(Command::Replay(options, schedule))) => replay_command(
             alloc,
             options,

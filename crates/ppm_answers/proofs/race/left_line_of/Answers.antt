@@ -12,4 +12,4 @@ returns c = let v = c.args.left in
     ap (λ v. v.items) c.into_bytes.ensures.value ∙ c.in_ok-line.ensures.ok ∙
     ap (λ l. codes "left: run " ++ l)
     (from_the_right (decimal v.run) (codes " capsule ") (decimal v.capsule) (codes " ") _
-    ∙ ap (λ t. (decimal v.run ++ codes " capsule " ++ decimal v.capsule ++ codes " " ++ t) ++ 10 ∷ []) c.touch_name.ensures)
+    ∙ ap (λ t. (decimal v.run ++ codes " capsule " ++ decimal v.capsule ++ codes " " ++ t) ++ 10 ∷ []) c.touch_name-touch.ensures)

@@ -14,4 +14,4 @@ returns c = let t = c.args.right in
     ap (λ l. codes "right: run " ++ l)
     (from_the_right (decimal t.run) (codes " capsule ") (decimal t.capsule) (codes " at ") (decimal t.at) (codes " line ") (decimal t.line) (codes " ") _
     ∙ ap (λ s. (decimal t.run ++ codes " capsule " ++ decimal t.capsule ++ codes " at " ++ decimal t.at ++ codes " line " ++ decimal t.line
-    ++ codes " " ++ s) ++ 10 ∷ []) c.touch_name.ensures)
+    ++ codes " " ++ s) ++ 10 ∷ []) c.touch_name-touch.ensures)

@@ -19,6 +19,24 @@ returns-in-Ok-Some-Code-clause-answers g c = by_ports (map string_bytes c.args.w
     (cc (c.in-Ok-Some-Code.ensures.value, c.in-Ok-Some-Code.field-0-is, c.in-Ok-Some-Code.field-0-0-is)) refl refl
     c.code_command.ensures.delivers
 
+-- the words ask for the code with arrays, which were written
+pub returns-in-Ok-Some-CodeCase-clause-answers : goal.returns-in-Ok-Some-CodeCase-clause-answers
+returns-in-Ok-Some-CodeCase-clause-answers g c = by_ports (map string_bytes c.args.words.now) _ _ (Some commands.CodeCase)
+    (cc (c.in-Ok-Some-CodeCase.ensures.value, c.in-Ok-Some-CodeCase.field-0-is, c.in-Ok-Some-CodeCase.field-0-0-is)) refl refl
+    c.case_command.ensures.delivers
+
+-- the words ask for a depth-first run, which was answered
+pub returns-in-Ok-Some-Depth-clause-answers : goal.returns-in-Ok-Some-Depth-clause-answers
+returns-in-Ok-Some-Depth-clause-answers g c = by_ports (map string_bytes c.args.words.now) _ _ (Some (commands.Depth _))
+    (cc (c.in-Ok-Some-Depth.ensures.value, c.in-Ok-Some-Depth.field-0-is, c.in-Ok-Some-Depth.field-0-0-is)) refl refl
+    c.depth_command.ensures.delivers
+
+-- the words ask for races, which were sought
+pub returns-in-Ok-Some-Races-clause-answers : goal.returns-in-Ok-Some-Races-clause-answers
+returns-in-Ok-Some-Races-clause-answers g c = by_ports (map string_bytes c.args.words.now) _ _ (Some (commands.Races _))
+    (cc (c.in-Ok-Some-Races.ensures.value, c.in-Ok-Some-Races.field-0-is, c.in-Ok-Some-Races.field-0-0-is)) refl refl
+    c.races_command.ensures.delivers
+
 -- the words ask for a check, which was answered
 pub returns-in-Ok-Some-Check-clause-answers : goal.returns-in-Ok-Some-Check-clause-answers
 returns-in-Ok-Some-Check-clause-answers g c = by_ports (map string_bytes c.args.words.now) _ _ (Some commands.Check)
