@@ -2,6 +2,8 @@
 use Rattle.std.proofs.Common.{◌≡◌, ◌≤◌, ◌<◌, ℕ, ◌+◌, ◌*◌, List, sym, subst, arith}
 use Rattle.ppm_ports.specs.Outside.{ToldLists}
 use Rattle.ppm_tree.specs.Tree.{ProgramTree}
+use Rattle.ppm_tree.specs.Program.{initial_arrays}
+use Rattle.ppm_cut_code.specs.Routines.{code_of}
 use Rattle.ppm_program.specs.Programs.{HasProgram}
 use Rattle.ppm_program.specs.Correct.{HaveOneAnswer as TextsHaveOneProgram}
 use Rattle.ppm_plan.specs.declared.plan_item.PlanItem.{PlanItem}
@@ -54,7 +56,7 @@ module _ (laws : Laws) (options : RunOptions) (are : AreRun options) (plan : Lis
   ends (answers.Trapped trap line) h = tt
   ends (answers.OutOfTurns c) h =
       let p : ProgramHas options watching before now h.items h.has.0 (answers.OutOfTurns c) = h.has.2 in
-      let spent = spent_has options watching before now h.items h.has.0 c p in
+      let spent = spent_has options watching before now h.items (code_of h.has.0) (initial_arrays h.has.0) c p in
       let needs = run_needs_turns laws.runs text h.has.0 h.has.1 options watching before now h.items c p spent.1 in
       let less = undone_are_planned (plan_of options h.items) (limits_of options) p.start p.run.turns p.run.obey in
       let counted : undone_in p.start p.run.turns ≤ fault_count items =

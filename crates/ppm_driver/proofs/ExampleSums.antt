@@ -12,6 +12,8 @@ use Rattle.ppm_plan.specs.Faults.{is_at}
 use Rattle.ppm_plan.specs.Sources.{value_at}
 use Rattle.ppm_plan.specs.declared.plan_item.PlanItem.{PlanItem}
 use Rattle.ppm_tree.specs.Tree.{ProgramTree}
+use Rattle.ppm_tree.specs.Program.{initial_arrays}
+use Rattle.ppm_cut_code.specs.Routines.{code_of}
 use Rattle.ppm_program.specs.Programs.{HasProgram}
 use Rattle.ppm_cut_correct.specs.Correct.{words_taken}
 use Rattle.ppm_program.specs.Correct.{HaveOneAnswer as TextsHaveOneProgram}
@@ -125,7 +127,7 @@ module _ (laws : Laws) (o : SelfOptions) (are : AreSelf o) (before now : ToldLis
   in_time : (c : ℕ) → HasRun o before now tree (answers.OutOfTurns c) → ⊥
   in_time c h =
       let needs = run_needs_turns laws.runs (text_of o) tree there (run_options_of o) o.processors before now (items_of o) c h
-      (spent_has (run_options_of o) o.processors before now (items_of o) tree c h).1 in
+      (spent_has (run_options_of o) o.processors before now (items_of o) (code_of tree) (initial_arrays tree) c h).1 in
       let less : 268435456 < 256 * (sums.time.0.counts.capsules + undone_in h.start h.run.turns) = needs sums.time.0 sums.time.1 in
       let planned : undone_in h.start h.run.turns ≤ fault_count (items_of o) =
       undone_are_planned (plan_of (run_options_of o) (items_of o)) (limits_of (run_options_of o)) h.start h.run.turns h.run.obey in

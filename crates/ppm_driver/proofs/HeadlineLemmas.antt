@@ -4,6 +4,8 @@ use Rattle.ppm_ports.specs.Outside.{Outside}
 use Rattle.ppm_ports.specs.Whole.{ReadsTo}
 use Rattle.ppm_text.specs.Limits.{text_limit}
 use Rattle.ppm_tree.specs.Tree.{ProgramTree}
+use Rattle.ppm_tree.specs.Program.{initial_arrays}
+use Rattle.ppm_cut_code.specs.Routines.{code_of}
 use Rattle.ppm_plan.specs.Forms.{plan_form}
 use Rattle.ppm_answers.specs.declared.answer.Answer.{Answer}
 use Rattle.ppm_answers.specs.declared.answer.Answer.TheVariants as answers
@@ -65,7 +67,7 @@ module _ (law : RunsAreAsPrograms) (fronts : FrontsDecideAnswers) (options : Run
     ends = run_traps law h.0 h.2.has.0 h.2.has.1 options watching o.told_before o.told_now h.2.items trap line h.2.has.2;
   }
   holds (answers.OutOfTurns processor) h told =
-      let spent = spent_has options watching o.told_before o.told_now h.2.items h.2.has.0 processor h.2.has.2 in
+      let spent = spent_has options watching o.told_before o.told_now h.2.items (code_of h.2.has.0) (initial_arrays h.2.has.0) processor h.2.has.2 in
       let needs = run_needs_turns law h.0 h.2.has.0 h.2.has.1 options watching o.told_before o.told_now h.2.items processor h.2.has.2 spent.1 in
       let undone = undone_are_planned (plan_of options h.2.items) (limits_of options) h.2.has.2.start h.2.has.2.run.turns h.2.has.2.run.obey in
       record {
@@ -83,7 +85,7 @@ module _ (law : RunsAreAsPrograms) (fronts : FrontsDecideAnswers) (options : Run
     made = of_source options plan o.source (λ items t. ProgramHas options watching o.told_before o.told_now items t (answers.OutOfRoom place)) h.0 h.1
         h.2.has.0 h.2.has.1 h.2.items h.2.accepted h.2.has.2;
     there = of_program options watching o.told_before o.told_now h.2.items h.2.has.0 (answers.OutOfRoom place) h.2.has.2;
-    full = filled_has options watching o.told_before o.told_now h.2.items h.2.has.0 place h.2.has.2;
+    full = filled_has options watching o.told_before o.told_now h.2.items (code_of h.2.has.0) (initial_arrays h.2.has.0) place h.2.has.2;
     needs = run_needs law h.0 h.2.has.0 h.2.has.1 options watching o.told_before o.told_now h.2.items place h.2.has.2;
     once = run_once law h.0 h.2.has.0 h.2.has.1 options watching o.told_before o.told_now h.2.items (answers.OutOfRoom place) h.2.has.2;
   }

@@ -5,8 +5,12 @@
 -- A law of a run reaches a command's rows as a field of what the program has (`ProgramHas`); an
 -- answer that no run gives is left out of the kinds of answers, and all rows above close by their
 -- last case.
--- That a run in legs is as its program does (`LegsMeant`) is shown as of a run without legs (`MeantLemmas`). A resumed run is the latest leg of each
--- run that left its state (`OfResume`), whose words come back (`LeftLemmas`); so it is complete as a run is (`ResumeComplete`).
+-- That a run is as its code is, run depth first, is shown of each sound code on each input (`AsCodeLemmas`), and over legs (`LegsOfCode`); what the
+-- program says more is added to it (`MeantLemmas`, `LegsMeant`). An answer of such a run says so (`CodeRows`), and with turns and room enough each
+-- of them ends (`CompleteOfCode`, `CompleteLegsOfCode`). A resumed run is the latest leg of each run that left its state (`OfResume`), whose words
+-- come back (`LeftLemmas`); so it is complete as a run is (`ResumeComplete`).
+-- `run` of a case is shown as `run` of a program, with the code and the input of the case in their place (`RunCaseLemmas`, `OneCase`,
+-- `CaseHeadlineLemmas`, `OfRunCase`), and `replay` of a case likewise (`OneCase`, `OfReplayCase`).
 -- The arrays that an admitted program starts with have names of their own, none of them a keyword (`NamesLemmas`), so `stop` may name them in a saved
 -- text, and from that text the state is read back (`ReadBackLemmas`). After a run a program has one answer of `stop`, the text of the machine there
 -- (`StopLemmas`), which makes its law (`OneStop`) and its rows (`OfStop`) by the lemmas of `ppm_loading` on texts and plans.
@@ -24,16 +28,27 @@ pub mod TakenLemmas
 pub mod WorkLemmas
 pub mod FaultLemmas
 pub mod PlaceLemmas
+pub mod AsCodeLemmas
 pub mod MeantLemmas
+pub mod LegsOfCode
 pub mod LegsMeant
 pub mod MeantRows
 pub mod RunLemmas
+pub mod CodeRows
+pub mod CodeReplayRows
 pub mod OneRun
 pub mod StrikeLemmas
 pub mod CompleteLemmas
+pub mod CompleteOfCode
+pub mod CompleteLegsOfCode
 pub mod MadeLemmas
 pub mod HeadlineLemmas
 pub mod OfRun
+pub mod RunCaseLemmas
+pub mod OneCase
+pub mod CaseHeadlineLemmas
+pub mod OfRunCase
+pub mod OfReplayCase
 pub mod ResumeLemmas
 pub mod OfResume
 pub mod TellLemmas

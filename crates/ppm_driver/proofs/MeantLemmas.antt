@@ -1,27 +1,9 @@
--- Runs end as their programs do. What the machine begins with is what the depth-first run of the program's code does
--- (`ShowsTheRun`), and that code is sound: so an outcome of the run is the depth-first run's, and that is the program's.
-use Rattle.std.proofs.Common.{◌≡◌, ℕ, ◌+◌, ◌^◌, ◌<◌, ◌≤◌, List, [], length, map, Some, refl, sym, ap, ap₂, ◌∙◌, subst, arith, inl, inr}
-use Rattle.std.proofs.lemmas.Bool.{cases_lt}
-use Rattle.std.specs.List.{AllByRecursion, sum}
-use Rattle.ppm_strands.specs.Tree.{Words, Tree, Code}
-use Rattle.ppm_strands.specs.Calm.{Calm}
-use Rattle.ppm_strands.specs.Run.{End, Ends}
-use Rattle.ppm_capsules.specs.Strand.{Frame}
+-- Runs end as their programs do: a program's code is sound, so they end as that does, run depth first (`AsCodeLemmas`), and its outcome is the
+-- program's.
+use Rattle.std.proofs.Common.{ℕ, List, subst, arith}
 use Rattle.ppm_words.specs.declared.named_array.NamedArray.{NamedArray}
 use Rattle.ppm_words.specs.declared.outcome.Outcome.{Outcome}
-use Rattle.ppm_words.specs.declared.outcome.Outcome.TheVariants as outcome
-use Rattle.ppm_words.specs.declared.trap.Trap.{Trap}
-use Rattle.ppm_cells.specs.Cells.{pool_at}
-use Rattle.ppm_cells.specs.Finish.{finish_of, IsOutcome}
-use Rattle.ppm_cells.specs.Memory.{read, AreWordsOf}
-use Rattle.ppm_cells.specs.declared.cell.Cell.TheVariants.{FinishWord, RoomCounter}
-use Rattle.ppm_cells.specs.declared.finish.Finish.{Finish}
-use Rattle.ppm_cells.specs.declared.finish.Finish.TheVariants as finishes
-use Rattle.ppm_cells.specs.declared.shape.Shape.{Shape}
-use Rattle.ppm_code.specs.Code.{IsCode}
-use Rattle.ppm_code.specs.Strands.{Point, Result, Gave, Trapped}
 use Rattle.ppm_code.specs.declared.code.CodeParts.{CodeParts}
-use Rattle.ppm_code.specs.declared.location.FrameWord.{FrameWord}
 use Rattle.ppm_tree.specs.Tree.{ProgramTree}
 use Rattle.ppm_tree.specs.Limits.{IsWithin}
 use Rattle.ppm_tree.specs.Program.{initial_arrays}
@@ -29,45 +11,18 @@ use Rattle.ppm_rows.specs.Correct.{TreesAreWithin}
 use Rattle.ppm_regions.proofs.Inputs.{input_fits}
 use Rattle.ppm_program.specs.Programs.{HasProgram}
 use Rattle.ppm_program.proofs.WithinLemmas.{tree_within}
-use Rattle.ppm_depth.specs.Run.{ComesTo, arrays_at as arrays_by, pool_words, said_of}
-use Rattle.ppm_depth.specs.Sound.{IsSound}
-use Rattle.ppm_layout.specs.Correct.{Opens as IsOpened}
-use Rattle.ppm_layout.specs.Root.{root_strand as strand_of_image}
-use Rattle.ppm_opening.specs.Correct.{ShowsTheRun, ImagesShowTheRun}
 use Rattle.ppm_cut_code.specs.Correct.{KeepsTheRules}
 use Rattle.ppm_cut_code.specs.Inputs.{IsInputOf}
 use Rattle.ppm_cut_code.specs.Routines.{code_of}
 use Rattle.ppm_cut_sound.specs.Correct.{CodeIsSound}
 use Rattle.ppm_cut_correct.specs.Beginning.{StartWithInput, NameArrays}
 use Rattle.ppm_cut_correct.specs.Correct.{EndAsMeant, EndsSerially}
-use Rattle.ppm_step.specs.Among.{IsTurnAmong}
-use Rattle.ppm_step.specs.Laws.{reached}
-use Rattle.ppm_step.specs.State.{State, opening}
 use Rattle.ppm_step.specs.declared.turn.Turn.{Turn}
-use Rattle.ppm_tickets.specs.Along.{forked, taken}
-use Rattle.ppm_frames.specs.Seen.{arrays_at}
-use Rattle.ppm_frames.specs.Skeletons.{Skeleton}
-use Rattle.ppm_frames.specs.Views.{view}
-use Rattle.ppm_kept.specs.Answers.{finish_by}
-use Rattle.ppm_kept.specs.Running.{IsFair, strands}
-use Rattle.ppm_runs.specs.Entries.{EndsAsRun, OnceInEachRun, RunsEndSo, RunsForkSo}
-use Rattle.ppm_runs.specs.Moments.{AreOnce}
-use Rattle.ppm_runs.specs.Spent.{RoomIsSpent, RoomIsWithin}
-use Rattle.ppm_runs.specs.Unbroken.{NothingBreaks}
-use Rattle.ppm_runs.specs.Work.{WorkIsWithin256}
-use Rattle.ppm_core.specs.Situation.{Situation, loaded}
-use Rattle.ppm_loading.specs.declared.loading.Sizes.{Sizes}
-use Rattle.ppm_loading.specs.Loading.{OpensRun}
-use Rattle.ppm_driver.specs.Meant.{HasOutcome, EndsDepthFirst, NeedsMoreRoom, NeedsMoreTurns, undone_in, EachIsTakenOnce, EndsAsProgram, worked_in, IsAsProgram, RunsAreAsPrograms}
-use Rattle.ppm_loading.specs.Says.{arrays_from}
-use Rattle.ppm_loading.proofs.ArrayLemmas.{same_arrays}
-use Rattle.ppm_driver.proofs.EndLemmas.{keeper_opened, unset, words_opened}
-use Rattle.ppm_runs.proofs.LongLemmas.{as_long}
-use Rattle.ppm_driver.proofs.ReadBackLemmas.{run_length}
-use Rattle.ppm_driver.proofs.FaultLemmas.{undone_few}
-use Rattle.ppm_driver.proofs.PlaceLemmas.{of_place}
+use Rattle.ppm_core.specs.Situation.{Situation}
+use Rattle.ppm_driver.specs.Meant.{HasOutcome, NeedsMoreRoom, EndsAsProgram, IsAsProgram, RunsAreAsPrograms}
+use Rattle.ppm_driver.specs.AsCode.{MayRun, CodeEnds, CodeNeedsMoreRoom, EndsAsCode, IsAsCode, RunsAreAsCode}
 
--- what the crates below show of every text, every code, every image and every run
+-- what the crates below show of every text and every program's code
 pub record Laws : Type 0 where
   pub within : TreesAreWithin
   pub rules : KeepsTheRules
@@ -76,223 +31,62 @@ pub record Laws : Type 0 where
   pub names : NameArrays
   pub serially : EndsSerially
   pub meant : EndAsMeant
-  pub shown : ImagesShowTheRun
-  pub runs : RunsEndSo
-  pub forks : RunsForkSo
-  pub once : OnceInEachRun
-  pub room : RoomIsSpent
-  pub pools : RoomIsWithin
-  pub work : WorkIsWithin256
-  pub whole : NothingBreaks
-
--- strands, a tree and words that are the same
-module _ {c d : Code (Frame FrameWord Point) Result} {t u : Tree (Frame FrameWord Point) Result} {a b : Words}
-    (strands_are : c ≡ d) (tree_is : t ≡ u) (words_are : a ≡ b) where
-  pub calm_as : Calm d u b → Calm c t a
-  calm_as h =
-      subst (λ (x : Code (Frame FrameWord Point) Result). Calm x t a) (sym strands_are)
-      (subst (λ (x : Tree (Frame FrameWord Point) Result). Calm d x a) (sym tree_is) (subst (λ (x : Words). Calm d u x) (sym words_are) h))
-
-  pub ends_as : (e : End Result) → Ends c t a e → Ends d u b e
-  ends_as e h =
-      subst (λ (x : Words). Ends d u x e) words_are
-      (subst (λ (x : Tree (Frame FrameWord Point) Result). Ends d x a e) tree_is
-      (subst (λ (x : Code (Frame FrameWord Point) Result). Ends x t a e) strands_are h))
-
--- the outcome that a finish is
-module _ (input : List NamedArray) (w : Words) where
-  pub ended_said : (r : Result) → finishes.Ended ≡ finish_by r → said_of input w r ≡ outcome.Ended (arrays_by w 0 input)
-  ended_said (Gave value) e = refl
-  ended_said (Trapped trap line) e = absurd (different e)
-    where
-      different : finishes.Ended ≡ finishes.Trapped trap line → ⊥
-      different k = cc
-
-  pub trapped_said : (trap : Trap) (line : ℕ) (r : Result) → finishes.Trapped trap line ≡ finish_by r
-      → said_of input w r ≡ outcome.Trapped trap line
-  trapped_said trap line (Gave value) e = absurd (different e)
-    where
-      different : finishes.Trapped trap line ≡ finishes.Ended → ⊥
-      different k = cc
-  trapped_said trap line (Trapped other at) e =
-      let same_trap : other ≡ trap = cc in
-      let same_line : at ≡ line = cc in
-      ap₂ (λ (x : Trap) (n : ℕ). outcome.Trapped x n) same_trap same_line
 
 module _ (laws : Laws) (text : List ℕ) (t : ProgramTree) (has : HasProgram text t) where
-  abbrev pub code : CodeParts
+  abbrev code : CodeParts
   code = code_of t
 
-  abbrev pub input : List NamedArray
+  abbrev input : List NamedArray
   input = initial_arrays t
 
-  pub inside : IsWithin t
+  inside : IsWithin t
   inside = tree_within laws.within text t has.admitted.tree
 
-  pub is_code : IsCode code
-  is_code = laws.rules t inside has.admitted.admitted has.bounded
-
-  pub starts : IsInputOf t input
+  starts : IsInputOf t input
   starts = laws.starts t inside has.admitted.admitted
 
-  pub is_sound : IsSound code input
-  is_sound = laws.sound t inside has.admitted.admitted has.bounded input starts
+  -- its code may run on its arrays
+  pub may_run : MayRun code input
+  may_run = record {
+    code_is = laws.rules t inside has.admitted.admitted has.bounded;
+    input_is = input_fits t inside has.admitted.admitted;
+    names = laws.names t has.admitted.admitted input starts;
+    sound = laws.sound t inside has.admitted.admitted has.bounded input starts;
+  }
 
-  pub fair : IsFair code
-  fair = record { code_is = is_code; tidy = is_sound.tidy; free = is_sound.free }
+  -- an outcome of that, run depth first, is the program's
+  pub serial_is : (o : Outcome) → CodeEnds code input o → HasOutcome t o
+  serial_is o k =
+      subst (λ (x : Outcome). HasOutcome t x) k.2 ((laws.serially t inside has.admitted.admitted has.bounded).serially k.0 k.1)
 
-  module _ (sizes : Sizes) (keeper : ℕ) (m : Situation) (b : OpensRun sizes code input keeper m) where
-    abbrev s : Shape
-    s = b.shape
+  -- what is too small for it is too small for the program
+  pub more_room : (room : ℕ) → CodeNeedsMoreRoom code input room → NeedsMoreRoom t room
+  more_room room more = record {
+    depth_first = more;
+    whole = λ k z means.
+        let e = (laws.meant t inside has.admitted.admitted has.bounded input starts).ends k z means in
+        let less = more e.0 e.1 in
+        let words_are = e.2.pool_words in
+        omega (arith, less, words_are);
+  }
 
-    abbrev words : List ℕ
-    words = b.image.words
+  module _ (m : Situation) (turns : List Turn) where
+    ends : (o : Outcome) → EndsAsCode m turns code input o → EndsAsProgram m turns t o
+    ends o k = record { serially = serial_is o k.depth_first; depth_first = k.depth_first; branches = k.branches; forks = k.forks }
 
-    abbrev start : Situation
-    start = loaded s code b.image.lengths words
-
-    pub opened : IsOpened code input s keeper b.image
-    opened = record {
-      code_is = is_code;
-      input_is = input_fits t inside has.admitted.admitted;
-      below = keeper_opened sizes code input keeper m b;
-      image_is = b.opens;
+    pub as_program : IsAsCode m turns code input → IsAsProgram m turns t
+    as_program h = record {
+      once = h.once;
+      ended = λ says. ends _ (h.ended says);
+      trapped = λ trap line says. ends _ (h.trapped trap line says);
+      full = λ place says. let k = h.full place says in (k.0, more_room m.shape.room k.1);
+      unbroken = h.unbroken;
+      work = h.work;
+      few = h.few;
+      pools = h.pools;
     }
 
-    pub shown : ShowsTheRun code input s words
-    shown = laws.shown code input s keeper b.image opened (laws.names t has.admitted.admitted input starts)
-
-    pub calm : Calm (strands s code) (strand_of_image code input) (arrays_at (view s words))
-    calm = calm_as shown.strands shown.root shown.arrays is_sound.calm
-
-    module _ (turns : List Turn) (among : AllByRecursion (IsTurnAmong s.processors) turns) where
-      abbrev last : State
-      last = reached s code words turns
-
-      abbrev forks : List ℕ
-      forks = forked s code (opening words s.processors) [] turns
-
-      abbrev takes : List ℕ
-      takes = taken s code (opening words s.processors) [] turns
-
-      abbrev Says : Finish → Type 0
-      Says v = finish_of (read s last.words FinishWord) ≡ Some v
-
-      abbrev Well : Skeleton → Finish → Type 0
-      Well tree v = EndsAsRun s code (strand_of_image code input) (arrays_at (view s words)) last forks takes tree v
-
-      ends : (v : Finish) → Says v → IsOutcome v → (tree : Skeleton) × Well tree v
-      ends v says out = laws.runs code input s keeper b.image fair opened calm turns among v says out
-
-      -- the arrays of the words then
-      fit : AreWordsOf s last.words
-      fit = run_length s code (opening words s.processors) turns ∙ words_opened sizes code input keeper m b
-
-      arrays_then : (tree : Skeleton) (v : Finish) (h : Well tree v)
-          → arrays_from s b.image.lengths last.words 0 input ≡ arrays_by h.answer.end.words 0 input
-      arrays_then tree v h =
-          let all : sum (map (λ (a : NamedArray). length a.values) input) ≤ s.arrays = omega (arith, b.sized.arrays) in
-          same_arrays s b.image.lengths last.words fit h.answer.end.words h.answer.arrays input b.opens.lengths_are all
-
-      -- the outcome is the program's
-      outcome_then : (tree : Skeleton) (v : Finish) (h : Well tree v) → HasOutcome t (said_of input h.answer.end.words h.answer.end.outcome)
-      outcome_then tree v h =
-          (laws.serially t inside has.admitted.admitted has.bounded).serially h.answer.end
-          (ends_as shown.strands shown.root shown.arrays h.answer.end h.answer.ends)
-
-      none_twice : AreOnce forks takes
-      none_twice = laws.once code input s keeper b.image fair opened calm turns among
-
-      -- and it is that of the code, run depth first
-      depth_first_then : (tree : Skeleton) (v : Finish) (h : Well tree v) (o : Outcome) → said_of input h.answer.end.words h.answer.end.outcome ≡ o
-          → EndsDepthFirst t o
-      depth_first_then tree v h o said = (h.answer.end, ends_as shown.strands shown.root shown.arrays h.answer.end h.answer.ends, said)
-
-      each : (tree : Skeleton) (v : Finish) → Well tree v → EachIsTakenOnce start turns
-      each tree v h = record {
-        once = none_twice;
-        all = h.all;
-        alike = as_long forks takes h.forked_once h.taken_once h.all;
-      }
-
-      -- as many are forked as the code forks
-      as_many : (v : Finish) → Says v → IsOutcome v → (e : End Result) → ComesTo code input e → length forks ≡ e.counts.forks
-      as_many v says out e comes =
-          laws.forks code input s keeper b.image fair opened calm turns among v says out e
-          (ends_as (sym shown.strands) (sym shown.root) (sym shown.arrays) e comes)
-
-      -- a full pool is one of a place, and one that the program needs more of
-      there : (place : ℕ) → Says (finishes.OutOfRoom place) → place < s.processors
-      there = of_place s code is_code words (unset sizes code input keeper m b) [] tt turns among
-
-      needs_more : (place : ℕ) → Says (finishes.OutOfRoom place) → NeedsMoreRoom t s.room
-      needs_more place says = record {
-        depth_first = more;
-        whole = λ k z means.
-            let e = (laws.meant t inside has.admitted.admitted has.bounded input starts).ends k z means in
-            let less = more e.0 e.1 in
-            let words_are = e.2.pool_words in
-            omega (arith, less, words_are);
-      }
-        where
-          more : (e : End Result) → ComesTo code input e → s.room < pool_words code e.counts
-          more e comes =
-              laws.room code input s keeper b.image fair opened calm turns among place says e
-              (ends_as (sym shown.strands) (sym shown.root) (sym shown.arrays) e comes)
-
-      -- words are broken only behind more than 2^34 work turns
-      breaks : (place : ℕ) → Says (finishes.Broken place) → 2 ^ 34 < worked_in start turns
-      breaks place says =
-          elim (cases_lt (2 ^ 34) (worked_in start turns)) [
-            | inl many ↦ many
-            | inr few ↦ absurd ((laws.whole code input s keeper b.image fair opened calm turns among
-                few).finish (finishes.Broken place) says)
-          ]
-
-      -- the work of all turns is within its bound
-      works : NeedsMoreTurns t (undone_in start turns) (worked_in start turns)
-      works e comes =
-          laws.work code input s keeper b.image fair opened calm turns among e
-          (ends_as (sym shown.strands) (sym shown.root) (sym shown.arrays) e comes)
-
-      -- no place has given out more than the depth-first run takes
-      pools : (e : End Result) → ComesTo code input e → (place : ℕ) → place < s.processors
-          → read s last.words (RoomCounter place) ≤ pool_at s place + pool_words code e.counts
-      pools e comes =
-          laws.pools code input s keeper b.image fair opened calm turns among e
-          (ends_as (sym shown.strands) (sym shown.root) (sym shown.arrays) e comes)
-
-      as_program : IsAsProgram start turns t
-      as_program = record { once = none_twice; ended = when_ended; trapped = when_trapped; full = λ place says. (there place says, needs_more place says); unbroken = breaks; work = works; few = undone_few s code turns (opening words s.processors); pools = pools }
-        where
-          when_ended : Says finishes.Ended → EndsAsProgram start turns t (outcome.Ended (arrays_from s b.image.lengths last.words 0 input))
-          when_ended says =
-              let r = ends finishes.Ended says tt in
-              let said = ended_said input r.1.answer.end.words r.1.answer.end.outcome r.1.answer.outcome
-              ∙ ap (λ (l : List NamedArray). outcome.Ended l) (sym (arrays_then r.0 finishes.Ended r.1)) in
-              record {
-                serially = subst (λ (o : Outcome). HasOutcome t o) said (outcome_then r.0 finishes.Ended r.1);
-                depth_first = depth_first_then r.0 finishes.Ended r.1 _ said;
-                branches = each r.0 finishes.Ended r.1;
-                forks = as_many finishes.Ended says tt;
-              }
-
-          when_trapped : (trap : Trap) (line : ℕ) → Says (finishes.Trapped trap line) → EndsAsProgram start turns t (outcome.Trapped trap line)
-          when_trapped trap line says =
-              let r = ends (finishes.Trapped trap line) says tt in
-              let said = trapped_said input r.1.answer.end.words trap line r.1.answer.end.outcome r.1.answer.outcome in
-              record {
-                serially = subst (λ (o : Outcome). HasOutcome t o) said (outcome_then r.0 (finishes.Trapped trap line) r.1);
-                depth_first = depth_first_then r.0 (finishes.Trapped trap line) r.1 _ said;
-                branches = each r.0 (finishes.Trapped trap line) r.1;
-                forks = as_many (finishes.Trapped trap line) says tt;
-              }
-
-    pub as_programs : (turns : List Turn) → AllByRecursion (IsTurnAmong m.shape.processors) turns → IsAsProgram m turns t
-    as_programs turns =
-        subst (λ (x : Situation). AllByRecursion (IsTurnAmong x.shape.processors) turns → IsAsProgram x turns t) (sym b.loads)
-        (λ among. as_program turns among)
-
 -- so it is with each text's program
-pub runs_are_as_programs : Laws → RunsAreAsPrograms
-runs_are_as_programs laws text t has sizes keeper m b turns among = as_programs laws text t has sizes keeper m b turns among
+pub runs_are_as_programs : Laws → RunsAreAsCode → RunsAreAsPrograms
+runs_are_as_programs laws runs text t has sizes keeper m b turns among =
+    as_program laws text t has m turns (runs (code_of t) (initial_arrays t) (may_run laws text t has) sizes keeper m b turns among)

@@ -95,7 +95,7 @@ module _ (s : Shape) (lengths words : List ℕ) (input : List NamedArray) where
         IsOfFinish s lengths words (λ values. answers.EndedWith values counts) (λ trap line. answers.TrappedWith trap line counts)
         (λ processor x. ⊥) (λ x. x ≡ answers.Unfinished turns) input finish a
 
-    ended_replay : (finish : Finish) (arrays : List NamedArray) (tally : Tally) → OfReplay finish (answers.EndedWith arrays tally)
+    pub ended_replay : (finish : Finish) (arrays : List NamedArray) (tally : Tally) → OfReplay finish (answers.EndedWith arrays tally)
         → (finish ≡ finishes.Ended) × (arrays ≡ read_off) × (tally ≡ counts)
     ended_replay finishes.Ended arrays tally h =
         let same : arrays ≡ read_off = cc in let also : tally ≡ counts = cc in (refl, same, also)
@@ -106,7 +106,7 @@ module _ (s : Shape) (lengths words : List ℕ) (input : List NamedArray) where
     ended_replay finishes.Stopped arrays tally h = absurd h
     ended_replay finishes.Unset arrays tally h = absurd h
 
-    trapped_replay : (finish : Finish) (trap : Trap) (line : ℕ) (tally : Tally) → OfReplay finish (answers.TrappedWith trap line tally)
+    pub trapped_replay : (finish : Finish) (trap : Trap) (line : ℕ) (tally : Tally) → OfReplay finish (answers.TrappedWith trap line tally)
         → (finish ≡ finishes.Trapped trap line) × (tally ≡ counts)
     trapped_replay finishes.Ended trap line tally h = absurd (let no : ⊥ = cc in no)
     trapped_replay (finishes.Trapped other at) trap line tally h =
@@ -117,7 +117,7 @@ module _ (s : Shape) (lengths words : List ℕ) (input : List NamedArray) where
     trapped_replay finishes.Stopped trap line tally h = absurd h
     trapped_replay finishes.Unset trap line tally h = absurd h
 
-    full_replay : (finish : Finish) (place : ℕ) → OfReplay finish (answers.OutOfRoom place) → finish ≡ finishes.OutOfRoom place
+    pub full_replay : (finish : Finish) (place : ℕ) → OfReplay finish (answers.OutOfRoom place) → finish ≡ finishes.OutOfRoom place
     full_replay finishes.Ended place h = cc
     full_replay (finishes.Trapped trap line) place h = cc
     full_replay (finishes.OutOfRoom other) place h = cc
@@ -126,7 +126,7 @@ module _ (s : Shape) (lengths words : List ℕ) (input : List NamedArray) where
     full_replay finishes.Stopped place h = absurd h
     full_replay finishes.Unset place h = absurd h
 
-    broken_replay : (finish : Finish) (place : ℕ) → OfReplay finish (answers.Broken place) → finish ≡ finishes.Broken place
+    pub broken_replay : (finish : Finish) (place : ℕ) → OfReplay finish (answers.Broken place) → finish ≡ finishes.Broken place
     broken_replay finishes.Ended place h = cc
     broken_replay (finishes.Trapped trap line) place h = cc
     broken_replay (finishes.OutOfRoom other) place h = cc
@@ -135,24 +135,36 @@ module _ (s : Shape) (lengths words : List ℕ) (input : List NamedArray) where
     broken_replay finishes.Stopped place h = absurd h
     broken_replay finishes.Unset place h = absurd h
 
-no_other : (turns : ℕ) (arrays : List NamedArray) (tally : Tally) → answers.EndedWith arrays tally ≡ answers.Unfinished turns → ⊥
+pub no_other : (turns : ℕ) (arrays : List NamedArray) (tally : Tally) → answers.EndedWith arrays tally ≡ answers.Unfinished turns → ⊥
 no_other turns arrays tally e = cc
 
-no_other_trap : (turns : ℕ) (trap : Trap) (line : ℕ) (tally : Tally) → answers.TrappedWith trap line tally ≡ answers.Unfinished turns → ⊥
+pub no_other_trap : (turns : ℕ) (trap : Trap) (line : ℕ) (tally : Tally) → answers.TrappedWith trap line tally ≡ answers.Unfinished turns → ⊥
 no_other_trap turns trap line tally e = cc
 
-no_other_broken : (turns place : ℕ) → answers.Broken place ≡ answers.Unfinished turns → ⊥
+pub no_other_broken : (turns place : ℕ) → answers.Broken place ≡ answers.Unfinished turns → ⊥
 no_other_broken turns place e = cc
 
-no_other_room : (turns place : ℕ) → answers.OutOfRoom place ≡ answers.Unfinished turns → ⊥
+pub no_other_room : (turns place : ℕ) → answers.OutOfRoom place ≡ answers.Unfinished turns → ⊥
 no_other_room turns place e = cc
 
-past_most : {some most : ℕ} → 2 ^ 34 < some → some ≤ most → most ≤ 2 ^ 34 → ⊥
+pub past_most : {some most : ℕ} → 2 ^ 34 < some → some ≤ most → most ≤ 2 ^ 34 → ⊥
 past_most many few most = omega (arith, many, few, most)
 
 -- in their ranges so many processors make no more work turns of all than tags can count
-few_turns : (processors turns : ℕ) → processors ≤ 64 → turns ≤ 268435456 → processors * turns ≤ 2 ^ 34
+pub few_turns : (processors turns : ℕ) → processors ≤ 64 → turns ≤ 268435456 → processors * turns ≤ 2 ^ 34
 few_turns processors turns few most = let all = mul-le processors turns 64 268435456 few most in omega (arith, all)
+
+-- a replay counts the forks and the takes that its turns make
+pub tallied : (items : List ScheduleItem) (turns : ℕ) (m : Situation) → m.forks ≡ 0 → m.takes ≡ 0
+    → EachIsTakenOnce m (schedule_turns m.shape m.code m.state items turns) → (tally : Tally) → tally ≡ tally_of (followed m items turns)
+    → (tally.forks ≡ length (forked_in m (schedule_turns m.shape m.code m.state items turns))) × (tally.forks ≡ tally.takes)
+tallied items turns m none no_takes each tally e =
+    let made = schedule_turns m.shape m.code m.state items turns in
+    let forks = count_forked m.shape m.code m.state [] made in
+    let takes = count_taken m.shape m.code m.state [] made in
+    let f : tally.forks ≡ m.forks + length (along m.shape m.code forks_of m.state made) = ap (λ (k : Tally). k.forks) e in
+    let g : tally.takes ≡ m.takes + length (along m.shape m.code takes_of m.state made) = ap (λ (k : Tally). k.takes) e in
+    (omega (arith, forks, f, none), omega (arith, forks, takes, f, g, none, no_takes, each.alike))
 
 module _ (law : RunsAreAsPrograms) (text : List ℕ) (t : ProgramTree) (has : HasProgram text t) where
   -- of `run`
@@ -237,16 +249,6 @@ module _ (law : RunsAreAsPrograms) (text : List ℕ) (t : ProgramTree) (has : Ha
         some : (h : HasReplay a) → 0 < h.start.shape.processors
         some h = let least = h.start.shape.within.processors_least in omega (arith, least)
 
-    -- it counts the forks and the takes that its turns make
-    tallied : (m : Situation) → m.forks ≡ 0 → m.takes ≡ 0 → EachIsTakenOnce m (turns_in m)
-        → (tally : Tally) → tally ≡ tally_of (followed m items options.turns) → (tally.forks ≡ length (forked_in m (turns_in m))) × (tally.forks ≡ tally.takes)
-    tallied m none no_takes each tally e =
-        let forks = count_forked m.shape m.code m.state [] (turns_in m) in
-        let takes = count_taken m.shape m.code m.state [] (turns_in m) in
-        let f : tally.forks ≡ m.forks + length (along m.shape m.code forks_of m.state (turns_in m)) = ap (λ (k : Tally). k.forks) e in
-        let g : tally.takes ≡ m.takes + length (along m.shape m.code takes_of m.state (turns_in m)) = ap (λ (k : Tally). k.takes) e in
-        (omega (arith, forks, f, none), omega (arith, forks, takes, f, g, none, no_takes, each.alike))
-
     abbrev last : Situation → Situation
     last m = followed m items options.turns
 
@@ -260,7 +262,7 @@ module _ (law : RunsAreAsPrograms) (text : List ℕ) (t : ProgramTree) (has : Ha
         let e = ended_replay m.shape m.array_lengths m.state.words (initial_arrays t) options.turns (tally_of m) k.0 arrays tally k.2 in
         let ends = (replay_is (answers.EndedWith arrays tally) h).ended (k.1 ∙ ap (λ (f : Finish). Some f) e.0) in
         let counts =
-        tallied h.start (ap (λ (x : Situation). x.forks) h.opens.loads) (ap (λ (x : Situation). x.takes) h.opens.loads) ends.branches tally e.2 in (
+        tallied items options.turns h.start (ap (λ (x : Situation). x.forks) h.opens.loads) (ap (λ (x : Situation). x.takes) h.opens.loads) ends.branches tally e.2 in (
           subst (λ (l : List NamedArray). EndsAsProgram h.start (turns_in h.start) t (outcome.Ended l)) (sym e.1) ends,
           counts.0,
           counts.1,
@@ -276,7 +278,7 @@ module _ (law : RunsAreAsPrograms) (text : List ℕ) (t : ProgramTree) (has : Ha
         let e = trapped_replay m.shape m.array_lengths m.state.words (initial_arrays t) options.turns (tally_of m) k.0 trap line tally k.2 in
         let ends = (replay_is (answers.TrappedWith trap line tally) h).trapped trap line (k.1 ∙ ap (λ (f : Finish). Some f) e.0) in
         let counts =
-        tallied h.start (ap (λ (x : Situation). x.forks) h.opens.loads) (ap (λ (x : Situation). x.takes) h.opens.loads) ends.branches tally e.1 in
+        tallied items options.turns h.start (ap (λ (x : Situation). x.forks) h.opens.loads) (ap (λ (x : Situation). x.takes) h.opens.loads) ends.branches tally e.1 in
         (ends, counts.0, counts.1)
 
     pub replay_needs : (place : ℕ) (h : HasReplay (answers.OutOfRoom place)) → NeedsMoreRoom t options.room

@@ -75,7 +75,7 @@ module _ (law : RunsAreAsPrograms) (options : ReplayOptions) (are : AreReplayed 
     read = h;
     full = (
       of_program options h.2.items h.2.has.0 (answers.OutOfRoom place) h.2.has.2,
-      filled_has options h.2.items h.2.has.0 place h.2.has.2,
+      filled_has options h.2.items (code_of h.2.has.0) (initial_arrays h.2.has.0) place h.2.has.2,
     );
     needs = replay_needs law h.0 h.2.has.0 h.2.has.1 options schedule h.2.items h.2.accepted place h.2.has.2;
     once =

@@ -42,6 +42,12 @@ run_delivered plans options watching plan o a status kept told may d =
     (RunTells options watching plan o.source) plans o a status told
     (kept, told.1, wants options watching plan o.told_before o.told_now o.source a may told) may d
 
+-- what is known to end is written with the status of an end
+pub ended : (status : Status) (answer : Answer) → IsEnd answer → status ≡ status_of answer → IsOneOf status (statuses.Ended ∷ statuses.Trapped ∷ [])
+ended status (answers.Ended arrays) is own = inl own
+ended status (answers.Trapped trap line) is own = inr (inl own)
+ended status _ is own = absurd is
+
 module _ (law : RunsAreAsPrograms) (options : RunOptions) (are : AreRun options) (watching : ℕ) (plan : List ℕ) (o : Outside) (status : Status)
     (a : Answers (RunMay options watching plan o.told_before o.told_now o.source) (RunTells options watching plan o.source) o status) where
   abbrev Has : List ℕ → Answer → Type 0
@@ -71,16 +77,10 @@ module _ (law : RunsAreAsPrograms) (options : RunOptions) (are : AreRun options)
       subst (λ (x : Answer). IsWritten o.out o.err x status)
       (one options plan alone all k.0 answer (run_forgets options watching o.told_before o.told_now plan all k.0 k.1) h) k.2
 
-  -- what is known to end is written with the status of an end
-  ended : (answer : Answer) → IsEnd answer → status ≡ status_of answer → IsOneOf status (statuses.Ended ∷ statuses.Trapped ∷ [])
-  ended (answers.Ended arrays) is own = inl own
-  ended (answers.Trapped trap line) is own = inr (inl own)
-  ended _ is own = absurd is
-
   completes : Rows → RunsComplete → Completes options watching plan o status
   completes rows complete items accepted all e t has enough well =
       let k = rows.rows.known all e well in
-      ended k.0 (complete options are plan items accepted all t has enough watching o.told_before o.told_now k.0 k.1) k.2.own
+      ended status k.0 (complete options are plan items accepted all t has enough watching o.told_before o.told_now k.0 k.1) k.2.own
 
   -- a run is as its program, whatever became of its answer
   as_planned : AreAsPrograms options watching plan o

@@ -26,7 +26,7 @@ use Rattle.ppm_cli.specs.declared.replay.ReplayOptions.{ReplayOptions}
 use Rattle.ppm_cli.specs.Words.{AreReplayed}
 use Rattle.ppm_loading.specs.Loading.{OpensRun}
 use Rattle.ppm_following.specs.Followed.{followed}
-use Rattle.ppm_driver.specs.Replays.{sizes_of, IsSaid, ProgramHas, TextHas, HaveOneAnswer}
+use Rattle.ppm_driver.specs.Replays.{sizes_of, IsSaid, CodeHas, ProgramHas, TextHas, HaveOneAnswer}
 use Rattle.ppm_loading.proofs.LoadingLemmas.{one_opening, some_opening}
 use Rattle.ppm_loading.proofs.PlannedLemmas.{IsSteady, planned_one, planned_front, some_answer}
 use Rattle.ppm_loading.proofs.ProgramLemmas.{text_one, text_front, of_text, plain}
@@ -45,18 +45,17 @@ pub steady : (options : ReplayOptions) → IsSteady schedule_form [] options.pro
 steady options items text number =
     plain (ProgramHas options items) (kinds options.processors options.turns) (of_program options items) text number
 
-module _ (laws : Laws) (options : ReplayOptions) where
-  -- a program has one answer by items
-  program_one : (items : List ScheduleItem) (t : ProgramTree) (a b : Answer) → ProgramHas options items t a → ProgramHas options items t b
-      → a ≡ b
-  program_one items t a b h k =
-      let keeper : k.keeper ≡ h.keeper = one_keeper schedule_form items k.keeper h.keeper k.spared h.spared in
-      let begins = subst (λ (n : ℕ). OpensRun (sizes_of options) (code_of t) (initial_arrays t) n k.start) keeper k.opens in
-      let start : h.start ≡ k.start =
-      one_opening (sizes_of options) (code_of t) (initial_arrays t) h.keeper laws.images h.start k.start h.opens begins in
-      one_said options.processors options.turns (followed h.start items options.turns) (initial_arrays t) a b h.says
-      (subst (λ (m : Situation). IsSaid options.turns (followed m items options.turns) (initial_arrays t) b) (sym start) k.says)
+-- a code has one answer on an input by items
+pub code_one : ImagesAreOne → (options : ReplayOptions) (items : List ScheduleItem) (code : CodeParts) (input : List NamedArray) (a b : Answer)
+    → CodeHas options items code input a → CodeHas options items code input b → a ≡ b
+code_one images options items code input a b h k =
+    let keeper : k.keeper ≡ h.keeper = one_keeper schedule_form items k.keeper h.keeper k.spared h.spared in
+    let begins = subst (λ (n : ℕ). OpensRun (sizes_of options) code input n k.start) keeper k.opens in
+    let start : h.start ≡ k.start = one_opening (sizes_of options) code input h.keeper images h.start k.start h.opens begins in
+    one_said options.processors options.turns (followed h.start items options.turns) input a b h.says
+    (subst (λ (m : Situation). IsSaid options.turns (followed m items options.turns) input b) (sym start) k.says)
 
+module _ (laws : Laws) (options : ReplayOptions) where
   -- a text that is not refused has an answer by items that may be obeyed
   some : AreReplayed options → (schedule : List ℕ) (items : List ScheduleItem) (text : List ℕ)
       → IsAccepted schedule_form schedule options.processors items → ((r : Refusal) → ¬ IsRefusal text r)
@@ -68,7 +67,7 @@ module _ (laws : Laws) (options : ReplayOptions) where
       let m = some_opening (sizes_of options) (code_of has.0) (initial_arrays has.0) accepted.keeper (replayed_sizes options are)
       accepted.obeyed.below fits in
       let is : IsCode (code_of has.0) = laws.rules has.0 within has.1.admitted.admitted has.1.bounded in
-      let a = some_has options items has.0 accepted.keeper m.0 accepted.obeyed.kept m.1 is in
+      let a = some_has options items (code_of has.0) (initial_arrays has.0) accepted.keeper m.0 accepted.obeyed.kept m.1 is in
       (a.0, of_text (ProgramHas options items) (kinds options.processors options.turns) (of_program options items) text has.0 has.1 a.0 a.1)
 
 -- so it is with all options and all schedules
@@ -76,7 +75,7 @@ pub have_one_answer : Laws → HaveOneAnswer
 have_one_answer laws = record {
   one = λ options schedule.
       planned_one schedule_form schedule options.processors (TextHas options) text_limit laws.plans.schedules
-      (λ items. text_one (ProgramHas options items) laws.texts (program_one laws options items));
+      (λ items. text_one (ProgramHas options items) laws.texts (λ t. code_one laws.images options items (code_of t) (initial_arrays t)));
   front = λ options schedule.
       planned_front schedule_form schedule options.processors (TextHas options) text_limit (steady options)
       (λ items. text_front (ProgramHas options items) laws.texts);

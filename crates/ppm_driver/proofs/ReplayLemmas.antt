@@ -1,6 +1,7 @@
 -- The answers that programs and texts have where they are replayed.
 use Rattle.std.proofs.Common.{◌≡◌, ◌≢◌, ◌<◌, ◌⊎◌, ◌∷◌, [], ℕ, zero, suc, List, Some, inl, inr, refl, sym, ap, ◌∙◌, subst, arith, lit≤}
 use Rattle.ppm_words.specs.declared.named_array.NamedArray.{NamedArray}
+use Rattle.ppm_code.specs.declared.code.CodeParts.{CodeParts}
 use Rattle.ppm_words.specs.declared.trap.Trap.{Trap}
 use Rattle.ppm_cells.specs.Finish.{finish_of}
 use Rattle.ppm_cells.specs.declared.finish.Finish.{Finish}
@@ -25,7 +26,7 @@ use Rattle.ppm_loading.specs.Loading.{AreSizes, OpensRun}
 use Rattle.ppm_loading.specs.Says.{IsTheOne, IsOfFinish, IsOfEnding}
 use Rattle.ppm_choice.specs.Schedules.{schedule_turns}
 use Rattle.ppm_following.specs.Followed.{followed}
-use Rattle.ppm_driver.specs.Replays.{sizes_of, tally_of, IsSaid, ProgramHas}
+use Rattle.ppm_driver.specs.Replays.{sizes_of, tally_of, IsSaid, CodeHas, ProgramHas}
 use Rattle.ppm_driver.proofs.ExactLemmas.{says_proposed, unfinished_exactly}
 use Rattle.ppm_loading.proofs.ProgramLemmas.{AreKinds}
 use Rattle.ppm_driver.proofs.EndLemmas.{has_filled}
@@ -134,57 +135,61 @@ module _ (processors turns : ℕ) (m : Situation) (arrays : List NamedArray) whe
       (ending_of (finish_in m)) a b h k
 
 module _ (options : ReplayOptions) (items : List ScheduleItem) where
-  module _ (t : ProgramTree) (keeper : ℕ) (start : Situation) (spared : IsKeeper schedule_form items keeper)
-      (opens : OpensRun (sizes_of options) (code_of t) (initial_arrays t) keeper start) (is : IsCode (code_of t)) where
+  module _ (code : CodeParts) (input : List NamedArray) (keeper : ℕ) (start : Situation) (spared : IsKeeper schedule_form items keeper)
+      (opens : OpensRun (sizes_of options) code input keeper start) (is : IsCode code) where
     abbrev ending : Situation
     ending = followed start items options.turns
 
-    -- what is said of the machine behind the run of the schedule is the program's answer
-    has_said : (a : Answer) → IsSaid options.turns ending (initial_arrays t) a → ProgramHas options items t a
+    -- what is said of the machine behind the run of the schedule is the code's answer
+    has_said : (a : Answer) → IsSaid options.turns ending input a → CodeHas options items code input a
     has_said a h = record {
       keeper = keeper;
       spared = spared;
       start = start;
       opens = opens;
-      proposed = says_proposed (sizes_of options) (code_of t) (initial_arrays t) keeper items options.turns start opens is;
-      exact = unfinished_exactly (sizes_of options) (code_of t) (initial_arrays t) keeper items options.turns start opens is spared;
+      proposed = says_proposed (sizes_of options) code input keeper items options.turns start opens is;
+      exact = unfinished_exactly (sizes_of options) code input keeper items options.turns start opens is spared;
       filled = λ place.
-          has_filled (sizes_of options) (code_of t) (initial_arrays t) keeper start
+          has_filled (sizes_of options) code input keeper start
           (schedule_turns start.shape start.code start.state items options.turns) place opens is;
       says = h;
     }
 
     -- there is one
-    pub some_has : (a : Answer) × ProgramHas options items t a
+    pub some_has : (a : Answer) × CodeHas options items code input a
     some_has =
-        let s = some_said options.processors options.turns ending (initial_arrays t)
-        (says_proposed (sizes_of options) (code_of t) (initial_arrays t) keeper items options.turns start opens is) in
+        let s = some_said options.processors options.turns ending input
+        (says_proposed (sizes_of options) code input keeper items options.turns start opens is) in
         (s.0, has_said s.0 s.1)
 
     -- and it is the one that is said
-    the_one_has : (a : Answer) → IsTheOne (IsSaid options.turns ending (initial_arrays t)) a → ProgramHas options items t a
+    the_one_has : (a : Answer) → IsTheOne (IsSaid options.turns ending input) a → CodeHas options items code input a
     the_one_has a only =
-        let s = some_said options.processors options.turns ending (initial_arrays t)
-        (says_proposed (sizes_of options) (code_of t) (initial_arrays t) keeper items options.turns start opens is) in
-        subst (ProgramHas options items t) (sym (only s.0 s.1)) (has_said s.0 s.1)
+        let s = some_said options.processors options.turns ending input
+        (says_proposed (sizes_of options) code input keeper items options.turns start opens is) in
+        subst (CodeHas options items code input) (sym (only s.0 s.1)) (has_said s.0 s.1)
 
-  pub program_has : (t : ProgramTree) (sizes : Sizes) (keeper : ℕ) (start end : Situation) (arrays : List NamedArray) (a : Answer)
-      → sizes ≡ sizes_of options → IsKeeper schedule_form items keeper → OpensRun sizes (code_of t) (initial_arrays t) keeper start → IsCode (code_of t)
-      → end ≡ followed start items options.turns → arrays ≡ initial_arrays t → IsTheOne (IsSaid options.turns end arrays) a
-      → ProgramHas options items t a
-  program_has t sizes keeper start end arrays a is_sizes spared opens is ends is_arrays only =
-      the_one_has t keeper start spared (subst (λ (s : Sizes). OpensRun s (code_of t) (initial_arrays t) keeper start) is_sizes opens) is a
+  pub code_has : (code : CodeParts) (input : List NamedArray) (sizes : Sizes) (keeper : ℕ) (start end : Situation) (arrays : List NamedArray) (a : Answer)
+      → sizes ≡ sizes_of options → IsKeeper schedule_form items keeper → OpensRun sizes code input keeper start → IsCode code
+      → end ≡ followed start items options.turns → arrays ≡ input → IsTheOne (IsSaid options.turns end arrays) a
+      → CodeHas options items code input a
+  code_has code input sizes keeper start end arrays a is_sizes spared opens is ends is_arrays only =
+      the_one_has code input keeper start spared (subst (λ (s : Sizes). OpensRun s code input keeper start) is_sizes opens) is a
       (subst (λ (l : List NamedArray). IsTheOne (IsSaid options.turns (followed start items options.turns) l) a) is_arrays
       (subst (λ (m : Situation). IsTheOne (IsSaid options.turns m arrays) a) ends only))
 
-  -- an answer of a program is of no other kind
-  pub of_program : (t : ProgramTree) (a : Answer) → ProgramHas options items t a → IsOfProgram options.processors options.turns a
-  of_program t a h =
-      kind_said options.processors options.turns (followed h.start items options.turns) (initial_arrays t) h.proposed a h.says
+  -- an answer of a code is of no other kind
+  pub of_code : (code : CodeParts) (input : List NamedArray) (a : Answer) → CodeHas options items code input a → IsOfProgram options.processors options.turns a
+  of_code code input a h =
+      kind_said options.processors options.turns (followed h.start items options.turns) input h.proposed a h.says
 
   -- where it is that a pool is full, one of the turns found it so
-  pub filled_has : (t : ProgramTree) (place : ℕ) (h : ProgramHas options items t (answers.OutOfRoom place))
+  pub filled_has : (code : CodeParts) (input : List NamedArray) (place : ℕ) (h : CodeHas options items code input (answers.OutOfRoom place))
       → IsFilledBehind h.start.shape h.start.code place h.start.state.words
       (schedule_turns h.start.shape h.start.code h.start.state items options.turns)
-  filled_has t place h =
-      h.filled place (room_said options.processors options.turns (followed h.start items options.turns) (initial_arrays t) h.proposed place h.says)
+  filled_has code input place h =
+      h.filled place (room_said options.processors options.turns (followed h.start items options.turns) input h.proposed place h.says)
+
+  -- so is that of a program
+  pub of_program : (t : ProgramTree) (a : Answer) → ProgramHas options items t a → IsOfProgram options.processors options.turns a
+  of_program t = of_code (code_of t) (initial_arrays t)

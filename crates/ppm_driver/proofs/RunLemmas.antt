@@ -12,6 +12,7 @@ use Rattle.ppm_cells.specs.declared.shape.Shape.{Shape}
 use Rattle.ppm_cells.specs.declared.ending.Ending.{Ending}
 use Rattle.ppm_cells.specs.declared.ending.Ending.TheVariants.{With}
 use Rattle.ppm_code.specs.Code.{IsCode}
+use Rattle.ppm_code.specs.declared.code.CodeParts.{CodeParts}
 use Rattle.ppm_cells.specs.Ending.{ending_of}
 use Rattle.ppm_core.specs.Situation.{Situation, finish_in}
 use Rattle.ppm_plan.specs.declared.plan_item.PlanItem.{PlanItem}
@@ -40,7 +41,7 @@ use Rattle.ppm_table.specs.Closed.{Closing}
 use Rattle.ppm_table.specs.Shown.{opening_of}
 use Rattle.ppm_table.specs.declared.processor.Shared.{Shared}
 use Rattle.ppm_threads.specs.Driven.{Driven, OthersStay, WasRefused}
-use Rattle.ppm_driver.specs.Runs.{plan_of, limits_of, sizes_of, IsSaid, ProgramHas, ProgramGivenUp, ProgramWants, RunTold, TextHas, RunHas}
+use Rattle.ppm_driver.specs.Runs.{plan_of, limits_of, sizes_of, IsSaid, CodeHas, CodeGivenUp, CodeWants, ProgramHas, RunTold, TextHas, RunHas}
 use Rattle.ppm_loading.specs.Planned.{PlannedHas, HasByItems}
 use Rattle.ppm_driver.specs.Watchers.{AreTold, OthersKeep, ToldNothing, ToldInPart, ToldWhole}
 use Rattle.ppm_driver.proofs.EndLemmas.{unset_opened, has_finished}
@@ -150,7 +151,7 @@ module _ (limits : Limits) (start : Situation) (unset : finish_in start ≡ 0) (
   abbrev HasEnd : Type 0
   HasEnd = Finishes start.shape start.code limits start.state turns (finish_behind start turns)
 
-  kind_said : HasEnd → (a : Answer) → Said a → IsOfProgram start.shape.processors a
+  pub kind_said : HasEnd → (a : Answer) → Said a → IsOfProgram start.shape.processors a
   kind_said (Proposed w filled) a h =
       of_finish start.shape start.array_lengths (words_behind start turns) arrays start.shape.processors w.finish w.is_proposed a
       (proposed_of start.shape start.array_lengths (words_behind start turns) arrays start.shape.processors w a h)
@@ -163,7 +164,7 @@ module _ (limits : Limits) (start : Situation) (unset : finish_in start ≡ 0) (
   abbrev IsSpentOf : ℕ → Type 0
   IsSpentOf c = (c < start.shape.processors) × (work_made start.shape start.code c start.state turns ≡ limits.turns)
 
-  spent_said : (processor : ℕ) → HasEnd → Said (answers.OutOfTurns processor) → IsSpentOf processor
+  pub spent_said : (processor : ℕ) → HasEnd → Said (answers.OutOfTurns processor) → IsSpentOf processor
   spent_said processor (Proposed w filled) h =
       absurd (not_spent start.shape start.array_lengths (words_behind start turns) arrays start.shape.processors w.finish w.is_proposed processor
       (proposed_of start.shape start.array_lengths (words_behind start turns) arrays start.shape.processors w (answers.OutOfTurns processor) h))
@@ -205,36 +206,36 @@ module _ (limits : Limits) (start : Situation) (unset : finish_in start ≡ 0) (
 none_watched : (c : ℕ) → c < 0 → ⊥
 none_watched c less = omega (arith, less)
 
-module _ (options : RunOptions) (watching : ℕ) (before now : ToldLists) (items : List PlanItem) (t : ProgramTree) where
-  same_count : (a : Answer) (h : ProgramHas options watching before now items t a) → h.start.shape.processors ≡ options.processors
-  same_count a h = opens_processors (sizes_of options) (code_of t) (initial_arrays t) h.keeper h.start h.opens
+module _ (options : RunOptions) (watching : ℕ) (before now : ToldLists) (items : List PlanItem) (code : CodeParts) (input : List NamedArray) where
+  same_count : (a : Answer) (h : CodeHas options watching before now items code input a) → h.start.shape.processors ≡ options.processors
+  same_count a h = opens_processors (sizes_of options) code input h.keeper h.start h.opens
 
-  says_nothing : (a : Answer) (h : ProgramHas options watching before now items t a) → finish_in h.start ≡ 0
-  says_nothing a h = unset_opened (sizes_of options) (code_of t) (initial_arrays t) h.keeper h.start h.opens
+  says_nothing : (a : Answer) (h : CodeHas options watching before now items code input a) → finish_in h.start ≡ 0
+  says_nothing a h = unset_opened (sizes_of options) code input h.keeper h.start h.opens
 
-  -- an answer of a program is of no other kind
-  pub of_program : (a : Answer) → ProgramHas options watching before now items t a → IsOfProgram options.processors a
-  of_program a h =
+  -- an answer of a code is of no other kind
+  pub of_code : (a : Answer) → CodeHas options watching before now items code input a → IsOfProgram options.processors a
+  of_code a h =
       subst (λ n. IsOfProgram n a) (same_count a h)
-      (kind_said (limits_of options) h.start (says_nothing a h) h.run.turns (initial_arrays t) h.run.finished a h.run.says)
+      (kind_said (limits_of options) h.start (says_nothing a h) h.run.turns input h.run.finished a h.run.says)
 
-  pub spent_has : (c : ℕ) (h : ProgramHas options watching before now items t (answers.OutOfTurns c))
+  pub spent_has : (c : ℕ) (h : CodeHas options watching before now items code input (answers.OutOfTurns c))
       → (c < options.processors) × (work_made h.start.shape h.start.code c h.start.state h.run.turns ≡ options.turns)
   spent_has c h =
-      let s = spent_said (limits_of options) h.start (says_nothing (answers.OutOfTurns c) h) h.run.turns (initial_arrays t) c h.run.finished
+      let s = spent_said (limits_of options) h.start (says_nothing (answers.OutOfTurns c) h) h.run.turns input c h.run.finished
       h.run.says in
       (subst (λ n. c < n) (same_count (answers.OutOfTurns c) h) s.0, s.1)
 
-  pub filled_has : (place : ℕ) (h : ProgramHas options watching before now items t (answers.OutOfRoom place))
+  pub filled_has : (place : ℕ) (h : CodeHas options watching before now items code input (answers.OutOfRoom place))
       → IsFilledBehind h.start.shape h.start.code place h.start.state.words h.run.turns
   filled_has place h =
-      filled_said (limits_of options) h.start (says_nothing (answers.OutOfRoom place) h) h.run.turns (initial_arrays t) place h.run.finished h.run.says
+      filled_said (limits_of options) h.start (says_nothing (answers.OutOfRoom place) h) h.run.turns input place h.run.finished h.run.says
 
   -- it is one whatever watchers were told
   untold : (start : Situation) (turns : List Turn) → AreTold 0 (plan_of options items) (limits_of options) [] [] start turns
   untold start turns = record { records = λ c less. absurd (none_watched c less); others = λ c least. stays (get_or [] c None) }
 
-  pub forgets : (a : Answer) → ProgramHas options watching before now items t a → ProgramHas options 0 [] [] items t a
+  pub forgets : (a : Answer) → CodeHas options watching before now items code input a → CodeHas options 0 [] [] items code input a
   forgets a h = record {
     keeper = h.keeper;
     spared = h.spared;
@@ -249,11 +250,16 @@ module _ (options : RunOptions) (watching : ℕ) (before now : ToldLists) (items
     };
   }
 
+-- so is that of a program
+pub of_program : (options : RunOptions) (watching : ℕ) (before now : ToldLists) (items : List PlanItem) (t : ProgramTree) (a : Answer)
+    → ProgramHas options watching before now items t a → IsOfProgram options.processors a
+of_program options watching before now items t = of_code options watching before now items (code_of t) (initial_arrays t)
+
 -- so are those of texts, and those with a plan
 pub text_forgets : (options : RunOptions) (watching : ℕ) (before now : ToldLists) (items : List PlanItem) (text : List ℕ) (a : Answer)
     → TextHas options watching before now items text a → TextHas options 0 [] [] items text a
 text_forgets options watching before now items text (answers.SourceRefused r) h = h
-text_forgets options watching before now items text a h = (h.0, h.1, forgets options watching before now items h.0 a h.2)
+text_forgets options watching before now items text a h = (h.0, h.1, forgets options watching before now items (code_of h.0) (initial_arrays h.0) a h.2)
 
 pub run_forgets : (options : RunOptions) (watching : ℕ) (before now : ToldLists) (plan : List ℕ) (text : List ℕ) (a : Answer)
     → PlannedHas plan_form plan options.processors (TextHas options watching before now) text a → RunHas options plan text a
@@ -268,19 +274,19 @@ run_forgets options watching before now plan text a h = record {
 same_plan : (options : RunOptions) (plan : Planned) → plan.processors ≡ options.processors → plan ≡ plan_of options plan.items
 same_plan options plan same = λ i. record { processors = same i; items = plan.items }
 
--- some answer is that of a program, and it is what is said of the words behind its run
-module _ (options : RunOptions) (items : List PlanItem) (t : ProgramTree) (before now : ToldLists) where
+-- some answer is that of a code, and it is what is said of the words behind its run
+module _ (options : RunOptions) (items : List PlanItem) (code : CodeParts) (input : List NamedArray) (before now : ToldLists) where
   some_run : (keeper : ℕ) (start : Situation) (turns : List Turn) → IsKeeper plan_form items keeper
-      → OpensRun (sizes_of options) (code_of t) (initial_arrays t) keeper start → IsCode (code_of t)
+      → OpensRun (sizes_of options) code input keeper start → IsCode code
       → ObeyAll (plan_of options items) (limits_of options) start.shape start.code start.state turns
       → AreTold options.processors (plan_of options items) (limits_of options) before now start turns
-      → (a : Answer) × IsSaid start.shape start.array_lengths (initial_arrays t) (words_behind start turns) a
-      × ProgramHas options options.processors before now items t a
+      → (a : Answer) × IsSaid start.shape start.array_lengths input (words_behind start turns) a
+      × CodeHas options options.processors before now items code input a
   some_run keeper start turns spared opens is obey told =
-      let finished = has_finished (sizes_of options) (code_of t) (initial_arrays t) keeper (plan_of options items) (limits_of options) start turns
+      let finished = has_finished (sizes_of options) code input keeper (plan_of options items) (limits_of options) start turns
       opens is spared obey in
-      let s = some_said (limits_of options) start (unset_opened (sizes_of options) (code_of t) (initial_arrays t) keeper start opens) turns
-      (initial_arrays t) finished in (
+      let s = some_said (limits_of options) start (unset_opened (sizes_of options) code input keeper start opens) turns
+      input finished in (
         s.0,
         s.1,
         record {
@@ -293,31 +299,31 @@ module _ (options : RunOptions) (items : List PlanItem) (t : ProgramTree) (befor
       )
 
 -- a table has as many processors as the options say
-pub table_processors : (options : RunOptions) (t : ProgramTree) (sizes : Sizes) (keeper : ℕ) (shared : Shared) → sizes ≡ sizes_of options
-    → OpensRun sizes (code_of t) (initial_arrays t) keeper (opened_by shared) → shared.shape.processors ≡ options.processors
-table_processors options t sizes keeper shared are opens =
+pub table_processors : (options : RunOptions) (code : CodeParts) (input : List NamedArray) (sizes : Sizes) (keeper : ℕ) (shared : Shared) → sizes ≡ sizes_of options
+    → OpensRun sizes code input keeper (opened_by shared) → shared.shape.processors ≡ options.processors
+table_processors options code input sizes keeper shared are opens =
     ap (λ (s : Shape). s.processors) (sym shared.told.0)
-    ∙ opens_processors sizes (code_of t) (initial_arrays t) keeper (opened_by shared) opens ∙ ap (λ (z : Sizes). z.processors) are
+    ∙ opens_processors sizes code input keeper (opened_by shared) opens ∙ ap (λ (z : Sizes). z.processors) are
 
 -- what is said behind the run of a table, and told of it
-module _ {W : Type 0} (told : W → Option (List Event)) (options : RunOptions) (plan : Planned) (t : ProgramTree) where
+module _ {W : Type 0} (told : W → Option (List Event)) (options : RunOptions) (plan : Planned) (code : CodeParts) (input : List NamedArray) where
   abbrev ListsTold : Planned → Limits → Situation → List Turn → List W → List W → Type 0
   ListsTold p l m turns old new = AreTold options.processors p l (map told old) (map told new) m turns
 
   module _ (sizes : Sizes) (limits : Limits) (keeper : ℕ) (shared : Shared) (old new : List W) (w : W) (sizes_are : sizes ≡ sizes_of options)
       (limits_are : limits ≡ limits_of options) (same : plan.processors ≡ options.processors) (spared : IsKeeper plan_form plan.items keeper)
-      (opens : OpensRun sizes (code_of t) (initial_arrays t) keeper (opened_by shared)) (is : IsCode (code_of t))
+      (opens : OpensRun sizes code input keeper (opened_by shared)) (is : IsCode code)
       (many : length new ≡ length old) (enough : options.processors ≤ length old) where
-    begins : OpensRun (sizes_of options) (code_of t) (initial_arrays t) keeper (opened_by shared)
-    begins = subst (λ (z : Sizes). OpensRun z (code_of t) (initial_arrays t) keeper (opened_by shared)) sizes_are opens
+    begins : OpensRun (sizes_of options) code input keeper (opened_by shared)
+    begins = subst (λ (z : Sizes). OpensRun z code input keeper (opened_by shared)) sizes_are opens
 
     count : (opening_of shared).shape.processors ≡ options.processors
-    count = opens_processors (sizes_of options) (code_of t) (initial_arrays t) keeper (opened_by shared) begins
+    count = opens_processors (sizes_of options) code input keeper (opened_by shared) begins
 
     -- of a run that was given up
-    program_given_up : OthersStay (opening_of shared).shape.processors old new → WasRefused told plan limits (opening_of shared) old new
-        → ProgramGivenUp options (map told old) (map told new) plan.items t
-    program_given_up others r =
+    code_given_up : OthersStay (opening_of shared).shape.processors old new → WasRefused told plan limits (opening_of shared) old new
+        → CodeGivenUp options (map told old) (map told new) plan.items code input
+    code_given_up others r =
         let lists : RunGivenUp plan limits (opened_by shared) (map told old) (map told new) = record {
           in_part = lists_refused told plan limits (opening_of shared) old new w many (omega (arith, enough, count)) r;
           others = others_keep told (opening_of shared).shape.processors old new w many others;
@@ -332,18 +338,18 @@ module _ {W : Type 0} (told : W → Option (List Event)) (options : RunOptions) 
         }
 
     -- where a drive met want of memory
-    pub program_wanting : OthersStay (opening_of shared).shape.processors old new
+    pub code_wanting : OthersStay (opening_of shared).shape.processors old new
         → (new ≡ old) ⊎ WasRefused told plan limits (opening_of shared) old new
-        → ProgramWants options options.processors (map told old) (map told new) plan.items t
-    program_wanting others (inl still) = ToldNothing (ap (λ (ws : List W). map told ws) still)
-    program_wanting others (inr r) = ToldInPart (program_given_up others r)
+        → CodeWants options options.processors (map told old) (map told new) plan.items code input
+    code_wanting others (inl still) = ToldNothing (ap (λ (ws : List W). map told ws) still)
+    code_wanting others (inr r) = ToldInPart (code_given_up others r)
 
     -- of a whole run
     module _ (words : List ℕ) (others : OthersStay (opening_of shared).shape.processors old new) (d : Driven told plan limits (opening_of shared) words old new) where
-      program_some : (a : Answer)
-          × IsSaid (opened_by shared).shape (opened_by shared).array_lengths (initial_arrays t) (words_behind (opened_by shared) d.turns) a
-          × ProgramHas options options.processors (map told old) (map told new) plan.items t a
-      program_some =
+      code_some : (a : Answer)
+          × IsSaid (opened_by shared).shape (opened_by shared).array_lengths input (words_behind (opened_by shared) d.turns) a
+          × CodeHas options options.processors (map told old) (map told new) plan.items code input a
+      code_some =
           let k = opening_of shared in
           let m = opened_by shared in
           let obey = subst (λ (p : Planned). ObeyAll p (limits_of options) m.shape m.code m.state d.turns) (same_plan options plan same)
@@ -352,24 +358,24 @@ module _ {W : Type 0} (told : W → Option (List Event)) (options : RunOptions) 
           (omega (arith, enough, count)) (sym count) others d in
           let lists = subst (λ (p : Planned). ListsTold p (limits_of options) m d.turns old new) (same_plan options plan same)
           (subst (λ (l : Limits). ListsTold plan l m d.turns old new) limits_are are) in
-          some_run options plan.items t (map told old) (map told new) keeper m d.turns spared begins is obey lists
+          some_run options plan.items code input (map told old) (map told new) keeper m d.turns spared begins is obey lists
 
       -- where there was no memory for its answer
-      pub program_whole : ProgramWants options options.processors (map told old) (map told new) plan.items t
-      program_whole = ToldWhole (program_some.0, program_some.2)
+      pub code_whole : CodeWants options options.processors (map told old) (map told new) plan.items code input
+      code_whole = ToldWhole (code_some.0, code_some.2)
 
       -- its answer is the one that is said of the words
-      pub program_has : (closed : Closing) (arrays : List NamedArray) (a : Answer) → closed.words ≡ words
-          → closed.shape ≡ (opening_of shared).shape → closed.array_lengths ≡ shared.lengths → arrays ≡ initial_arrays t
+      pub code_has : (closed : Closing) (arrays : List NamedArray) (a : Answer) → closed.words ≡ words
+          → closed.shape ≡ (opening_of shared).shape → closed.array_lengths ≡ shared.lengths → arrays ≡ input
           → IsTheOne (IsSaid closed.shape closed.array_lengths arrays closed.words) a
-          → ProgramHas options options.processors (map told old) (map told new) plan.items t a
-      program_has closed arrays a words_are shape lengths arrays_are only =
+          → CodeHas options options.processors (map told old) (map told new) plan.items code input a
+      code_has closed arrays a words_are shape lengths arrays_are only =
           let m = opened_by shared in
           let said = subst (λ (l : List NamedArray). IsTheOne (IsSaid m.shape m.array_lengths l (words_behind m d.turns)) a) arrays_are
           (subst (λ (ws : List ℕ). IsTheOne (IsSaid m.shape m.array_lengths arrays ws) a) (words_are ∙ sym d.words_are)
           (subst (λ (n : List ℕ). IsTheOne (IsSaid m.shape n arrays closed.words) a) lengths
           (subst (λ (s : Shape). IsTheOne (IsSaid s closed.array_lengths arrays closed.words) a) shape only))) in
-          subst (ProgramHas options options.processors (map told old) (map told new) plan.items t) (sym (said program_some.0 program_some.1)) program_some.2
+          subst (CodeHas options options.processors (map told old) (map told new) plan.items code input) (sym (said code_some.0 code_some.1)) code_some.2
 
 -- an answer of a run is one of which watchers were told what its causes say
 pub run_tells : (processors : ℕ) (T : Type 0) (a : Answer) (before now : ToldLists) → IsOfProgram processors a → OthersKeep processors before now

@@ -109,11 +109,11 @@ module _ (o : SelfOptions) (before now : ToldLists) where
 
 -- what watchers were told where memory is wanting: of a run of a program of the example, and of one of the example's program
 abbrev pub ProgramWants : SelfOptions → (before now : ToldLists) → ProgramTree → Type 0
-ProgramWants o before now t = WantsOf (run_options_of o) o.processors before now (λ Run. Run (items_of o) t)
+ProgramWants o before now t = WantsOf (run_options_of o) o.processors before now (λ Run. Run (items_of o) (code_of t) (initial_arrays t))
 
 abbrev pub ExampleWants : SelfOptions → (before now : ToldLists) → Type 0
 ExampleWants o before now = WantsOf (run_options_of o) o.processors before now
-    (λ Run. (t : ProgramTree) × HasProgram (text_of o) t × Run (items_of o) t)
+    (λ Run. (t : ProgramTree) × HasProgram (text_of o) t × Run (items_of o) (code_of t) (initial_arrays t))
 
 -- what watchers were told where an answer of the example comes
 abbrev pub ExampleTells : SelfOptions → Answer → ToldLists → ToldLists → Type 0

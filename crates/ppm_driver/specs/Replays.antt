@@ -10,6 +10,7 @@ use Rattle.ppm_step.specs.Laws.{IsProposedWord}
 use Rattle.ppm_tree.specs.Tree.{ProgramTree}
 use Rattle.ppm_tree.specs.Program.{initial_arrays}
 use Rattle.ppm_cut_code.specs.Routines.{code_of}
+use Rattle.ppm_code.specs.declared.code.CodeParts.{CodeParts}
 use Rattle.ppm_words.specs.declared.named_array.NamedArray.{NamedArray}
 use Rattle.ppm_answers.specs.declared.answer.Answer.{Answer}
 use Rattle.ppm_answers.specs.declared.answer.Answer.TheVariants as answers
@@ -41,20 +42,24 @@ IsSaid turns m arrays answer =
     IsOfWords m.shape m.array_lengths m.state.words (λ values. answers.EndedWith values (tally_of m))
     (λ trap line. answers.TrappedWith trap line (tally_of m)) (λ processor a. ⊥) (λ a. a ≡ answers.Unfinished turns) arrays answer
 
--- the answer of a program by the items of a schedule: what the machine's words say after the run that these say, from the machine with
--- which a run of the program begins, with the schedule's keeper; a finish word after it that isn't 0 stands for what steps propose, and
+-- the answer of a code on an input by the items of a schedule: what the machine's words say after the run that these say, from the machine with
+-- which a run of the code on these arrays begins, with the schedule's keeper; a finish word after it that isn't 0 stands for what steps propose, and
 -- where it is 0, exactly as many acts were made as may be; where it says that a pool is full, one of the turns found it so
-pub record ProgramHas (options : ReplayOptions) (items : List ScheduleItem) (t : ProgramTree) (answer : Answer) : Type 0 where
+pub record CodeHas (options : ReplayOptions) (items : List ScheduleItem) (code : CodeParts) (input : List NamedArray) (answer : Answer) : Type 0 where
   pub keeper : ℕ
   pub spared : IsKeeper schedule_form items keeper
   pub start : Situation
-  pub opens : OpensRun (sizes_of options) (code_of t) (initial_arrays t) keeper start
+  pub opens : OpensRun (sizes_of options) code input keeper start
   pub proposed : finish_in (followed start items options.turns) ≢ 0
       → IsProposedWord options.processors (finish_in (followed start items options.turns))
   pub exact : finish_in (followed start items options.turns) ≡ 0 → (followed start items options.turns).turns ≡ options.turns
   pub filled : FilledIfSaid start.shape start.code start.state (schedule_turns start.shape start.code start.state items options.turns)
       (finish_in (followed start items options.turns))
-  pub says : IsSaid options.turns (followed start items options.turns) (initial_arrays t) answer
+  pub says : IsSaid options.turns (followed start items options.turns) input answer
+
+-- that of a program: of its code on the arrays that it starts with
+abbrev pub ProgramHas : ReplayOptions → List ScheduleItem → ProgramTree → Answer → Type 0
+ProgramHas options items t answer = CodeHas options items (code_of t) (initial_arrays t) answer
 
 -- that of a text: its program's, or its refusal
 abbrev pub TextHas : ReplayOptions → List ScheduleItem → List ℕ → Answer → Type 0

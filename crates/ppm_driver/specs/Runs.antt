@@ -19,6 +19,7 @@ use Rattle.ppm_tree.specs.Tree.{ProgramTree}
 use Rattle.ppm_tree.specs.Program.{initial_arrays}
 use Rattle.ppm_program.specs.Programs.{HasProgram}
 use Rattle.ppm_cut_code.specs.Routines.{code_of}
+use Rattle.ppm_code.specs.declared.code.CodeParts.{CodeParts}
 use Rattle.ppm_words.specs.declared.named_array.NamedArray.{NamedArray}
 use Rattle.ppm_answers.specs.declared.answer.Answer.{Answer}
 use Rattle.ppm_answers.specs.declared.answer.Answer.TheVariants as answers
@@ -53,26 +54,36 @@ abbrev pub SaysWhyNone : Shape → (lengths words : List ℕ) → Option Answer 
 SaysWhyNone s lengths words None = ending_of (read s words FinishWord) ≡ With finishes.Ended
 SaysWhyNone s lengths words (Some answer) = (arrays : List NamedArray) → IsTheOne (IsSaid s lengths arrays words) answer
 
--- A run of a program by the items of a plan, of which this holds: from the machine with which a run of the program's code on its arrays begins,
+-- A run of a code on an input by the items of a plan, of which this holds: from the machine with which a run of the code on these arrays begins,
 -- with the plan's keeper.
-pub record RunOfProgram (options : RunOptions) (items : List PlanItem) (t : ProgramTree) (Run : Situation → Type 0) : Type 0 where
+pub record RunOfCode (options : RunOptions) (items : List PlanItem) (code : CodeParts) (input : List NamedArray) (Run : Situation → Type 0)
+    : Type 0 where
   pub keeper : ℕ
   pub spared : IsKeeper plan_form items keeper
   pub start : Situation
-  pub opens : OpensRun (sizes_of options) (code_of t) (initial_arrays t) keeper start
+  pub opens : OpensRun (sizes_of options) code input keeper start
   pub run : Run start
 
--- the answer of a program by the items of a plan, where the first so many watchers are told what their processors do, with such lists before
--- the run and after it: that of such a run
-abbrev pub ProgramHas : RunOptions → (watching : ℕ) → (before now : ToldLists) → List PlanItem → ProgramTree → Answer → Type 0
-ProgramHas options watching before now items t answer = RunOfProgram options items t (λ (start : Situation).
-    RunOf (plan_of options items) (limits_of options) start (AreTold watching (plan_of options items) (limits_of options) before now start)
-    (IsSaid start.shape start.array_lengths (initial_arrays t)) answer)
+module _ (options : RunOptions) (watching : ℕ) (before now : ToldLists) (items : List PlanItem) where
+  -- the answer of a code on an input by the items of a plan, where the first so many watchers are told what their processors do, with such lists
+  -- before the run and after it: that of such a run
+  abbrev pub CodeHas : CodeParts → List NamedArray → Answer → Type 0
+  CodeHas code input answer = RunOfCode options items code input (λ (start : Situation).
+      RunOf (plan_of options items) (limits_of options) start (AreTold watching (plan_of options items) (limits_of options) before now start)
+      (IsSaid start.shape start.array_lengths input) answer)
 
--- a run of a program that was given up
-abbrev pub ProgramGivenUp : RunOptions → (before now : ToldLists) → List PlanItem → ProgramTree → Type 0
-ProgramGivenUp options before now items t =
-    RunOfProgram options items t (λ (start : Situation). RunGivenUp (plan_of options items) (limits_of options) start before now)
+  -- that of a program: of its code on the arrays that it starts with
+  abbrev pub ProgramHas : ProgramTree → Answer → Type 0
+  ProgramHas t answer = CodeHas (code_of t) (initial_arrays t) answer
+
+module _ (options : RunOptions) (before now : ToldLists) (items : List PlanItem) where
+  -- a run of a code on an input that was given up, and of a program
+  abbrev pub CodeGivenUp : CodeParts → List NamedArray → Type 0
+  CodeGivenUp code input =
+      RunOfCode options items code input (λ (start : Situation). RunGivenUp (plan_of options items) (limits_of options) start before now)
+
+  abbrev pub ProgramGivenUp : ProgramTree → Type 0
+  ProgramGivenUp t = CodeGivenUp (code_of t) (initial_arrays t)
 
 -- that of a text: its program's, or its refusal
 abbrev pub TextHas : RunOptions → (watching : ℕ) → (before now : ToldLists) → List PlanItem → List ℕ → Answer → Type 0
@@ -104,17 +115,22 @@ abbrev pub RunMade : RunOptions → (watching : ℕ) → (plan : List ℕ) → (
 RunMade options watching plan before now source answer =
     OfSource options plan source (λ items t. ProgramHas options watching before now items t answer)
 
--- What watchers were told where memory is wanting: of which runs of a program the parameter `Of` says.
-abbrev pub WantsOf : RunOptions → (watching : ℕ) → (before now : ToldLists) → ((List PlanItem → ProgramTree → Type 0) → Type 0) → Type 0
-WantsOf options watching before now Of = ToldAtWant (Of (ProgramGivenUp options before now))
-    ((a : Answer) × Of (λ items t. ProgramHas options watching before now items t a)) before now
+-- What watchers were told where memory is wanting: of which runs of a code the parameter `Of` says.
+abbrev pub WantsOf : RunOptions → (watching : ℕ) → (before now : ToldLists) → ((List PlanItem → CodeParts → List NamedArray → Type 0) → Type 0)
+    → Type 0
+WantsOf options watching before now Of = ToldAtWant (Of (CodeGivenUp options before now))
+    ((a : Answer) × Of (λ items code input. CodeHas options watching before now items code input a)) before now
 
 -- what they were told where memory is wanting: of a run by these items; of a run of the program of the text that was read
+abbrev pub CodeWants : RunOptions → (watching : ℕ) → (before now : ToldLists) → List PlanItem → CodeParts → List NamedArray → Type 0
+CodeWants options watching before now items code input = WantsOf options watching before now (λ Run. Run items code input)
+
 abbrev pub ProgramWants : RunOptions → (watching : ℕ) → (before now : ToldLists) → List PlanItem → ProgramTree → Type 0
-ProgramWants options watching before now items t = WantsOf options watching before now (λ Run. Run items t)
+ProgramWants options watching before now items t = CodeWants options watching before now items (code_of t) (initial_arrays t)
 
 abbrev pub RunWants : RunOptions → (watching : ℕ) → (plan : List ℕ) → (before now : ToldLists) → Port → Type 0
-RunWants options watching plan before now source = WantsOf options watching before now (OfSource options plan source)
+RunWants options watching plan before now source =
+    WantsOf options watching before now (λ Run. OfSource options plan source (λ items t. Run items (code_of t) (initial_arrays t)))
 
 -- What watchers were told with an answer: nothing where there was no run. With the answer of a run its causes say which turns. Where memory is
 -- wanting each list keeps what it had in front.

@@ -1,16 +1,17 @@
 //! That resumed runs with turns and room enough end, shown by a call that does nothing.
+ghost use Rattle.ppm_driver.specs.CompleteLegsAsCode.{FreshFindNoLimit, RunsOfCodeCompleteInLegs};
 ghost use Rattle.ppm_driver.specs.ResumeCompleteness.{ResumesComplete};
 
-use crate::legs::{left_words_come_back, runs_in_legs_are_as_programs};
+use crate::legs::{left_words_come_back, runs_in_legs_are_as_code, runs_in_legs_are_as_programs};
 use ppm_plan::have_one_answer as plans_have_one_answer;
 use ppm_saved::saved_texts_tell_states;
 use ppm_saved_reader::faults_tell_saved_texts;
 
-/// With options in their ranges, the text of a state that a program left, and a plan that is accepted
-/// for its processors: where the turns of a processor are at least 256 for each capsule that the
-/// program's code runs depth first, each fault of all legs and of the plan, and each processor
-/// whenever words came back, and a pool has as many words as that run takes, each answer of the text is
-/// that the resumed run ended.
+/// With options in their ranges, the text of a state that a program left, and a plan that is
+/// accepted for its processors: where the turns of a processor are at least 256 for each capsule
+/// that the program's code runs depth first, each fault of all legs and of the plan, and each
+/// processor whenever words came back, and a pool has as many words as that run takes, each answer
+/// of the text is that the resumed run ended.
 pub fn resumes_complete()
     ensures law { ResumesComplete }
 {
@@ -20,4 +21,16 @@ pub fn resumes_complete()
     plans_have_one_answer();
     saved_texts_tell_states();
     faults_tell_saved_texts();
+}
+
+/// With such turns and such room, and at most 2^34 turns for each processor, what goes on after at
+/// most 2^50 legs of a run of a sound code ends, whoever wrote the code: where each fresh processor
+/// obeys a plan that spares one, the finish word says an outcome, and it is that of the code, run
+/// depth first. That it says no mere limit when they begin is so of the words that they find.
+pub fn runs_of_code_complete_in_legs()
+    ensures law { RunsOfCodeCompleteInLegs }
+    ensures fresh { FreshFindNoLimit }
+{
+    // The law rests on this one; the call does nothing.
+    runs_in_legs_are_as_code();
 }

@@ -1,5 +1,6 @@
-//! That runs in legs end as their programs do, shown by a call that does nothing.
+//! That runs in legs end as their codes and their programs do, shown by calls that do nothing.
 ghost use Rattle.ppm_driver.specs.Legs.{RunsInLegsAreAsPrograms, TagsMayRiseInLegs};
+ghost use Rattle.ppm_driver.specs.LegsAsCode.{RunsInLegsAreAsCode, TagsMayRiseInLegsOfCode};
 ghost use Rattle.ppm_driver.specs.Resumes.{LeftWordsComeBack, ResumesLeaveStates, RunsLeaveStates, StopsLeaveStates};
 ghost use Rattle.ppm_driver.specs.Strikes.{FaultsAreScheduled};
 
@@ -15,27 +16,20 @@ use ppm_runs::{
 };
 use ppm_saved_reader::faults_tell_saved_texts;
 
-/// With takeover by places, from the machine with which a run of a text's program begins, whatever
-/// the turns are that its processors make, and however often the words come back behind them: over
-/// all of it no right branch is forked or taken twice. Where the finish word says an outcome, it is
-/// the program's serial outcome, with the arrays of the words then, or its trap; and each right branch
-/// that was forked was taken. Where it says that a pool is full, the program, run whole, takes more
-/// words than a pool has, or has no end. All work turns are fewer than 256 for each capsule that its
-/// code runs depth first, each fault that strikes a row of work, and each fresh processor. That words
-/// are broken it says only behind more than 2^34 work turns, if words came back at most 2^50 times.
+/// With takeover by places, from the machine with which a run of a sound code begins, whoever wrote
+/// the code, whatever the turns are that its processors make, and however often the words come back
+/// after them: over all of it no right branch is forked or taken twice. Where the finish word says
+/// an outcome, it is that of the code, run depth first, with the arrays of the words then, or its
+/// trap; and each right branch that was forked was taken. Where it says that a pool is full, that
+/// run takes more words than a pool has, or has no end. All work turns are fewer than 256 for each
+/// capsule of that run, each fault that strikes a row of work, and each fresh processor. That words
+/// are broken it says only after more than 2^34 work turns, if words came back at most 2^50 times.
 /// And no place's holder has the last tag then.
-pub fn runs_in_legs_are_as_programs()
-    ensures law { RunsInLegsAreAsPrograms }
-    ensures tags { TagsMayRiseInLegs }
+pub fn runs_in_legs_are_as_code()
+    ensures law { RunsInLegsAreAsCode }
+    ensures tags { TagsMayRiseInLegsOfCode }
 {
     // The law rests on these; the calls do nothing.
-    trees_are_within();
-    keeps_the_rules();
-    code_is_sound();
-    start_with_input();
-    name_arrays();
-    ends_serially();
-    end_as_meant();
     images_begin_the_depth_first_run();
     runs_end_so();
     room_is_spent();
@@ -48,16 +42,40 @@ pub fn runs_in_legs_are_as_programs()
     tags_stay_low();
 }
 
+/// With takeover by places, from the machine with which a run of a text's program begins, whatever
+/// the turns are that its processors make, and however often the words come back after them: over
+/// all of it no right branch is forked or taken twice. Where the finish word says an outcome, it is
+/// the program's serial outcome, with the arrays of the words then, or its trap; and each right
+/// branch that was forked was taken. Where it says that a pool is full, the program, run whole,
+/// takes more words than a pool has, or has no end. All work turns are fewer than 256 for each
+/// capsule that its code runs depth first, each fault that strikes a row of work, and each fresh
+/// processor. That words are broken it says only after more than 2^34 work turns, if words came
+/// back at most 2^50 times. And no place's holder has the last tag then.
+pub fn runs_in_legs_are_as_programs()
+    ensures law { RunsInLegsAreAsPrograms }
+    ensures tags { TagsMayRiseInLegs }
+{
+    // The law rests on these; the calls do nothing.
+    trees_are_within();
+    keeps_the_rules();
+    code_is_sound();
+    start_with_input();
+    name_arrays();
+    ends_serially();
+    end_as_meant();
+    runs_in_legs_are_as_code();
+}
+
 /// With takeover by places, whatever turns are made from the machine with which a run of a text's
-/// program begins: the state behind them is left by that text, so what the rows of `resume` say of it
-/// holds of the program.
+/// program begins: the state after them is left by that text, so what the rows of `resume` say of
+/// it holds of the program.
 pub fn runs_leave_states()
     ensures law { RunsLeaveStates }
 {}
 
 /// What `stop` writes is the saved text of a state that is left by the text that it read. `resume`
-/// never refuses it, and reads that state from it, and no other. No more faults struck a row of work
-/// before it than the schedule has, since no more turns of a schedule's run are faults.
+/// never refuses it, and reads that state from it, and no other. No more faults struck a row of
+/// work before it than the schedule has, since no more turns of a schedule's run are faults.
 pub fn stops_leave_states()
     ensures law { StopsLeaveStates }
     ensures faults { FaultsAreScheduled }
@@ -66,8 +84,8 @@ pub fn stops_leave_states()
     faults_tell_saved_texts();
 }
 
-/// The words that fresh processors find, where a program's run left a state, are words that come back:
-/// no holder has the last tag, as words came back fewer than 2^50 times.
+/// The words that fresh processors find, where a program's run left a state, are words that come
+/// back: no holder has the last tag, as words came back fewer than 2^50 times.
 pub fn left_words_come_back()
     ensures law { LeftWordsComeBack }
 {
@@ -76,8 +94,8 @@ pub fn left_words_come_back()
     renewed_words_come_back();
 }
 
-/// The state behind turns of fresh processors that went on from one that a program left is left by that
-/// program too, whatever the turns are, unless words came back 2^50 times.
+/// The state after turns of fresh processors that went on from one that a program left is left by
+/// that program too, whatever the turns are, unless words came back 2^50 times.
 pub fn resumes_leave_states()
     ensures law { ResumesLeaveStates }
 {

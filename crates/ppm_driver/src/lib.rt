@@ -1,9 +1,9 @@
-//! Commands that run a machine: `replay` follows a schedule, `stop` does so for some acts and
-//! saves the state then, `run` lets processors, each a thread, obey a plan of faults and limits,
-//! `resume` lets fresh ones go on from a saved state, and `self` runs a source of its own.
+//! Commands that run a machine: `replay` follows a schedule, `stop` does so for some acts and saves
+//! the state then, `run` lets processors, each a thread, obey a plan of faults and limits, `resume`
+//! lets fresh ones go on from a saved state, and `self` runs a source of its own.
 //! Model: what a schedule says, and obedience, are those of `ppm_choice`; what a schedule makes of
-//! a machine is that of `ppm_following`, and the text of a state that of `ppm_saved`; a run in
-//! legs is turns, the words after them that came back, turns of fresh processors, and so on
+//! a machine is that of `ppm_following`, and the text of a state that of `ppm_saved`; a run in legs
+//! is turns, the words after them that came back, turns of fresh processors, and so on
 //! (`specs/Legs`).
 //! Contract: `replay_command` delivers the one answer of a text (`specs/Replays`), and so does
 //! `stop_command`, the saved text of the machine after exactly that run (`specs/Stops`). Neither
@@ -13,11 +13,15 @@
 //! such an answer (`specs/Examples`). What follows from each status: `specs/RunRows`,
 //! `specs/ReplayRows`, `specs/StopRows`, `specs/ResumeRows`, `specs/ExampleRows`; where turns and
 //! room are enough, a run ends (`specs/Completeness`, `specs/ResumeCompleteness`). What is stopped
-//! and resumed ends as its program does (`specs/Stopped`).
-//! Stands on `ppm_threads`, `ppm_following`, `ppm_loading`, `ppm_saved`, `ppm_saved_reader` and
-//! `ppm_answers`; `ppm_top` calls it. The schedules and limits and their rules are this project's.
-//! `stop` and `resume` come after the persistent memory of Blelloch et al., SPAA 2018, which
-//! outlives its processors.
+//! and resumed ends as its program does (`specs/Stopped`). The laws of runs are of each sound code
+//! on an input, whoever wrote it (`specs/AsCode`, `specs/LegsAsCode`), and of a text's program as
+//! an instance. `run_case_command` and `replay_case_command` run the case that is read, sound or
+//! not (`specs/CaseRuns`, `specs/CaseReplays`); what follows: `specs/CaseHeadline`,
+//! `specs/CaseRows` and `specs/CaseReplayRows`.
+//! Stands on `ppm_threads`, `ppm_following`, `ppm_loading`, `ppm_case`, `ppm_saved`,
+//! `ppm_saved_reader` and `ppm_answers`; `ppm_top` calls it. The schedules and limits and their
+//! rules are this project's. `stop` and `resume` come after the persistent memory of Blelloch et
+//! al., SPAA 2018, which outlives its processors.
 #![tactic(auto)]
 
 mod complete;
@@ -27,33 +31,39 @@ mod fronts;
 mod legs;
 mod meant;
 mod names;
+mod one_case;
 mod one_replay;
 mod one_run;
 mod one_stop;
 mod orders;
 mod replay;
+mod replay_case;
 mod resuming;
 mod run;
+mod run_case;
 mod saying;
 mod stop;
 mod stopped;
 mod sums;
 
-pub use complete::runs_complete;
-pub use complete_resume::resumes_complete;
+pub use complete::{runs_complete, runs_of_code_complete};
+pub use complete_resume::{resumes_complete, runs_of_code_complete_in_legs};
 pub use example::self_command;
 pub use fronts::fronts_decide_resumed;
 pub use legs::{
-    left_words_come_back, resumes_leave_states, runs_in_legs_are_as_programs, runs_leave_states,
-    stops_leave_states,
+    left_words_come_back, resumes_leave_states, runs_in_legs_are_as_code,
+    runs_in_legs_are_as_programs, runs_leave_states, stops_leave_states,
 };
-pub use meant::runs_are_as_programs;
+pub use meant::{answers_are_as_code, replays_are_as_code, runs_are_as_code, runs_are_as_programs};
+pub use one_case::{case_answers_are_one, case_replays_have_one_answer};
 pub use one_replay::replays_have_one_answer;
 pub use one_run::answers_are_one;
 pub use one_stop::stops_have_one_answer;
 pub use replay::replay_command;
+pub use replay_case::replay_case_command;
 pub use resuming::resume_command;
 pub use run::{WATCHERS, run_command};
+pub use run_case::run_case_command;
 pub use stop::stop_command;
 pub use stopped::stopped_runs_go_on;
 pub use sums::examples_sum_up;

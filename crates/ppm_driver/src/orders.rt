@@ -1,17 +1,19 @@
-//! What the processors of a machine are told to do: a plan of faults, or a schedule.
+//! What the processors of a machine are told to do: a plan of faults, or a schedule; and what they
+//! run: a program, or a case.
 ghost use Rattle.std.specs.Prelude.{◌≡◌, ℕ, IfErr, IfOk, List};
 ghost use Rattle.std.specs.Int.{IsInRange};
 ghost use Rattle.ppm_ports.specs.Ports.{port};
 ghost use Rattle.ppm_plan.specs.Correct.{HaveOneAnswer, HasOneAnswer};
 ghost use Rattle.ppm_plan.specs.Forms.{Form};
 ghost use Rattle.ppm_plan.specs.Refusals.{IsAccepted, IsRefused};
-ghost use Rattle.ppm_tree.specs.Tree.{tree_of};
-ghost use Rattle.ppm_cut_bounds.specs.Bounds.{IsWithinBounds};
-ghost use Rattle.ppm_loading.specs.Programs.{ReadsProgram};
-ghost use Rattle.ppm_driver.specs.Orders.{NoTaskMay};
+ghost use Rattle.ppm_answers.specs.Reading.{JudgingMay};
+ghost use Rattle.ppm_answers.specs.declared.answer.Answer.{Answer};
+ghost use Rattle.ppm_answers.specs.declared.answer.Answer.TheVariants.{PlanRefused};
+ghost use Rattle.ppm_driver.specs.Orders.{NoTaskMay, ReadsTask};
 
 use ppm_answers::Answer;
-use ppm_loading::{read_program, refusal_answer};
+use ppm_case::Case;
+use ppm_loading::{case_of_source, read_program, refusal_answer};
 use ppm_plan::{
     Plan, PlanError, PlanItem, Schedule, ScheduleItem, have_one_answer, read_plan, read_schedule,
 };
@@ -80,28 +82,84 @@ impl Orders for Schedule {
     }
 }
 
-/// What a command has to run: the orders of a text come first, and then the program of what is read.
+/// What a command runs, which a text says.
+pub(crate) trait Task: Sized + Drop {
+    /// The bytes of a text, at most.
+    ghost limit: { ℕ };
+
+    /// A text says this one.
+    ghost says: { Self → List ℕ → Type 0 };
+
+    /// The answer of a text that says none.
+    ghost refused: { List ℕ → Answer → Type 0 };
+
+    /// None of them is that orders are refused.
+    ghost plain: { (text : List ℕ) (number : ℕ) → ¬ refused text (PlanRefused number) };
+
+    /// That of what is read, or the answer where there is none.
+    fn read<S: Source>(alloc: Global, source: &mut S) -> Result<Self, Answer>
+        ensures said { IfOk result (λ task. ReadsTask limit (says task) (port S.left S.fault_count source.old source.new)) }
+        ensures none { IfErr result (JudgingMay limit refused (port S.left S.fault_count source.old source.new)) };
+}
+
+impl Task for Admitted {
+    ghost use Rattle.ppm_text.specs.Limits.{text_limit};
+    ghost use Rattle.ppm_tree.specs.Tree.{tree_of};
+    ghost use Rattle.ppm_program.specs.Programs.{HasProgram};
+    ghost use Rattle.ppm_loading.specs.Programs.{RefusedHas};
+
+    ghost limit = { text_limit };
+
+    ghost says = { λ program text. HasProgram text (tree_of program) };
+
+    ghost refused = { RefusedHas };
+
+    ghost plain = { λ text number refused. refused.2 };
+
+    fn read<S: Source>(alloc: Global, source: &mut S) -> Result<Admitted, Answer> {
+        read_program(alloc, source)
+    }
+}
+
+impl Task for Case {
+    ghost use Rattle.ppm_case.specs.Case.{IsCaseOf};
+    ghost use Rattle.ppm_case.specs.Rules.{case_limit};
+    ghost use Rattle.ppm_loading.specs.Cases.{RefusedHas};
+
+    ghost limit = { case_limit };
+
+    ghost says = { λ case text. IsCaseOf text case.code case.input };
+
+    ghost refused = { RefusedHas };
+
+    ghost plain = { λ text number refused. refused.has };
+
+    fn read<S: Source>(alloc: Global, source: &mut S) -> Result<Case, Answer> {
+        case_of_source(alloc, source)
+    }
+}
+
+/// What a command has to run: the orders of a text come first, and then the task of what is read.
 /// `Err` is the answer where there is none; where the orders are refused, the source is left unread.
-pub(crate) fn read_task<O: Orders, S: Source>(
+pub(crate) fn read_task<O: Orders, T: Task, S: Source>(
     alloc: Global,
     text: &[u8],
     processors: u32,
     source: &mut S,
-) -> Result<(O, Admitted), Answer>
+) -> Result<(O, T), Answer>
     requires { IsInRange 1 64 processors }
     ensures accepted { IfOk result (λ task. IsAccepted O.form text.now processors (O.items task.0)) }
     ensures count { IfOk result (λ task. O.count task.0 ≡ processors) }
-    ensures program { IfOk result (λ task. ReadsProgram (port S.left S.fault_count source.old source.new) (tree_of task.1)) }
-    ensures bounded { IfOk result (λ task. IsWithinBounds (tree_of task.1)) }
-    ensures none { IfErr result (NoTaskMay O.form text.now processors (port S.left S.fault_count source.old source.new)) }
+    ensures said { IfOk result (λ task. ReadsTask T.limit (T.says task.1) (port S.left S.fault_count source.old source.new)) }
+    ensures none { IfErr result (NoTaskMay O.form text.now processors T.limit T.refused (port S.left S.fault_count source.old source.new)) }
     ensures one { HasOneAnswer O.form }
 {
     // Orders that are accepted are not refused, by this law; the call does nothing.
     have_one_answer();
     match O::read(alloc, text, processors) {
         Ok(orders) => {
-            let program = read_program(alloc, source)?;
-            Ok((orders, program))
+            let task = T::read(alloc, source)?;
+            Ok((orders, task))
         }
         Err(error) => Err(refusal_answer(error)),
     }

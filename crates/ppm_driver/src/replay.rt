@@ -4,8 +4,9 @@ ghost use Rattle.ppm_ports.specs.Ports.{port};
 ghost use Rattle.ppm_ports.specs.Outside.{ports};
 ghost use Rattle.ppm_cli.specs.Words.{AreReplayed};
 ghost use Rattle.ppm_tree.specs.Tree.{tree_of};
+ghost use Rattle.ppm_depth.specs.Start.{NamesArrays};
 ghost use Rattle.ppm_cut_bounds.specs.Bounds.{IsWithinBounds};
-ghost use Rattle.ppm_driver.specs.Replays.{ProgramHas, ReplayMay, sizes_of as sizes_in};
+ghost use Rattle.ppm_driver.specs.Replays.{CodeHas, ProgramHas, ReplayMay, sizes_of as sizes_in};
 ghost use Rattle.ppm_driver.specs.ReplayRows.{IsReplayed};
 
 use crate::meant::runs_are_as_programs;
@@ -14,12 +15,13 @@ use crate::orders::read_task;
 use crate::saying::replay_answer;
 use ppm_answers::{Answer, Status, deliver};
 use ppm_cli::ReplayOptions;
+use ppm_code::Code;
 use ppm_following::follow;
-use ppm_loading::{Sizes, load};
+use ppm_loading::{Sizes, load_code, program_code};
 use ppm_plan::{Schedule, have_one_answer as schedules_have_one_answer};
 use ppm_ports::{Sink, Source};
 use ppm_regions::Admitted;
-use ppm_words::NoMemory;
+use ppm_words::{Input, NoMemory};
 use std::alloc::Global;
 
 /// Replays the text that is read, on a machine whose processors act as the schedule says, with at
@@ -78,11 +80,29 @@ fn replayed(
     requires bounded { IsWithinBounds (tree_of program.now) }
     ensures { IfOk result (ProgramHas options schedule.now.items (tree_of program.now)) }
 {
-    let mut machine = load(alloc, sizes_of(options), program, schedule.keeper())?;
+    let code = program_code(alloc, program)?;
+    let answer = replayed_code(alloc, options, schedule, code, program.input())?;
+    Ok(answer)
+}
+
+/// What the replay of a code on an input comes to.
+pub(crate) fn replayed_code(
+    alloc: Global,
+    options: ReplayOptions,
+    schedule: &Schedule,
+    code: Code,
+    input: &Input,
+) -> Result<Answer, NoMemory>
+    requires options { AreReplayed options }
+    requires processors { schedule.now.processors ≡ options.processors }
+    requires names { NamesArrays code input.now }
+    ensures { IfOk result (CodeHas options schedule.now.items code input.now) }
+{
+    let mut machine = load_code(alloc, sizes_of(options), code, input, schedule.keeper())?;
     // What the type of its code keeps is known once its parts were seen.
     let _ = machine.code().parts();
     follow(&mut machine, schedule, options.turns);
-    let answer = replay_answer(alloc, &machine, program.input().arrays(), options.turns)?;
+    let answer = replay_answer(alloc, &machine, input.arrays(), options.turns)?;
     Ok(answer)
 }
 

@@ -5,8 +5,9 @@ ghost use Rattle.ppm_ports.specs.Outside.{KeepFronts, outside};
 ghost use Rattle.ppm_answers.specs.Reading.{Answers};
 ghost use Rattle.ppm_cli.specs.Words.{AreRun};
 ghost use Rattle.ppm_tree.specs.Tree.{tree_of};
+ghost use Rattle.ppm_depth.specs.Start.{NamesArrays};
 ghost use Rattle.ppm_cut_bounds.specs.Bounds.{IsWithinBounds};
-ghost use Rattle.ppm_driver.specs.Runs.{ProgramHas, ProgramWants, RunMay, RunTells};
+ghost use Rattle.ppm_driver.specs.Runs.{CodeHas, CodeWants, ProgramHas, ProgramWants, RunMay, RunTells};
 ghost use Rattle.ppm_driver.specs.Runs.{limits_of as limits_in, sizes_of as sizes_in};
 ghost use Rattle.ppm_driver.specs.RunRows.{RunRows};
 ghost use Rattle.ppm_driver.specs.Watchers.{OthersKeep, watcher_count};
@@ -19,12 +20,13 @@ use crate::saying::run_answer;
 use ppm_answers::{Answer, Status, deliver};
 use ppm_choice::Limits;
 use ppm_cli::RunOptions;
-use ppm_loading::{Sizes, share};
+use ppm_code::Code;
+use ppm_loading::{Sizes, program_code, share_code};
 use ppm_plan::{Plan, have_one_answer as plans_have_one_answer};
 use ppm_ports::{Sink, Source, Watch};
 use ppm_regions::Admitted;
 use ppm_threads::drive;
-use ppm_words::{NoMemory, PROCESSOR_LIMIT};
+use ppm_words::{Input, NoMemory, PROCESSOR_LIMIT};
 use std::alloc::Global;
 use std::sync::Wait;
 use std::thread::Threads;
@@ -33,8 +35,8 @@ use std::thread::Threads;
 pub const WATCHERS: usize = PROCESSOR_LIMIT as usize;
 
 /// Runs the text that is read on a machine whose processors, each a thread, obey the plan of faults
-/// and the limits of the options: its arrays or its trap are written on `out`, why there are none on
-/// `err`. Where the plan is refused, the source is left unread. It may never return. There is a
+/// and the limits of the options: its arrays or its trap are written on `out`, why there are none
+/// on `err`. Where the plan is refused, the source is left unread. It may never return. There is a
 /// watcher for each of 64 processors; those of the run's processors are told every turn, and where
 /// they park. Where one refuses, the answer is out of memory.
 pub fn run_command<R: Threads + Wait + Sync, S: Source, K: Sink, E: Sink, W: Watch>(
@@ -50,10 +52,10 @@ pub fn run_command<R: Threads + Wait + Sync, S: Source, K: Sink, E: Sink, W: Wat
     requires options { AreRun options }
     requires watchers { length watch.old.items ≡ watcher_count }
 
-    // An answer that the command's causes allow, and its texts. After a run each processor's watcher
-    // was told its turns, and where it parked. Where memory is wanting, or a watcher refused, either
-    // nobody was told anything, or the lists are those of one run: up to where watchers refused, or
-    // whole. The other watchers are told nothing.
+    // An answer that the command's causes allow, and its texts. After a run each processor's
+    // watcher was told its turns, and where it parked. Where memory is wanting, or a watcher
+    // refused, either nobody was told anything, or the lists are those of one run: up to where
+    // watchers refused, or whole. The other watchers are told nothing.
     ensures answers { let o = outside (port S.left S.fault_count source.old source.new)
         (port K.written K.fault_count out.old out.new) (port E.written E.fault_count err.old err.new)
         (map W.told watch.old.items) (map W.told watch.new.items)
@@ -123,7 +125,34 @@ pub(crate) fn ran<R: Threads + Wait + Sync, W: Watch>(
     ensures others { OthersKeep options.processors (map W.told watch.old.items) (map W.told watch.new.items) }
     ensures watchers { length watch.new.items ≡ watcher_count }
 {
-    let table = share(alloc, sizes_of(options), program, plan.keeper())?;
+    let code = program_code(alloc, program)?;
+    let answer = ran_code(rt, alloc, options, plan, code, program.input(), watch)?;
+    Ok(answer)
+}
+
+/// What the run of a code on an input comes to.
+pub(crate) fn ran_code<R: Threads + Wait + Sync, W: Watch>(
+    rt: &R,
+    alloc: Global,
+    options: RunOptions,
+    plan: &Plan,
+    code: Code,
+    input: &Input,
+    watch: &mut Vec<W>,
+) -> Result<Answer, NoMemory>
+    requires options { AreRun options }
+    requires processors { plan.now.processors ≡ options.processors }
+    requires names { NamesArrays code input.now }
+    requires watchers { length watch.old.items ≡ watcher_count }
+    ensures has { IfOk result (CodeHas options options.processors (map W.told watch.old.items) (map W.told watch.new.items)
+        plan.now.items code input.now) }
+    ensures wants { IfErr result (λ _. CodeWants options options.processors (map W.told watch.old.items)
+        (map W.told watch.new.items) plan.now.items code input.now) }
+    ensures kept { KeepFronts (map W.told watch.old.items) (map W.told watch.new.items) }
+    ensures others { OthersKeep options.processors (map W.told watch.old.items) (map W.told watch.new.items) }
+    ensures watchers { length watch.new.items ≡ watcher_count }
+{
+    let table = share_code(alloc, sizes_of(options), code, input, plan.keeper())?;
     let (shared, processors) = table;
     // What the type of its code keeps is known once its parts were seen.
     let _ = shared.code.parts();
@@ -136,7 +165,7 @@ pub(crate) fn ran<R: Threads + Wait + Sync, W: Watch>(
         limits_of(options),
         watch,
     )?;
-    let answer = run_answer(alloc, &closed, program.input().arrays())?;
+    let answer = run_answer(alloc, &closed, input.arrays())?;
     Ok(answer)
 }
 

@@ -47,7 +47,7 @@ module _ {A : Type 0} (form : Form A) (plan : List ℕ) (processors : ℕ) (Has 
   Refused number = IsRefusedBy form plan processors number
 
   -- an answer by items is one with the plan
-  lifted : IsSteady → (text : List ℕ) (a : Answer) → HasByItems form plan processors Has text a → PH text a
+  pub lifted : IsSteady → (text : List ℕ) (a : Answer) → HasByItems form plan processors Has text a → PH text a
   lifted plain text (answers.PlanRefused number) h = absurd (plain h.items text number h.has)
   lifted plain text a h = h
 

@@ -2,4 +2,5 @@ pub mod Says
 pub mod Loading
 pub mod Planned
 pub mod Programs
+pub mod Cases
 pub mod MachineRows

@@ -135,12 +135,15 @@ module _ {F O : Type 0} (c : Code F O) (plain : IsPlain c) (root : Tree F O) (in
   opened none Begins = (inl none, tt)
   opened none (Runs {above = above} {f = f} {a = a} {s = s} {m = m} come passes marks) = (
     elim (cases_eq (forks_in (c.next f a)) 1) [
-      | inl e ↦ inr (plain.next f a, record {
-        number = s.time;
-        moment = record { above = above; frame = f; words = a; stamps = s; come = come; time = refl };
-        before = let next = marks.time in omega (arith, next);
-        opens = e;
-      })
+      | inl e ↦ inr (
+        plain.next f a,
+        record {
+          number = s.time;
+          moment = record { above = above; frame = f; words = a; stamps = s; come = come; time = refl };
+          before = let next = marks.time in omega (arith, next);
+          opens = e;
+        },
+      )
       | inr ne ↦ inl (no_fork (forks_in (c.next f a)) (plain.next f a) ne)
     ],
     (opened none come).1,

@@ -1,35 +1,20 @@
-use Rattle.ppm_driver.proofs.LegsMeant.{Laws, runs_in_legs_are_as_programs, tags_may_rise}
+use Rattle.ppm_driver.proofs.LegsMeant.{runs_in_legs_are_as_programs, tags_may_rise}
+use Rattle.ppm_driver.proofs.MeantLemmas.{Laws}
 use Rattle.ppm_driver.proofs.legs.runs_in_legs_are_as_programs.Goals as goal
 
--- from the laws of texts, of codes, of images, of runs and of runs in legs
+-- from the laws of texts and of programs' codes, as of each sound code
 pub returns : goal.returns
 returns c =
     let laws : Laws = record {
-      base = record {
-        within = c.trees_are_within.ensures.law;
-        rules = c.keeps_the_rules.ensures.law;
-        sound = c.code_is_sound.ensures.law;
-        starts = c.start_with_input.ensures.law;
-        names = c.name_arrays.ensures.law;
-        serially = c.ends_serially.ensures.law;
-        meant = c.end_as_meant.ensures.law;
-        shown = c.images_begin_the_depth_first_run.ensures.shown;
-        runs = c.runs_end_so.ensures.ends;
-        once = c.runs_end_so.ensures.once;
-        forks = c.runs_end_so.ensures.forks;
-        room = c.room_is_spent.ensures.law;
-        pools = c.room_is_spent.ensures.within;
-        work = c.work_is_bounded.ensures.within;
-        whole = c.nothing_breaks.ensures.law;
-      };
-      legs = c.legs_come_to.ensures.law;
-      forks = c.legs_come_to.ensures.forks;
-      once = c.legs_come_to.ensures.once;
-      room = c.room_over_legs.ensures.law;
-      pools = c.room_over_legs.ensures.within;
-      work = c.work_over_legs.ensures.within;
-      whole = c.nothing_breaks_over_legs.ensures.law;
-      stands = c.nothing_breaks_over_legs.ensures.stands;
-      tags = c.tags_stay_low.ensures.law;
+      within = c.trees_are_within.ensures.law;
+      rules = c.keeps_the_rules.ensures.law;
+      sound = c.code_is_sound.ensures.law;
+      starts = c.start_with_input.ensures.law;
+      names = c.name_arrays.ensures.law;
+      serially = c.ends_serially.ensures.law;
+      meant = c.end_as_meant.ensures.law;
     } in
-    record { law = runs_in_legs_are_as_programs laws; tags = tags_may_rise laws }
+    record {
+      law = runs_in_legs_are_as_programs laws c.runs_in_legs_are_as_code.ensures.law;
+      tags = tags_may_rise laws c.runs_in_legs_are_as_code.ensures.tags;
+    }

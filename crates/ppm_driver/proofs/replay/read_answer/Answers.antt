@@ -9,14 +9,14 @@ use Rattle.ppm_driver.proofs.replay.read_answer.Goals as goal
 pub returns-in-Ok-replayed : goal.returns-in-Ok-replayed
 returns-in-Ok-replayed g c =
     task_has schedule_form c.args.schedule.now c.args.options.processors (ProgramHas c.args.options) (kinds c.args.options.processors c.args.options.turns) (of_program c.args.options)
-    c.read_task.ensures.one c.in-Ok.schedule.items c.in-Ok.ensures.accepted _ (tree_of c.in-Ok.program) c.in-Ok.ensures.program c.in-Ok-replayed.answer
+    c.read_task.ensures.one c.in-Ok.schedule.items c.in-Ok.ensures.accepted _ (tree_of c.in-Ok.program) c.in-Ok.ensures.said c.in-Ok-replayed.answer
     c.in-Ok-replayed.ensures
 
 -- memory was wanting in it
 pub returns-in-Ok : goal.returns-in-Ok
 returns-in-Ok g c =
     task_wants schedule_form c.args.schedule.now c.args.options.processors (ProgramHas c.args.options) (kinds c.args.options.processors c.args.options.turns) (of_program c.args.options)
-    c.read_task.ensures.one c.in-Ok.schedule.items c.in-Ok.ensures.accepted _ (tree_of c.in-Ok.program) c.in-Ok.ensures.program
+    c.read_task.ensures.one c.in-Ok.schedule.items c.in-Ok.ensures.accepted _ (tree_of c.in-Ok.program) c.in-Ok.ensures.said
 
 -- nothing was run
 pub returns : goal.returns

@@ -1,100 +1,46 @@
-use Rattle.std.proofs.Common.{ℕ, ◌≡◌, ◌<◌, ◌≤◌, ◌∙◌, refl, sym, subst, arith, length}
-use Rattle.ppm_cells.specs.declared.shape.Shape.{Shape}
-use Rattle.ppm_code.specs.Code.{IsCode}
-use Rattle.ppm_threads.specs.Driven.{OthersStay}
+use Rattle.std.proofs.Common.{List, map, sym, subst}
+use Rattle.ppm_words.specs.declared.named_array.NamedArray.{NamedArray}
+use Rattle.ppm_code.specs.declared.code.CodeParts.{CodeParts}
+use Rattle.ppm_depth.specs.Start.{NamesArrays}
 use Rattle.ppm_tree.specs.Tree.{tree_of}
-use Rattle.ppm_driver.proofs.ExactLemmas.{code_opened}
-use Rattle.ppm_driver.proofs.RunLemmas.{program_has, program_wanting, program_whole, table_processors}
+use Rattle.ppm_tree.specs.Program.{initial_arrays}
+use Rattle.ppm_driver.specs.Runs.{CodeHas, CodeWants}
 use Rattle.ppm_driver.proofs.WantLemmas.{at_err, nothing_told}
-use Rattle.ppm_driver.proofs.WatchLemmas.{first_of, fronts_stay, keep_fronts, others_keep, others_still}
+use Rattle.ppm_driver.proofs.WatchLemmas.{fronts_stay, others_still}
 use Rattle.ppm_driver.proofs.run.ran.Goals as goal
 
--- what is said of the words behind the run, in which all processors obey, and what watchers were told of it
+-- the root of the program's code names arrays of its input
+pub ran_code-requires-clause-names : goal.ran_code-requires-clause-names
+ran_code-requires-clause-names g c =
+    subst (λ (l : List NamedArray). NamesArrays c.in_ok-code.code l) (sym c.input.ensures.value) c.in_ok-code.ensures.names
+
+-- what the run of its code comes to
 pub returns-clause-has : goal.returns-clause-has
 returns-clause-has g c =
-    let t = tree_of c.args.program.now in
-    let some : 0 < length c.args.watch.now.items = omega (arith, c.requires.watchers) in
-    let enough : c.args.options.processors ≤ length c.args.watch.now.items = omega (arith, c.requires.watchers, c.requires.options.0.1) in
-    program_has g.W.Watch.told c.args.options c.args.plan.now t _ _ _ c.in_ok-table.table.0 _ _ (first_of c.args.watch.now.items some) c.sizes_of.ensures
-    c.limits_of.ensures c.requires.processors c.keeper.ensures.keeper c.in_ok-table.ensures.opens
-    (code_opened _ _ _ _ _ c.in_ok-table.ensures.opens (subst IsCode (sym c.in_ok-table.table.0.told.1) c.parts.ensures.code))
-    (omega (arith, c.in_ok-closed.ensures.kept.0, c.args.watch.now.ok.0, c.drive.new.watch.ok.0)) enough _
-    (subst (λ (s : Shape). OthersStay s.processors c.args.watch.now.items c.drive.new.watch.items) (sym c.in_ok-table.table.0.told.0) c.in_ok-closed.ensures.others)
-    c.in_ok-closed.ensures.run _ _ _ refl (c.in_ok-closed.ensures.sizes.0 ∙ sym c.in_ok-table.table.0.told.0) c.in_ok-closed.ensures.sizes.1
-    (c.arrays.ensures.value ∙ c.input.ensures.value) c.in_ok-answer.ensures
+    let before = map g.W.Watch.told c.args.watch.now.items in
+    let now = map g.W.Watch.told c.ran_code.new.watch.items in
+    let Has : CodeParts → List NamedArray → Type 0 =
+    λ code input. CodeHas c.args.options c.args.options.processors before now c.args.plan.now.items code input c.in_ok-answer.answer in
+    subst (λ (k : CodeParts). Has k (initial_arrays (tree_of c.args.program.now))) c.in_ok-code.ensures.code
+    (subst (λ (l : List NamedArray). Has c.in_ok-code.code l) c.input.ensures.value c.in_ok-answer.ensures.has)
 
--- where the table was not made, nobody was told anything
-pub returns-in_err-table-clause-wants : goal.returns-in_err-table-clause-wants
-returns-in_err-table-clause-wants g c = at_err (nothing_told _ _ _) _
+-- where there was no code, nobody was told anything
+pub returns-in_err-code-clause-wants : goal.returns-in_err-code-clause-wants
+returns-in_err-code-clause-wants g c = at_err (nothing_told _ _ _) _
 
--- where the drive met want of memory, nobody was told anything either, or the run was given up
-pub returns-in_err-closed-clause-wants : goal.returns-in_err-closed-clause-wants
-returns-in_err-closed-clause-wants g c =
-    let some : 0 < length c.args.watch.now.items = omega (arith, c.requires.watchers) in
-    let enough : c.args.options.processors ≤ length c.args.watch.now.items = omega (arith, c.requires.watchers, c.requires.options.0.1) in
-    at_err (program_wanting g.W.Watch.told c.args.options c.args.plan.now (tree_of c.args.program.now) _ _ _ c.in_ok-table.table.0 _ _
-    (first_of c.args.watch.now.items some) c.sizes_of.ensures c.limits_of.ensures c.requires.processors c.keeper.ensures.keeper c.in_ok-table.ensures.opens
-    (code_opened _ _ _ _ _ c.in_ok-table.ensures.opens (subst IsCode (sym c.in_ok-table.table.0.told.1) c.parts.ensures.code))
-    (omega (arith, c.in_err-closed.ensures.kept.0, c.args.watch.now.ok.0, c.drive.new.watch.ok.0)) enough
-    (subst (λ (s : Shape). OthersStay s.processors c.args.watch.now.items c.drive.new.watch.items) (sym c.in_ok-table.table.0.told.0)
-    c.in_err-closed.ensures.others)
-    c.in_err-closed.ensures.refused) _
-
--- where there was no memory for the answer, all of its run was told
+-- where memory was wanting in its run, what that run says
 pub returns-in_err-answer-clause-wants : goal.returns-in_err-answer-clause-wants
 returns-in_err-answer-clause-wants g c =
-    let some : 0 < length c.args.watch.now.items = omega (arith, c.requires.watchers) in
-    let enough : c.args.options.processors ≤ length c.args.watch.now.items = omega (arith, c.requires.watchers, c.requires.options.0.1) in
-    at_err (program_whole g.W.Watch.told c.args.options c.args.plan.now (tree_of c.args.program.now) _ _ _ c.in_ok-table.table.0 _ _
-    (first_of c.args.watch.now.items some) c.sizes_of.ensures c.limits_of.ensures c.requires.processors c.keeper.ensures.keeper c.in_ok-table.ensures.opens
-    (code_opened _ _ _ _ _ c.in_ok-table.ensures.opens (subst IsCode (sym c.in_ok-table.table.0.told.1) c.parts.ensures.code))
-    (omega (arith, c.in_ok-closed.ensures.kept.0, c.args.watch.now.ok.0, c.drive.new.watch.ok.0)) enough _
-    (subst (λ (s : Shape). OthersStay s.processors c.args.watch.now.items c.drive.new.watch.items) (sym c.in_ok-table.table.0.told.0) c.in_ok-closed.ensures.others)
-    c.in_ok-closed.ensures.run) _
+    let before = map g.W.Watch.told c.args.watch.now.items in
+    let now = map g.W.Watch.told c.ran_code.new.watch.items in
+    let Wants : CodeParts → List NamedArray → Type 0 =
+    λ code input. CodeWants c.args.options c.args.options.processors before now c.args.plan.now.items code input in
+    at_err (subst (λ (k : CodeParts). Wants k (initial_arrays (tree_of c.args.program.now))) c.in_ok-code.ensures.code
+    (subst (λ (l : List NamedArray). Wants c.in_ok-code.code l) c.input.ensures.value c.in_err-answer.ensures.wants)) _
 
--- each list keeps what it had in front
-pub returns-clause-kept : goal.returns-clause-kept
-returns-clause-kept g c = keep_fronts g.W.Watch.told c.args.watch.now.items c.drive.new.watch.items
-    (omega (arith, c.in_ok-closed.ensures.kept.0, c.args.watch.now.ok.0, c.drive.new.watch.ok.0)) c.in_ok-closed.ensures.kept.1
+-- where there was no code, each list is as it was
+pub returns-in_err-code-clause-kept : goal.returns-in_err-code-clause-kept
+returns-in_err-code-clause-kept g c = fronts_stay _
 
-pub returns-in_err-table-clause-kept : goal.returns-in_err-table-clause-kept
-returns-in_err-table-clause-kept g c = fronts_stay _
-
-pub returns-in_err-closed-clause-kept : goal.returns-in_err-closed-clause-kept
-returns-in_err-closed-clause-kept g c = keep_fronts g.W.Watch.told c.args.watch.now.items c.drive.new.watch.items
-    (omega (arith, c.in_err-closed.ensures.kept.0, c.args.watch.now.ok.0, c.drive.new.watch.ok.0)) c.in_err-closed.ensures.kept.1
-
-pub returns-in_err-answer-clause-kept : goal.returns-in_err-answer-clause-kept
-returns-in_err-answer-clause-kept g c = keep_fronts g.W.Watch.told c.args.watch.now.items c.drive.new.watch.items
-    (omega (arith, c.in_ok-closed.ensures.kept.0, c.args.watch.now.ok.0, c.drive.new.watch.ok.0)) c.in_ok-closed.ensures.kept.1
-
--- those of no processor are told nothing
-pub returns-clause-others : goal.returns-clause-others
-returns-clause-others g c =
-    let t = tree_of c.args.program.now in
-    let some : 0 < length c.args.watch.now.items = omega (arith, c.requires.watchers) in
-    let count = table_processors c.args.options t _ _ c.in_ok-table.table.0 c.sizes_of.ensures c.in_ok-table.ensures.opens in
-    others_keep g.W.Watch.told c.args.options.processors c.args.watch.now.items c.drive.new.watch.items (first_of c.args.watch.now.items some)
-    (omega (arith, c.in_ok-closed.ensures.kept.0, c.args.watch.now.ok.0, c.drive.new.watch.ok.0))
-    (subst (λ (n : ℕ). OthersStay n c.args.watch.now.items c.drive.new.watch.items) count c.in_ok-closed.ensures.others)
-
-pub returns-in_err-table-clause-others : goal.returns-in_err-table-clause-others
-returns-in_err-table-clause-others g c = others_still _ _
-
-pub returns-in_err-closed-clause-others : goal.returns-in_err-closed-clause-others
-returns-in_err-closed-clause-others g c =
-    let t = tree_of c.args.program.now in
-    let some : 0 < length c.args.watch.now.items = omega (arith, c.requires.watchers) in
-    let count = table_processors c.args.options t _ _ c.in_ok-table.table.0 c.sizes_of.ensures c.in_ok-table.ensures.opens in
-    others_keep g.W.Watch.told c.args.options.processors c.args.watch.now.items c.drive.new.watch.items (first_of c.args.watch.now.items some)
-    (omega (arith, c.in_err-closed.ensures.kept.0, c.args.watch.now.ok.0, c.drive.new.watch.ok.0))
-    (subst (λ (n : ℕ). OthersStay n c.args.watch.now.items c.drive.new.watch.items) count c.in_err-closed.ensures.others)
-
-pub returns-in_err-answer-clause-others : goal.returns-in_err-answer-clause-others
-returns-in_err-answer-clause-others g c =
-    let t = tree_of c.args.program.now in
-    let some : 0 < length c.args.watch.now.items = omega (arith, c.requires.watchers) in
-    let count = table_processors c.args.options t _ _ c.in_ok-table.table.0 c.sizes_of.ensures c.in_ok-table.ensures.opens in
-    others_keep g.W.Watch.told c.args.options.processors c.args.watch.now.items c.drive.new.watch.items (first_of c.args.watch.now.items some)
-    (omega (arith, c.in_ok-closed.ensures.kept.0, c.args.watch.now.ok.0, c.drive.new.watch.ok.0))
-    (subst (λ (n : ℕ). OthersStay n c.args.watch.now.items c.drive.new.watch.items) count c.in_ok-closed.ensures.others)
+pub returns-in_err-code-clause-others : goal.returns-in_err-code-clause-others
+returns-in_err-code-clause-others g c = others_still _ _

@@ -14,11 +14,11 @@ pub returns-in-Ok-ran-clause-may : goal.returns-in-Ok-ran-clause-may
 returns-in-Ok-ran-clause-may g c =
     task_has plan_form c.args.faults.now c.args.options.processors (ProgramHas c.args.options c.args.options.processors _ _)
     (kinds c.args.options.processors) (of_program c.args.options c.args.options.processors _ _) c.read_task.ensures.one c.in-Ok.plan.items
-    c.in-Ok.ensures.accepted _ (tree_of c.in-Ok.program) c.in-Ok.ensures.program c.in-Ok-ran.answer c.in-Ok-ran.ensures.has
+    c.in-Ok.ensures.accepted _ (tree_of c.in-Ok.program) c.in-Ok.ensures.said c.in-Ok-ran.answer c.in-Ok-ran.ensures.has
 
 pub returns-in-Ok-ran-clause-told : goal.returns-in-Ok-ran-clause-told
 returns-in-Ok-ran-clause-told g c =
-    source_tells c.args.options c.args.options.processors _ _ c.in-Ok.plan.items _ _ c.in-Ok.ensures.program c.args.faults.now
+    source_tells c.args.options c.args.options.processors _ _ c.in-Ok.plan.items _ _ c.in-Ok.ensures.said c.args.faults.now
     c.in-Ok.ensures.accepted c.in-Ok-ran.answer
     (run_tells c.args.options.processors _ c.in-Ok-ran.answer _ _
     (of_program c.args.options c.args.options.processors _ _ c.in-Ok.plan.items (tree_of c.in-Ok.program) c.in-Ok-ran.answer c.in-Ok-ran.ensures.has)
@@ -31,11 +31,11 @@ returns-in-Ok-clause-may g c =
     let now = map g.W.Watch.told c.ran.new.watch.items in
     task_wants plan_form c.args.faults.now c.args.options.processors (ProgramHas c.args.options c.args.options.processors before now)
     (kinds c.args.options.processors) (of_program c.args.options c.args.options.processors before now) c.read_task.ensures.one c.in-Ok.plan.items
-    c.in-Ok.ensures.accepted _ (tree_of c.in-Ok.program) c.in-Ok.ensures.program
+    c.in-Ok.ensures.accepted _ (tree_of c.in-Ok.program) c.in-Ok.ensures.said
 
 pub returns-in-Ok-clause-told : goal.returns-in-Ok-clause-told
 returns-in-Ok-clause-told g c =
-    source_tells c.args.options c.args.options.processors _ _ c.in-Ok.plan.items _ _ c.in-Ok.ensures.program c.args.faults.now
+    source_tells c.args.options c.args.options.processors _ _ c.in-Ok.plan.items _ _ c.in-Ok.ensures.said c.args.faults.now
     c.in-Ok.ensures.accepted answers.NoMemory (c.in-Err-ran.ensures.kept, c.in-Err-ran.ensures.others, c.in-Err-ran.ensures.wants)
 
 -- nothing was run, and nobody was told anything

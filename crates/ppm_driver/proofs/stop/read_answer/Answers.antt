@@ -11,7 +11,7 @@ use Rattle.ppm_driver.proofs.stop.read_answer.Goals as goal
 pub returns-in-Ok-stopped : goal.returns-in-Ok-stopped
 returns-in-Ok-stopped g c =
     task_has schedule_form c.args.schedule.now c.args.options.processors (ProgramReads c.args.options) kinds (of_reading c.args.options)
-    c.read_task.ensures.one c.in-Ok.schedule.items c.in-Ok.ensures.accepted _ (tree_of c.in-Ok.program) c.in-Ok.ensures.program _
+    c.read_task.ensures.one c.in-Ok.schedule.items c.in-Ok.ensures.accepted _ (tree_of c.in-Ok.program) c.in-Ok.ensures.said _
     (subst (ProgramReads c.args.options c.in-Ok.schedule.items (tree_of c.in-Ok.program)) (ap (λ x. answers.Saved x) (sym c.from_vec.ensures))
     c.in-Ok-stopped.ensures)
 
@@ -19,7 +19,7 @@ returns-in-Ok-stopped g c =
 pub returns-in-Ok : goal.returns-in-Ok
 returns-in-Ok g c =
     task_wants schedule_form c.args.schedule.now c.args.options.processors (ProgramReads c.args.options) kinds (of_reading c.args.options)
-    c.read_task.ensures.one c.in-Ok.schedule.items c.in-Ok.ensures.accepted _ (tree_of c.in-Ok.program) c.in-Ok.ensures.program
+    c.read_task.ensures.one c.in-Ok.schedule.items c.in-Ok.ensures.accepted _ (tree_of c.in-Ok.program) c.in-Ok.ensures.said
 
 -- nothing was run
 pub returns : goal.returns
