@@ -44,8 +44,13 @@ pieces_length (b ∷ bs) = by (b == 10) (pieces_length bs)
 
 fault_within : (text : List ℕ) (rule : Fault) (line : ℕ) → HasFault text rule line → line ≤ 2 + length text
 fault_within text rule line (Breaks r number h) =
-    omega (arith, number_within (code_in (standing_of text)) rule AtVersion (standing_of text) number h,
-    standing_length AtVersion (lines_of text), lines_length (split 10 text), pieces_length text)
+    omega (
+      arith,
+      number_within (code_in (standing_of text)) rule AtVersion (standing_of text) number h,
+      standing_length AtVersion (lines_of text),
+      lines_length (split 10 text),
+      pieces_length text,
+    )
 fault_within text rule line (TooLong long) = omega arith
 
 pub refusal_within : (text : List ℕ) (e : ListingError) → IsRefusal text e → line_of e ≤ 2 + length text

@@ -49,10 +49,10 @@ head_or_none line = by (halves_of 32 line) refl
         inl (n, numbers, record { words = e ∙ ap (λ (v : List ℕ). v ∷ n ∷ split 32 numbers) ((bytes_eq-Decides w array_word).0 f); name_is = g })
     named w n numbers e true false f g =
         inr (λ name others h. both_ways (is_array_name n) g
-            (ap (λ (l : List (List ℕ)). is_array_name (second_word l)) (sym e ∙ h.words) ∙ h.name_is))
+        (ap (λ (l : List (List ℕ)). is_array_name (second_word l)) (sym e ∙ h.words) ∙ h.name_is))
     named w n numbers e false b f g =
         inr (λ name others h. both_ways (bytes_eq w array_word) f
-            ((bytes_eq-Decides w array_word).1 (ap (λ (l : List (List ℕ)). first_word l) (sym e ∙ h.words))))
+        ((bytes_eq-Decides w array_word).1 (ap (λ (l : List (List ℕ)). first_word l) (sym e ∙ h.words))))
 
     after_word : (w rest : List ℕ) → split 32 line ≡ w ∷ split 32 rest → (o : Option (List ℕ × List ℕ)) → halves_of 32 rest ≡ o → Head line
     after_word w rest e None f = inr (λ name numbers h. no_numbers line w rest name numbers e (split_none 32 rest f) h)
@@ -62,6 +62,10 @@ head_or_none line = by (halves_of 32 line) refl
     by : (o : Option (List ℕ × List ℕ)) → halves_of 32 line ≡ o → Head line
     by None e = inr (one_word (split_none 32 line e))
     by (Some (w, rest)) e = after_word w rest (split_some 32 line w rest e) (halves_of 32 rest) refl
+
+-- reading goes on from what is shorter
+abbrev Going : List ℕ → ℕ → Type 0
+Going text n = (xs : List NamedArray) (k m : ℕ) (more : List ℕ) → length more < n → SoFar text xs k m more → HasCase text
 
 module _ (law : FaultsTellListings) (text : List ℕ) (none : (f : CaseFault) (line : ℕ) → HasFault text f line → ⊥) (short : length text ≤ case_limit) where
   -- the listing and its root
@@ -100,7 +104,7 @@ module _ (law : FaultsTellListings) (text : List ℕ) (none : (f : CaseFault) (l
 
     by_head : Head line → HasCase text
     by_head (inl (name, numbers, head)) = by_numbers name numbers head (numbers_of (split 32 numbers)) refl
-    by_head (inr no) = bad input.NoSuchForm (no_head arrays line rest more cut begins no)
+    by_head (inr never) = bad input.NoSuchForm (no_head arrays line rest more cut begins never)
 
   -- the lines of arrays, and what follows
   shorter : (n : ℕ) (rest line more : List ℕ) → length rest < suc n → halves_of 10 rest ≡ Some (line, more) → length more < n
@@ -111,15 +115,12 @@ module _ (law : FaultsTellListings) (text : List ℕ) (none : (f : CaseFault) (l
   from zero arrays words lines rest less h = absurd (omega (arith, less))
   from (suc n) arrays words lines rest less h = by (begins_array rest) refl (λ xs k m more small so. from n xs k m more small so)
     where
-      abbrev Going : Type 0
-      Going = (xs : List NamedArray) (k m : ℕ) (more : List ℕ) → length more < n → SoFar text xs k m more → HasCase text
-
-      by_line : Going → begins_array rest ≡ true → (o : Option (List ℕ × List ℕ)) → halves_of 10 rest ≡ o → HasCase text
+      by_line : Going text n → begins_array rest ≡ true → (o : Option (List ℕ × List ℕ)) → halves_of 10 rest ≡ o → HasCase text
       by_line go begins None e = absurd (none (fault.OfInput input.NoSuchForm) (lines + 1) (unended h short begins e))
       by_line go begins (Some (line, more)) e =
           by_head h begins line more e (λ xs k m so. go xs k m more (shorter n rest line more less e) so) (head_or_none line)
 
-      by : (b : Bool) → begins_array rest ≡ b → Going → HasCase text
+      by : (b : Bool) → begins_array rest ≡ b → Going text n → HasCase text
       by true e go = by_line go e (halves_of 10 rest) refl
       by false e go = by_listing h e
 

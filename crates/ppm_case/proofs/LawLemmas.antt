@@ -46,8 +46,7 @@ module _ (law : FaultsTellListings) {text : List ℕ} where
 
   pub one_case : (c d : CodeParts) (xs ys : List NamedArray) → IsCaseOf text c xs → IsCaseOf text d ys → (c ≡ d) × (xs ≡ ys)
   one_case c d xs ys h k =
-      let same = by_listing h.front k.front c h.listed (listing_begins k.front.rest d k.listed) in
-      (
+      let same = by_listing h.front k.front c h.listed (listing_begins k.front.rest d k.listed) in (
         law.one_code k.front.rest c d (subst (λ (t : List ℕ). IsListing t c) same.1 h.listed) k.listed,
         h.arrays ∙ ap (λ (l : List Written). map array_of l) same.0 ∙ sym k.arrays,
       )

@@ -41,9 +41,11 @@ no_arrays text = record {
 pub follow_more : (before : List NamedArray) (xs : List Written) (a : Written) → AllFollow before xs → Follows (before ++ map array_of xs) a
     → AllFollow before (xs ++ a ∷ [])
 follow_more before [] a h f = (subst (λ (l : List NamedArray). Follows l a) (append-nil before) f, tt)
-follow_more before (x ∷ xs) a h f =
-    (h.0, follow_more (before ++ array_of x ∷ []) xs a h.1
-    (subst (λ (l : List NamedArray). Follows l a) (sym (append_assoc before (array_of x ∷ []) (map array_of xs))) f))
+follow_more before (x ∷ xs) a h f = (
+  h.0,
+  follow_more (before ++ array_of x ∷ []) xs a h.1
+      (subst (λ (l : List NamedArray). Follows l a) (sym (append_assoc before (array_of x ∷ []) (map array_of xs))) f),
+)
 
 arrays_more : (xs : List Written) (a : Written) → map array_of (xs ++ a ∷ []) ≡ map array_of xs ++ array_of a ∷ []
 arrays_more [] a = refl
@@ -88,7 +90,7 @@ module _ {text : List ℕ} {arrays : List NamedArray} {words lines : ℕ} {left 
   pub unended : length text ≤ case_limit → begins_array left ≡ true → halves_of 10 left ≡ None → HasFault text (fault.OfInput input.NoSuchForm) (lines + 1)
   unended short begins none =
       bad_line short input.NoSuchForm (NoForm begins (λ a more form same.
-          not_both (sym (ap (λ (t : List ℕ). halves_of 10 t) same) ∙ none) (line_of_text a more form)))
+      not_both (sym (ap (λ (t : List ℕ). halves_of 10 t) same) ∙ none) (line_of_text a more form)))
 
   -- one array more
   pub array_more : {line name numbers : List ℕ} {len : ℕ} (rest : List ℕ) (array : NamedArray) → halves_of 10 left ≡ Some (line, rest)

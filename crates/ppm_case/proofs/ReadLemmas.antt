@@ -40,8 +40,15 @@ module _ {text : List ℕ} {arrays : List NamedArray} {lines : ℕ} {rest : List
   -- the line of a refusal is small
   pub line_within : IsInput arrays → (e : ListingError) → IsListingRefusal rest e → lines + line_of e < 2 ^ 32
   line_within limits e h =
-      omega (arith, refusal_within rest e h, short, limits.arrays_bound, lines_are, ap (λ (l : List ℕ). length l) r.same,
-      length-append (flat_map array_line r.written) rest)
+      omega (
+        arith,
+        refusal_within rest e h,
+        short,
+        limits.arrays_bound,
+        lines_are,
+        ap (λ (l : List ℕ). length l) r.same,
+        length-append (flat_map array_line r.written) rest,
+      )
 
   pub few_lines : IsInput arrays → lines ≤ 64
   few_lines limits = omega (arith, limits.arrays_bound, lines_are)

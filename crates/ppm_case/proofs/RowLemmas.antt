@@ -71,26 +71,26 @@ and_false false = refl
 
 one_more : (y z : ℤ) (ys : List ℤ) (k : ℕ) (left : List ℤ) → y ≡ z → IsFirst z ys k left → IsFirst z (y ∷ ys) (suc k) left
 one_more y z ys k left e f = (
-      λ h. ap (λ (w : ℤ). in_front z (rows_of (w ∷ ys))) e ∙ ap (λ (rs : List Row). in_front z rs) (f.0 h)
-          ∙ cond-true (same_value z (pos 0)) [] (row z 1 ∷ []) (and_parts (same_value z (pos 0)) (is_empty left) h).0,
-      λ h. ap (λ (w : ℤ). in_front z (rows_of (w ∷ ys))) e ∙ ap (λ (rs : List Row). in_front z rs) (f.1 h)
-          ∙ cond-true (same_value z z) (row z (1 + (1 + k)) ∷ rows_of left) (row z 1 ∷ row z (1 + k) ∷ rows_of left) (itself z)
-          ∙ ap (λ (m : ℕ). row z m ∷ rows_of left) (omega arith),
-    )
+  λ h. ap (λ (w : ℤ). in_front z (rows_of (w ∷ ys))) e ∙ ap (λ (rs : List Row). in_front z rs) (f.0 h)
+      ∙ cond-true (same_value z (pos 0)) [] (row z 1 ∷ []) (and_parts (same_value z (pos 0)) (is_empty left) h).0,
+  λ h. ap (λ (w : ℤ). in_front z (rows_of (w ∷ ys))) e ∙ ap (λ (rs : List Row). in_front z rs) (f.1 h)
+      ∙ cond-true (same_value z z) (row z (1 + (1 + k)) ∷ rows_of left) (row z 1 ∷ row z (1 + k) ∷ rows_of left) (itself z)
+      ∙ ap (λ (m : ℕ). row z m ∷ rows_of left) (omega arith),
+)
 
 pub first_is : (z : ℤ) (zs : List ℤ) → IsFirst z zs (prefix_len (λ v. same_value v z) zs) (drop (prefix_len (λ v. same_value v z) zs) zs)
 first_is z [] = (
-      λ h. cond-true (same_value z (pos 0)) [] (row z 1 ∷ []) (and_parts (same_value z (pos 0)) true h).0,
-      λ h. cond-false (same_value z (pos 0)) [] (row z 1 ∷ []) (sym (and_true (same_value z (pos 0))) ∙ h),
-    )
+  λ h. cond-true (same_value z (pos 0)) [] (row z 1 ∷ []) (and_parts (same_value z (pos 0)) true h).0,
+  λ h. cond-false (same_value z (pos 0)) [] (row z 1 ∷ []) (sym (and_true (same_value z (pos 0))) ∙ h),
+)
 first_is z (y ∷ ys) = by (same_value y z) refl (first_is z ys)
   where
     by : (same : Bool) → same_value y z ≡ same → IsFirst z ys (prefix_len (λ v. same_value v z) ys) (drop (prefix_len (λ v. same_value v z) ys) ys)
         → IsFirst z (y ∷ ys) (cond same (1 + prefix_len (λ v. same_value v z) ys) 0) (drop (cond same (1 + prefix_len (λ v. same_value v z) ys) 0) (y ∷ ys))
     by false e f = (
-          λ h. absurd (both_ways (same_value z (pos 0) && false) (and_false (same_value z (pos 0))) h),
-          λ h. in_front_other y z e (in_front_begins y (rows_of ys)),
-        )
+      λ h. absurd (both_ways (same_value z (pos 0) && false) (and_false (same_value z (pos 0))) h),
+      λ h. in_front_other y z e (in_front_begins y (rows_of ys)),
+    )
     by true e f =
         let k = prefix_len (λ v. same_value v z) ys in
         let one : suc k ≡ 1 + k = omega arith in

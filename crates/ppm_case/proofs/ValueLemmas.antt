@@ -40,8 +40,13 @@ pub fits_length : (room : ℕ) (ws : List (List ℕ)) → values_fit room ws ≡
 fits_length room [] h = omega arith
 fits_length room (w ∷ ws) h =
     let k = and_parts (said_fits room (run_in w)) (values_fit (room - times_of (run_in w)) ws) h in
-    omega (arith, said_within room (run_in w) k.0, run_length (run_in w), fits_length (room - times_of (run_in w)) ws k.1,
-    length-append (run_values (run_in w)) (values_in ws))
+    omega (
+      arith,
+      said_within room (run_in w) k.0,
+      run_length (run_in w),
+      fits_length (room - times_of (run_in w)) ws k.1,
+      length-append (run_values (run_in w)) (values_in ws),
+    )
 
 -- zeros fill them up
 pub fill : (len : ℕ) (ws : List (List ℕ)) (zs : List ℤ) → values_fit len ws ≡ true → zs ≡ values_in ws
@@ -53,8 +58,12 @@ fill len ws zs h e =
 -- an array has as many values as its length says
 pub array_length : (a : Written) → values_fit (value a.len) a.values ≡ true → length (filled (value a.len) (values_in a.values)) ≡ value a.len
 array_length a h =
-    omega (arith, fits_length (value a.len) a.values h, length-append (values_in a.values) (replicate (value a.len - length (values_in a.values)) (pos 0)),
-    length-replicate (value a.len - length (values_in a.values)) (pos 0))
+    omega (
+      arith,
+      fits_length (value a.len) a.values h,
+      length-append (values_in a.values) (replicate (value a.len - length (values_in a.values)) (pos 0)),
+      length-replicate (value a.len - length (values_in a.values)) (pos 0),
+    )
 
 -- the parts of a range
 pub range_parts : (a : Written) → is_in_range a ≡ true → (value a.len ≤ word_limit) × (values_fit (value a.len) a.values ≡ true)

@@ -88,8 +88,7 @@ all_follow done (a ∷ xs) h differ limits =
     or_from (nat_le array_limit (length done)) (nat_lt word_limit (value_count done + length a.values))
     (lt-leb array_limit (length done) (omega (arith, limits.arrays_bound, length-append done (a ∷ xs))))
     (le-ltb word_limit (value_count done + length a.values) (omega (arith, counted, limits.values_bound))) in
-    let grouped : done ++ a ∷ xs ≡ (done ++ a ∷ []) ++ xs = sym (append_assoc done (a ∷ []) xs) in
-    (
+    let grouped : done ++ a ∷ xs ≡ (done ++ a ∷ []) ++ xs = sym (append_assoc done (a ∷ []) xs) in (
       follows a h.0 few done (not_named done a xs differ) within,
       subst (λ (b : NamedArray). AllFollow (done ++ b ∷ []) (map written xs)) (sym (array_back a h.0 few))
           (all_follow (done ++ a ∷ []) xs h.1

@@ -1,6 +1,8 @@
 -- A text has one answer where it is replayed: its program begins one run, with the one keeper of the schedule.
 use Rattle.std.proofs.Common.{◌≡◌, ℕ, List, [], length, sym, subst}
 use Rattle.ppm_text.specs.Limits.{text_limit}
+use Rattle.ppm_code.specs.declared.code.CodeParts.{CodeParts}
+use Rattle.ppm_words.specs.declared.named_array.NamedArray.{NamedArray}
 use Rattle.ppm_core.specs.Situation.{Situation}
 use Rattle.ppm_layout.specs.Correct.{ImagesAreOne}
 use Rattle.ppm_plan.specs.declared.schedule_item.ScheduleItem.{ScheduleItem}

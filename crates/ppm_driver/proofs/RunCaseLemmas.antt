@@ -57,7 +57,7 @@ run_forgets options watching before now plan text a h = record {
 }
 
 -- a case is short, so it is all that the source has
-whole_case : (source : Port) (text : List ℕ) → Reads case_limit source text → (code : CodeParts) (input : List NamedArray)
+pub whole_case : (source : Port) (text : List ℕ) → Reads case_limit source text → (code : CodeParts) (input : List NamedArray)
     → IsCaseOf text code input → (all : List ℕ) → source.before ≡ Some all → text ≡ all
 whole_case source text read code input is all e =
     sym (whole_read case_limit all source.now text (subst (λ l. ReadsTo case_limit l source.now text) e read.whole) is.front.short)

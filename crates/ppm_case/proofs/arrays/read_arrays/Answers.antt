@@ -15,7 +15,7 @@ loop-alloc-init c = subst (λ (l : List NamedArray). SoFar c.args.text.now l 0 0
 pub returns-in_default-clause-err : goal.returns-in_default-clause-err
 returns-in_default-clause-err c =
     subst (IsRefusal c.args.text.now) (sym c.of_input.ensures)
-    (unended c.loop-alloc.invariant c.requires (sym c.begins_array.ensures ∙ c.loop-alloc.true) c.in_default.ensures.halves)
+    (unended c.loop-alloc.invariant c.requires (sym c.begins_array.ensures ∙ c.loop-alloc-test.true) c.in_default.ensures.halves)
 
 -- the arrays so far
 pub judge-requires-clause-words : goal.judge-requires-clause-words
@@ -27,10 +27,10 @@ judge-requires-clause-few c = omega (arith, c.loop-alloc.invariant.words_are, c.
 -- the line is bad
 pub returns-in-Err-clause-err : goal.returns-in-Err-clause-err
 returns-in-Err-clause-err c =
-    subst (IsRefusal c.args.text.now) (sym c.of_input.ensures)
+    subst (IsRefusal c.args.text.now) (sym c.of_input-in-Err.ensures)
     (bad_line c.loop-alloc.invariant c.requires c.in-Err.fault
     (subst (λ (l : List NamedArray). IsBadLine l c.loop-alloc.left.now c.in-Err.fault) c.deref.ensures.value
-    (c.in-Err.ensures.err c.loop-alloc.left.now c.in-Some.rest.now c.in-Some.ensures.halves (sym c.begins_array.ensures ∙ c.loop-alloc.true))))
+    (c.in-Err.ensures.err c.loop-alloc.left.now c.in-Some.rest.now c.in-Some.ensures.halves (sym c.begins_array.ensures ∙ c.loop-alloc-test.true))))
 
 -- its array can stand
 pub make_array-requires : goal.make_array-requires
@@ -54,4 +54,4 @@ pub returns-clause-input : goal.returns-clause-input
 returns-clause-input c = c.loop-alloc.invariant.limits
 
 pub returns-clause-none : goal.returns-clause-none
-returns-clause-none c = sym c.begins_array.ensures ∙ c.loop-alloc.false
+returns-clause-none c = sym c.begins_array.ensures ∙ c.loop-alloc-test.false

@@ -41,10 +41,10 @@ returns-then-not-names_arrays-clause-err c =
     let short = ltb-false case_limit (length c.args.text.now) (sym c.is_too_long.ensures ∙ c.if-is_too_long.false) in
     let listed : IsListing c.in_ok-read.read.rest.now c.in-Ok.code =
     record { code = c.names_arrays.ensures.code; fits = c.in-Ok.ensures.fits; same = c.in-Ok.ensures.ok } in
-    subst (IsRefusal c.args.text.now) (sym c.of_input.ensures)
+    subst (IsRefusal c.args.text.now) (sym c.of_input-then-not-names_arrays.ensures)
     (unnamed c.in_ok-read.ensures.read short c.in-Ok.code listed
     (λ named. both_ways c.names_arrays.result c.if-not-names_arrays.true
-        (c.names_arrays.ensures.exactly.1 (subst (λ (l : List NamedArray). NamesArrays c.in-Ok.code l) (sym c.deref.ensures.value) named))))
+    (c.names_arrays.ensures.exactly.1 (subst (λ (l : List NamedArray). NamesArrays c.in-Ok.code l) (sym c.deref.ensures.value) named))))
 
 -- or all is well
 pub from_vec-requires : goal.from_vec-requires

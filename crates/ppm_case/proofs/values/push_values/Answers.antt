@@ -10,8 +10,7 @@ use Rattle.ppm_case.proofs.values.push_values.Goals as goal
 pub loop-word-preserved : goal.loop-word-preserved
 loop-word-preserved c =
     let word = c.in-Some.word.now in
-    let rest = split 32 c.in-Some.rest.now in
-    (
+    let rest = split 32 c.in-Some.rest.now in (
       ap (λ (l : List ℤ). l ++ values_in rest) c.in_ok-push_word.ensures
           ∙ append_assoc c.loop-word.values.items (run_values (run_in word)) (values_in rest)
           ∙ ap (λ (l : List (List ℕ)). c.loop-word.values.items ++ values_in l) (sym c.in-Some.ensures.pieces)

@@ -1,18 +1,12 @@
 use Rattle.std.proofs.Common.{List, map, sym, subst}
 use Rattle.ppm_words.specs.declared.named_array.NamedArray.{NamedArray}
 use Rattle.ppm_code.specs.declared.code.CodeParts.{CodeParts}
-use Rattle.ppm_depth.specs.Start.{NamesArrays}
 use Rattle.ppm_tree.specs.Tree.{tree_of}
 use Rattle.ppm_tree.specs.Program.{initial_arrays}
 use Rattle.ppm_driver.specs.Runs.{CodeHas, CodeWants}
 use Rattle.ppm_driver.proofs.WantLemmas.{at_err, nothing_told}
 use Rattle.ppm_driver.proofs.WatchLemmas.{fronts_stay, others_still}
 use Rattle.ppm_driver.proofs.run.ran.Goals as goal
-
--- the root of the program's code names arrays of its input
-pub ran_code-requires-clause-names : goal.ran_code-requires-clause-names
-ran_code-requires-clause-names g c =
-    subst (λ (l : List NamedArray). NamesArrays c.in_ok-code.code l) (sym c.input.ensures.value) c.in_ok-code.ensures.names
 
 -- what the run of its code comes to
 pub returns-clause-has : goal.returns-clause-has
