@@ -27,14 +27,14 @@ module _ (laws : ProgramLaws) (words : List (List ℕ)) (o : Outside) (status : 
       let are = is_in_range words (commands.RunCase options plan) e in (
         are,
         case_rows
-        (record {
-          runs = laws.case_runs;
-          texts = laws.case_faults;
-          plans = laws.plans;
-          one = laws.case_answers;
-          fronts = laws.case_fronts;
-        }) options are options.processors plan o status
-        (subst (λ c. Answers (CommandMay c o) (CommandTells c o) o status) e a),
+            (record {
+              runs = laws.case_runs;
+              texts = laws.case_faults;
+              plans = laws.plans;
+              one = laws.case_answers;
+              fronts = laws.case_fronts;
+            }) options are options.processors plan o status
+            (subst (λ c. Answers (CommandMay c o) (CommandTells c o) o status) e a),
       )
 
   -- of `replay`
@@ -44,7 +44,7 @@ module _ (laws : ProgramLaws) (words : List (List ℕ)) (o : Outside) (status : 
       let delivered = of_answers (CommandMay (command_of words) o) (CommandTells (command_of words) o) o status a in (
         are,
         replay_case_rows laws.case_replays options are schedule (ports_of o) status
-        (subst (λ c. DeliversAnswer (CommandMay c o) (ports_of o) status) e delivered) laws.plans laws.replayed_cases,
+            (subst (λ c. DeliversAnswer (CommandMay c o) (ports_of o) status) e delivered) laws.plans laws.replayed_cases,
       )
 
   -- status 3 comes of the plan alone

@@ -82,11 +82,11 @@ fn answer_words<R: Threads + Wait + Sync, S: Source, K: Sink, E: Sink, W: Watch>
             err,
             watch,
         ),
-        Ok(Some(Command::RunCase(options, faults))) => run_case_command(
+        Ok(Some(Command::RunCase(options, case_plan))) => run_case_command(
             rt,
             alloc,
             options,
-            faults.as_slice(),
+            case_plan.as_slice(),
             source,
             out,
             err,
@@ -112,10 +112,10 @@ fn answer_words<R: Threads + Wait + Sync, S: Source, K: Sink, E: Sink, W: Watch>
             out,
             err,
         ),
-        Ok(Some(Command::ReplayCase(options, schedule))) => replay_case_command(
+        Ok(Some(Command::ReplayCase(options, case_schedule))) => replay_case_command(
             alloc,
             options,
-            schedule.as_slice(),
+            case_schedule.as_slice(),
             source,
             out,
             err,
