@@ -2,6 +2,7 @@
 ghost use Rattle.std.specs.Prelude.{◌≡◌, ◌∷◌, ◌++◌, map, IfOk, OnOk};
 ghost use Rattle.std.specs.List.{flat_map};
 ghost use Rattle.ppm_case.specs.Spelling.{spaced, array_line as line_of_array};
+ghost use Rattle.ppm_listing.specs.Correct.{NumbersFit};
 ghost use Rattle.ppm_case.specs.Text.{rows_of, row_text, written, case_text};
 
 use crate::row::{Row, first_row};
@@ -68,9 +69,10 @@ fn push_arrays(alloc: Global, text: &mut Vec<u8>, arrays: &[NamedArray]) -> Resu
 }
 
 /// The text of a code with its arrays. `Err` only where memory is refused, which is taken in
-/// proportion to the text.
+/// proportion to the text; all numbers of a code in memory fit 64 bits.
 pub fn write_case(alloc: Global, code: &Code, input: &[NamedArray]) -> Result<Vec<u8>, NoMemory>
-    ensures { IfOk result (λ text. text.items ≡ case_text code.now input.now) }
+    ensures value { IfOk result (λ text. text.items ≡ case_text code.now input.now) }
+    ensures fits { OnOk result (NumbersFit code.now) }
 {
     let listing = write_listing(alloc, code)?;
     let mut text = Vec::new(alloc);

@@ -17,3 +17,9 @@ pub mod DepthRows
 pub mod WordLemmas
 pub mod RacesAnswers
 pub mod RacesRows
+pub mod LineLemmas
+pub mod TouchLemmas
+pub mod CaseTextAnswers
+pub mod NameLemmas
+pub mod WrittenLemmas
+pub mod CaseRows

@@ -1,9 +1,9 @@
 -- A word of arrays that lie one after the other lies in one of them.
-use Rattle.std.proofs.Common.{◌≡◌, ◌<◌, ◌≤◌, ℕ, ◌+◌, List, [], ◌∷◌, ◌++◌, length, map, refl, sym, ap, ◌∙◌, subst, arith}
+use Rattle.std.proofs.Common.{◌≡◌, ◌<◌, ◌≤◌, ℕ, ◌+◌, ◌-◌, List, [], ◌∷◌, ◌++◌, length, length-append, append_assoc, map, get_or, refl, sym, ap, ◌∙◌, subst, arith}
 use Rattle.std.proofs.lemmas.List.Sums.{sum_by-cons}
 use Rattle.ppm_words.specs.declared.named_array.NamedArray.{NamedArray}
 use Rattle.ppm_words.specs.Inputs.{value_count}
-use Rattle.ppm_commands.specs.Races.{IsWordOf}
+use Rattle.ppm_commands.specs.Races.{IsAt, IsWordOf}
 
 -- the values of arrays are those of the first and those of the others
 pub count-cons : (a : NamedArray) (input : List NamedArray) → value_count (a ∷ input) ≡ length a.values + value_count input
@@ -12,7 +12,7 @@ count-cons a input = sum_by-cons (λ x. x) (length a.values) (map (λ (b : Named
 -- of two places of a word the array is one, and the index
 same_place : (front other : List NamedArray) (a b : NamedArray) (rest more : List NamedArray) (i j : ℕ) → front ++ (a ∷ rest) ≡ other ++ (b ∷ more)
     → value_count front + i ≡ value_count other + j → i < length a.values → j < length b.values → (a ≡ b) × (i ≡ j)
-same_place [] [] a b rest more i j same at inside within = (cc, cc)
+same_place [] [] a b rest more i j same at inside within = (cc, omega (arith, at))
 same_place [] (c ∷ other) a b rest more i j same at inside within =
     let first : a ≡ c = cc in
     let size : length a.values ≡ length c.values = ap (λ (x : NamedArray). length x.values) first in
@@ -32,3 +32,49 @@ pub one_word : (input : List NamedArray) (word : ℕ) (x y : List ℕ) (i j : �
 one_word input word x y i j h k =
     let place = same_place h.front k.front h.array k.array h.rest k.rest i j (sym h.all ∙ k.all) (sym h.address ∙ k.address) h.inside k.inside in
     (h.name_is ∙ ap (λ (a : NamedArray). a.name) place.0 ∙ sym k.name_is, place.1)
+
+-- the word is in the arrays that are left, so many words behind their start, and so many arrays stand in front of them
+pub record IsSoFar (arrays : List NamedArray) (word : ℕ) (left : List NamedArray) (number index : ℕ) : Type 0 where
+  pub front : List NamedArray
+  pub all : arrays ≡ front ++ left
+  pub number_is : number ≡ length front
+  pub address : word ≡ value_count front + index
+  pub inside : index < value_count left
+
+-- at the start
+pub so_far : (arrays : List NamedArray) (word : ℕ) → word < value_count arrays → IsSoFar arrays word arrays 0 word
+so_far arrays word less = record { front = []; all = refl; number_is = refl; address = refl; inside = less }
+
+-- an array more behind others
+count_push : (front : List NamedArray) (a : NamedArray) → value_count (front ++ (a ∷ [])) ≡ value_count front + length a.values
+count_push [] a = omega (arith, count-cons a [])
+count_push (b ∷ front) a = omega (arith, count-cons b front, count-cons b (front ++ (a ∷ [])), count_push front a)
+
+-- the word is not in the first of them
+pub passed : (arrays : List NamedArray) (word : ℕ) (a : NamedArray) (rest : List NamedArray) (number index : ℕ)
+    → IsSoFar arrays word (a ∷ rest) number index → length a.values ≤ index → IsSoFar arrays word rest (number + 1) (index - length a.values)
+passed arrays word a rest number index s past = record {
+  front = s.front ++ (a ∷ []);
+  all = s.all ∙ sym (append_assoc s.front (a ∷ []) rest);
+  number_is = omega (arith, s.number_is, length-append s.front (a ∷ []));
+  address = omega (arith, s.address, past, count_push s.front a);
+  inside = omega (arith, s.inside, past, count-cons a rest);
+}
+
+-- it is in the first of them
+pub found : (arrays : List NamedArray) (word : ℕ) (a : NamedArray) (rest : List NamedArray) (number index : ℕ)
+    → IsSoFar arrays word (a ∷ rest) number index → index < length a.values → IsAt arrays word (record { array = number; index = index })
+found arrays word a rest number index s less =
+    record { front = s.front; array = a; rest = rest; all = s.all; number = s.number_is; address = s.address; inside = less }
+
+-- there are so few in front that one more can be counted
+pub numbered : (arrays : List NamedArray) (word : ℕ) (left : List NamedArray) (number index : ℕ) → IsSoFar arrays word left number index
+    → number ≤ length arrays
+numbered arrays word left number index s =
+    let all = ap (λ (xs : List NamedArray). length xs) s.all in
+    omega (arith, all, s.number_is, length-append s.front left)
+
+-- the array with the number of the cell
+pub at_cell : (front : List NamedArray) (a : NamedArray) (rest : List NamedArray) → get_or (front ++ (a ∷ rest)) (length front) a ≡ a
+at_cell [] a rest = refl
+at_cell (b ∷ front) a rest = at_cell front a rest

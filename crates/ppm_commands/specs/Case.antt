@@ -7,6 +7,7 @@ use Rattle.ppm_depth.specs.Sound.{IsSound}
 use Rattle.ppm_tree.specs.Tree.{ProgramTree}
 use Rattle.ppm_tree.specs.Program.{initial_arrays}
 use Rattle.ppm_listing.specs.Correct.{NumbersFit}
+use Rattle.ppm_cut_code.specs.Inputs.{IsInputOf}
 use Rattle.ppm_cut_code.specs.Routines.{code_of}
 use Rattle.ppm_program.specs.Programs.{HasProgram}
 use Rattle.ppm_program.specs.Refusals.{IsRefusal}
@@ -38,12 +39,13 @@ CaseHas text (answers.Listed written) = HasCaseText text written
 CaseHas text (answers.SourceRefused r) = IsRefusal text r
 CaseHas text _ = ⊥
 
--- it is so, and the numbers of this code fit 64 bits
+-- it is so, the numbers of this code fit 64 bits, and the text is not too long for a case
 pub record WritesCase (text written : List ℕ) : Type 0 where
   pub writes : HasCaseText text written
   pub fits : NumbersFit (code_of writes.tree)
+  pub short : length written ≤ case_limit
 
--- the answer of the text that was read: of a code in memory it is known that its numbers fit
+-- the answer of the text that was read: of a code in memory it is known that its numbers fit, and what is too long for a case is not written
 abbrev pub CaseReads : List ℕ → Answer → Type 0
 CaseReads text (answers.Listed written) = WritesCase text written
 CaseReads text (answers.SourceRefused r) = IsRefusal text r
@@ -51,7 +53,7 @@ CaseReads text _ = ⊥
 
 -- the answers of a program whose code is written with its arrays; and memory can always be refused
 abbrev pub ProgramMay : ProgramTree → Answer → Type 0
-ProgramMay t (answers.Listed written) = (written ≡ text_of t) × NumbersFit (code_of t)
+ProgramMay t (answers.Listed written) = (written ≡ text_of t) × NumbersFit (code_of t) × (length written ≤ case_limit)
 ProgramMay t answers.NoMemory = ⊤
 ProgramMay t _ = ⊥
 
@@ -62,9 +64,12 @@ pub record HaveOneAnswer : Type 0 where
   pub front : FrontsDecide text_limit CaseHas
   pub some : (text : List ℕ) → ((r : Refusal) → ¬ IsRefusal text r) → (a : Answer) × CaseHas text a
 
--- what is written of a program whose code's numbers fit 64 bits is of its code and its arrays
-abbrev pub AreCases : Type 0
-AreCases = (text : List ℕ) (t : ProgramTree) → HasProgram text t → NumbersFit (code_of t) → IsCaseOf (text_of t) (code_of t) (initial_arrays t)
+-- What is written of a program whose code's numbers fit 64 bits is of its code and its arrays, if it is not too long for a case; and these are an
+-- input for the program's arrays.
+pub record AreCases : Type 0 where
+  pub cases : (text : List ℕ) (t : ProgramTree) → HasProgram text t → NumbersFit (code_of t) → length (text_of t) ≤ case_limit
+      → IsCaseOf (text_of t) (code_of t) (initial_arrays t)
+  pub inputs : (text : List ℕ) (t : ProgramTree) → HasProgram text t → IsInputOf t (initial_arrays t)
 
 -- the answers of `code` with arrays
 abbrev pub CaseMay : Port → Answer → Type 0

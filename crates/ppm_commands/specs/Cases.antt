@@ -1,6 +1,5 @@
 -- What commands say of cases: the refusals of a text that is of none, what a case has, and where an instruction of it stands in the text.
-use Rattle.std.specs.Prelude.{◌≡◌, ℕ, ◌+◌, List, length, map, take, ⊤}
-use Rattle.std.specs.List.{sum}
+use Rattle.std.specs.Prelude.{◌≡◌, ℕ, ◌+◌, List, [], ◌∷◌, length, take, ⊤}
 use Rattle.ppm_words.specs.declared.named_array.NamedArray.{NamedArray}
 use Rattle.ppm_code.specs.declared.code.Capsule.{Capsule}
 use Rattle.ppm_code.specs.declared.code.CodeParts.{CodeParts}
@@ -25,7 +24,8 @@ use Rattle.ppm_answers.specs.declared.answer.Answer.TheVariants as answers
 
 -- how many lines capsules have in a listing: one each, and one for each instruction
 abbrev pub capsule_lines : List Capsule → ℕ
-capsule_lines capsules = sum (map (λ c. 1 + length c.instrs) capsules)
+capsule_lines [] = 0
+capsule_lines (c ∷ capsules) = 1 + length c.instrs + capsule_lines capsules
 
 -- The line of a case in which an instruction of a capsule stands, where so many arrays stand in front of the listing. Lines count from 1: behind the arrays
 -- come two lines of the listing's own, the procedures, the capsules in front of this one, its head, and its instructions.

@@ -1,8 +1,6 @@
 //! What commands tell of cases: where an instruction stands in the text, counts, stores, faults.
-ghost use Rattle.std.specs.Prelude.{◌≡◌, ◌<◌, ◌≤◌, ◌^◌, length};
-ghost use Rattle.std.specs.List.{All};
-ghost use Rattle.ppm_words.specs.Limits.{array_limit, capsule_limit};
-ghost use Rattle.ppm_code.specs.Limits.{instr_limit};
+ghost use Rattle.std.specs.Prelude.{◌≡◌, ◌≤◌, ◌^◌};
+ghost use Rattle.ppm_words.specs.Limits.{array_limit};
 ghost use Rattle.ppm_commands.specs.Cases.{capsule_lines, counts_told as told_counts};
 ghost use Rattle.ppm_commands.specs.Cases.{error_answer as answer_of, fault_answer as answer_of_fault};
 ghost use Rattle.ppm_commands.specs.Cases.{line_at as line_in, store_told as told_store};
@@ -15,10 +13,8 @@ use ppm_war::UntidyStore;
 
 /// How many lines capsules have in a listing.
 fn lines_of(capsules: &[Capsule]) -> u64
-    requires few { length capsules.now ≤ capsule_limit }
-    requires short { All (λ c. length c.instrs ≤ instr_limit) capsules.now }
+    requires few { capsule_lines capsules.now ≤ 2 ^ 32 }
     ensures value { result ≡ capsule_lines capsules.now }
-    ensures bound { result ≤ 2 ^ 32 }
 {
     let mut lines = 0;
     for capsule in capsules {
@@ -35,7 +31,7 @@ pub(crate) fn line_at(code: &Code, arrays: usize, capsule: u32, at: u32) -> u64
 {
     let parts = code.parts();
     let capsules = parts.capsules.as_slice();
-    let earlier = &capsules[..capsules.len().min(capsule as usize)];
+    let earlier = &capsules[..(capsule as usize).min(capsules.len())];
     let head = arrays as u64 + 2 + parts.procedures.as_slice().len() as u64;
     head + lines_of(earlier) + 1 + at as u64 + 1
 }

@@ -1,13 +1,15 @@
-//! The commands that judge a text and tell no watcher: `check`, `code` and `serial`, each in the
-//! file of its name.
+//! The commands that judge a text and tell no watcher: `check`, `code`, `serial`, `depth` and
+//! `races`, each in the file of its name, and `code` with arrays in `case`.
 //! Model: a text has an answer by each: of the listing of a code, whether its capsules may be
-//! stopped anywhere and begun again; of a program, its code, or its outcome within a number of
-//! turns (`specs/Check`, `specs/Code`, `specs/Serial`).
+//! stopped anywhere and begun again; of a program, its code, with or without its arrays, or its
+//! outcome within a number of turns; of a case, what its depth-first run comes to within a number of
+//! capsules, and whether it is sound (`specs/Check`, `specs/Code`, `specs/Case`, `specs/Serial`,
+//! `specs/Depth`, `specs/Races`; `specs/Cases` has what the last two share).
 //! Contract: each call delivers the answer of the text that was read, or says that a port failed or
 //! memory was refused, and what follows from each status is a sentence of its table (`CheckSays`,
-//! `CodeSays`, `SerialSays`).
-//! Stands on `ppm_listing_reader` and `ppm_war`, on `ppm_program`, `ppm_cut` and `ppm_serial`, and
-//! on `ppm_answers`; `ppm_top` calls it.
+//! `CodeSays`, `CaseSays`, `SerialSays`, `DepthSays`, `RacesSays`).
+//! Stands on `ppm_listing_reader` and `ppm_war`, on `ppm_program`, `ppm_cut` and `ppm_serial`, on
+//! `ppm_case`, `ppm_depth` and `ppm_races`, and on `ppm_answers`; `ppm_top` calls it.
 //! After the write-after-read conflicts of Blelloch et al., SPAA 2018; the commands and their
 //! answers are this project's.
 #![tactic(auto)]

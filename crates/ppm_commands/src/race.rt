@@ -26,15 +26,17 @@ fn cell_of(arrays: &[NamedArray], word: u64) -> Cell
     requires there { word < value_count arrays.now }
     ensures { IsAt arrays.now word result }
 {
+    let mut left = arrays;
     let mut array = 0;
     let mut index = word;
-    while array < arrays.len() {
-        let length = arrays[array].values.as_slice().len() as u64;
+    while let [first, rest @ ..] = left {
+        let length = first.values.as_slice().len() as u64;
         if index < length {
             return Cell { array, index };
         }
         index -= length;
         array += 1;
+        left = rest;
     }
     unreachable!()
 }
