@@ -18,7 +18,7 @@ use Rattle.ppm_code.proofs.BuiltLemmas.{built_slot}
 use Rattle.ppm_code.proofs.CodeLemmas.{slots_small, procedure_is, entry_is}
 use Rattle.ppm_depth.specs.Moves.{entry_at, moved, now_after, stack_after, waiting_after, forks_by}
 use Rattle.ppm_depth.specs.Stack.{Strands, ForCallee, ForLeft, Above, On, listed, tree_at, end_of, IsTarget, Holds, IsLaidOut, IsShown, IsShownAt}
-use Rattle.ppm_depth.specs.Store.{Shows, own_at}
+use Rattle.ppm_depth.specs.Store.{Shows}
 use Rattle.ppm_depth.specs.Whole.{block_at, kept_of}
 use Rattle.ppm_depth.specs.declared.frame.Frame.{Frame}
 use Rattle.ppm_depth.specs.declared.frame.For.TheVariants.{Callee, Left}

@@ -2,7 +2,7 @@
 use Rattle.std.proofs.Common.{◌≡◌, ◌<◌, ◌≤◌, inl, inr, ℕ, zero, suc, List, refl, ap, ◌∙◌, subst, arith}
 use Rattle.std.specs.Prelude.{◌⊎◌}
 use Rattle.ppm_strands.specs.Tree.{Words, Strand, Call, Fork, Over, Code}
-use Rattle.ppm_strands.specs.Run.{Counts, none, of_capsule, rejoin, joined, End, with_counts, Ends}
+use Rattle.ppm_strands.specs.Run.{Counts, none, of_capsule, rejoin, joined, End, with_counts}
 use Rattle.ppm_strands.specs.Ahead.{Capsule, Return, Join, Done}
 use Rattle.ppm_strands.specs.Turn.{StepsInTurn}
 use Rattle.ppm_strands.proofs.ChainLemmas.{chains_keep_ends}

@@ -8,7 +8,7 @@ use Rattle.ppm_depth.specs.Order.{StepsInOrder}
 use Rattle.ppm_depth.proofs.OrderLemmas.{before}
 use Rattle.ppm_strands.proofs.RunLemmas.{plus_none}
 use Rattle.ppm_code.specs.declared.code.CodeParts.{CodeParts}
-use Rattle.ppm_code.specs.Strands.{Result, Gave, Trapped, resume, kept, with_value}
+use Rattle.ppm_code.specs.Strands.{Result, Gave, resume, kept, with_value}
 use Rattle.ppm_depth.specs.Moves.{gone_on, stack_gone_on, joined, stack_joined, with_slot, resumed, stack_resumed, waiting_resumed, AreSlotsThere, IsSlotThere, pending, pending_for, turns_of}
 use Rattle.ppm_depth.proofs.AdvanceLemmas.{pending_push}
 use Rattle.ppm_depth.specs.Stack.{Own, Strands, result_of, Waits, ForCallee, ForLeft, ForRight, Above, Root, On, listed, tree_at, waits_for, end_of, Holds, AreOne, IsLaidOut, IsNow, IsTarget, IsShown, IsShownAt}

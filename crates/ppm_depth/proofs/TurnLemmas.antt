@@ -2,10 +2,9 @@
 use Rattle.std.proofs.Common.{◌≡◌, ◌<◌, ◌≤◌, ℕ, zero, suc, List, length, get_or, replicate, inl, inr, refl, sym, ap, subst, arith, false, Option, Some, None}
 use Rattle.std.specs.Prelude.{◌⊎◌, ◌==◌}
 use Rattle.std.proofs.lemmas.List.{length-set, get_or-set_other}
-use Rattle.ppm_strands.specs.Tree.{Strand, Over}
 use Rattle.ppm_code.specs.declared.code.CodeParts.{CodeParts}
 use Rattle.ppm_code.specs.declared.location.FrameWord.TheVariants.{Slot, Value}
-use Rattle.ppm_code.specs.Strands.{Point, Gave, Trapped, at_capsule, with_value, resume}
+use Rattle.ppm_code.specs.Strands.{Point, Gave, at_capsule, with_value, resume}
 use Rattle.ppm_depth.specs.Moves.{with_slot, gone_on, stack_gone_on}
 use Rattle.ppm_depth.specs.Stack.{Own, result_of, Above, listed, tree_at, end_of, IsTarget, Holds, IsLaidOut, IsShown, IsShownAt}
 use Rattle.ppm_depth.specs.Store.{own_at}

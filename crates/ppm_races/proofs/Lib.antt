@@ -1,5 +1,6 @@
--- `LogLemmas`: what a capsule touches. `ForkLemmas`, `StampLemmas`: what stands beside, and what meets it. `MarkLemmas`, `WalkLemmas`,
+-- `LogLemmas`, `AccessLemmas`: what a capsule touches. `ForkLemmas`, `StampLemmas`: what stands beside, and what meets it. `MarkLemmas`, `WalkLemmas`,
 -- `ReturnLemmas`: a walk goes from moment to moment. `VerdictLemmas`, `NamingLemmas`, `OneVerdictLemmas`: what is said of it.
+pub mod AccessLemmas
 pub mod ForkLemmas
 pub mod LogLemmas
 pub mod MarkLemmas

@@ -1,30 +1,23 @@
--- A capsule under way with its log: what was noted, and the touches that are to come, are the touches of the whole; and these are what it reads
--- and writes.
-use Rattle.std.proofs.Common.{◌≡◌, ◌<◌, ◌≤◌, ℕ, zero, suc, ◌+◌, ◌-◌, max, Bool, true, false, List, [], ◌∷◌, ◌++◌, length, get_or, refl, sym, ap, ◌∙◌, subst, arith, cond, slice_set, inl, inr, Some, add-zero, zero-add}
-use Rattle.std.specs.Prelude.{◌⊎◌, ◌↔◌, slice_get, replicate}
+-- A capsule under way with its log: what was noted, and the touches that are to come, are the touches of the whole.
+use Rattle.std.proofs.Common.{◌≡◌, ◌<◌, ◌≤◌, ℕ, zero, suc, ◌+◌, ◌-◌, max, Bool, true, false, List, [], ◌∷◌, ◌++◌, length, get_or, refl, sym, ap, ◌∙◌}
+use Rattle.std.proofs.Common.{arith, slice_set, Some, add-zero, zero-add}
+use Rattle.std.specs.Prelude.{slice_get}
 use Rattle.std.proofs.lemmas.Option.{slice_get_read}
 use Rattle.std.proofs.lemmas.List.{append-nil, append_assoc}
-use Rattle.std.proofs.lemmas.Bool.{cond-false}
-use Rattle.ppm_strands.specs.Tree.{Has}
-use Rattle.ppm_capsules.proofs.LocationLemmas.{in_or_not}
-use Rattle.ppm_capsules.specs.Capsule.{Capsule, Reads, Writes, Asks as AsksFor, Ends, Memory, In, is_in, store, written, exposed, exposed_past}
-use Rattle.ppm_capsules.specs.Strand.{Own, New as NewWord, Shared, addresses}
+use Rattle.ppm_capsules.specs.Capsule.{Memory, store}
 use Rattle.ppm_code.specs.declared.act.Act.{Act}
 use Rattle.ppm_code.specs.declared.act.Act.TheVariants.{Sets, Passes, Jumps, Steps, Ends as Stops}
-use Rattle.ppm_code.specs.declared.act.End.{End}
-use Rattle.ppm_code.specs.declared.act.End.TheVariants.{Finish}
 use Rattle.ppm_code.specs.declared.act.Step.{Step}
 use Rattle.ppm_code.specs.declared.act.Step.TheVariants.{Loads, Stores, Asks}
 use Rattle.ppm_code.specs.declared.instr.Instr.{Instr}
 use Rattle.ppm_code.specs.declared.location.Location.{Location}
 use Rattle.ppm_code.specs.declared.location.Location.TheVariants.{Frame, New, Array}
 use Rattle.ppm_code.specs.Acts.{does}
-use Rattle.ppm_code.specs.Capsules.{at_act, capsule_from, capsule_of}
 use Rattle.ppm_code.specs.Locations.{Where, code_locations, location_of}
 use Rattle.ppm_depth.specs.Store.{Shows, IsWithin, found, registers_after, blocks_after, words_after}
 use Rattle.ppm_depth.specs.declared.store.Place.{Place}
 use Rattle.ppm_depth.proofs.RestLemmas.{IsLaid, IsStepWithin, loaded, stored}
-use Rattle.ppm_races.specs.Touches.{touches_at, touches_by, words_in, with_written, written_in, AreThere, after_step, after_act, touches_from, touches_of}
+use Rattle.ppm_races.specs.Touches.{touches_at, touches_by, AreThere, after_step, after_act, touches_from}
 use Rattle.ppm_races.specs.declared.touch.Touch.{Touch}
 
 -- how the touches go on matters at later instructions alone
@@ -114,7 +107,8 @@ module _ (slots size : ℕ) (p : Place) where
       all = append_assoc log [] (go next g it.now) ∙ it.all;
     }
 
-    pub notes_step : (s : Step) (at : ℕ) (go : ℕ → List ℕ → Memory Where → List Touch) (next : ℕ) (blocks words g blocks' words' g' : List ℕ) (log log' : List Touch)
+    pub notes_step : (s : Step) (at : ℕ) (go : ℕ → List ℕ → Memory Where → List Touch) (next : ℕ) (blocks words g blocks' words' g' : List ℕ)
+        (log log' : List Touch)
         → IsLaid slots size p blocks → IsStepWithin slots size p (length words) s → blocks' ≡ blocks_after p s blocks
         → words' ≡ words_after s words → g' ≡ registers_after p s blocks words g → log' ≡ log ++ touches_by s at
         → IsNoting whole blocks words log (λ m. touches_by s at ++ after_step go next s g m) → IsNoting whole blocks' words' log' (go next g')
@@ -146,154 +140,6 @@ module _ (slots size : ℕ) (p : Place) where
     -- nothing is to come: the log is whole
     pub log_whole : (blocks words : List ℕ) (log : List Touch) → IsNoting whole blocks words log (λ m. []) → log ≡ whole
     log_whole blocks words log it = sym (append-nil log) ∙ it.all
-
--- all that a capsule reads and writes, in the order in which it does
-abbrev accessed : Capsule Where End → Memory Where → List Where
-accessed (Reads l go) m = l ∷ accessed (go (m l)) m
-accessed (Writes l v go) m = l ∷ accessed go (store code_locations m l v)
-accessed (AsksFor n go) m = accessed go m
-accessed (Ends e) m = []
-
--- what a step touches is what its location's address is
-address_first : (l : Location) (b : Bool) (at : ℕ) (log : List Touch) (ls : List Where) → words_in log ≡ addresses ls
-    → words_in (touches_at l b at ++ log) ≡ addresses (location_of l ∷ ls)
-address_first (Frame own) b at log ls same = same
-address_first (New offset) b at log ls same = same
-address_first (Array word) b at log ls same = ap (λ (xs : List ℕ). word ∷ xs) same
-
-written_first : (l : Location) (at : ℕ) (log : List Touch) (ls : List Where) → written_in log ≡ addresses ls
-    → written_in (touches_at l true at ++ log) ≡ addresses (location_of l ∷ ls)
-written_first (Frame own) at log ls same = same
-written_first (New offset) at log ls same = same
-written_first (Array word) at log ls same = ap (λ (xs : List ℕ). word ∷ xs) same
-
-read_first : (l : Location) (at : ℕ) (log : List Touch) (ls : List Where) → written_in log ≡ addresses ls
-    → written_in (touches_at l false at ++ log) ≡ addresses ls
-read_first (Frame own) at log ls same = same
-read_first (New offset) at log ls same = same
-read_first (Array word) at log ls same = same
-
--- touches and a capsule have the same words
-pub record AreOf (log : List Touch) (c : Capsule Where End) (m : Memory Where) : Type 0 where
-  pub all : words_in log ≡ addresses (accessed c m)
-  pub written : written_in log ≡ addresses (written code_locations c m)
-
-step_of : (log_at : ℕ → List ℕ → Memory Where → List Touch) (capsule_at : ℕ → List ℕ → Capsule Where End)
-    → ((t : ℕ) (h : List ℕ) (n : Memory Where) → AreOf (log_at t h n) (capsule_at t h) n) → (here : ℕ) (a : Act) (g : List ℕ) (m : Memory Where)
-    → AreOf (after_act log_at here a g m) (at_act capsule_at (here + 1) a g) m
-step_of log_at capsule_at same here (Sets d v) g m = same (here + 1) (slice_set g d.index v) m
-step_of log_at capsule_at same here Passes g m = same (here + 1) g m
-step_of log_at capsule_at same here (Jumps t) g m = same (max t (here + 1)) g m
-step_of log_at capsule_at same here (Steps (Loads l d)) g m =
-    let h = slice_set g d.index (m (location_of l)) in
-    let rest = same (here + 1) h m in
-    record {
-      all = address_first l false here (log_at (here + 1) h m) (accessed (capsule_at (here + 1) h) m) rest.all;
-      written = read_first l here (log_at (here + 1) h m) (written code_locations (capsule_at (here + 1) h) m) rest.written;
-    }
-step_of log_at capsule_at same here (Steps (Stores l v)) g m =
-    let n = store code_locations m (location_of l) v in
-    let rest = same (here + 1) g n in
-    record {
-      all = address_first l true here (log_at (here + 1) g n) (accessed (capsule_at (here + 1) g) n) rest.all;
-      written = written_first l here (log_at (here + 1) g n) (written code_locations (capsule_at (here + 1) g) n) rest.written;
-    }
-step_of log_at capsule_at same here (Steps (Asks n)) g m = let rest = same (here + 1) g m in record { all = rest.all; written = rest.written }
-step_of log_at capsule_at same here (Stops e) g m = record { all = refl; written = refl }
-
-touches_are : (array_words here skip : ℕ) (is : List Instr) (g : List ℕ) (m : Memory Where)
-    → AreOf (touches_from array_words here skip is g m) (capsule_from array_words here skip is g) m
-touches_are array_words here skip [] g m = record { all = refl; written = refl }
-touches_are array_words here (suc skip) (i ∷ is) g m = touches_are array_words (here + 1) skip is g m
-touches_are array_words here zero (i ∷ is) g m =
-    step_of (λ t h n. touches_from array_words (here + 1) (t - (here + 1)) is h n) (λ t h. capsule_from array_words (here + 1) (t - (here + 1)) is h)
-    (λ t h n. touches_are array_words (here + 1) (t - (here + 1)) is h n) here (does array_words i g) g m
-
--- what is read without having been written, and what is written, is all that is accessed
-address_in : (x : ℕ) (ls : List Where) → In (Shared x) ls → Has x (addresses ls)
-address_in x [] h = absurd h
-address_in x (Own s ∷ ls) h = elim h [ inl e ↦ absurd (cc) | inr y ↦ address_in x ls y ]
-address_in x (NewWord n ∷ ls) h = elim h [ inl e ↦ absurd (cc) | inr y ↦ address_in x ls y ]
-address_in x (Shared z ∷ ls) h = elim h [ inl e ↦ inl (cc) | inr y ↦ inr (address_in x ls y) ]
-
-head : (x : ℕ) (l : Where) (ls : List Where) → Has x (addresses (l ∷ ls)) → (l ≡ Shared x) ⊎ Has x (addresses ls)
-head x (Own s) ls h = inr h
-head x (NewWord n) ls h = inr h
-head x (Shared z) ls h = elim h [ inl e ↦ inl (ap (λ (y : ℕ). Shared y) (sym e)) | inr y ↦ inr y ]
-
-front : (x : ℕ) (l : Where) (ls : List Where) → l ≡ Shared x → Has x (addresses (l ∷ ls))
-front x l ls e = subst (λ (k : Where). Has x (addresses (k ∷ ls))) (sym e) (inl refl)
-
-behind : (x : ℕ) (l : Where) (ls : List Where) → Has x (addresses ls) → Has x (addresses (l ∷ ls))
-behind x (Own s) ls h = h
-behind x (NewWord n) ls h = h
-behind x (Shared z) ls h = inr h
-
-cond_more : (b : Bool) (x : ℕ) (l : Where) (ls : List Where) → Has x (addresses ls) → Has x (addresses (cond b ls (l ∷ ls)))
-cond_more true x l ls h = h
-cond_more false x l ls h = behind x l ls h
-
-cond_less : (b : Bool) (x : ℕ) (l : Where) (ls ks : List Where) → (Has x (addresses ls) → Has x (addresses ks)) → Has x (addresses (cond b ls (l ∷ ls)))
-    → Has x (addresses (l ∷ ks))
-cond_less true x l ls ks f h = behind x l ks (f h)
-cond_less false x l ls ks f h = elim (head x l ls h) [ inl e ↦ front x l ks e | inr y ↦ behind x l ks (f y) ]
-
-forth : (x : ℕ) (w : List Where) (p : Capsule Where End) (m : Memory Where) → Has x (addresses (accessed p m))
-    → Has x (addresses w) ⊎ (Has x (addresses (exposed_past code_locations w p m)) ⊎ Has x (addresses (written code_locations p m)))
-forth x w (Reads l go) m h = elim (head x l _ h) [
-  | inl e ↦ elim (in_or_not code_locations l w) [
-    | inl i ↦ inl (address_in x w (subst (λ (k : Where). In k w) e i.0))
-    | inr o ↦ inr (inl (subst (λ (ls : List Where). Has x (addresses ls))
-        (sym (cond-false (is_in code_locations l w) (exposed_past code_locations w (go (m l)) m) (l ∷ exposed_past code_locations w (go (m l)) m) o.1))
-        (front x l _ e)))
-  ]
-  | inr y ↦ elim (forth x w (go (m l)) m y) [
-    | inl z ↦ inl z
-    | inr z ↦ elim z [ inl u ↦ inr (inl (cond_more (is_in code_locations l w) x l _ u)) | inr u ↦ inr (inr u) ]
-  ]
-]
-forth x w (Writes l v go) m h = elim (head x l _ h) [
-  | inl e ↦ inr (inr (front x l _ e))
-  | inr y ↦ elim (forth x (l ∷ w) go (store code_locations m l v) y) [
-    | inl z ↦ elim (head x l w z) [ inl e ↦ inr (inr (front x l _ e)) | inr u ↦ inl u ]
-    | inr z ↦ elim z [ inl u ↦ inr (inl u) | inr u ↦ inr (inr (behind x l _ u)) ]
-  ]
-]
-forth x w (AsksFor n go) m h = forth x w go m h
-forth x w (Ends e) m h = absurd h
-
-back : (x : ℕ) (w : List Where) (p : Capsule Where End) (m : Memory Where)
-    → Has x (addresses (exposed_past code_locations w p m)) ⊎ Has x (addresses (written code_locations p m)) → Has x (addresses (accessed p m))
-back x w (Reads l go) m (inl h) =
-    cond_less (is_in code_locations l w) x l (exposed_past code_locations w (go (m l)) m) (accessed (go (m l)) m) (λ y. back x w (go (m l)) m (inl y)) h
-back x w (Reads l go) m (inr h) = behind x l _ (back x w (go (m l)) m (inr h))
-back x w (Writes l v go) m (inl h) = behind x l _ (back x (l ∷ w) go (store code_locations m l v) (inl h))
-back x w (Writes l v go) m (inr h) = elim (head x l _ h) [
-  | inl e ↦ front x l _ e
-  | inr y ↦ behind x l _ (back x (l ∷ w) go (store code_locations m l v) (inr y))
-]
-back x w (AsksFor n go) m h = back x w go m h
-back x w (Ends e) m (inl h) = absurd h
-back x w (Ends e) m (inr h) = absurd h
-
--- the touches of a capsule are what it reads and writes
-pub record IsLogOf (log : List Touch) (p : Capsule Where End) (m : Memory Where) : Type 0 where
-  pub touched : (x : ℕ) → Has x (words_in log) ↔ (Has x (addresses (exposed code_locations p m)) ⊎ Has x (addresses (written code_locations p m)))
-  pub written : (x : ℕ) → Has x (written_in log) ↔ Has x (addresses (written code_locations p m))
-
-pub is_log : (array_words : ℕ) (is : List Instr) (m : Memory Where) → IsLogOf (touches_of array_words is m) (capsule_of array_words is) m
-is_log array_words is m =
-    let same = touches_are array_words 0 0 is (replicate 64 0) m in
-    record {
-      touched = λ x. (
-        λ h. elim (forth x [] (capsule_of array_words is) m (subst (λ (xs : List ℕ). Has x xs) same.all h)) [ inl y ↦ absurd y | inr y ↦ y ],
-        λ h. subst (λ (xs : List ℕ). Has x xs) (sym same.all) (back x [] (capsule_of array_words is) m h),
-      );
-      written = λ x. (
-        λ h. subst (λ (xs : List ℕ). Has x xs) same.written h,
-        λ h. subst (λ (xs : List ℕ). Has x xs) (sym same.written) h,
-      );
-    }
 
 -- what is noted are array words
 pub there_more : (n : ℕ) (log more : List Touch) → AreThere n log → AreThere n more → AreThere n (log ++ more)

@@ -1,54 +1,28 @@
 -- The marks of the open forks say what stands beside a strand, and stand in order.
-use Rattle.std.proofs.Common.{◌≡◌, ◌<◌, ◌≤◌, ℕ, zero, suc, ◌+◌, ◌-◌, ◌*◌, Bool, true, false, ◌&&◌, ◌||◌, nat_le, nat_lt, List, [], ◌∷◌, ◌++◌, length, get_or, replicate, take, drop, refl, sym, ap, ◌∙◌, subst, arith, inl, inr, Option, Some, None}
-use Rattle.std.specs.Prelude.{◌⊎◌, ◌↔◌, cond}
+use Rattle.std.proofs.Common.{◌≡◌, ◌<◌, ℕ, Bool, true, false, ◌||◌, nat_le, nat_lt, List, [], ◌∷◌, ◌++◌}
+use Rattle.std.proofs.Common.{refl, sym, ap, ◌∙◌, subst, arith, inl, inr}
+use Rattle.std.specs.Prelude.{◌⊎◌}
 use Rattle.std.specs.List.{AllByRecursion}
 use Rattle.std.proofs.Math.Path.{fun_ext}
 use Rattle.std.proofs.lemmas.Bool.{le-ltb, and_right}
-use Rattle.std.proofs.lemmas.List.{length_push}
-use Rattle.ppm_strands.specs.Tree.{Words, Tree, Strand, Over, Has, Code}
-use Rattle.ppm_strands.specs.Calm.{touches}
-use Rattle.ppm_strands.proofs.PartsLemmas.{has_left, has_right, has_cases}
-use Rattle.ppm_capsules.specs.Capsule.{Capsule, Memory, leaves, exposed, written}
-use Rattle.ppm_capsules.specs.Strand.{addresses, own_of, new_of, start}
+use Rattle.ppm_strands.specs.Tree.{Words, Code}
+use Rattle.ppm_capsules.specs.Capsule.{Memory}
+use Rattle.ppm_capsules.specs.Strand.{own_of, new_of, start}
 use Rattle.ppm_code.specs.declared.act.End.{End}
 use Rattle.ppm_code.specs.declared.act.End.TheVariants.{Next, Finish, Trap, Call, Fork}
 use Rattle.ppm_code.specs.declared.code.CodeParts.{CodeParts}
-use Rattle.ppm_code.specs.Capsules.{capsule_of}
-use Rattle.ppm_code.specs.Code.{EndFits, IsCode}
-use Rattle.ppm_code.specs.Locations.{Where, code_locations}
-use Rattle.ppm_code.specs.Sizes.{procedure_at, size_at, slots_at}
-use Rattle.ppm_code.specs.Strands.{Point, Result, opens, table_of, instrs_of}
-use Rattle.ppm_depth.specs.Moves.{now_after, stack_after, waiting_after, resumed, stack_resumed, waiting_resumed, turns_of}
-use Rattle.ppm_depth.specs.Stack.{Own, Strands, result_of, Waits, ForCallee, ForLeft, ForRight, Above, Root, On, listed, tree_at, end_of, Holds, AreOne, IsLaidOut, IsNow, IsShown, IsShownAt}
-use Rattle.ppm_depth.specs.Start.{words_of}
-use Rattle.ppm_depth.specs.Store.{Shows}
-use Rattle.ppm_depth.specs.Turns.{strands_over}
-use Rattle.ppm_depth.specs.Whole.{IsWhole, Keeps, block_at}
-use Rattle.ppm_depth.specs.declared.capsule.Done.{Done as Finished}
+use Rattle.ppm_code.specs.Locations.{Where}
+use Rattle.ppm_code.specs.Strands.{Result, opens}
+use Rattle.ppm_depth.specs.Stack.{Own, Strands, Above}
 use Rattle.ppm_depth.specs.declared.frame.Frame.{Frame}
-use Rattle.ppm_depth.specs.declared.frame.Finish.{Finish as Finishes}
-use Rattle.ppm_depth.specs.declared.frame.For.{For}
-use Rattle.ppm_depth.specs.declared.frame.For.TheVariants.{Callee, Left, Right}
-use Rattle.ppm_depth.specs.declared.frame.Now.{Now}
-use Rattle.ppm_depth.specs.declared.frame.Now.TheVariants.{At, Over as IsOver}
-use Rattle.ppm_depth.specs.declared.frame.Waiting.{Waiting}
-use Rattle.ppm_depth.specs.declared.store.Place.{Place}
-use Rattle.ppm_depth.proofs.AdvanceLemmas.{began_shows, came_next, came_after, advanced_at}
 use Rattle.ppm_depth.proofs.FollowLemmas.{above_after, leaf_after}
-use Rattle.ppm_depth.proofs.ResumeLemmas.{above_resumed, leaf_resumed, resumed_at}
-use Rattle.ppm_depth.proofs.StackLemmas.{innermost}
-use Rattle.ppm_stamps.specs.Stamps.{Stamps, right_of, Passes, Marks}
-use Rattle.ppm_stamps.specs.Moments.{Above as Standing, InCallee, InLeft, InRight, beside_of, Comes, Runs, Calls, Forks, Returns, GoesRight, Joins, IsOpen}
+use Rattle.ppm_stamps.specs.Stamps.{Stamps}
+use Rattle.ppm_stamps.specs.Moments.{Above as Standing, InCallee, InLeft, InRight, beside_of, Comes, Calls, Forks, IsOpen}
 use Rattle.ppm_stamps.proofs.MomentLemmas.{beside_low}
 use Rattle.ppm_stamps.proofs.OpenLemmas.{AreBelow, Ascends, ascends}
-use Rattle.ppm_races.specs.Beside.{is_left_of, stands_beside, IsOneOf, IsInside, AreInOrder, stamps_of, meets, IsFirst, IsFirstMet, NoneMeets, AreMarked}
-use Rattle.ppm_races.specs.Verdicts.{MomentOf, log_of, meets_at}
-use Rattle.ppm_races.specs.Touches.{words_in, written_in, touches_of}
-use Rattle.ppm_races.specs.Walks.{start_of, mid_of, outside_of, rise, marks_of, opens_fork, marks_with, MarksResumed, IsLogged, IsMeetingOf}
+use Rattle.ppm_races.specs.Beside.{is_left_of, stands_beside, IsOneOf, IsInside, AreInOrder}
+use Rattle.ppm_races.specs.Walks.{rise, marks_of, opens_fork, marks_with}
 use Rattle.ppm_races.specs.declared.stamps.Mark.{Mark}
-use Rattle.ppm_races.specs.declared.stamps.Met.{Met}
-use Rattle.ppm_races.specs.declared.touch.Touch.{Touch}
-use Rattle.ppm_races.proofs.LogLemmas.{IsLogOf, is_log as touches_are_log}
 
 all_push : (P : Mark → Type 0) (ms : List Mark) (n : Mark) → AllByRecursion P ms → P n → AllByRecursion P (ms ++ (n ∷ []))
 all_push P [] n all one = (one, tt)
@@ -85,7 +59,8 @@ pub same_beside : (marks : List Mark) (p : List (Standing Own Result)) → marks
 same_beside marks p e = ap (λ (ms : List Mark). stands_beside ms) e ∙ fun_ext (beside_marks p)
 
 -- nothing stands beside who is next
-pub now_clear : (c : Code Own Result) (root : Strands) (input : Words) (marks : List Mark) (p : List (Standing Own Result)) (t : Strands) (a : Words) (s : Stamps)
+pub now_clear : (c : Code Own Result) (root : Strands) (input : Words) (marks : List Mark) (p : List (Standing Own Result)) (t : Strands) (a : Words)
+    (s : Stamps)
     → marks ≡ marks_of p → Comes c root input p t a s → stands_beside marks s.time ≡ false
 now_clear c root input marks p t a s e come = by (stands_beside marks s.time) refl
   where
@@ -118,7 +93,8 @@ in_order (InLeft g r start ∷ p) are =
 in_order (InRight g o start mid ∷ p) are =
     order_push (marks_of p) (record { start = start; mid = mid }) (in_order p are.1) (all_inside p (record { start = start; mid = mid }) are.0)
 
-pub now_sorted : (c : Code Own Result) (root : Strands) (input : Words) (marks : List Mark) (p : List (Standing Own Result)) (t : Strands) (a : Words) (s : Stamps)
+pub now_sorted : (c : Code Own Result) (root : Strands) (input : Words) (marks : List Mark) (p : List (Standing Own Result)) (t : Strands) (a : Words)
+    (s : Stamps)
     → marks ≡ marks_of p → Comes c root input p t a s → AreInOrder marks
 now_sorted c root input marks p t a s e come = subst (λ (ms : List Mark). AreInOrder ms) (sym e) (in_order p (ascends c come).1)
 
@@ -148,7 +124,8 @@ forks_after time (Call q k to) ms = ms
 forks_after time (Fork q r k left_to right_to) ms = record { start = time; mid = 0 } ∷ ms
 
 -- what an end opens is entered
-pub entered : (c : Code Own Result) (root : Strands) (input : Words) (code : CodeParts) (frame : Frame) (block : ℕ) (m : Memory Where) (s : Above) (ms : List Mark) (a : Words)
+pub entered : (c : Code Own Result) (root : Strands) (input : Words) (code : CodeParts) (frame : Frame) (block : ℕ) (m : Memory Where) (s : Above)
+    (ms : List Mark) (a : Words)
     (u : Stamps) (e : End) → Comes c root input (rise s ms) (opens code e (own_of m) (new_of m)) a u
     → Comes c root input (rise (above_after code frame block m s e) (forks_after u.time e ms)) (leaf_after code m e) a u
 entered c root input code frame block m s ms a u (Next k) come = come

@@ -1,5 +1,6 @@
 -- The capsules of a race, looked up by their numbers in the run.
-use Rattle.std.proofs.Common.{◌≡◌, ◌≤◌, ◌<◌, inl, inr, ℕ, zero, suc, ◌+◌, ◌-◌, ◌^◌, max, List, [], ◌∷◌, ◌++◌, refl, sym, ap, ◌∙◌, subst, subst₂, arith, length, Bool, true, false, Option, Some, None, replicate, slice_set}
+use Rattle.std.proofs.Common.{◌≡◌, ◌≤◌, ◌<◌, ℕ, zero, suc, ◌+◌, ◌-◌, max, List, [], ◌∷◌, ◌++◌, refl, sym, ap, ◌∙◌, subst, subst₂, arith, length}
+use Rattle.std.proofs.Common.{Bool, true, false, Option, Some, None, replicate, slice_set}
 use Rattle.std.specs.Prelude.{◌↔◌, cond, slice_get}
 use Rattle.std.specs.List.{AllByRecursion}
 use Rattle.ppm_words.specs.declared.named_array.NamedArray.{NamedArray}
@@ -28,20 +29,17 @@ use Rattle.ppm_depth.specs.Turns.{strands_over}
 use Rattle.ppm_strands.specs.Tree.{Words, Code, Strand, Over, Has, forks_in}
 use Rattle.ppm_strands.specs.Calm.{touches}
 use Rattle.ppm_strands.proofs.PartsLemmas.{has_right}
-use Rattle.ppm_stamps.specs.Stamps.{Stamps, Passes}
-use Rattle.ppm_stamps.specs.Moments.{beside_of, Comes, Moment, AreOne, IsOpen, IsPlain, Opened}
+use Rattle.ppm_stamps.specs.Stamps.{Stamps}
+use Rattle.ppm_stamps.specs.Moments.{beside_of, Comes, IsOpen, IsPlain, Opened}
 use Rattle.ppm_stamps.proofs.MomentLemmas.{beside_low}
 use Rattle.ppm_stamps.proofs.NameLemmas.{started, touches_are_named}
 use Rattle.ppm_stamps.proofs.OneWayLemmas.{moments_are_one, earlier_pass, moments_before}
 use Rattle.ppm_stamps.proofs.OpenLemmas.{forks_are_opened}
 use Rattle.ppm_races.specs.Judged.{IsMeetingWith, IsVisitTo, MomentWith}
 use Rattle.ppm_races.specs.Touches.{written_in, touches_at, after_act, touches_from}
-use Rattle.ppm_races.specs.Verdicts.{IsOpener, IsRaceWith, IsVisit, MomentOf, log_of, meets_at, touch_of}
+use Rattle.ppm_races.specs.Verdicts.{IsOpener, IsRaceWith, IsVisit, log_of, meets_at}
 use Rattle.ppm_races.specs.Beside.{IsFirst}
 use Rattle.ppm_races.specs.Walks.{IsLogged, IsMeetingOf}
-use Rattle.ppm_races.specs.declared.race.Opener.{Opener}
-use Rattle.ppm_races.specs.declared.race.Race.{Race}
-use Rattle.ppm_races.specs.declared.race.Touching.{Touching}
 use Rattle.ppm_races.specs.declared.race.Visit.{Visit}
 use Rattle.ppm_races.specs.declared.touch.Touch.{Touch}
 use Rattle.ppm_races.specs.declared.walk.Meeting.{Meeting}
@@ -92,7 +90,8 @@ module _ (code : CodeParts) (input : List NamedArray) where
       }
 
   -- the run is not over before a moment, and no capsule meets another one before it
-  pub not_over : (run limit array_words : ℕ) (o : Result) (a : Words) (s : Stamps) → array_words ≡ n → Comes (strands_over code array_words) root words [] (Over o) a s
+  pub not_over : (run limit array_words : ℕ) (o : Result) (a : Words) (s : Stamps) → array_words ≡ n → Comes (strands_over code array_words) root words []
+      (Over o) a s
       → s.time ≤ limit + 1 → limit + 1 ≡ run → MomentWith code input run → ⊥
   not_over run limit array_words o a s same come few is moment =
       let before = moments_before c root words o a s (subst (λ (k : ℕ). Comes (strands_over code k) root words [] (Over o) a s) same come) run moment in
@@ -177,8 +176,14 @@ module _ (code : CodeParts) (input : List NamedArray) where
         → IsOpener code root words n (record { run = v.run; capsule = v.capsule })
     fork_is v visit =
         let one = moments_are_one c root words opener.number opener.moment
-        (record { above = visit.moment.above; frame = visit.moment.frame; words = visit.moment.words; stamps = visit.moment.stamps; come = visit.moment.come;
-        time = visit.moment.time ∙ sym opener_is }) in
+        (record {
+          above = visit.moment.above;
+          frame = visit.moment.frame;
+          words = visit.moment.words;
+          stamps = visit.moment.stamps;
+          come = visit.moment.come;
+          time = visit.moment.time ∙ sym opener_is;
+        }) in
         record {
           moment = subst (λ (k : ℕ). MomentWith code input k) (sym visit.number) visit.moment;
           capsule = visit.capsule;
@@ -207,6 +212,7 @@ module _ (code : CodeParts) (input : List NamedArray) where
             first = subst (λ (k : ℕ). IsFirst (meets_at (beside_of it.moment.above) it.moment.stamps) (log_of code n it.moment.frame it.moment.words)
                 (record { word = m.met.touch.word; writes = m.met.touch.writes; at = k })) (sym same) it.first;
           };
+          there = it.there;
           run = met ∙ it.left;
           left = left_is left visit;
           mid = m.met.fork.mid;

@@ -1,10 +1,10 @@
 -- A code and an input have one verdict within a limit: moments of one number are one, and the first touch of a log that meets anything is one.
-use Rattle.std.proofs.Common.{◌≡◌, ◌⊎◌, ◌≤◌, ◌<◌, inl, inr, ℕ, ◌+◌, List, [], ◌∷◌, ◌++◌, refl, sym, ap, ap₂, ◌∙◌, subst, subst₂, arith, length, Bool, true, false}
+use Rattle.std.proofs.Common.{◌≡◌, ◌<◌, inl, inr, ℕ, ◌+◌, List, [], ◌∷◌, ◌++◌, refl, sym, ap, ◌∙◌, subst, subst₂, arith, length, Bool, true}
+use Rattle.std.proofs.Common.{false}
 use Rattle.std.specs.Prelude.{◌↔◌}
 use Rattle.std.specs.List.{AllByRecursion}
 use Rattle.std.proofs.lemmas.Bool.{cases_lt}
 use Rattle.ppm_words.specs.declared.named_array.NamedArray.{NamedArray}
-use Rattle.ppm_words.specs.declared.outcome.Outcome.{Outcome}
 use Rattle.ppm_code.specs.declared.code.CodeParts.{CodeParts}
 use Rattle.ppm_code.specs.Inputs.{words_in}
 use Rattle.ppm_code.specs.Strands.{Result}
@@ -17,11 +17,11 @@ use Rattle.ppm_strands.specs.Tree.{Words, Code, Strand, Has}
 use Rattle.ppm_strands.specs.Run.{End}
 use Rattle.ppm_strands.proofs.RunLemmas.{one_end}
 use Rattle.ppm_stamps.specs.Stamps.{Stamps}
-use Rattle.ppm_stamps.specs.Moments.{Above, beside_of, AreOne, IsOpen, Moment}
+use Rattle.ppm_stamps.specs.Moments.{Above, beside_of, IsOpen}
 use Rattle.ppm_stamps.proofs.OneWayLemmas.{moments_are_one, earlier_pass}
 use Rattle.ppm_stamps.proofs.OpenLemmas.{lefts_are_one, open_beside}
 use Rattle.ppm_races.specs.Beside.{IsFirst}
-use Rattle.ppm_races.specs.Verdicts.{IsMeeting, IsOpener, IsRace, IsVerdict, IsVisit, MomentOf, log_of, meets_at, met_at, touch_of, VerdictsAreOne}
+use Rattle.ppm_races.specs.Verdicts.{IsMeeting, IsOpener, IsRace, IsVerdict, IsVisit, MomentOf, log_of, meets_at, met_at, touch_of}
 use Rattle.ppm_races.specs.declared.judging.Verdict.{Verdict}
 use Rattle.ppm_races.specs.declared.judging.Verdict.TheVariants.{Calm, Races, NotWithin}
 use Rattle.ppm_races.specs.declared.race.Opener.{Opener}

@@ -1,54 +1,26 @@
 -- Where that for which a frame waits is over: a return, the beginning of a right branch, or a join.
-use Rattle.std.proofs.Common.{◌≡◌, ◌<◌, ◌≤◌, ℕ, zero, suc, ◌+◌, ◌-◌, ◌*◌, Bool, true, false, ◌&&◌, ◌||◌, nat_le, nat_lt, List, [], ◌∷◌, ◌++◌, length, get_or, replicate, take, drop, refl, sym, ap, ◌∙◌, subst, arith, inl, inr, Option, Some, None}
-use Rattle.std.specs.Prelude.{◌⊎◌, ◌↔◌, cond}
-use Rattle.std.specs.List.{AllByRecursion}
-use Rattle.std.proofs.Math.Path.{fun_ext}
-use Rattle.std.proofs.lemmas.Bool.{le-ltb, and_right}
+use Rattle.std.proofs.Common.{◌≡◌, ◌<◌, ◌≤◌, ℕ, ◌+◌, ◌-◌, ◌*◌, List, [], ◌∷◌, ◌++◌, length}
+use Rattle.std.proofs.Common.{ap, ◌∙◌, subst, arith}
 use Rattle.std.proofs.lemmas.List.{length_push}
-use Rattle.ppm_strands.specs.Tree.{Words, Tree, Strand, Over, Has, Code}
-use Rattle.ppm_strands.specs.Calm.{touches}
-use Rattle.ppm_strands.proofs.PartsLemmas.{has_left, has_right, has_cases}
-use Rattle.ppm_capsules.specs.Capsule.{Capsule, Memory, leaves, exposed, written}
-use Rattle.ppm_capsules.specs.Strand.{addresses, own_of, new_of, start}
-use Rattle.ppm_code.specs.declared.act.End.{End}
-use Rattle.ppm_code.specs.declared.act.End.TheVariants.{Next, Finish, Trap, Call, Fork}
+use Rattle.ppm_strands.specs.Tree.{Words, Over, Code}
 use Rattle.ppm_code.specs.declared.code.CodeParts.{CodeParts}
-use Rattle.ppm_code.specs.Capsules.{capsule_of}
-use Rattle.ppm_code.specs.Code.{EndFits, IsCode}
-use Rattle.ppm_code.specs.Locations.{Where, code_locations}
-use Rattle.ppm_code.specs.Sizes.{procedure_at, size_at, slots_at}
-use Rattle.ppm_code.specs.Strands.{Point, Result, opens, table_of, instrs_of}
-use Rattle.ppm_depth.specs.Moves.{now_after, stack_after, waiting_after, resumed, stack_resumed, waiting_resumed, turns_of}
-use Rattle.ppm_depth.specs.Stack.{Own, Strands, result_of, Waits, ForCallee, ForLeft, ForRight, Above, Root, On, listed, tree_at, end_of, Holds, AreOne, IsLaidOut, IsNow, IsShown, IsShownAt}
-use Rattle.ppm_depth.specs.Start.{words_of}
-use Rattle.ppm_depth.specs.Store.{Shows}
+use Rattle.ppm_code.specs.Strands.{Result}
+use Rattle.ppm_depth.specs.Moves.{resumed, stack_resumed, waiting_resumed, turns_of}
+use Rattle.ppm_depth.specs.Stack.{Own, Strands, result_of, Waits, ForCallee, ForLeft, ForRight, Above, Root, On, listed, end_of, AreOne}
+use Rattle.ppm_depth.specs.Stack.{IsLaidOut, IsNow, IsShownAt}
 use Rattle.ppm_depth.specs.Turns.{strands_over}
-use Rattle.ppm_depth.specs.Whole.{IsWhole, Keeps, block_at}
-use Rattle.ppm_depth.specs.declared.capsule.Done.{Done as Finished}
-use Rattle.ppm_depth.specs.declared.frame.Frame.{Frame}
 use Rattle.ppm_depth.specs.declared.frame.Finish.{Finish as Finishes}
 use Rattle.ppm_depth.specs.declared.frame.For.{For}
 use Rattle.ppm_depth.specs.declared.frame.For.TheVariants.{Callee, Left, Right}
 use Rattle.ppm_depth.specs.declared.frame.Now.{Now}
 use Rattle.ppm_depth.specs.declared.frame.Now.TheVariants.{At, Over as IsOver}
 use Rattle.ppm_depth.specs.declared.frame.Waiting.{Waiting}
-use Rattle.ppm_depth.specs.declared.store.Place.{Place}
-use Rattle.ppm_depth.proofs.AdvanceLemmas.{began_shows, came_next, came_after, advanced_at}
-use Rattle.ppm_depth.proofs.FollowLemmas.{above_after, leaf_after}
 use Rattle.ppm_depth.proofs.ResumeLemmas.{above_resumed, leaf_resumed, resumed_at}
 use Rattle.ppm_depth.proofs.StackLemmas.{innermost}
-use Rattle.ppm_stamps.specs.Stamps.{Stamps, right_of, Passes, Marks}
-use Rattle.ppm_stamps.specs.Moments.{Above as Standing, InCallee, InLeft, InRight, beside_of, Comes, Runs, Calls, Forks, Returns, GoesRight, Joins, IsOpen}
-use Rattle.ppm_stamps.proofs.MomentLemmas.{beside_low}
-use Rattle.ppm_stamps.proofs.OpenLemmas.{AreBelow, Ascends, ascends}
-use Rattle.ppm_races.specs.Beside.{is_left_of, stands_beside, IsOneOf, IsInside, AreInOrder, stamps_of, meets, IsFirst, IsFirstMet, NoneMeets, AreMarked}
-use Rattle.ppm_races.specs.Verdicts.{MomentOf, log_of, meets_at}
-use Rattle.ppm_races.specs.Touches.{words_in, written_in, touches_of}
-use Rattle.ppm_races.specs.Walks.{start_of, mid_of, outside_of, rise, marks_of, opens_fork, marks_with, MarksResumed, IsLogged, IsMeetingOf}
+use Rattle.ppm_stamps.specs.Stamps.{Stamps}
+use Rattle.ppm_stamps.specs.Moments.{Comes, Returns, GoesRight, Joins}
+use Rattle.ppm_races.specs.Walks.{start_of, outside_of, rise, marks_of, MarksResumed}
 use Rattle.ppm_races.specs.declared.stamps.Mark.{Mark}
-use Rattle.ppm_races.specs.declared.stamps.Met.{Met}
-use Rattle.ppm_races.specs.declared.touch.Touch.{Touch}
-use Rattle.ppm_races.proofs.LogLemmas.{IsLogOf, is_log as touches_are_log}
 
 -- where that for which a frame waits is over
 abbrev pub forks_resumed : ℕ → For → List Mark → List Mark
@@ -77,7 +49,8 @@ module _ (code : CodeParts) (array_words : ℕ) (root : Strands) (input : Words)
       → AreOne code blocks end top w.frame on v → old ≡ marks_of (rise (On w v s) ms) → MarksResumed time on old new
       → new ≡ marks_of (rise (above_resumed code array_words w on v done s) (forks_resumed time on ms))
   marks_up w (Callee to) (ForCallee f) s ms done blocks end top time old new one is changed = changed ∙ is
-  marks_up w (Left r left_to to) (ForLeft f g) s ms done blocks end top time old new one is changed = changed (marks_of (rise s (outside_of ms))) (start_of ms) 0 is
+  marks_up w (Left r left_to to) (ForLeft f g) s ms done blocks end top time old new one is changed = changed (marks_of (rise s (outside_of ms)))
+      (start_of ms) 0 is
   marks_up w (Right l left_to to) (ForRight f o) s ms done blocks end top time old new one is changed = changed (marks_of (rise s (outside_of ms))) _ is
   marks_up w (Callee to) (ForLeft f g) s ms done blocks end top time old new one is changed = absurd one
   marks_up w (Callee to) (ForRight f o) s ms done blocks end top time old new one is changed = absurd one
@@ -123,7 +96,8 @@ module _ (code : CodeParts) (array_words : ℕ) (root : Strands) (input : Words)
           }
 
 -- where nothing waits, all is over
-pub over_root : (c : Code Own Result) (root : Strands) (input : Words) (ws : List Waiting) (s : Above) (ms : List Mark) (leaf : Strands) (a : Words) (u : Stamps)
+pub over_root : (c : Code Own Result) (root : Strands) (input : Words) (ws : List Waiting) (s : Above) (ms : List Mark) (leaf : Strands) (a : Words)
+    (u : Stamps)
     (o : Result) → listed s ≡ ws → length ws ≡ 0 → leaf ≡ Over o → Comes c root input (rise s ms) leaf a u → Comes c root input [] (Over o) a u
 over_root c root input ws Root ms leaf a u o waits none over come = subst (λ (t : Strands). Comes c root input [] t a u) over come
 over_root c root input ws (On w v s) ms leaf a u o waits none over come =

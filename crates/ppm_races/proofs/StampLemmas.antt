@@ -1,7 +1,8 @@
 -- Logs that are looked through and marked, touch by touch.
-use Rattle.std.proofs.Common.{◌≡◌, ◌<◌, ◌≤◌, ℕ, ◌+◌, Bool, true, false, ◌&&◌, ◌||◌, nat_le, nat_lt, List, [], ◌∷◌, ◌++◌, length, get_or, set, take, drop, ◌-◌, refl, sym, ap, ◌∙◌, subst, arith, inl, inr}
+use Rattle.std.proofs.Common.{◌≡◌, ◌<◌, ◌≤◌, ℕ, Bool, true, false, ◌&&◌, ◌||◌, List, [], ◌∷◌, ◌++◌, length, get_or, set, take, drop, ◌-◌}
+use Rattle.std.proofs.Common.{refl, sym, ap, ◌∙◌, subst, arith, inl, inr}
 use Rattle.std.specs.Prelude.{◌⊎◌, ◌↔◌}
-use Rattle.std.proofs.lemmas.Bool.{both_ways, cases_Bool, cases_eq, or_cases, and_parts}
+use Rattle.std.proofs.lemmas.Bool.{cases_Bool, cases_eq}
 use Rattle.std.specs.List.{AllByRecursion}
 use Rattle.std.proofs.lemmas.List.{append-nil, append_assoc, get_or-set_same, get_or-set_other, length-set, take_all}
 use Rattle.ppm_strands.specs.Tree.{Has}
@@ -40,6 +41,11 @@ in_words (x ∷ front) rest t = inr (in_words front rest t)
 pub in_written : (front rest : List Touch) (t : Touch) → t.writes ≡ true → Has t.word (written_in (front ++ (t ∷ rest)))
 in_written [] rest t e = one_written t.writes t.word (written_in rest) e
 in_written (x ∷ front) rest t e = more_written x.writes x.word t.word (written_in (front ++ (t ∷ rest))) (in_written front rest t e)
+
+-- a touch of a log of array words is of one
+pub word_there : (n : ℕ) (front rest : List Touch) (t : Touch) → AreThere n (front ++ (t ∷ rest)) → t.word < n
+word_there n [] rest t h = h.0
+word_there n (x ∷ front) rest t h = word_there n front rest t h.1
 
 -- what a test says of a list and of one more
 all_push : (test : Touch → Bool) (front : List Touch) (t : Touch) → AllByRecursion (λ x. test x ≡ false) front → test t ≡ false
@@ -153,85 +159,86 @@ marks_done q time wrote touched wrote' touched' log it = it wrote' touched' (rec
   untouched = λ x h. refl;
 })
 
-module _ (q : ℕ → Bool) (time : ℕ) (now : q time ≡ false) (wrote touched : List ℕ) (t : Touch) (there : t.word < length wrote) (at : t.word < length touched) where
-  set_wrote : (b : Bool) (x : ℕ) → x ≡ t.word → b ≡ true → get_or (wrote_with b t.word time wrote) x 0 ≡ time
-  set_wrote true x e is = ap (λ (y : ℕ). get_or (set wrote t.word time) y 0) e ∙ get_or-set_same wrote t.word time 0 there
-  set_wrote false x e is = absurd (cc)
+module _ (q : ℕ → Bool) (time : ℕ) (now : q time ≡ false) (wrote touched : List ℕ) (t : Touch) (there : t.word < length wrote) (at : t.word < length touched)
+  where
+    set_wrote : (b : Bool) (x : ℕ) → x ≡ t.word → b ≡ true → get_or (wrote_with b t.word time wrote) x 0 ≡ time
+    set_wrote true x e is = ap (λ (y : ℕ). get_or (set wrote t.word time) y 0) e ∙ get_or-set_same wrote t.word time 0 there
+    set_wrote false x e is = absurd (cc)
 
-  kept_wrote : (b : Bool) (x : ℕ) → (x ≡ t.word → b ≡ true → ⊥) → get_or (wrote_with b t.word time wrote) x 0 ≡ get_or wrote x 0
-  kept_wrote true x ne = get_or-set_other wrote t.word x time 0 (λ e. ne e refl)
-  kept_wrote false x ne = refl
+    kept_wrote : (b : Bool) (x : ℕ) → (x ≡ t.word → b ≡ true → ⊥) → get_or (wrote_with b t.word time wrote) x 0 ≡ get_or wrote x 0
+    kept_wrote true x ne = get_or-set_other wrote t.word x time 0 (λ e. ne e refl)
+    kept_wrote false x ne = refl
 
-  wrote_long : (b : Bool) → length (wrote_with b t.word time wrote) ≡ length wrote
-  wrote_long true = length-set wrote t.word time
-  wrote_long false = refl
+    wrote_long : (b : Bool) → length (wrote_with b t.word time wrote) ≡ length wrote
+    wrote_long true = length-set wrote t.word time
+    wrote_long false = refl
 
-  touched_long : (b : Bool) → length (touched_with b t.word time touched) ≡ length touched
-  touched_long true = refl
-  touched_long false = length-set touched t.word time
+    touched_long : (b : Bool) → length (touched_with b t.word time touched) ≡ length touched
+    touched_long true = refl
+    touched_long false = length-set touched t.word time
 
-  -- what is asked of the stamp at a word, after the mark: as before where it stands beside, else not
-  module _ (b : Bool) (is : q (get_or touched t.word 0) ≡ b) where
-    other : (x : ℕ) → (x ≡ t.word → ⊥) → get_or (touched_with b t.word time touched) x 0 ≡ get_or touched x 0
-    other x ne = by b
-      where
-        by : (b : Bool) → get_or (touched_with b t.word time touched) x 0 ≡ get_or touched x 0
-        by true = refl
-        by false = get_or-set_other touched t.word x time 0 ne
+    -- what is asked of the stamp at a word, after the mark: as before where it stands beside, else not
+    module _ (b : Bool) (is : q (get_or touched t.word 0) ≡ b) where
+      other : (x : ℕ) → (x ≡ t.word → ⊥) → get_or (touched_with b t.word time touched) x 0 ≡ get_or touched x 0
+      other x ne = by b
+        where
+          by : (b : Bool) → get_or (touched_with b t.word time touched) x 0 ≡ get_or touched x 0
+          by true = refl
+          by false = get_or-set_other touched t.word x time 0 ne
 
-    same_true : b ≡ true → (x : ℕ) → get_or (touched_with b t.word time touched) x 0 ≡ get_or touched x 0
-    same_true e x = ap (λ (c : Bool). get_or (touched_with c t.word time touched) x 0) e
+      same_true : b ≡ true → (x : ℕ) → get_or (touched_with b t.word time touched) x 0 ≡ get_or touched x 0
+      same_true e x = ap (λ (c : Bool). get_or (touched_with c t.word time touched) x 0) e
 
-    same_false : b ≡ false → get_or (touched_with b t.word time touched) t.word 0 ≡ time
-    same_false e = ap (λ (c : Bool). get_or (touched_with c t.word time touched) t.word 0) e ∙ get_or-set_same touched t.word time 0 at
+      same_false : b ≡ false → get_or (touched_with b t.word time touched) t.word 0 ≡ time
+      same_false e = ap (λ (c : Bool). get_or (touched_with c t.word time touched) t.word 0) e ∙ get_or-set_same touched t.word time 0 at
 
-    -- at each word q says of it what it said
-    says : (x : ℕ) → q (get_or (touched_with b t.word time touched) x 0) ≡ q (get_or touched x 0)
-    says x = elim (cases_eq x t.word) [
-      | inl e ↦ elim (cases_Bool b) [
-        | inl y ↦ ap q (same_true y x)
-        | inr n ↦ ap (λ (y : ℕ). q (get_or (touched_with b t.word time touched) y 0)) e ∙ ap q (same_false n) ∙ now
-            ∙ sym (ap (λ (y : ℕ). q (get_or touched y 0)) e ∙ is ∙ n)
+      -- at each word q says of it what it said
+      says : (x : ℕ) → q (get_or (touched_with b t.word time touched) x 0) ≡ q (get_or touched x 0)
+      says x = elim (cases_eq x t.word) [
+        | inl e ↦ elim (cases_Bool b) [
+          | inl y ↦ ap q (same_true y x)
+          | inr n ↦ ap (λ (y : ℕ). q (get_or (touched_with b t.word time touched) y 0)) e ∙ ap q (same_false n) ∙ now
+              ∙ sym (ap (λ (y : ℕ). q (get_or touched y 0)) e ∙ is ∙ n)
+        ]
+        | inr ne ↦ ap q (other x ne)
       ]
-      | inr ne ↦ ap q (other x ne)
-    ]
 
-    pub marks_one : (left : List Touch) (w v : List ℕ)
-        → AreMarked q (wrote_with t.writes t.word time wrote) (touched_with b t.word time touched) time left w v
-        → AreMarked q wrote touched time (t ∷ left) w v
-    marks_one left w v it = record {
-      wrote_length = it.wrote_length ∙ wrote_long t.writes;
-      touched_length = it.touched_length ∙ touched_long b;
-      wrote = λ x h. elim (has_or_not x (written_in left)) [
-        | inl y ↦ it.wrote x y
-        | inr n ↦ elim (written_one t.writes t.word x (written_in left) h) [
-          | inl e ↦ it.unwritten x n ∙ set_wrote t.writes x e.1 e.0
-          | inr y ↦ absurd (n y)
-        ]
-      ];
-      unwritten = λ x h. it.unwritten x (λ y. h (more_written t.writes t.word x (written_in left) y))
-          ∙ kept_wrote t.writes x (λ e y. h (subst (λ (z : ℕ). Has z (with_written t.writes t.word (written_in left))) (sym e)
-          (one_written t.writes t.word (written_in left) y)));
-      stays = λ x h y. elim (has_or_not x (words_in left)) [
-        | inl has ↦ it.stays x has (says x ∙ y) ∙ stays_here x y
-        | inr n ↦ it.untouched x n ∙ stays_here x y
-      ];
-      touched = λ x h n. elim (has_or_not x (words_in left)) [
-        | inl has ↦ it.touched x has (says x ∙ n)
-        | inr out ↦ elim h [
-          | inl e ↦ it.untouched x out ∙ ap (λ (y : ℕ). get_or (touched_with b t.word time touched) y 0) e
-              ∙ same_false (sym is ∙ sym (ap (λ (y : ℕ). q (get_or touched y 0)) e) ∙ n)
-          | inr y ↦ absurd (out y)
-        ]
-      ];
-      untouched = λ x h. it.untouched x (λ y. h (inr y)) ∙ other x (λ e. h (inl e));
-    }
-      where
-        stays_here : (x : ℕ) → q (get_or touched x 0) ≡ true → get_or (touched_with b t.word time touched) x 0 ≡ get_or touched x 0
-        stays_here x y = elim (cases_eq x t.word) [
-          | inl e ↦ same_true (sym is ∙ sym (ap (λ (z : ℕ). q (get_or touched z 0)) e) ∙ y) x
-          | inr ne ↦ other x ne
-        ]
+      pub marks_one : (left : List Touch) (w v : List ℕ)
+          → AreMarked q (wrote_with t.writes t.word time wrote) (touched_with b t.word time touched) time left w v
+          → AreMarked q wrote touched time (t ∷ left) w v
+      marks_one left w v it = record {
+        wrote_length = it.wrote_length ∙ wrote_long t.writes;
+        touched_length = it.touched_length ∙ touched_long b;
+        wrote = λ x h. elim (has_or_not x (written_in left)) [
+          | inl y ↦ it.wrote x y
+          | inr n ↦ elim (written_one t.writes t.word x (written_in left) h) [
+            | inl e ↦ it.unwritten x n ∙ set_wrote t.writes x e.1 e.0
+            | inr y ↦ absurd (n y)
+          ]
+        ];
+        unwritten = λ x h. it.unwritten x (λ y. h (more_written t.writes t.word x (written_in left) y))
+            ∙ kept_wrote t.writes x (λ e y. h (subst (λ (z : ℕ). Has z (with_written t.writes t.word (written_in left))) (sym e)
+            (one_written t.writes t.word (written_in left) y)));
+        stays = λ x h y. elim (has_or_not x (words_in left)) [
+          | inl has ↦ it.stays x has (says x ∙ y) ∙ stays_here x y
+          | inr n ↦ it.untouched x n ∙ stays_here x y
+        ];
+        touched = λ x h n. elim (has_or_not x (words_in left)) [
+          | inl has ↦ it.touched x has (says x ∙ n)
+          | inr out ↦ elim h [
+            | inl e ↦ it.untouched x out ∙ ap (λ (y : ℕ). get_or (touched_with b t.word time touched) y 0) e
+                ∙ same_false (sym is ∙ sym (ap (λ (y : ℕ). q (get_or touched y 0)) e) ∙ n)
+            | inr y ↦ absurd (out y)
+          ]
+        ];
+        untouched = λ x h. it.untouched x (λ y. h (inr y)) ∙ other x (λ e. h (inl e));
+      }
+        where
+          stays_here : (x : ℕ) → q (get_or touched x 0) ≡ true → get_or (touched_with b t.word time touched) x 0 ≡ get_or touched x 0
+          stays_here x y = elim (cases_eq x t.word) [
+            | inl e ↦ same_true (sym is ∙ sym (ap (λ (z : ℕ). q (get_or touched z 0)) e) ∙ y) x
+            | inr ne ↦ other x ne
+          ]
 
 pub there_next : (n m : ℕ) (left : List Touch) → 1 ≤ length left → m ≡ n → AreThere n left → AreThere m (take (length left - 1) (drop 1 left))
 there_next n m [] some same h = absurd (omega (arith, some))

@@ -1,9 +1,10 @@
 -- What a walk has come to is what is said of the code.
-use Rattle.std.proofs.Common.{◌≡◌, ◌≤◌, ◌<◌, ◌⊎◌, inl, inr, ℕ, ◌+◌, List, [], ◌∷◌, ◌++◌, refl, sym, ap, ◌∙◌, subst, arith, length, get_or, replicate, Some, Bool, true, false}
+use Rattle.std.proofs.Common.{◌≡◌, ◌≤◌, ◌<◌, inl, inr, ℕ, ◌+◌, List, [], ◌∷◌, ◌++◌, refl, sym, ap, ◌∙◌, subst, arith, length, get_or, replicate, Some}
+use Rattle.std.proofs.Common.{Bool, true}
 use Rattle.std.proofs.Math.Path.{fun_ext}
 use Rattle.std.proofs.lemmas.Bool.{or_cases, and_parts}
 use Rattle.std.proofs.lemmas.List.{length_push}
-use Rattle.std.specs.Prelude.{◌||◌, ◌&&◌}
+use Rattle.std.specs.Prelude.{◌&&◌}
 use Rattle.ppm_words.specs.declared.named_array.NamedArray.{NamedArray}
 use Rattle.ppm_words.specs.declared.outcome.Outcome.TheVariants.{NotWithin}
 use Rattle.ppm_capsules.proofs.StrandLemmas.{code_is_local}
@@ -12,11 +13,11 @@ use Rattle.ppm_code.specs.Code.{IsCode}
 use Rattle.ppm_code.specs.Inputs.{words_in}
 use Rattle.ppm_code.specs.Locations.{code_locations}
 use Rattle.ppm_code.specs.Sizes.{frame_size}
-use Rattle.ppm_code.specs.Strands.{Result, instrs_of, table_of}
+use Rattle.ppm_code.specs.Strands.{instrs_of, table_of}
 use Rattle.ppm_code.specs.declared.code.CodeParts.{CodeParts}
 use Rattle.ppm_depth.specs.Image.{IsRunOf, outcome_in, root_frame, word_count}
 use Rattle.ppm_depth.specs.Moves.{entry_at}
-use Rattle.ppm_depth.specs.Run.{strands_of, IsWithin}
+use Rattle.ppm_depth.specs.Run.{IsWithin}
 use Rattle.ppm_depth.specs.Stack.{Own, Strands, Above as Standing, Root, On, listed, tree_at, IsNow, IsShown, IsShownAt}
 use Rattle.ppm_depth.specs.Start.{words_of, root_strand}
 use Rattle.ppm_depth.specs.Turns.{HasCome, strands_over}
@@ -32,12 +33,12 @@ use Rattle.ppm_depth.proofs.EndLemmas.{answered, begins_shown}
 use Rattle.ppm_depth.proofs.TurnLemmas.{zeros}
 use Rattle.ppm_races.specs.Beside.{stamps_of}
 use Rattle.ppm_races.specs.Touches.{words_in as words_of_log, written_in}
-use Rattle.ppm_races.specs.Verdicts.{MomentOf, log_of, meets_at}
+use Rattle.ppm_races.specs.Verdicts.{log_of, meets_at}
 use Rattle.ppm_races.specs.Walks.{IsMeetingOf}
 use Rattle.ppm_races.specs.declared.stamps.Mark.{Mark}
 use Rattle.ppm_races.specs.declared.touch.Touch.{Touch}
 use Rattle.ppm_races.specs.declared.walk.Meeting.{Meeting}
-use Rattle.ppm_races.proofs.LogLemmas.{is_log}
+use Rattle.ppm_races.proofs.AccessLemmas.{is_log}
 use Rattle.ppm_races.proofs.StampLemmas.{in_words, in_written}
 use Rattle.ppm_races.proofs.ReturnLemmas.{Stands}
 use Rattle.ppm_strands.specs.Tree.{Words, Tree, Strand, Over, Code, Local, Has}
@@ -45,7 +46,7 @@ use Rattle.ppm_strands.specs.Run.{End, Ends}
 use Rattle.ppm_strands.specs.Calm.{touches, Calm}
 use Rattle.ppm_strands.proofs.PartsLemmas.{over_end, has_left, has_right}
 use Rattle.ppm_stamps.specs.Stamps.{Stamps, Passes, Meets, nothing, fresh}
-use Rattle.ppm_stamps.specs.Moments.{Above, beside_of, Comes, Begins, Moment}
+use Rattle.ppm_stamps.specs.Moments.{Above, beside_of, Comes, Begins}
 use Rattle.ppm_stamps.proofs.CountLemmas.{one_more}
 use Rattle.ppm_stamps.proofs.MomentLemmas.{clean_back, found_back}
 use Rattle.ppm_stamps.proofs.RaceLemmas.{clean, found}
@@ -98,12 +99,15 @@ module _ (code : CodeParts) (array_words : ℕ) where
   -- a touch of a capsule that meets something is one by which the capsule does
   pub touch_meets : (f : Own) (a : Words) (beside : ℕ → Bool) (s : Stamps) (front rest : List Touch) (t : Touch)
       → log_of code array_words f a ≡ front ++ (t ∷ rest) → meets_at beside s t ≡ true → Meets (strands_over code array_words) beside f a s
-  touch_meets f a beside s front rest t all is = (t.word, elim (or_cases (beside (s.wrote t.word)) (t.writes && beside (s.touched t.word)) is) [
-    | inl y ↦ inl (log_touches f a t.word (subst (λ (l : List Touch). Has t.word (words_of_log l)) (sym all) (in_words front rest t)), y)
-    | inr y ↦
-        let parts = and_parts t.writes (beside (s.touched t.word)) y in
-        inr (log_writes f a t.word (subst (λ (l : List Touch). Has t.word (written_in l)) (sym all) (in_written front rest t parts.0)), parts.1)
-  ])
+  touch_meets f a beside s front rest t all is = (
+    t.word,
+    elim (or_cases (beside (s.wrote t.word)) (t.writes && beside (s.touched t.word)) is) [
+      | inl y ↦ inl (log_touches f a t.word (subst (λ (l : List Touch). Has t.word (words_of_log l)) (sym all) (in_words front rest t)), y)
+      | inr y ↦
+          let parts = and_parts t.writes (beside (s.touched t.word)) y in
+          inr (log_writes f a t.word (subst (λ (l : List Touch). Has t.word (written_in l)) (sym all) (in_written front rest t parts.0)), parts.1)
+    ],
+  )
 
   pub meets_of : (root : Strands) (input : Words) (m : Meeting) (it : IsMeetingOf code root input array_words m)
       → Meets (strands_over code array_words) (beside_of it.moment.above) it.moment.frame it.moment.words it.moment.stamps

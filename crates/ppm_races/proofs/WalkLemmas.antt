@@ -1,54 +1,42 @@
 -- A capsule that is run, marked and followed leads from a moment of the run to the next one.
-use Rattle.std.proofs.Common.{◌≡◌, ◌<◌, ◌≤◌, ℕ, zero, suc, ◌+◌, ◌-◌, ◌*◌, Bool, true, false, ◌&&◌, ◌||◌, nat_le, nat_lt, List, [], ◌∷◌, ◌++◌, length, get_or, replicate, take, drop, refl, sym, ap, ◌∙◌, subst, arith, inl, inr, Option, Some, None}
-use Rattle.std.specs.Prelude.{◌⊎◌, ◌↔◌, cond}
-use Rattle.std.specs.List.{AllByRecursion}
-use Rattle.std.proofs.Math.Path.{fun_ext}
-use Rattle.std.proofs.lemmas.Bool.{le-ltb, and_right}
-use Rattle.std.proofs.lemmas.List.{length_push}
-use Rattle.ppm_strands.specs.Tree.{Words, Tree, Strand, Over, Has, Code}
+use Rattle.std.proofs.Common.{◌≡◌, ℕ, ◌+◌, Bool, true, false, List, ◌++◌, length, get_or}
+use Rattle.std.proofs.Common.{replicate, refl, sym, ap, ◌∙◌, subst, arith, inl, inr}
+use Rattle.std.specs.Prelude.{cond}
+use Rattle.ppm_strands.specs.Tree.{Words, Strand, Has, Code}
 use Rattle.ppm_strands.specs.Calm.{touches}
 use Rattle.ppm_strands.proofs.PartsLemmas.{has_left, has_right, has_cases}
-use Rattle.ppm_capsules.specs.Capsule.{Capsule, Memory, leaves, exposed, written}
-use Rattle.ppm_capsules.specs.Strand.{addresses, own_of, new_of, start}
-use Rattle.ppm_code.specs.declared.act.End.{End}
-use Rattle.ppm_code.specs.declared.act.End.TheVariants.{Next, Finish, Trap, Call, Fork}
+use Rattle.ppm_capsules.specs.Capsule.{Memory, leaves}
+use Rattle.ppm_capsules.specs.Strand.{own_of, new_of, start}
 use Rattle.ppm_code.specs.declared.code.CodeParts.{CodeParts}
 use Rattle.ppm_code.specs.Capsules.{capsule_of}
 use Rattle.ppm_code.specs.Code.{EndFits, IsCode}
 use Rattle.ppm_code.specs.Locations.{Where, code_locations}
 use Rattle.ppm_code.specs.Sizes.{procedure_at, size_at, slots_at}
 use Rattle.ppm_code.specs.Strands.{Point, Result, opens, table_of, instrs_of}
-use Rattle.ppm_depth.specs.Moves.{now_after, stack_after, waiting_after, resumed, stack_resumed, waiting_resumed, turns_of}
-use Rattle.ppm_depth.specs.Stack.{Own, Strands, result_of, Waits, ForCallee, ForLeft, ForRight, Above, Root, On, listed, tree_at, end_of, Holds, AreOne, IsLaidOut, IsNow, IsShown, IsShownAt}
+use Rattle.ppm_depth.specs.Moves.{now_after, stack_after, waiting_after}
+use Rattle.ppm_depth.specs.Stack.{Own, Strands, Above, tree_at}
+use Rattle.ppm_depth.specs.Stack.{IsShown, IsShownAt}
 use Rattle.ppm_depth.specs.Start.{words_of}
 use Rattle.ppm_depth.specs.Store.{Shows}
 use Rattle.ppm_depth.specs.Turns.{strands_over}
 use Rattle.ppm_depth.specs.Whole.{IsWhole, Keeps, block_at}
 use Rattle.ppm_depth.specs.declared.capsule.Done.{Done as Finished}
 use Rattle.ppm_depth.specs.declared.frame.Frame.{Frame}
-use Rattle.ppm_depth.specs.declared.frame.Finish.{Finish as Finishes}
-use Rattle.ppm_depth.specs.declared.frame.For.{For}
-use Rattle.ppm_depth.specs.declared.frame.For.TheVariants.{Callee, Left, Right}
-use Rattle.ppm_depth.specs.declared.frame.Now.{Now}
-use Rattle.ppm_depth.specs.declared.frame.Now.TheVariants.{At, Over as IsOver}
+use Rattle.ppm_depth.specs.declared.frame.Now.TheVariants.{At}
 use Rattle.ppm_depth.specs.declared.frame.Waiting.{Waiting}
-use Rattle.ppm_depth.specs.declared.store.Place.{Place}
 use Rattle.ppm_depth.proofs.AdvanceLemmas.{began_shows, came_next, came_after, advanced_at}
 use Rattle.ppm_depth.proofs.FollowLemmas.{above_after, leaf_after}
-use Rattle.ppm_depth.proofs.ResumeLemmas.{above_resumed, leaf_resumed, resumed_at}
-use Rattle.ppm_depth.proofs.StackLemmas.{innermost}
-use Rattle.ppm_stamps.specs.Stamps.{Stamps, right_of, Passes, Marks}
-use Rattle.ppm_stamps.specs.Moments.{Above as Standing, InCallee, InLeft, InRight, beside_of, Comes, Runs, Calls, Forks, Returns, GoesRight, Joins, IsOpen}
-use Rattle.ppm_stamps.proofs.MomentLemmas.{beside_low}
-use Rattle.ppm_stamps.proofs.OpenLemmas.{AreBelow, Ascends, ascends}
-use Rattle.ppm_races.specs.Beside.{is_left_of, stands_beside, IsOneOf, IsInside, AreInOrder, stamps_of, meets, IsFirst, IsFirstMet, NoneMeets, AreMarked}
+use Rattle.ppm_stamps.specs.Stamps.{Passes, Marks}
+use Rattle.ppm_stamps.specs.Moments.{beside_of, Comes, Runs}
+use Rattle.ppm_races.specs.Beside.{stands_beside, IsOneOf, stamps_of, meets, IsFirst, IsFirstMet, NoneMeets, AreMarked}
 use Rattle.ppm_races.specs.Verdicts.{MomentOf, log_of, meets_at}
-use Rattle.ppm_races.specs.Touches.{words_in, written_in, touches_of}
-use Rattle.ppm_races.specs.Walks.{start_of, mid_of, outside_of, rise, marks_of, opens_fork, marks_with, MarksResumed, IsLogged, IsMeetingOf}
+use Rattle.ppm_races.specs.Touches.{AreThere, words_in, touches_of}
+use Rattle.ppm_races.specs.Walks.{rise, marks_of, opens_fork, marks_with, IsLogged, IsMeetingOf}
 use Rattle.ppm_races.specs.declared.stamps.Mark.{Mark}
 use Rattle.ppm_races.specs.declared.stamps.Met.{Met}
 use Rattle.ppm_races.specs.declared.touch.Touch.{Touch}
-use Rattle.ppm_races.proofs.LogLemmas.{IsLogOf, is_log as touches_are_log}
+use Rattle.ppm_races.proofs.AccessLemmas.{IsLogOf, is_log as touches_are_log}
+use Rattle.ppm_races.proofs.StampLemmas.{word_there}
 use Rattle.ppm_races.proofs.MarkLemmas.{same_beside, open_of, forks_after, entered, marks_entered}
 
 module _ (code : CodeParts) (is_code : IsCode code) (frame : Frame) (block : ℕ) (before_blocks opened blocks words_before words : List ℕ) (done : Finished)
@@ -81,14 +69,14 @@ module _ (code : CodeParts) (is_code : IsCode code) (frame : Frame) (block : ℕ
   abbrev before : Memory Where
   before = start code_locations (table_of code (length words_before)) f (words_of words_before)
 
-  abbrev behind : Memory Where
-  behind = leaves code_locations (capsule_of (length words) (instrs_of code frame.capsule)) before
+  abbrev came : Memory Where
+  came = leaves code_locations (capsule_of (length words) (instrs_of code frame.capsule)) before
 
   shows : Shows (slots_at code frame.capsule) (block_at code frame.capsule) (record { frame = frame.base; block = block }) opened words_before before
   shows = began_shows code is_code frame block before_blocks opened blocks words_before words done block_is opens_block whole keeps same_words fits waiting
       (tree_at above leaf) shown
 
-  next_is : c.next f (words_of words_before) ≡ opens code done.end (own_of behind) (new_of behind)
+  next_is : c.next f (words_of words_before) ≡ opens code done.end (own_of came) (new_of came)
   next_is = came_next code is_code frame block before_blocks opened blocks words_before words done block_is opens_block whole keeps same_words fits waiting
       (tree_at above leaf) shown
 
@@ -105,6 +93,7 @@ module _ (code : CodeParts) (is_code : IsCode code) (frame : Frame) (block : ℕ
   logged = subst (λ (l : List Touch). IsLogOf l (capsule_of (length words_before) (instrs_of code f.point.capsule)) before) (sym log_is)
       (touches_are_log (length words_before) (instrs_of code f.point.capsule) before)
 
+  -- the words that are noted are those that the strand touches
   all_touched : (x : ℕ) → Has x (words_in log) → Has x (touches c f (words_of words_before))
   all_touched x h = elim ((logged.touched x).0 h) [
     | inl y ↦ has_left x (c.reads f (words_of words_before)) _ y
@@ -141,9 +130,9 @@ module _ (code : CodeParts) (is_code : IsCode code) (frame : Frame) (block : ℕ
   has_logged = record { moment = moment; same = ap (λ (p : Point). p.capsule) at.at.2.point; all = log_is }
 
   -- a touch that meets something
-  pub has_met : (met : Met) → IsFirstMet marks wrote touched log met
+  pub has_met : (met : Met) → AreThere (length words_before) log → IsFirstMet marks wrote touched log met
       → IsMeetingOf code root input (length words_before) (record { run = time; capsule = frame.capsule; met = met })
-  has_met met h =
+  has_met met there h =
       let fork = h.whom.fork in
       let some = fork.before in
       record {
@@ -151,6 +140,8 @@ module _ (code : CodeParts) (is_code : IsCode code) (frame : Frame) (block : ℕ
         capsule = ap (λ (p : Point). p.capsule) at.at.2.point;
         first = subst (λ (l : List Touch). IsFirst (meets_at (beside_of (rise above forks)) (stamps_of time wrote touched)) l met.touch) log_is
             (subst (λ (q : ℕ → Bool). IsFirst (meets q wrote touched) log met.touch) q_is h.first);
+        there = word_there (length words_before) h.first.front h.first.rest met.touch
+            (subst (λ (l : List Touch). AreThere (length words_before) l) h.first.all there);
         left = h.whom.left ∙ ap (λ (q : ℕ → Bool). cond (q (get_or wrote met.touch.word 0)) (get_or wrote met.touch.word 0)
             (get_or touched met.touch.word 0)) q_is;
         beside = said true met.left fork.beside;
@@ -178,7 +169,8 @@ module _ (code : CodeParts) (is_code : IsCode code) (frame : Frame) (block : ℕ
       untouched = λ x h. marked.untouched x (λ y. h (all_touched x y));
     }
 
-    opened_next : Comes c root input (rise above forks) (opens code done.end (own_of behind) (new_of behind)) (words_of words) (stamps_of (time + 1) wrote' touched')
+    opened_next : Comes c root input (rise above forks) (opens code done.end (own_of came) (new_of came)) (words_of words)
+        (stamps_of (time + 1) wrote' touched')
     opened_next =
         subst (λ (t : Strands). Comes c root input (rise above forks) t (words_of words) (stamps_of (time + 1) wrote' touched')) next_is
         (subst (λ (a : Words). Comes c root input (rise above forks) (c.next f (words_of words_before)) a (stamps_of (time + 1) wrote' touched')) after_is
@@ -186,24 +178,25 @@ module _ (code : CodeParts) (is_code : IsCode code) (frame : Frame) (block : ℕ
 
     -- what stands above the strand then, and the moment
     abbrev pub above_then : Above
-    above_then = above_after code frame block behind above done.end
+    above_then = above_after code frame block came above done.end
 
     abbrev pub leaf_then : Strands
-    leaf_then = leaf_after code behind done.end
+    leaf_then = leaf_after code came done.end
 
     abbrev pub forks_then : List Mark
     forks_then = forks_after (time + 1) done.end forks
 
     pub shown_then : IsShownAt code (stack_after block blocks done.end) (waiting_after code frame block waiting done.end)
         (now_after code frame block blocks done.end) above_then leaf_then
-    shown_then = advanced_at code is_code frame block before_blocks opened blocks words_before words done block_is opens_block whole keeps same_words fits waiting
+    shown_then = advanced_at code is_code frame block before_blocks opened blocks words_before words done block_is opens_block whole keeps same_words fits
+        waiting
         (tree_at above leaf) shown
 
     pub come_then : Comes (strands_over code (length words)) root input (rise above_then forks_then) leaf_then (words_of words)
         (stamps_of (time + 1) wrote' touched')
     come_then = subst (λ (n : ℕ). Comes (strands_over code n) root input (rise above_then forks_then) leaf_then (words_of words)
         (stamps_of (time + 1) wrote' touched')) (sym same_words)
-        (entered c root input code frame block behind above forks (words_of words) (stamps_of (time + 1) wrote' touched') done.end opened_next)
+        (entered c root input code frame block came above forks (words_of words) (stamps_of (time + 1) wrote' touched') done.end opened_next)
 
     pub marks_then : marks_with (opens_fork done.end) (time + 1) marks ≡ marks_of (rise above_then forks_then)
-    marks_then = marks_entered code frame block behind above forks (time + 1) done.end marks marks_are
+    marks_then = marks_entered code frame block came above forks (time + 1) done.end marks marks_are

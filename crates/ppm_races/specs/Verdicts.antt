@@ -65,8 +65,9 @@ module _ (code : CodeParts) (root : Strands) (input : Words) (array_words : ℕ)
     pub capsule : moment.frame.point.capsule ≡ right.capsule
     pub first : IsFirst (meets_at (beside_of moment.above) moment.stamps) (log_of code array_words moment.frame moment.words) (touch_of word right)
 
-  -- a race: a touch meets another one, in the left branch of a fork in whose right branch it is itself
+  -- a race: a touch of an array word meets another one, in the left branch of a fork in whose right branch it is itself
   pub record IsRace (race : Race) : Type 0 where
+    pub there : race.word < array_words
     pub right : IsMeeting race.word race.right
     pub run : race.left.run ≡ met_at (beside_of right.moment.above) right.moment.stamps race.word
     pub left : IsVisit race.word race.left

@@ -107,6 +107,7 @@ module _ (code : CodeParts) (root : Strands) (input : Words) (array_words : ℕ)
     pub moment : MomentOf code root input array_words m.run
     pub capsule : moment.frame.point.capsule ≡ m.capsule
     pub first : IsFirst (meets_at (beside_of moment.above) moment.stamps) (log_of code array_words moment.frame moment.words) m.met.touch
+    pub there : m.met.touch.word < array_words
     pub left : m.met.left ≡ met_at (beside_of moment.above) moment.stamps m.met.touch.word
     pub beside : beside_of moment.above m.met.left ≡ true
     pub fork : IsOpen m.met.fork.start m.met.fork.mid moment.above

@@ -29,16 +29,21 @@ pub(crate) fn run_logged(
     requires tidy { IsTidy code.now }
     requires place { IsPlace code.now number place store.old.blocks.items }
     ensures whole { IfOk result (λ done. (m : Memory Where)
-        → Shows (slots_at code.now number) (block_at code.now number) place store.old.blocks.items store.old.words.items m
+        → Shows (slots_at code.now number) (block_at code.now number) place
+        store.old.blocks.items store.old.words.items m
         → IsWhole code.now number place store.new.blocks.items store.new.words.items m done) }
     ensures log { OnOk result ((m : Memory Where)
-        → Shows (slots_at code.now number) (block_at code.now number) place store.old.blocks.items store.old.words.items m
-        → log.new.items ≡ touches_of (length store.old.words.items) (instrs_in_code code.now number) m) }
+        → Shows (slots_at code.now number) (block_at code.now number) place
+        store.old.blocks.items store.old.words.items m
+        → log.new.items
+        ≡ touches_of (length store.old.words.items) (instrs_in_code code.now number) m) }
     ensures there { OnOk result (AreThere (length store.old.words.items) log.new.items) }
-    ensures kept { OnOk result (Keeps place (size_at code.now number) store.old.blocks.items store.new.blocks.items) }
+    ensures kept { OnOk result (Keeps place (size_at code.now number)
+        store.old.blocks.items store.new.blocks.items) }
     ensures words { OnOk result (length store.new.words.items ≡ length store.old.words.items) }
     ensures asked { IfOk result (λ done. done.asked ≤ room_limit) }
-    ensures end { IfOk result (λ done. EndFits code.now (procedure_at code.now number) (instrs_in_code code.now number) done.end) }
+    ensures end { IfOk result (λ done. EndFits code.now (procedure_at code.now number)
+        (instrs_in_code code.now number) done.end) }
     ensures code { IsCode code.now }
 {
     let instrs = instrs_of(code, number);

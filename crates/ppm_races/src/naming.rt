@@ -1,4 +1,5 @@
-//! The capsules of a race, by their numbers in the code: the depth-first run is made again up to each.
+//! The capsules of a race, by their numbers in the code: the depth-first run is made again up to
+//! each.
 ghost use Rattle.std.specs.Prelude.{◌≡◌, ◌≤◌, ◌^◌, IfOk};
 ghost use Rattle.ppm_code.specs.Tidy.{IsTidy};
 ghost use Rattle.ppm_depth.specs.Start.{NamesArrays};

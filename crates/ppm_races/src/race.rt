@@ -8,7 +8,8 @@ pub struct Opener {
     pub capsule: u32,
 }
 
-/// A capsule that touched a word, by its number in the run and in the code, and whether it wrote it.
+/// A capsule that touched a word, by its number in the run and in the code, and whether it wrote
+/// the word.
 #[derive(Clone, Copy, Debug, PartialEq, Eq)]
 pub struct Visit {
     pub run: u64,

@@ -1,5 +1,6 @@
 //! Who wrote and touched the words of the arrays, by the numbers of capsules in the run.
-ghost use Rattle.std.specs.Prelude.{◌≡◌, ◌<◌, ◌≤◌, ◌↔◌, IfNone, IfSome, nat_le, true, false, get_or, length};
+ghost use Rattle.std.specs.Prelude.{◌≡◌, ◌<◌, ◌≤◌, ◌↔◌, IfNone, IfSome, nat_le, true, false};
+ghost use Rattle.std.specs.Prelude.{get_or, length};
 ghost use Rattle.std.specs.List.Sorted.{IsPartitionPoint};
 ghost use Rattle.ppm_strands.specs.Tree.{Has};
 ghost use Rattle.ppm_races.specs.Beside.{AreInOrder, AreMarked, HasLeft, HasMet, IsFirstMet};
@@ -8,16 +9,16 @@ ghost use Rattle.ppm_races.specs.Touches.{AreThere, written_in};
 
 use crate::touch::Touch;
 
-/// A fork that is open: the number of the capsule with which its left branch began, and of that with
-/// which its right one did, or 0 where it has not.
+/// A fork that is open: the number of the capsule with which its left branch began, and of that
+/// with which its right one did, or 0 where it has not.
 #[derive(Clone, Copy, Debug, PartialEq, Eq)]
 pub struct Mark {
     pub start: u64,
     pub mid: u64,
 }
 
-/// Of each array word the number of the capsule that wrote it last, and of one that touched it; 0 is
-/// none.
+/// Of each array word the number of the capsule that wrote it last, and of one that touched it; 0
+/// is none.
 #[derive(Drop)]
 pub struct Visits {
     pub wrote: Vec<u64>,
@@ -37,7 +38,8 @@ pub struct Met {
 fn count_begun(marks: &[Mark], stamp: u64) -> usize
     requires sorted { AreInOrder marks.now }
     ensures bound { result ≤ length marks.now }
-    ensures point { IsPartitionPoint (λ mark. nat_le mark.start stamp ≡ true) (λ mark. nat_le mark.start stamp ≡ false) marks.now result }
+    ensures point { IsPartitionPoint (λ mark. nat_le mark.start stamp ≡ true)
+        (λ mark. nat_le mark.start stamp ≡ false) marks.now result }
 {
     marks.partition_point(
         |mark: &Mark| -> bool
@@ -46,8 +48,8 @@ fn count_begun(marks: &[Mark], stamp: u64) -> usize
     )
 }
 
-/// The open fork in whose left branch a capsule ran, where its right one is run now. Each fork began
-/// after the left branches of those outside of it, so one look is enough.
+/// The open fork in whose left branch a capsule ran, where its right one is run now. Each fork
+/// began after the left branches of those outside of it, so one look is enough.
 fn fork_with(marks: &[Mark], stamp: u64) -> Option<Mark>
     requires sorted { AreInOrder marks.now }
     ensures none { IfNone result (stands_beside marks.now stamp ≡ false) }
@@ -78,8 +80,10 @@ fn met_by(visits: &Visits, marks: &[Mark], touch: Touch) -> Option<Met>
     requires sorted { AreInOrder marks.now }
     requires wrote { touch.word < length visits.now.wrote.items }
     requires touched { touch.word < length visits.now.touched.items }
-    ensures none { IfNone result (meets (stands_beside marks.now) visits.now.wrote.items visits.now.touched.items touch ≡ false) }
-    ensures some { IfSome result (HasMet marks.now visits.now.wrote.items visits.now.touched.items touch) }
+    ensures none { IfNone result (meets (stands_beside marks.now) visits.now.wrote.items
+        visits.now.touched.items touch ≡ false) }
+    ensures some { IfSome result (HasMet marks.now visits.now.wrote.items
+        visits.now.touched.items touch) }
 {
     let wrote = visits.wrote[touch.word as usize];
     if let Some(fork) = fork_with(marks, wrote) {
@@ -102,8 +106,10 @@ pub(crate) fn first_met(visits: &Visits, marks: &[Mark], log: &[Touch]) -> Optio
     requires sorted { AreInOrder marks.now }
     requires wrote { AreThere (length visits.now.wrote.items) log.now }
     requires touched { AreThere (length visits.now.touched.items) log.now }
-    ensures none { IfNone result (NoneMeets (stands_beside marks.now) visits.now.wrote.items visits.now.touched.items log.now) }
-    ensures some { IfSome result (IsFirstMet marks.now visits.now.wrote.items visits.now.touched.items log.now) }
+    ensures none { IfNone result (NoneMeets (stands_beside marks.now) visits.now.wrote.items
+        visits.now.touched.items log.now) }
+    ensures some { IfSome result (IsFirstMet marks.now visits.now.wrote.items
+        visits.now.touched.items log.now) }
 {
     let mut left = log;
     while let [touch, rest @ ..] = left {
@@ -142,9 +148,11 @@ fn leave_mark(visits: &mut Visits, marks: &[Mark], touch: Touch, time: u64)
     requires sorted { AreInOrder marks.now }
     requires wrote { touch.word < length visits.old.wrote.items }
     requires touched { touch.word < length visits.old.touched.items }
-    ensures wrote { visits.new.wrote.items ≡ wrote_with touch.writes touch.word time visits.old.wrote.items }
+    ensures wrote { visits.new.wrote.items
+        ≡ wrote_with touch.writes touch.word time visits.old.wrote.items }
     ensures touched { visits.new.touched.items
-        ≡ touched_with (stands_beside marks.now (get_or visits.old.touched.items touch.word 0)) touch.word time visits.old.touched.items }
+        ≡ touched_with (stands_beside marks.now (get_or visits.old.touched.items touch.word 0))
+        touch.word time visits.old.touched.items }
 {
     let word = touch.word as usize;
     if touch.writes {
@@ -161,8 +169,8 @@ pub(crate) fn leave_marks(visits: &mut Visits, marks: &[Mark], log: &[Touch], ti
     requires wrote { AreThere (length visits.old.wrote.items) log.now }
     requires touched { AreThere (length visits.old.touched.items) log.now }
     requires now { stands_beside marks.now time ≡ false }
-    ensures { AreMarked (stands_beside marks.now) visits.old.wrote.items visits.old.touched.items time log.now
-        visits.new.wrote.items visits.new.touched.items }
+    ensures { AreMarked (stands_beside marks.now) visits.old.wrote.items visits.old.touched.items
+        time log.now visits.new.wrote.items visits.new.touched.items }
 {
     let mut left = log;
     while let [touch, rest @ ..] = left {

@@ -1,5 +1,6 @@
 //! A run of a code depth first, with stamps.
-ghost use Rattle.std.specs.Prelude.{[], ◌≡◌, ◌++◌, ◌∷◌, ◌<◌, ◌≤◌, ◌^◌, ◌+◌, ℕ, IfOk, List, OnOk, false, length, replicate};
+ghost use Rattle.std.specs.Prelude.{[], ◌≡◌, ◌++◌, ◌∷◌, ◌<◌, ◌≤◌, ◌^◌, ◌+◌, ℕ, IfOk, List, OnOk};
+ghost use Rattle.std.specs.Prelude.{false, length, replicate};
 ghost use Rattle.ppm_strands.specs.Run.{none};
 ghost use Rattle.ppm_strands.specs.Tree.{Words};
 ghost use Rattle.ppm_code.specs.Sizes.{size_at};
@@ -11,7 +12,8 @@ ghost use Rattle.ppm_depth.specs.Start.{words_of};
 ghost use Rattle.ppm_depth.specs.Turns.{AreFew, ShowsTree, counts_of};
 ghost use Rattle.ppm_depth.specs.declared.frame.Now.TheVariants.{At, Over};
 ghost use Rattle.ppm_races.specs.Beside.{AreInOrder, stands_beside};
-ghost use Rattle.ppm_races.specs.Walks.{AreSeen, Chains, HasChain, HasTold, IsAt, IsAtWith, IsLogged};
+ghost use Rattle.ppm_races.specs.Walks.{AreSeen, Chains, HasChain, HasTold, IsAt, IsAtWith};
+ghost use Rattle.ppm_races.specs.Walks.{IsLogged};
 ghost use Rattle.ppm_races.specs.Walks.{KeptBy, MarksResumed, ResumedSo, TurnedTo, marks_with};
 ghost use Rattle.ppm_races.specs.Walks.{opens_fork};
 ghost use Rattle.ppm_races.specs.declared.stamps.Mark.{Mark as MarkOf};
@@ -24,8 +26,8 @@ use ppm_depth::{Finish, For, Frame, Now, Place, Strand, Waiting, block_words, co
 use ppm_words::NoMemory;
 use std::alloc::Global;
 
-/// A run under way: its strand, which capsules touched the array words, the forks that are open, the outermost
-/// first, and what the last capsule touched.
+/// A run under way: its strand, which capsules touched the array words, the forks that are open,
+/// the outermost first, and what the last capsule touched.
 #[derive(Drop)]
 pub struct Walk {
     pub strand: Strand,
@@ -76,7 +78,8 @@ fn turn_right(marks: &mut Vec<Mark>, time: u64) -> Result<(), NoMemory>
 
 /// The innermost fork is closed.
 fn close(marks: &mut Vec<Mark>)
-    ensures { (front : List MarkOf) (mark : MarkOf) → marks.old.items ≡ front ++ (mark ∷ []) → marks.new.items ≡ front }
+    ensures { (front : List MarkOf) (mark : MarkOf)
+        → marks.old.items ≡ front ++ (mark ∷ []) → marks.new.items ≡ front }
 {
     let _ = marks.pop();
 }
@@ -150,17 +153,21 @@ impl Walk {
     pub(crate) fn advance(&mut self, code: &Code, frame: Frame) -> Result<Turn, NoMemory>
         requires tidy { IsTidy code.now }
         requires there { frame.capsule < length code.now.capsules }
-        requires stack { frame.base + size_at code.now frame.capsule ≤ length self.old.strand.store.blocks.items }
+        requires stack { frame.base + size_at code.now frame.capsule
+            ≤ length self.old.strand.store.blocks.items }
         requires few { AreFew self.old.strand.counts }
         requires capsules { self.old.strand.counts.capsules < 2 ^ 40 }
         requires seen { AreSeen self.old }
-        requires now { stands_beside self.old.marks.items (self.old.strand.counts.capsules + 1) ≡ false }
+        requires now { stands_beside self.old.marks.items (self.old.strand.counts.capsules + 1)
+            ≡ false }
         requires sorted { AreInOrder self.old.marks.items }
-        ensures turn { IfOk result (λ turn. (root : Strands) (input : Words) → IsAt code.now root input self.old (At frame)
+        ensures turn { IfOk result (λ turn. (root : Strands) (input : Words)
+            → IsAt code.now root input self.old (At frame)
             → TurnedTo code.now root input self.old self.new turn) }
-        ensures log { OnOk result ((root : Strands) (input : Words) → IsAt code.now root input self.old (At frame)
-            → IsLogged code.now root input (length self.old.strand.store.words.items) (self.old.strand.counts.capsules + 1)
-            frame.capsule self.new.log.items) }
+        ensures log { OnOk result ((root : Strands) (input : Words)
+            → IsAt code.now root input self.old (At frame)
+            → IsLogged code.now root input (length self.old.strand.store.words.items)
+            (self.old.strand.counts.capsules + 1) frame.capsule self.new.log.items) }
         ensures chain { IfOk result (Chains code.now self.old self.new (At frame)) }
         ensures kept { IfOk result (KeptBy self.old self.new) }
     {
@@ -199,7 +206,8 @@ impl Walk {
         requires slots { AreSlotsThere waiting.frame waiting.on waiting.block }
         requires few { self.old.strand.counts.capsules ≤ 2 ^ 40 }
         ensures now { IfOk result (λ now. (code : CodeOf) (root : Strands) (input : Words)
-            → IsAtWith code root input self.old.strand.store.blocks.items (self.old.strand.waiting.items ++ (waiting ∷ [])) self.old (Over finish)
+            → IsAtWith code root input self.old.strand.store.blocks.items
+            (self.old.strand.waiting.items ++ (waiting ∷ [])) self.old (Over finish)
             → IsAt code root input self.new now) }
         ensures kept { IfOk result (λ now. ResumedSo waiting finish self.old self.new now) }
     {
@@ -209,20 +217,23 @@ impl Walk {
         Ok(now)
     }
 
-    /// Runs a code from a frame until it is over, a capsule meets another one, or more capsules would
-    /// be run than that.
+    /// Runs a code from a frame until it is over, a capsule meets another one, or more capsules
+    /// would be run than that.
     pub(crate) fn run(&mut self, code: &Code, root: Frame, limit: u64) -> Result<Told, NoMemory>
         requires tidy { IsTidy code.now }
         requires limit { limit ≤ 2 ^ 40 }
         requires counts { counts_of self.old.strand.counts ≡ none }
         requires seen { AreSeen self.old }
-        requires began { (tree : Strands) × ((input : Words) × IsAt code.now tree input self.old (At root)) }
-        ensures told { (tree : Strands) (input : Words) → IsAt code.now tree input self.old (At root)
+        requires began { (tree : Strands)
+            × ((input : Words) × IsAt code.now tree input self.old (At root)) }
+        ensures told { (tree : Strands) (input : Words)
+            → IsAt code.now tree input self.old (At root)
             → IfOk result (HasTold code.now tree input limit self.new) }
         ensures chain { (t : Strands) → ShowsTree code.now self.old.strand (At root) t
             → IfOk result (HasChain code.now (length self.old.strand.store.words.items) limit t
             (words_of self.old.strand.store.words.items) self.new) }
-        ensures words { OnOk result (length self.new.strand.store.words.items ≡ length self.old.strand.store.words.items) }
+        ensures words { OnOk result (length self.new.strand.store.words.items
+            ≡ length self.old.strand.store.words.items) }
     {
         let mut now = Now::At(root);
         loop {

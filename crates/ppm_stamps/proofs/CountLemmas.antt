@@ -1,10 +1,10 @@
 -- A run that ends has as many capsules as have been run and are to come.
-use Rattle.std.proofs.Common.{◌≡◌, refl, sym, ap, ◌∙◌, subst, subst₂, ℕ, suc, ◌+◌, ◌≤◌, List, [], ◌∷◌, arith}
+use Rattle.std.proofs.Common.{◌≡◌, refl, ap, ◌∙◌, subst, ℕ, ◌+◌, ◌≤◌, List, [], ◌∷◌, arith}
 use Rattle.ppm_strands.specs.Tree.{Words, Tree, Strand, Call, Fork, Over, Code}
-use Rattle.ppm_strands.specs.Run.{End, with_counts, of_capsule, rejoin, Ends}
-use Rattle.ppm_strands.proofs.PartsLemmas.{over_end, ends_by_parts}
-use Rattle.ppm_stamps.specs.Stamps.{Stamps, Marks}
-use Rattle.ppm_stamps.specs.Moments.{Above, InCallee, InLeft, InRight, beside_of, Comes, Begins, Runs, Calls, Forks, Returns, GoesRight, Joins}
+use Rattle.ppm_strands.specs.Run.{End, with_counts, rejoin, Ends}
+use Rattle.ppm_strands.proofs.PartsLemmas.{ends_by_parts}
+use Rattle.ppm_stamps.specs.Stamps.{Stamps}
+use Rattle.ppm_stamps.specs.Moments.{Above, InCallee, InLeft, InRight, Comes, Begins, Runs, Calls, Forks, Returns, GoesRight, Joins}
 
 module _ {F O : Type 0} (c : Code F O) where
   -- a tree ends, and what follows it, with so many capsules in all

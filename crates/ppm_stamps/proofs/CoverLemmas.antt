@@ -1,6 +1,7 @@
 -- What stamps show of a stretch of a run, whatever tree it is of: which words it wrote and touched, for all who ask later.
-use Rattle.std.proofs.Common.{◌≡◌, ◌⊎◌, inl, inr, refl, sym, ap, ◌∙◌, subst, ◌↔◌, ◌<◌, ◌≤◌, ℕ, suc, Bool, true, false, ◌&&◌, ◌||◌, nat_le, nat_lt, arith, le_trans, lt_of_lt_of_le, lt_irrefl}
-use Rattle.std.proofs.lemmas.Bool.{both_ways, cases_Bool, or_cases, and_parts, and_from, le-leb, lt-ltb, leb-true, ltb-true}
+use Rattle.std.proofs.Common.{◌≡◌, ◌⊎◌, inl, inr, refl, sym, ◌∙◌, ◌↔◌, ◌<◌, ◌≤◌, ℕ, Bool, true, false, ◌&&◌, ◌||◌, nat_le, nat_lt, arith}
+use Rattle.std.proofs.Common.{le_trans, lt_of_lt_of_le}
+use Rattle.std.proofs.lemmas.Bool.{both_ways, or_cases, and_parts, and_from, le-leb, lt-ltb, leb-true, ltb-true}
 use Rattle.ppm_stamps.specs.Stamps.{Stamps, right_of}
 
 -- who asks by q about new stamps is told what the old ones said, and that p

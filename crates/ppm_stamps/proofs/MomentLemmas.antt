@@ -1,10 +1,10 @@
 -- What is left of a run decides as the whole of it does.
-use Rattle.std.proofs.Common.{◌≡◌, ◌⊎◌, inl, inr, refl, sym, ap, subst, ℕ, zero, suc, ◌+◌, ◌-◌, ◌≤◌, ◌<◌, true, List, [], ◌∷◌, Bool, arith}
+use Rattle.std.proofs.Common.{◌≡◌, ◌⊎◌, inl, inr, refl, sym, subst, ℕ, zero, suc, ◌+◌, ◌-◌, ◌≤◌, ◌<◌, true, List, [], ◌∷◌, Bool, arith}
 use Rattle.ppm_strands.specs.Tree.{Words, Tree, Strand, Call, Fork, Over, Code}
 use Rattle.ppm_strands.specs.Run.{End, with_counts, of_capsule, rejoin, Ends}
 use Rattle.ppm_strands.proofs.PartsLemmas.{over_end, call_ends, fork_ends, ends_by_parts}
 use Rattle.ppm_stamps.proofs.CoverLemmas.{right_more, right_only}
-use Rattle.ppm_stamps.specs.Stamps.{Stamps, fresh, nothing, right_of, Passes, Meets, Marks, IsClean, IsFound}
+use Rattle.ppm_stamps.specs.Stamps.{Stamps, fresh, right_of, Passes, Marks, IsClean, IsFound}
 use Rattle.ppm_stamps.specs.Moments.{Above, InCallee, InLeft, InRight, beside_of, Comes, Begins, Runs, Calls, Forks, Returns, GoesRight, Joins}
 
 module _ {F O : Type 0} (c : Code F O) where
@@ -100,7 +100,7 @@ module _ {F O : Type 0} (c : Code F O) where
   abbrev CleanFrom : List (Above F O) → Tree F O → Words → Stamps → Stamps → Type 0
   CleanFrom above t a s u = CleanThen (beside_of above) (CleanRest above) t a s u
 
-  -- what comes clean in a call, in a fork and behind a capsule
+  -- what comes clean in a call, in a fork and after a capsule
   clean_strand : (above : List (Above F O)) (f : F) (a : Words) (s m u : Stamps) → Passes c (beside_of above) f a s → Marks c (beside_of above) f a s m
       → CleanFrom above (c.next f a) (c.after f a) m u → CleanFrom above (Strand f) a s u
   clean_strand above f a s m u passes marks h = (

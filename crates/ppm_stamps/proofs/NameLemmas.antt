@@ -1,11 +1,12 @@
 -- The stamps of words are of capsules of the run that wrote and touched them.
-use Rattle.std.proofs.Common.{◌≡◌, ◌⊎◌, inl, inr, refl, sym, ap, ◌∙◌, subst, ℕ, ◌+◌, ◌≤◌, List, [], ◌∷◌, Bool, true, false, arith}
+use Rattle.std.proofs.Common.{◌≡◌, ◌⊎◌, inl, inr, refl, sym, subst, ℕ, ◌≤◌, List, [], ◌∷◌, true, arith}
 use Rattle.std.proofs.lemmas.Bool.{cases_Bool}
-use Rattle.ppm_strands.specs.Tree.{Words, Tree, Strand, Code, Has}
+use Rattle.ppm_strands.specs.Tree.{Words, Tree, Code}
 use Rattle.ppm_strands.specs.Calm.{touches}
 use Rattle.ppm_strands.proofs.CalmLemmas.{has_or_not}
-use Rattle.ppm_stamps.specs.Stamps.{Stamps, right_of, Marks}
-use Rattle.ppm_stamps.specs.Moments.{Above, InCallee, InLeft, InRight, beside_of, Comes, Begins, Runs, Calls, Forks, Returns, GoesRight, Joins, Was, TouchesAreNamed}
+use Rattle.ppm_stamps.specs.Stamps.{Stamps}
+use Rattle.ppm_stamps.specs.Moments.{Above, InCallee, InLeft, InRight, beside_of, Comes, Begins, Runs, Calls, Forks, Returns, GoesRight, Joins, Was}
+use Rattle.ppm_stamps.specs.Moments.{TouchesAreNamed}
 use Rattle.ppm_stamps.proofs.CoverLemmas.{right_only}
 
 module _ {F O : Type 0} (c : Code F O) where

@@ -1,5 +1,5 @@
 -- The forks that are open began one after another, so a stamp is in one left branch at most; and each was opened by the capsule before.
-use Rattle.std.proofs.Common.{◌≡◌, ◌⊎◌, inl, inr, refl, sym, ap, subst, ℕ, ◌+◌, ◌≤◌, ◌<◌, List, [], ◌∷◌, Bool, true, false, arith}
+use Rattle.std.proofs.Common.{◌≡◌, ◌⊎◌, inl, inr, refl, sym, subst, ℕ, ◌≤◌, ◌<◌, List, [], ◌∷◌, true, arith}
 use Rattle.std.proofs.lemmas.Bool.{cases_eq}
 use Rattle.ppm_strands.specs.Tree.{Words, Tree, Fork, forks_in, Code}
 use Rattle.ppm_strands.specs.Run.{joined}

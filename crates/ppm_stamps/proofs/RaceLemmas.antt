@@ -1,16 +1,18 @@
 -- A run that is told clean is of a calm tree; one in which something is found is not.
-use Rattle.std.proofs.Common.{◌≡◌, ◌⊎◌, inl, inr, refl, sym, ap, ◌∙◌, subst, subst₂, ◌↔◌, ◌<◌, ◌≤◌, ℕ, zero, suc, List, Bool, true, false, arith, lt_irrefl, le_trans, le_refl, lt_of_lt_of_le, lt-suc_self, lt_trans, le_of_lt}
+use Rattle.std.proofs.Common.{◌≡◌, ◌⊎◌, inl, inr, refl, sym, ap, ◌∙◌, subst, subst₂, ◌↔◌, ◌<◌, ℕ, zero, suc, List, Bool, true, false, lt_irrefl}
+use Rattle.std.proofs.Common.{le_refl, lt_of_lt_of_le, lt-suc_self, lt_trans, le_of_lt}
 use Rattle.std.proofs.lemmas.Bool.{both_ways, cases_Bool}
 use Rattle.ppm_strands.specs.Tree.{Words, Tree, Strand, Call, Fork, Over, Code, Local, Has}
-use Rattle.ppm_strands.specs.Run.{End, with_counts, of_capsule, run, rejoin, Ends}
+use Rattle.ppm_strands.specs.Run.{End, with_counts, of_capsule, rejoin, Ends}
 use Rattle.ppm_strands.specs.Calm.{touches, Gathers, Writes, Touches, Calm}
 use Rattle.ppm_strands.specs.Locality.{RunsAlike}
 use Rattle.ppm_strands.proofs.RunLemmas.{one_end}
 use Rattle.ppm_strands.proofs.PartsLemmas.{has_right, over_end, call_ends, fork_ends, ends_by_parts, gathers_by_parts, calm_by_parts}
 use Rattle.ppm_strands.proofs.CalmLemmas.{has_or_not}
 use Rattle.ppm_strands.proofs.LocalityLemmas.{unwritten, runs_alike}
-use Rattle.ppm_stamps.specs.Stamps.{Stamps, right_of, Passes, Meets, Marks, IsClean, IsFound}
-use Rattle.ppm_stamps.proofs.CoverLemmas.{Told, Covers, IsInside, SaysMore, SaysAll, covers_as, covers_none, covers_both, covers_fork, apart_left, apart_right, right_more, right_all, right_only}
+use Rattle.ppm_stamps.specs.Stamps.{Stamps, right_of, Passes, Marks, IsClean, IsFound}
+use Rattle.ppm_stamps.proofs.CoverLemmas.{Told, Covers, IsInside, SaysMore, SaysAll, covers_as, covers_none, covers_both, covers_fork, apart_left, apart_right}
+use Rattle.ppm_stamps.proofs.CoverLemmas.{right_more, right_all, right_only}
 
 module _ {F O : Type 0} (c : Code F O) (local : Local c) where
   -- what is written is touched

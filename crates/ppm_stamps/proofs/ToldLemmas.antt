@@ -1,8 +1,8 @@
 -- A run that comes to its end is told clean, or something is found in it: each capsule passes or meets something, and can be marked.
-use Rattle.std.proofs.Common.{◌≡◌, ◌⊎◌, inl, inr, refl, sym, ap, ◌∙◌, ◌==◌, ℕ, zero, suc, cond, List, [], ◌∷◌, Option, Some, Bool, true, false}
-use Rattle.std.proofs.lemmas.Bool.{both_ways, cases_Bool, cases_eq}
+use Rattle.std.proofs.Common.{◌≡◌, ◌⊎◌, inl, inr, refl, ap, ◌∙◌, ℕ, zero, suc, cond, List, [], ◌∷◌, Some, Bool, true, false}
+use Rattle.std.proofs.lemmas.Bool.{cases_Bool}
 use Rattle.ppm_strands.specs.Tree.{Words, Tree, Strand, Call, Fork, Over, Code, Has}
-use Rattle.ppm_strands.specs.Run.{End, run, rejoin, Ends}
+use Rattle.ppm_strands.specs.Run.{End, run, rejoin}
 use Rattle.ppm_strands.specs.Calm.{touches}
 use Rattle.ppm_strands.proofs.RunLemmas.{counted_some, then_some}
 use Rattle.ppm_strands.proofs.CalmLemmas.{has_or_not}

@@ -1,6 +1,6 @@
 -- The stamps of a depth-first run: of each word when it was last written, and one capsule that touched it, by which races are found as the
 -- run goes on. A stamp is the number of a capsule in the run, from 1 on; 0 is none.
-use Rattle.std.specs.Prelude.{◌≡◌, ◌⊎◌, ◌↔◌, ◌<◌, ℕ, zero, suc, Bool, true, false, ◌&&◌, ◌||◌, nat_le, nat_lt, Option, Some}
+use Rattle.std.specs.Prelude.{◌≡◌, ◌⊎◌, ℕ, zero, suc, Bool, true, false, ◌&&◌, ◌||◌, nat_le, nat_lt, Some}
 use Rattle.ppm_strands.specs.Tree.{Words, Tree, Strand, Call, Fork, Over, Code, Has}
 use Rattle.ppm_strands.specs.Run.{End, run, rejoin, Ends}
 use Rattle.ppm_strands.specs.Calm.{touches, Calm}

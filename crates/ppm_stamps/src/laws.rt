@@ -20,9 +20,9 @@ pub fn a_run_that_ends_is_told<F, O>()
     ensures { (c : Code F O) → EndsAreTold c }
 {}
 
-/// A runtime that runs a tree depth first with a stack, and stamps as it goes: where it comes to the
-/// end and no capsule met anything, the tree is calm; where the next capsule meets something, it is
-/// not.
+/// A runtime that runs a tree depth first with a stack, and stamps as it goes: where it comes to
+/// the end and no capsule met anything, the tree is calm; where the next capsule meets something,
+/// it is not.
 pub fn moments_tell_of_calm<F, O>()
     ensures ended { (c : Code F O) → Local c → EndedIsCalm c }
     ensures met { (c : Code F O) → Local c → MetIsNotCalm c }
@@ -42,8 +42,8 @@ pub fn moments_are_one<F, O>()
     ensures earlier { (c : Code F O) → EarlierPass c }
 {}
 
-/// A capsule that stands beside a moment is in the left branch of one open fork. Where capsules open
-/// one fork at most, the capsule before that branch opened the fork.
+/// A capsule that stands beside a moment is in the left branch of one open fork. Where capsules
+/// open one fork at most, the capsule before that branch opened the fork.
 pub fn forks_are_named<F, O>()
     ensures one { (c : Code F O) → LeftsAreOne c }
     ensures opened { (c : Code F O) → IsPlain c → ForksAreOpened c }

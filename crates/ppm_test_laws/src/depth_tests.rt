@@ -75,7 +75,7 @@ fn names_first(code: &Code) -> bool
 }
 
 /// The code, if it is tidy and its root names the first array alone.
-fn runnable(code: Code) -> Option<Code>
+pub(crate) fn runnable(code: Code) -> Option<Code>
     ensures tidy { IfSome result IsTidy }
     ensures arrays { IfSome result (λ code. All (λ array. array < 1) code.arrays) }
 {
@@ -88,7 +88,7 @@ fn runnable(code: Code) -> Option<Code>
     Some(code)
 }
 
-fn input(alloc: Global, values: [i64; 4]) -> Result<Input, Fail>
+pub(crate) fn input(alloc: Global, values: [i64; 4]) -> Result<Input, Fail>
     ensures { IfOk result (λ input. length input ≡ 1) }
 {
     let array = NamedArray {

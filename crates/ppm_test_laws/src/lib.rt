@@ -15,6 +15,8 @@ mod code_tests;
 pub mod copies;
 #[cfg(test)]
 mod depth_tests;
+#[cfg(test)]
+mod race_tests;
 pub mod races;
 pub mod sample;
 pub mod stops;

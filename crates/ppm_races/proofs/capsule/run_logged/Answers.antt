@@ -1,16 +1,15 @@
-use Rattle.std.proofs.Common.{◌≡◌, ◌+◌, ◌++◌, length, sym, ◌∙◌, ap, arith, ℕ, List, subst, subst₂}
+use Rattle.std.proofs.Common.{◌≡◌, ◌+◌, length, sym, ◌∙◌, ap, arith, ℕ, List, subst}
 use Rattle.ppm_code.specs.declared.act.Act.TheVariants.{Sets, Passes, Jumps, Steps, Ends}
 use Rattle.ppm_code.specs.declared.act.End.TheVariants.{Finish}
 use Rattle.ppm_code.specs.declared.instr.Instr.{Instr}
 use Rattle.ppm_code.specs.Capsules.{capsule_from}
 use Rattle.ppm_code.specs.Sizes.{slots_at}
-use Rattle.ppm_code.specs.Strands.{instrs_of}
 use Rattle.ppm_depth.specs.Whole.{block_at}
 use Rattle.ppm_depth.proofs.RestLemmas.{IsStepWithin, stepped, step_keeps, step_keeps_words, step_there}
 use Rattle.ppm_depth.proofs.WholeLemmas.{act_fits, act_left, asked_few, past_left, place_laid, step_within, whole_ends}
 use Rattle.ppm_races.specs.Touches.{AreThere, touches_by, touches_from, touches_of}
 use Rattle.ppm_races.specs.declared.touch.Touch.{Touch}
-use Rattle.ppm_races.proofs.LogLemmas.{begins, notes_step, notes_act, notes_past, log_whole, there_more, step_noted}
+use Rattle.ppm_races.proofs.LogLemmas.{notes_step, notes_act, notes_past, log_whole, there_more, step_noted}
 use Rattle.ppm_races.proofs.capsule.run_logged.Goals as goal
 
 -- a register is set
@@ -19,12 +18,15 @@ loop-at-preserved-in-Sets c =
     let inv = c.loop-at.invariant in
     record {
       left = λ m s. rw c.from.ensures (act_left _ _ _ _ m _ _ _ (length c.as_slice.result.now) c.loop-at.at c.instrs_of-instrs.result.now
-          c.loop-at.registers c.index-instrs-at.result (Sets c.in-Sets.to c.in-Sets.word) c.loop-at-test.true c.index-instrs-at.is c.in-Sets.ensures (inv.left m s));
+          c.loop-at.registers c.index-instrs-at.result (Sets c.in-Sets.to c.in-Sets.word) c.loop-at-test.true c.index-instrs-at.is c.in-Sets.ensures
+          (inv.left m s));
       kept = inv.kept;
       words = inv.words;
       asked = inv.asked;
-      noted = λ m s. rw c.from.ensures (notes_act _ _ _ _ c.loop-at.store.blocks.items c.loop-at.store.words.items c.loop-at.log.items (length c.as_slice.result.now) c.loop-at.at
-          c.instrs_of-instrs.result.now c.loop-at.registers c.index-instrs-at.result (Sets c.in-Sets.to c.in-Sets.word) c.loop-at-test.true c.index-instrs-at.is c.in-Sets.ensures (inv.noted m s));
+      noted = λ m s. rw c.from.ensures (notes_act _ _ _ _ c.loop-at.store.blocks.items c.loop-at.store.words.items c.loop-at.log.items
+          (length c.as_slice.result.now) c.loop-at.at
+          c.instrs_of-instrs.result.now c.loop-at.registers c.index-instrs-at.result (Sets c.in-Sets.to c.in-Sets.word) c.loop-at-test.true
+          c.index-instrs-at.is c.in-Sets.ensures (inv.noted m s));
       there = inv.there;
       first = λ e. absurd (omega (arith, e));
     }
@@ -40,7 +42,8 @@ loop-at-preserved-in-Passes c =
       words = inv.words;
       asked = inv.asked;
       noted = λ m s. notes_act _ _ _ _ c.loop-at.store.blocks.items c.loop-at.store.words.items c.loop-at.log.items (length c.as_slice.result.now) c.loop-at.at
-          c.instrs_of-instrs.result.now c.loop-at.registers c.index-instrs-at.result (Passes) c.loop-at-test.true c.index-instrs-at.is c.in-Passes.ensures (inv.noted m s);
+          c.instrs_of-instrs.result.now c.loop-at.registers c.index-instrs-at.result (Passes) c.loop-at-test.true c.index-instrs-at.is c.in-Passes.ensures
+          (inv.noted m s);
       there = inv.there;
       first = λ e. absurd (omega (arith, e));
     }
@@ -55,8 +58,10 @@ loop-at-preserved-in-Jumps c =
       kept = inv.kept;
       words = inv.words;
       asked = inv.asked;
-      noted = λ m s. rw c.max-at.ensures (notes_act _ _ _ _ c.loop-at.store.blocks.items c.loop-at.store.words.items c.loop-at.log.items (length c.as_slice.result.now) c.loop-at.at
-          c.instrs_of-instrs.result.now c.loop-at.registers c.index-instrs-at.result (Jumps c.in-Jumps.target) c.loop-at-test.true c.index-instrs-at.is c.in-Jumps.ensures (inv.noted m s));
+      noted = λ m s. rw c.max-at.ensures (notes_act _ _ _ _ c.loop-at.store.blocks.items c.loop-at.store.words.items c.loop-at.log.items
+          (length c.as_slice.result.now) c.loop-at.at
+          c.instrs_of-instrs.result.now c.loop-at.registers c.index-instrs-at.result (Jumps c.in-Jumps.target) c.loop-at-test.true c.index-instrs-at.is
+          c.in-Jumps.ensures (inv.noted m s));
       there = inv.there;
       first = λ e. absurd (let far = c.max-at.ensures in omega (arith, e, far));
     }
@@ -99,7 +104,8 @@ loop-at-preserved c =
     let within = step_within code c.instrs_of-instrs.ensures.code c.requires.tidy c.args.number c.requires.there (length c.as_slice.result.now)
     c.loop-at.at c.in-Steps.step c.args.place c.loop-at.store.words.items words fits in
     record {
-      left = λ m s. stepped _ _ _ _ m c.in-Steps.step (λ t h. capsule_from (length c.as_slice.result.now) 0 t c.instrs_of-instrs.result.now h) (c.loop-at.at + 1)
+      left = λ m s. stepped _ _ _ _ m c.in-Steps.step (λ t h. capsule_from (length c.as_slice.result.now) 0 t c.instrs_of-instrs.result.now h)
+          (c.loop-at.at + 1)
           c.loop-at.asked c.step-asked.result c.loop-at.store.blocks.items c.loop-at.store.words.items c.loop-at.registers
           c.step-asked.new.self.blocks.items c.step-asked.new.self.words.items c.step-asked.new.registers
           (place_laid code c.args.number c.args.place _ _ c.requires.place inv.kept) within
@@ -119,7 +125,8 @@ loop-at-preserved c =
           (place_laid code c.args.number c.args.place _ _ c.requires.place inv.kept) within
           c.step-asked.ensures.blocks c.step-asked.ensures.words c.step-asked.ensures.registers c.in_ok-note-in-Steps.ensures
           (notes_act _ _ _ _ c.loop-at.store.blocks.items c.loop-at.store.words.items c.loop-at.log.items (length c.as_slice.result.now) c.loop-at.at
-          c.instrs_of-instrs.result.now c.loop-at.registers c.index-instrs-at.result (Steps c.in-Steps.step) c.loop-at-test.true c.index-instrs-at.is c.in-Steps.ensures (inv.noted m s));
+          c.instrs_of-instrs.result.now c.loop-at.registers c.index-instrs-at.result (Steps c.in-Steps.step) c.loop-at-test.true c.index-instrs-at.is
+          c.in-Steps.ensures (inv.noted m s));
       there = subst (λ (log : List Touch). AreThere (length c.args.store.now.words.items) log) (sym c.in_ok-note-in-Steps.ensures)
           (there_more _ c.loop-at.log.items (touches_by c.in-Steps.step c.loop-at.at) inv.there
           (step_noted (slots_at code c.args.number) (block_at code c.args.number) c.args.place _ c.in-Steps.step c.loop-at.at
@@ -132,7 +139,8 @@ pub returns-in-Ends-clause-whole : goal.returns-in-Ends-clause-whole
 returns-in-Ends-clause-whole c =
     let inv = c.loop-at.invariant in
     let words : length c.as_slice.result.now ≡ length c.loop-at.store.words.items = ap (λ (xs : List ℕ). length xs) c.as_slice.ensures.value ∙ sym inv.words in
-    λ m s. whole_ends c.args.code.now c.args.number c.args.place m c.loop-at.asked _ _ (length c.as_slice.result.now) c.instrs_of-instrs.result.now c.in-Ends.end
+    λ m s. whole_ends c.args.code.now c.args.number c.args.place m c.loop-at.asked _ _ (length c.as_slice.result.now) c.instrs_of-instrs.result.now
+    c.in-Ends.end
     c.instrs_of-instrs.ensures.value words
     (act_left _ _ _ _ m _ _ _ (length c.as_slice.result.now) c.loop-at.at c.instrs_of-instrs.result.now c.loop-at.registers c.index-instrs-at.result
     (Ends c.in-Ends.end) c.loop-at-test.true c.index-instrs-at.is c.in-Ends.ensures (inv.left m s))
@@ -150,15 +158,18 @@ returns-clause-whole c =
     let words : length c.as_slice.result.now ≡ length c.loop-at.store.words.items = ap (λ (xs : List ℕ). length xs) c.as_slice.ensures.value ∙ sym inv.words in
     λ m s. whole_ends c.args.code.now c.args.number c.args.place m c.loop-at.asked _ _ (length c.as_slice.result.now) c.instrs_of-instrs.result.now Finish
     c.instrs_of-instrs.ensures.value words
-    (past_left _ _ _ _ m _ _ _ (length c.as_slice.result.now) c.loop-at.at c.instrs_of-instrs.result.now c.loop-at.registers c.loop-at-test.false (inv.left m s))
+    (past_left _ _ _ _ m _ _ _ (length c.as_slice.result.now) c.loop-at.at c.instrs_of-instrs.result.now c.loop-at.registers c.loop-at-test.false
+    (inv.left m s))
 
 -- the log is whole at the end
 pub returns-in-Ends-clause-log : goal.returns-in-Ends-clause-log
 returns-in-Ends-clause-log c =
     let inv = c.loop-at.invariant in
     let words : length c.as_slice.result.now ≡ length c.args.store.now.words.items = ap (λ (xs : List ℕ). length xs) c.as_slice.ensures.value in
-    λ m s. log_whole _ _ _ _ c.loop-at.store.blocks.items c.loop-at.store.words.items c.loop-at.log.items (notes_act _ _ _ _ c.loop-at.store.blocks.items c.loop-at.store.words.items c.loop-at.log.items (length c.as_slice.result.now) c.loop-at.at
-          c.instrs_of-instrs.result.now c.loop-at.registers c.index-instrs-at.result (Ends c.in-Ends.end) c.loop-at-test.true c.index-instrs-at.is c.in-Ends.ensures (inv.noted m s))
+    λ m s. log_whole _ _ _ _ c.loop-at.store.blocks.items c.loop-at.store.words.items c.loop-at.log.items
+    (notes_act _ _ _ _ c.loop-at.store.blocks.items c.loop-at.store.words.items c.loop-at.log.items (length c.as_slice.result.now) c.loop-at.at
+    c.instrs_of-instrs.result.now c.loop-at.registers c.index-instrs-at.result (Ends c.in-Ends.end) c.loop-at-test.true c.index-instrs-at.is
+    c.in-Ends.ensures (inv.noted m s))
     ∙ ap (λ (n : ℕ). touches_of n c.instrs_of-instrs.result.now m) words
     ∙ ap (λ (is : List Instr). touches_of (length c.args.store.now.words.items) is m) c.instrs_of-instrs.ensures.value
 

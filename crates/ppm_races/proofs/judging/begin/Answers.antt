@@ -1,11 +1,10 @@
-use Rattle.std.proofs.Common.{◌≡◌, ◌+◌, length, replicate, List, [], ℕ, refl, sym, ap, ◌∙◌, subst, arith}
+use Rattle.std.proofs.Common.{◌≡◌, ◌+◌, length, List, ℕ, refl, sym, ap, ◌∙◌, arith}
 use Rattle.std.proofs.lemmas.List.{length-replicate}
 use Rattle.ppm_strands.specs.Run.{Counts}
 use Rattle.ppm_words.specs.declared.named_array.NamedArray.{NamedArray}
 use Rattle.ppm_code.specs.Inputs.{words_in}
 use Rattle.ppm_depth.specs.Image.{root_frame}
 use Rattle.ppm_depth.specs.Moves.{entry_at}
-use Rattle.ppm_depth.specs.Start.{words_of, root_strand}
 use Rattle.ppm_depth.specs.Turns.{counts_of}
 use Rattle.ppm_depth.specs.declared.store.Store.{Store}
 use Rattle.ppm_depth.specs.declared.strand.Strand.{Strand}

@@ -1,4 +1,4 @@
-use Rattle.std.proofs.Common.{◌≡◌, ◌+◌, ◌≤◌, ◌<◌, length, List, [], ℕ, refl, sym, ap, ◌∙◌, subst, arith}
+use Rattle.std.proofs.Common.{◌≡◌, ◌+◌, length, List, [], ℕ, sym, ap, ◌∙◌, subst, arith}
 use Rattle.ppm_strands.specs.Tree.{Strand, Over}
 use Rattle.ppm_words.specs.declared.named_array.NamedArray.{NamedArray}
 use Rattle.ppm_capsules.proofs.StrandLemmas.{code_is_local}
@@ -36,8 +36,10 @@ run-requires-clause-began c =
     let input = c.args.input.now in
     let root = c.entry-root.ensures.value ∙ ap (λ (p : CodeParts). entry_at code p.root 0) c.parts.ensures.value in (
       root_strand code input,
-      (words_of (words_in input),
-          subst (λ (f : Frame). IsAt code (root_strand code input) (words_of (words_in input)) c.in_ok-walk.walk (At f)) (sym root) c.in_ok-walk.ensures.at),
+      (
+        words_of (words_in input),
+        subst (λ (f : Frame). IsAt code (root_strand code input) (words_of (words_in input)) c.in_ok-walk.walk (At f)) (sym root) c.in_ok-walk.ensures.at,
+      ),
     )
 
 -- the words are as many as those of the arrays

@@ -1,4 +1,4 @@
-use Rattle.std.proofs.Common.{◌≡◌, ◌≤◌, ℕ, sym, subst, arith}
+use Rattle.std.proofs.Common.{subst, arith}
 use Rattle.ppm_races.specs.Judged.{IsJudged}
 use Rattle.ppm_races.specs.declared.judging.Judged.{Judged}
 use Rattle.ppm_races.proofs.judging.races.Goals as goal

@@ -1,4 +1,4 @@
-use Rattle.std.proofs.Common.{◌≡◌, ◌≤◌, ◌<◌, ◌^◌, ℕ, refl, arith, lit<}
+use Rattle.std.proofs.Common.{◌<◌, ◌^◌, refl, arith, lit<}
 use Rattle.ppm_races.proofs.NamingLemmas.{at_few, opener_moment, named, opener_first, opener_low, left_first, left_low, race_is}
 use Rattle.ppm_races.proofs.naming.race_of.Goals as goal
 
@@ -36,5 +36,6 @@ overflow_cast-result c =
 
 -- the race
 pub returns-clause-race : goal.returns-clause-race
-returns-clause-race c = race_is c.args.code.now c.args.input.now c.args.meeting c.requires.meets c.in_ok-opener.opener c.in_ok-left.left c.args.meeting.met.touch.at
+returns-clause-race c = race_is c.args.code.now c.args.input.now c.args.meeting c.requires.meets c.in_ok-opener.opener c.in_ok-left.left
+    c.args.meeting.met.touch.at
     c.in_ok-opener.ensures c.in_ok-left.ensures refl

@@ -1,6 +1,6 @@
 use Rattle.std.proofs.Common.{refl}
 use Rattle.ppm_races.specs.Beside.{stands_beside}
-use Rattle.ppm_races.proofs.StampLemmas.{none_passed, passed_next, passed_all, met_next, there_next}
+use Rattle.ppm_races.proofs.StampLemmas.{passed_next, passed_all, there_next}
 use Rattle.ppm_races.proofs.stamps.first_met.Goals as goal
 
 -- one touch more meets nothing

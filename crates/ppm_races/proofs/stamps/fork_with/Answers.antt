@@ -1,4 +1,4 @@
-use Rattle.std.proofs.Common.{◌≡◌, ◌+◌, ◌-◌, suc, get_or, refl, arith}
+use Rattle.std.proofs.Common.{◌-◌, get_or, refl, arith}
 use Rattle.ppm_races.specs.declared.stamps.Mark.{Mark}
 use Rattle.ppm_races.proofs.ForkLemmas.{none_there, last_has, last_has_not}
 use Rattle.ppm_races.proofs.stamps.fork_with.Goals as goal

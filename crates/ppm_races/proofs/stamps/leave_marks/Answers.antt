@@ -1,6 +1,6 @@
 use Rattle.std.proofs.Common.{List, ℕ, length, ap, ◌∙◌}
 use Rattle.ppm_races.specs.Beside.{stands_beside}
-use Rattle.ppm_races.proofs.StampLemmas.{marks_whole, marks_next, marks_all, there_next, wrote_kept, touched_kept}
+use Rattle.ppm_races.proofs.StampLemmas.{marks_next, marks_all, there_next, wrote_kept, touched_kept}
 use Rattle.ppm_races.proofs.stamps.leave_marks.Goals as goal
 
 -- one touch more

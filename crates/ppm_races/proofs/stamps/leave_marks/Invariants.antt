@@ -1,4 +1,4 @@
-use Rattle.std.proofs.Common.{◌≡◌, length}
+use Rattle.std.proofs.Common.{length}
 use Rattle.ppm_races.specs.Beside.{stands_beside}
 use Rattle.ppm_races.specs.Touches.{AreThere}
 use Rattle.ppm_races.proofs.StampLemmas.{MarksAs}

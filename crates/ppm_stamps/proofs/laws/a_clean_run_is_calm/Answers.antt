@@ -1,4 +1,4 @@
-use Rattle.std.proofs.Common.{ℕ, ◌<◌, arith}
+use Rattle.std.proofs.Common.{arith}
 use Rattle.ppm_stamps.specs.Stamps.{nothing, fresh}
 use Rattle.ppm_stamps.proofs.RaceLemmas.{clean}
 use Rattle.ppm_stamps.proofs.laws.a_clean_run_is_calm.Goals as goal

@@ -1,4 +1,4 @@
-use Rattle.std.proofs.Common.{ℕ, ◌<◌, arith, inl, inr}
+use Rattle.std.proofs.Common.{arith, inl, inr}
 use Rattle.ppm_stamps.specs.Stamps.{nothing, fresh}
 use Rattle.ppm_stamps.proofs.RaceLemmas.{found}
 use Rattle.ppm_stamps.proofs.laws.a_found_race_is_one.Goals as goal

@@ -1,4 +1,4 @@
-use Rattle.std.proofs.Common.{ℕ, ◌<◌, arith, inl, inr, refl}
+use Rattle.std.proofs.Common.{arith, inl, inr, refl}
 use Rattle.ppm_strands.proofs.PartsLemmas.{over_end}
 use Rattle.ppm_stamps.specs.Stamps.{nothing, fresh}
 use Rattle.ppm_stamps.proofs.MomentLemmas.{clean_back, found_back}

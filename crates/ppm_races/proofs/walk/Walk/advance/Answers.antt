@@ -2,7 +2,7 @@ use Rattle.std.proofs.Common.{◌≡◌, ◌+◌, ◌++◌, replicate, length, L
 use Rattle.ppm_strands.specs.Run.{Counts, plus}
 use Rattle.ppm_code.specs.declared.instr.Instr.{Instr}
 use Rattle.ppm_code.specs.Code.{room_of}
-use Rattle.ppm_depth.specs.Moves.{counts_by, pending}
+use Rattle.ppm_depth.specs.Moves.{counts_by}
 use Rattle.ppm_depth.specs.Order.{StepsInOrder}
 use Rattle.ppm_depth.specs.Start.{words_of}
 use Rattle.ppm_depth.specs.Turns.{counts_of, strands_over}
@@ -72,15 +72,17 @@ returns-in-Some-clause-turn c = λ root input at.
     let come = subst (λ (ws : List ℕ). Comes (strands_over code (length ws)) root input (rise at.above at.forks) at.leaf (words_of ws) (stamps_in walk))
     (sym c.in_ok-open_block.ensures.words) at.come in
     let first = subst₂ (λ (ms : List Mark) (log : List Touch). IsFirstMet ms walk.visits.wrote.items walk.visits.touched.items log c.in-Some.met)
-    c.deref.ensures.value c.deref-2.ensures.value c.in-Some.ensures.some in
-    (subst (λ (ws : List ℕ). IsMeetingOf code root input (length ws)
-    (record { run = walk.strand.counts.capsules + 1; capsule = c.args.frame.capsule; met = c.in-Some.met })) c.in_ok-open_block.ensures.words
-    (has_met code c.instrs_of.ensures.code c.args.frame c.len-block.result stack.items c.open_block.new.self.blocks.items
-    c.run_logged.new.store.blocks.items c.open_block.new.self.words.items c.run_logged.new.store.words.items done
-    block_is opens_block c.in_ok-done.ensures.whole c.in_ok-done.ensures.kept c.in_ok-done.ensures.words c.in_ok-done.ensures.end
-    c.run_logged.new.log.items c.in_ok-done.ensures.log (walk.strand.counts.capsules + 1) walk.visits.wrote.items walk.visits.touched.items
-    walk.visits.wrote.items walk.visits.touched.items walk.marks.items root input walk.strand.waiting.items at.above at.leaf at.forks at.shown come at.marks
-    c.in-Some.met first), refl)
+    c.deref.ensures.value c.deref-2.ensures.value c.in-Some.ensures.some in (
+      subst (λ (ws : List ℕ). IsMeetingOf code root input (length ws)
+          (record { run = walk.strand.counts.capsules + 1; capsule = c.args.frame.capsule; met = c.in-Some.met })) c.in_ok-open_block.ensures.words
+          (has_met code c.instrs_of.ensures.code c.args.frame c.len-block.result stack.items c.open_block.new.self.blocks.items
+          c.run_logged.new.store.blocks.items c.open_block.new.self.words.items c.run_logged.new.store.words.items done
+          block_is opens_block c.in_ok-done.ensures.whole c.in_ok-done.ensures.kept c.in_ok-done.ensures.words c.in_ok-done.ensures.end
+          c.run_logged.new.log.items c.in_ok-done.ensures.log (walk.strand.counts.capsules + 1) walk.visits.wrote.items walk.visits.touched.items
+          walk.visits.wrote.items walk.visits.touched.items walk.marks.items root input walk.strand.waiting.items at.above at.leaf at.forks at.shown come at.marks
+          c.in-Some.met c.in_ok-done.ensures.there first),
+      refl,
+    )
 
 pub returns-in-Some-clause-log : goal.returns-in-Some-clause-log
 returns-in-Some-clause-log c = λ root input at.
@@ -167,28 +169,33 @@ returns-clause-turn c = λ root input at.
     c.run_logged.new.store.blocks.items c.open_block.new.self.words.items c.run_logged.new.store.words.items done
     block_is opens_block c.in_ok-done.ensures.whole c.in_ok-done.ensures.kept c.in_ok-done.ensures.words c.in_ok-done.ensures.end
     c.run_logged.new.log.items c.in_ok-done.ensures.log (walk.strand.counts.capsules + 1) walk.visits.wrote.items walk.visits.touched.items
-    visits.wrote.items visits.touched.items walk.marks.items root input walk.strand.waiting.items at.above at.leaf at.forks at.shown come at.marks none marked in
+    visits.wrote.items visits.touched.items walk.marks.items root input walk.strand.waiting.items at.above at.leaf at.forks at.shown come at.marks none marked
+    in
     let then_leaf = leaf_then code c.instrs_of.ensures.code c.args.frame c.len-block.result stack.items c.open_block.new.self.blocks.items
     c.run_logged.new.store.blocks.items c.open_block.new.self.words.items c.run_logged.new.store.words.items done
     block_is opens_block c.in_ok-done.ensures.whole c.in_ok-done.ensures.kept c.in_ok-done.ensures.words c.in_ok-done.ensures.end
     c.run_logged.new.log.items c.in_ok-done.ensures.log (walk.strand.counts.capsules + 1) walk.visits.wrote.items walk.visits.touched.items
-    visits.wrote.items visits.touched.items walk.marks.items root input walk.strand.waiting.items at.above at.leaf at.forks at.shown come at.marks none marked in
+    visits.wrote.items visits.touched.items walk.marks.items root input walk.strand.waiting.items at.above at.leaf at.forks at.shown come at.marks none marked
+    in
     let then_forks = forks_then code c.instrs_of.ensures.code c.args.frame c.len-block.result stack.items c.open_block.new.self.blocks.items
     c.run_logged.new.store.blocks.items c.open_block.new.self.words.items c.run_logged.new.store.words.items done
     block_is opens_block c.in_ok-done.ensures.whole c.in_ok-done.ensures.kept c.in_ok-done.ensures.words c.in_ok-done.ensures.end
     c.run_logged.new.log.items c.in_ok-done.ensures.log (walk.strand.counts.capsules + 1) walk.visits.wrote.items walk.visits.touched.items
-    visits.wrote.items visits.touched.items walk.marks.items root input walk.strand.waiting.items at.above at.leaf at.forks at.shown come at.marks none marked in
+    visits.wrote.items visits.touched.items walk.marks.items root input walk.strand.waiting.items at.above at.leaf at.forks at.shown come at.marks none marked
+    in
     let same_counts = c.counted-self.ensures.value ∙ ap (λ (k : Counted). plus (counts_of k) (counts_by done)) c.in_ok-now.ensures.counts in
     let capsules : c.counted-self.result.capsules ≡ walk.strand.counts.capsules + 1 = ap (λ (k : Counts). k.capsules) same_counts in
     record {
       above = then_above;
       leaf = then_leaf;
       forks = then_forks;
-      shown = rw (c.in_ok-now.ensures.now, c.in_ok-now.ensures.blocks, c.in_ok-now.ensures.waiting) (shown_then code c.instrs_of.ensures.code c.args.frame c.len-block.result stack.items c.open_block.new.self.blocks.items
+      shown = rw (c.in_ok-now.ensures.now, c.in_ok-now.ensures.blocks, c.in_ok-now.ensures.waiting)
+          (shown_then code c.instrs_of.ensures.code c.args.frame c.len-block.result stack.items c.open_block.new.self.blocks.items
           c.run_logged.new.store.blocks.items c.open_block.new.self.words.items c.run_logged.new.store.words.items done
           block_is opens_block c.in_ok-done.ensures.whole c.in_ok-done.ensures.kept c.in_ok-done.ensures.words c.in_ok-done.ensures.end
           c.run_logged.new.log.items c.in_ok-done.ensures.log (walk.strand.counts.capsules + 1) walk.visits.wrote.items walk.visits.touched.items
-          visits.wrote.items visits.touched.items walk.marks.items root input walk.strand.waiting.items at.above at.leaf at.forks at.shown come at.marks none marked);
+          visits.wrote.items visits.touched.items walk.marks.items root input walk.strand.waiting.items at.above at.leaf at.forks at.shown come at.marks none
+          marked);
       come = subst (λ (ws : List ℕ). Comes (strands_over code (length ws)) root input (rise then_above then_forks) then_leaf (words_of ws)
           (stamps_of (c.counted-self.result.capsules + 1) visits.wrote.items visits.touched.items)) (sym c.in_ok-now.ensures.words)
           (subst (λ (n : ℕ). Comes (strands_over code (length c.run_logged.new.store.words.items)) root input (rise then_above then_forks) then_leaf
@@ -197,12 +204,15 @@ returns-clause-turn c = λ root input at.
           c.run_logged.new.store.blocks.items c.open_block.new.self.words.items c.run_logged.new.store.words.items done
           block_is opens_block c.in_ok-done.ensures.whole c.in_ok-done.ensures.kept c.in_ok-done.ensures.words c.in_ok-done.ensures.end
           c.run_logged.new.log.items c.in_ok-done.ensures.log (walk.strand.counts.capsules + 1) walk.visits.wrote.items walk.visits.touched.items
-          visits.wrote.items visits.touched.items walk.marks.items root input walk.strand.waiting.items at.above at.leaf at.forks at.shown come at.marks none marked));
-      marks = c.in_ok-open_fork.ensures ∙ marks_then code c.instrs_of.ensures.code c.args.frame c.len-block.result stack.items c.open_block.new.self.blocks.items
+          visits.wrote.items visits.touched.items walk.marks.items root input walk.strand.waiting.items at.above at.leaf at.forks at.shown come at.marks none
+          marked));
+      marks = c.in_ok-open_fork.ensures ∙ marks_then code c.instrs_of.ensures.code c.args.frame c.len-block.result stack.items
+          c.open_block.new.self.blocks.items
           c.run_logged.new.store.blocks.items c.open_block.new.self.words.items c.run_logged.new.store.words.items done
           block_is opens_block c.in_ok-done.ensures.whole c.in_ok-done.ensures.kept c.in_ok-done.ensures.words c.in_ok-done.ensures.end
           c.run_logged.new.log.items c.in_ok-done.ensures.log (walk.strand.counts.capsules + 1) walk.visits.wrote.items walk.visits.touched.items
-          visits.wrote.items visits.touched.items walk.marks.items root input walk.strand.waiting.items at.above at.leaf at.forks at.shown come at.marks none marked;
+          visits.wrote.items visits.touched.items walk.marks.items root input walk.strand.waiting.items at.above at.leaf at.forks at.shown come at.marks none
+          marked;
     }
 
 -- what is kept

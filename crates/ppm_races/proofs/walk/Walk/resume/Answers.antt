@@ -1,11 +1,11 @@
-use Rattle.std.proofs.Common.{◌≡◌, ◌+◌, ◌++◌, ◌∷◌, [], length, List, ℕ, refl, sym, ap, ◌∙◌, subst, arith}
+use Rattle.std.proofs.Common.{◌+◌, length, List, ℕ, sym, subst}
 use Rattle.ppm_depth.specs.Start.{words_of}
 use Rattle.ppm_depth.specs.Turns.{strands_over}
 use Rattle.ppm_depth.specs.declared.strand.Counts.{Counts}
 use Rattle.ppm_stamps.specs.Moments.{Comes}
 use Rattle.ppm_races.specs.Beside.{stamps_of}
 use Rattle.ppm_races.specs.Walks.{rise, stamps_in}
-use Rattle.ppm_races.proofs.ReturnLemmas.{Stands, resumed_then}
+use Rattle.ppm_races.proofs.ReturnLemmas.{resumed_then}
 use Rattle.ppm_races.proofs.walk.Walk.resume.Goals as goal
 
 -- a return, the beginning of a right branch, or a join

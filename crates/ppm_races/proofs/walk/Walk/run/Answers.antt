@@ -1,5 +1,4 @@
-use Rattle.std.proofs.Common.{◌≡◌, ◌<◌, ◌≤◌, ◌+◌, length, List, [], ℕ, refl, sym, ap, ◌∙◌, subst, arith}
-use Rattle.ppm_strands.specs.Tree.{Strand, Over}
+use Rattle.std.proofs.Common.{◌≡◌, ◌<◌, ◌+◌, length, List, ℕ, refl, sym, ap, ◌∙◌, subst, arith}
 use Rattle.ppm_depth.specs.Moves.{pending, pending_for, turns_of}
 use Rattle.ppm_depth.specs.Order.{StepsInOrder}
 use Rattle.ppm_depth.specs.Stack.{Strands, result_of, tree_at, IsShown, IsShownAt}
