@@ -48,7 +48,7 @@ pub fn run_case_command<R: Threads + Wait + Sync, S: Source, K: Sink, E: Sink, W
     ensures answers { let o = outside (port S.left S.fault_count source.old source.new)
         (port K.written K.fault_count out.old out.new) (port E.written E.fault_count err.old err.new)
         (map W.told watch.old.items) (map W.told watch.new.items)
-        in Answers (RunCaseMay options options.processors faults.now o.told_before o.told_now)
+        in Answers (RunCaseMay options options.processors faults.now o.told_before o.told_now o.source)
         (RunCaseTells options options.processors faults.now o.source) o result }
 
     // What follows from each status.
