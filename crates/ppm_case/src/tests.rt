@@ -1,5 +1,7 @@
 //! Texts of cases and texts of none, from outside.
-use crate::{CaseError, CaseFault, read_case, write_case};
+use crate::{
+    CaseError, CaseFault, faults_tell_cases, read_case, write_case, written_cases_are_read,
+};
 use std::test::Fail;
 
 const LISTING: &str = "ppm 1\nroot 0 0\nproc 0 slots 1 entry 0\ncapsule 0 proc 0\nend\n";
@@ -22,54 +24,73 @@ fn refusal(rt: HostRuntime, arrays: &str, listing: &str) -> Result<u32, Fail> {
 }
 
 #[test]
-fn arrays_are_refused_for_their_first_fault(rt: HostRuntime) -> Result<(), Fail> {
+fn lines_of_another_form_are_refused(rt: HostRuntime) -> Result<(), Fail> {
     let cases = [
-        ("", 25),
+        "array a 2 1*01\n",
+        "array a 2 1*\n",
+        "array a 2 *2\n",
+        "array a 2 1*1*1\n",
+        "array a 2 1*-1\n",
+        "array a 2 -0\n",
+        "array a 2 -\n",
+        "array a 2 --1\n",
+        "array a 2 01\n",
+        "array a 2 +1\n",
+        "array a 02\n",
+        "array a -1\n",
+        "array a\n",
+        "array\n",
+        "array \n",
+        "array a 2 \n",
+        "array a  2\n",
+        "array a 2 1  2\n",
+        "array a 2\r\n",
+        "array 1a 2\n",
+        "array let 2\n",
+        "array array 2\n",
+        "array a12345678901234567890123456789012 2\n",
+        "array a 99999999999999999999999999 1 2 x\n",
+    ];
+    for text in cases {
+        assert_eq!(rt; refusal(rt, text, LISTING)?, 11, "{text}");
+    }
+    Ok(())
+}
+
+#[test]
+fn numbers_keep_their_ranges(rt: HostRuntime) -> Result<(), Fail> {
+    let cases = [
         ("array a 1\n", 0),
-        ("array a 0\n", 0),
         ("array a 4194304\n", 0),
         ("array a 4194305\n", 12),
-        ("array a 4194304\narray b 1\n", 24),
-        ("array a 4194304\narray b 0\n", 0),
+        ("array a 99999999999999999999999999\n", 12),
         ("array a 2 1 2\n", 0),
         ("array a 2 1 2 3\n", 12),
         ("array a 2 1*2 3\n", 12),
         ("array a 2 1*3\n", 12),
         ("array a 2 1*0\n", 12),
-        ("array a 2 1*01\n", 11),
-        ("array a 2 1*\n", 11),
-        ("array a 2 *2\n", 11),
-        ("array a 2 1*1*1\n", 11),
-        ("array a 2 1*-1\n", 11),
-        ("array a 2 -0\n", 11),
-        ("array a 2 -\n", 11),
-        ("array a 2 --1\n", 11),
-        ("array a 2 01\n", 11),
-        ("array a 2 +1\n", 11),
-        ("array a 02\n", 11),
-        ("array a -1\n", 11),
-        ("array a\n", 11),
-        ("array\n", 11),
-        ("array \n", 11),
-        ("array a 2 \n", 11),
-        ("array a  2\n", 11),
-        ("array a 2 1  2\n", 11),
-        ("array a 2\r\n", 11),
-        ("array 1a 2\n", 11),
-        ("array let 2\n", 11),
-        ("array array 2\n", 11),
-        ("array _ 2\n", 0),
-        ("array a12345678901234567890123456789012 2\n", 11),
-        ("array a1234567890123456789012345678901 2\n", 0),
+        ("array a 1 1*99999999999999999999999999\n", 12),
         ("array a 1 9223372036854775807\n", 0),
         ("array a 1 9223372036854775808\n", 12),
         ("array a 1 -9223372036854775808\n", 0),
         ("array a 1 -9223372036854775809\n", 12),
         ("array a 1 99999999999999999999999999\n", 12),
         ("array a 1 -99999999999999999999999999\n", 12),
-        ("array a 99999999999999999999999999\n", 12),
-        ("array a 1 1*99999999999999999999999999\n", 12),
-        ("array a 99999999999999999999999999 1 2 x\n", 11),
+    ];
+    for (text, want) in cases {
+        assert_eq!(rt; refusal(rt, text, LISTING)?, want, "{text}");
+    }
+    Ok(())
+}
+
+#[test]
+fn the_least_line_and_number_is_told(rt: HostRuntime) -> Result<(), Fail> {
+    let cases = [
+        ("", 25),
+        ("array _ 0\n", 0),
+        ("array a1234567890123456789012345678901 2\n", 0),
+        ("array a 4194304\narray b 1\n", 24),
+        ("array a 4194304\narray b 0\n", 0),
         ("array a 1\narray b 2\narray a 3\n", 33),
         ("array a 1\narray a 4194304\n", 23),
         ("array a 1\narray a 4194305\n", 22),
@@ -81,6 +102,8 @@ fn arrays_are_refused_for_their_first_fault(rt: HostRuntime) -> Result<(), Fail>
     for (text, want) in cases {
         assert_eq!(rt; refusal(rt, text, LISTING)?, want, "{text}");
     }
+    faults_tell_cases();
+    written_cases_are_read();
     Ok(())
 }
 
