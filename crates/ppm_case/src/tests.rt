@@ -6,6 +6,12 @@ use std::test::Fail;
 
 const LISTING: &str = "ppm 1\nroot 0 0\nproc 0 slots 1 entry 0\ncapsule 0 proc 0\nend\n";
 
+/// A refusal as one number, by the number and the line of its fault.
+fn told(base: u32, line: u32, number: u32) -> u32 {
+    base.saturating_add(line.saturating_mul(10))
+        .saturating_add(number)
+}
+
 /// A number for each refusal: 10 times the line for faults of the arrays, with the fault's number;
 /// 1000 more for those of listings; 0 where there is a case.
 fn refusal(rt: HostRuntime, arrays: &str, listing: &str) -> Result<u32, Fail> {
@@ -15,9 +21,13 @@ fn refusal(rt: HostRuntime, arrays: &str, listing: &str) -> Result<u32, Fail> {
     text.extend_from_slice(listing.as_bytes())?;
     match read_case(alloc, &text) {
         Ok(_) => Ok(0),
-        Err(CaseError::Refused(CaseFault::OfInput(fault), line)) => Ok(10 * line + fault.number()),
+        Err(CaseError::Refused(CaseFault::OfInput(fault), line)) => Ok(told(
+            0,
+            line,
+            fault.number(),
+        )),
         Err(CaseError::Refused(CaseFault::OfListing(fault), line)) => {
-            Ok(1000 + 10 * line + fault.number())
+            Ok(told(1000, line, fault.number()))
         }
         Err(CaseError::NoMemory) => Ok(9999),
     }

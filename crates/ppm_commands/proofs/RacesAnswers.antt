@@ -68,7 +68,7 @@ module _ (code : CodeParts) (input : List NamedArray) where
       (h.sound.calm, h.within),
       ap (λ x. answers.Sound x) h.counts,
     )
-    of_case (answers.Raced r) h = inl (h.may, verdict.Races h.race, h.first, r, h.tells, refl)
+    of_case (answers.Raced r) h = inl (h.may, verdict.Races h.race, h.first, (r, h.tells, refl))
     of_case (answers.NotWithinCapsules n) h = inl (h.1.may, verdict.NotWithin, h.1.more, ap (λ m. answers.NotWithinCapsules m) h.0)
     of_case (answers.Untidy u) h = inr (inl (h.0, u, h.1, refl))
     of_case (answers.ConflictingAt c read write) h = inr (inr (of_conflict c read write h))

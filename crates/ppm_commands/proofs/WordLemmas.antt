@@ -1,5 +1,7 @@
 -- A word of arrays that lie one after the other lies in one of them.
-use Rattle.std.proofs.Common.{◌≡◌, ◌<◌, ◌≤◌, ℕ, ◌+◌, ◌-◌, List, [], ◌∷◌, ◌++◌, length, length-append, append_assoc, map, get_or, refl, sym, ap, ◌∙◌, subst, arith}
+use Rattle.std.proofs.Common.{◌≡◌, ◌<◌, ◌≤◌, ℕ, ◌+◌, ◌-◌, List, [], ◌∷◌, ◌++◌, length, map, get_or, take, drop, refl}
+use Rattle.std.proofs.Common.{length-append, append_assoc, sym, ap, ap₂, ◌∙◌, subst, arith}
+use Rattle.std.proofs.lemmas.List.{take_all}
 use Rattle.std.proofs.lemmas.List.Sums.{sum_by-cons}
 use Rattle.ppm_words.specs.declared.named_array.NamedArray.{NamedArray}
 use Rattle.ppm_words.specs.Inputs.{value_count}
@@ -43,7 +45,7 @@ pub record IsSoFar (arrays : List NamedArray) (word : ℕ) (left : List NamedArr
 
 -- at the start
 pub so_far : (arrays : List NamedArray) (word : ℕ) → word < value_count arrays → IsSoFar arrays word arrays 0 word
-so_far arrays word less = record { front = []; all = refl; number_is = refl; address = refl; inside = less }
+so_far arrays word less = record { front = []; all = refl; number_is = refl; address = omega arith; inside = less }
 
 -- an array more behind others
 count_push : (front : List NamedArray) (a : NamedArray) → value_count (front ++ (a ∷ [])) ≡ value_count front + length a.values
@@ -78,3 +80,17 @@ numbered arrays word left number index s =
 pub at_cell : (front : List NamedArray) (a : NamedArray) (rest : List NamedArray) → get_or (front ++ (a ∷ rest)) (length front) a ≡ a
 at_cell [] a rest = refl
 at_cell (b ∷ front) a rest = at_cell front a rest
+
+-- the first of arrays, and the others
+pub split_off : (xs : List NamedArray) (a : NamedArray) → 1 ≤ length xs → a ≡ get_or xs 0 a → xs ≡ a ∷ take (length xs - 1) (drop 1 xs)
+split_off [] a h e = absurd (omega (arith, h))
+split_off (x ∷ xs) a h e = ap₂ (λ (y : NamedArray) (ys : List NamedArray). y ∷ ys) (sym e) (sym (take_all (length (x ∷ xs) - 1) xs (omega arith)))
+
+-- so the word is in the others, where it is not in the first
+pub passed_by : (arrays : List NamedArray) (word : ℕ) (left : List NamedArray) (a : NamedArray) (number index n : ℕ) → IsSoFar arrays word left number index
+    → 1 ≤ length left → a ≡ get_or left 0 a → n ≡ length a.values → n ≤ index
+    → IsSoFar arrays word (take (length left - 1) (drop 1 left)) (number + 1) (index - n)
+passed_by arrays word left a number index n s h e k past =
+    let rest = take (length left - 1) (drop 1 left) in
+    let here = subst (λ (xs : List NamedArray). IsSoFar arrays word xs number index) (split_off left a h e) s in
+    subst (λ (m : ℕ). IsSoFar arrays word rest (number + 1) (index - m)) (sym k) (passed arrays word a rest number index here (omega (arith, k, past)))

@@ -23,8 +23,8 @@ use Rattle.ppm_commands.proofs.NameLemmas.{names_fit, names_differ}
 
 -- a value of the language fits 64 bits
 value_fits : (z : ℤ) → IsValue z → FitsSigned w64 z
-value_fits (pos n) h = h
-value_fits (negsuc n) h = h
+value_fits (pos n) h = record { sfits = h }
+value_fits (negsuc n) h = record { sfits = h }
 
 -- what the crates below show of every program and of what is written
 pub record Laws : Type 0 where

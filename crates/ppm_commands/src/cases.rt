@@ -1,5 +1,5 @@
 //! What commands tell of cases: where an instruction stands in the text, counts, stores, faults.
-ghost use Rattle.std.specs.Prelude.{◌≡◌, ◌≤◌, ◌^◌};
+ghost use Rattle.std.specs.Prelude.{◌≡◌, ◌≤◌, ◌^◌, length};
 ghost use Rattle.ppm_words.specs.Limits.{array_limit};
 ghost use Rattle.ppm_commands.specs.Cases.{capsule_lines, counts_told as told_counts};
 ghost use Rattle.ppm_commands.specs.Cases.{error_answer as answer_of, fault_answer as answer_of_fault};
@@ -10,6 +10,15 @@ use ppm_case::{CaseError, CaseFault};
 use ppm_code::{Capsule, Code};
 use ppm_depth::DepthRun;
 use ppm_war::UntidyStore;
+use ppm_words::Input;
+
+/// How many arrays an input has.
+pub(crate) fn array_count(input: &Input) -> usize
+    ensures value { result ≡ length input.now }
+    ensures few { result ≤ array_limit }
+{
+    input.arrays().len()
+}
 
 /// How many lines capsules have in a listing.
 fn lines_of(capsules: &[Capsule]) -> u64

@@ -9,7 +9,7 @@ ghost use Rattle.ppm_answers.specs.Reading.{TextMay};
 ghost use Rattle.ppm_commands.specs.Depth.{DepthHas, DepthMay, DepthMayOf};
 ghost use Rattle.ppm_commands.specs.Depth.{IsRunDepthFirst, run_answer as answer_of};
 
-use crate::cases::{counts_told, error_answer, store_told};
+use crate::cases::{array_count, counts_told, error_answer, store_told};
 use crate::laws::depth_runs_have_one_answer;
 use ppm_answers::{Answer, Status, answer_of_read, deliver};
 use ppm_case::{CASE_LIMIT, read_case};
@@ -69,7 +69,7 @@ fn case_answer(alloc: Global, capsules: u64, code: &Code, input: &Input) -> Answ
     ensures { DepthMayOf capsules code.now input.now result }
 {
     match untidy(code) {
-        Some(store) => Answer::Untidy(store_told(code, input.arrays().len(), store)),
+        Some(store) => Answer::Untidy(store_told(code, array_count(input), store)),
         None => tidy_answer(alloc, capsules, code, input),
     }
 }
@@ -82,7 +82,7 @@ fn tidy_answer(alloc: Global, capsules: u64, code: &Code, input: &Input) -> Answ
     ensures { DepthMayOf capsules code.now input.now result }
 {
     match depth_first(alloc, code, input, capsules) {
-        Ok(run) => run_answer(capsules, run),
+        Ok(done) => run_answer(capsules, done),
         Err(NoMemory) => Answer::NoMemory,
     }
 }

@@ -2,8 +2,8 @@
 //! `races`, each in the file of its name, and `code` with arrays in `case`.
 //! Model: a text has an answer by each: of the listing of a code, whether its capsules may be
 //! stopped anywhere and begun again; of a program, its code, with or without its arrays, or its
-//! outcome within a number of turns; of a case, what its depth-first run comes to within a number of
-//! capsules, and whether it is sound (`specs/Check`, `specs/Code`, `specs/Case`, `specs/Serial`,
+//! outcome within a number of turns; of a case, what its depth-first run comes to within a number
+//! of capsules, and whether it is sound (`specs/Check`, `specs/Code`, `specs/Case`, `specs/Serial`,
 //! `specs/Depth`, `specs/Races`; `specs/Cases` has what the last two share).
 //! Contract: each call delivers the answer of the text that was read, or says that a port failed or
 //! memory was refused, and what follows from each status is a sentence of its table (`CheckSays`,

@@ -4,7 +4,8 @@ ghost use Rattle.ppm_words.specs.Limits.{array_limit, word_limit};
 ghost use Rattle.ppm_words.specs.Inputs.{IsInput, value_count};
 ghost use Rattle.ppm_commands.specs.Races.{IsAt, TellsRace, opener_told as told_opener};
 ghost use Rattle.ppm_commands.specs.Races.{touch_told as told_touch};
-ghost use Rattle.ppm_commands.specs.Races.{touching_told as told_touching, visit_told as told_visit};
+ghost use Rattle.ppm_commands.specs.Races.{touching_told as told_touching};
+ghost use Rattle.ppm_commands.specs.Races.{visit_told as told_visit};
 
 use crate::cases::line_at;
 use ppm_answers::Touch;

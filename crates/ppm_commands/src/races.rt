@@ -2,15 +2,17 @@
 ghost use Rattle.std.specs.Prelude.{◌≡◌, ◌≤◌, ◌^◌};
 ghost use Rattle.ppm_ports.specs.Ports.{port};
 ghost use Rattle.ppm_ports.specs.Outside.{ports};
+ghost use Rattle.ppm_words.specs.Limits.{array_limit};
 ghost use Rattle.ppm_code.specs.Free.{IsFree};
 ghost use Rattle.ppm_code.specs.Tidy.{IsTidy};
 ghost use Rattle.ppm_depth.specs.Start.{NamesArrays};
 ghost use Rattle.ppm_races.specs.Verdicts.{IsVerdict};
+ghost use Rattle.ppm_races.specs.declared.judging.Verdict.TheVariants.{Races};
 ghost use Rattle.ppm_answers.specs.Reading.{TextMay};
 ghost use Rattle.ppm_commands.specs.Races.{RacesHas, RacesMay, RacesMayOf, AreSought};
 ghost use Rattle.ppm_commands.specs.Races.{conflict_answer as answer_of_conflict};
 
-use crate::cases::{counts_told, error_answer, line_at, store_told};
+use crate::cases::{array_count, counts_told, error_answer, line_at, store_told};
 use crate::check::conflict_told;
 use crate::laws::cases_have_one_answer;
 use crate::race::race_told;
@@ -18,7 +20,7 @@ use ppm_answers::{Answer, Status, answer_of_read, deliver};
 use ppm_case::{CASE_LIMIT, read_case};
 use ppm_code::Code;
 use ppm_ports::{Sink, Source, read_whole};
-use ppm_races::{Verdict, races};
+use ppm_races::{Race, Verdict, races};
 use ppm_war::{Conflict, check, untidy};
 use ppm_words::{Input, NoMemory};
 use std::alloc::Global;
@@ -74,13 +76,13 @@ fn case_answer(alloc: Global, capsules: u64, code: &Code, input: &Input) -> Answ
 {
     match check(code) {
         Ok(_) => free_answer(alloc, capsules, code, input),
-        Err(conflict) => conflict_answer(code, input.arrays().len(), conflict),
+        Err(conflict) => conflict_answer(code, array_count(input), conflict),
     }
 }
 
 /// The answer of a code with a conflict, of a case with so many arrays.
 fn conflict_answer(code: &Code, arrays: usize, conflict: Conflict) -> Answer
-    requires { arrays ≤ 64 }
+    requires { arrays ≤ array_limit }
     ensures { result ≡ answer_of_conflict arrays code.now conflict }
 {
     Answer::ConflictingAt(
@@ -98,7 +100,7 @@ fn free_answer(alloc: Global, capsules: u64, code: &Code, input: &Input) -> Answ
     ensures { RacesMayOf capsules code.now input.now result }
 {
     match untidy(code) {
-        Some(store) => Answer::Untidy(store_told(code, input.arrays().len(), store)),
+        Some(store) => Answer::Untidy(store_told(code, array_count(input), store)),
         None => tidy_answer(alloc, capsules, code, input),
     }
 }
@@ -131,11 +133,21 @@ fn verdict_answer(
     ensures { RacesMayOf capsules code.now input.now result }
 {
     match verdict {
-        Verdict::Calm(run) => Answer::Sound(counts_told(&run)),
-        Verdict::Races(race) => match race_told(alloc, code, input.arrays(), race) {
-            Ok(told) => Answer::Raced(told),
-            Err(NoMemory) => Answer::NoMemory,
-        },
+        Verdict::Calm(done) => Answer::Sound(counts_told(&done)),
+        Verdict::Races(race) => race_answer(alloc, capsules, code, input, race),
         Verdict::NotWithin => Answer::NotWithinCapsules(capsules),
+    }
+}
+
+/// The answer of a first race within so many capsules.
+fn race_answer(alloc: Global, capsules: u64, code: &Code, input: &Input, race: Race) -> Answer
+    requires free { IsFree code.now }
+    requires tidy { IsTidy code.now }
+    requires first { IsVerdict code.now input.now capsules (Races race) }
+    ensures { RacesMayOf capsules code.now input.now result }
+{
+    match race_told(alloc, code, input.arrays(), race) {
+        Ok(told) => Answer::Raced(told),
+        Err(NoMemory) => Answer::NoMemory,
     }
 }

@@ -165,6 +165,7 @@ pub record IsLogOf (log : List Touch) (p : Capsule Where End) (m : Memory Where)
   pub touched : (x : ℕ) → Has x (words_in log) ↔ (Has x (addresses (exposed code_locations p m)) ⊎ Has x (addresses (written code_locations p m)))
   pub written : (x : ℕ) → Has x (written_in log) ↔ Has x (addresses (written code_locations p m))
 
+-- the touches from the first instruction on
 pub is_log : (array_words : ℕ) (is : List Instr) (m : Memory Where) → IsLogOf (touches_of array_words is m) (capsule_of array_words is) m
 is_log array_words is m =
     let same = touches_are array_words 0 0 is (replicate 64 0) m in

@@ -13,6 +13,7 @@ at_place P [] all i d less = absurd (omega (arith, less))
 at_place P (m ∷ marks) all zero d less = all.0
 at_place P (m ∷ marks) all (suc i) d less = at_place P marks all.1 i d (omega (arith, less))
 
+-- what stands at a place is one of the list
 one_at : (marks : List Mark) (i : ℕ) (d : Mark) → i < length marks → IsOneOf (get_or marks i d) marks
 one_at [] i d less = absurd (omega (arith, less))
 one_at (m ∷ marks) zero d less = inl refl
@@ -26,9 +27,11 @@ starts_rise (m ∷ marks) are zero (suc j) d le less = (at_place (IsInside m) ma
 starts_rise (m ∷ marks) are (suc i) zero d le less = absurd (omega (arith, le))
 starts_rise (m ∷ marks) are (suc i) (suc j) d le less = starts_rise marks are.1 i j d (omega (arith, le)) (omega (arith, less))
 
+-- a fork that began later has no such stamp
 not_begun : (m : Mark) (k : ℕ) → nat_le m.start k ≡ false → is_left_of m k ≡ false
 not_begun m k h = ap (λ (b : Bool). b && nat_lt k m.mid) h
 
+-- nor has one whose left branch was over
 is_over : (m : Mark) (k : ℕ) → m.mid ≤ k → is_left_of m k ≡ false
 is_over m k h = ap (λ (b : Bool). nat_le m.start k && b) (le-ltb k m.mid h) ∙ and_false (nat_le m.start k)
   where
@@ -36,6 +39,7 @@ is_over m k h = ap (λ (b : Bool). nat_le m.start k && b) (le-ltb k m.mid h) ∙
     and_false true = refl
     and_false false = refl
 
+-- false changes no join
 or_false : (x : Bool) → (x || false) ≡ x
 or_false true = refl
 or_false false = refl
@@ -69,10 +73,12 @@ module _ (marks : List Mark) (are : AreInOrder marks) (k count : ℕ) (few : cou
   pub none_there : count ≡ 0 → (d : Mark) → stands_beside marks k ≡ false
   none_there none d = none_begun marks k d (λ i less. point.1 i d (omega (arith, none)) less)
 
+  -- the last that has begun decides
   decides : (j : ℕ) (d : Mark) → count ≡ suc j → stands_beside marks k ≡ nat_lt k (get_or marks j d).mid
   decides j d is = last_decides marks are k j d (omega (arith, is, few)) (point.0 j d (omega arith) (omega (arith, is)))
       (λ i more less. point.1 i d (omega (arith, more, is)) less)
 
+  -- it has the stamp
   pub last_has : (j : ℕ) (d mark : Mark) → count ≡ suc j → mark ≡ get_or marks j d → k < mark.mid → HasLeft marks k mark
   last_has j d mark is same less =
       let there : j < length marks = omega (arith, is, few) in
@@ -86,6 +92,7 @@ module _ (marks : List Mark) (are : AreInOrder marks) (k count : ℕ) (few : cou
         beside = decides j d is ∙ lt-ltb k (get_or marks j d).mid (omega (arith, mid, less));
       }
 
+  -- or none has
   pub last_has_not : (j : ℕ) (d mark : Mark) → count ≡ suc j → mark ≡ get_or marks j d → mark.mid ≤ k → stands_beside marks k ≡ false
   last_has_not j d mark is same more =
       let mid = ap (λ (m : Mark). m.mid) same in

@@ -27,6 +27,7 @@ same_step p q next (Loads l d) g m same = same next (slice_set g d.index (m (loc
 same_step p q next (Stores l v) g m same = same next g (store code_locations m (location_of l) v) (omega arith)
 same_step p q next (Asks n) g m same = same next g m (omega arith)
 
+-- for an act
 same_act : (p q : ℕ → List ℕ → Memory Where → List Touch) (here : ℕ) (a : Act) (g : List ℕ) (m : Memory Where)
     → ((t : ℕ) (h : List ℕ) (n : Memory Where) → here + 1 ≤ t → p t h n ≡ q t h n) → after_act p here a g m ≡ after_act q here a g m
 same_act p q here (Sets d v) g m same = same (here + 1) (slice_set g d.index v) m (omega arith)
@@ -42,6 +43,7 @@ module _ (words : ℕ) where
       let e : t - here ≡ suc (t - (here + 1)) = omega arith in
       rw e refl
 
+  -- the touches at the instruction past so many
   from_here : (here skip : ℕ) (is : List Instr) (g : List ℕ) (m : Memory Where) (i : Instr) → slice_get is skip ≡ Some i
       → touches_from words here skip is g m ≡ after_act (λ t h n. touches_from words here (t - here) is h n) (here + skip) (does words i g) g m
   from_here here skip [] g m i none = cc
@@ -58,6 +60,7 @@ module _ (words : ℕ) where
       ∙ same_act (λ t h n. touches_from words (here + 1) (t - (here + 1)) is h n) (λ t h n. touches_from words here (t - here) (j ∷ is) h n)
       (here + suc skip) (does words i g) g m (λ t h n less. later here t j is h n (omega arith))
 
+  -- past the last one there are none
   past : (here skip : ℕ) (is : List Instr) (g : List ℕ) (m : Memory Where) → length is ≤ skip → touches_from words here skip is g m ≡ []
   past here skip [] g m h = refl
   past here zero (j ∷ is) g m h = absurd (omega arith)
@@ -107,6 +110,7 @@ module _ (slots size : ℕ) (p : Place) where
       all = append_assoc log [] (go next g it.now) ∙ it.all;
     }
 
+    -- a step, with the words and registers named
     pub notes_step : (s : Step) (at : ℕ) (go : ℕ → List ℕ → Memory Where → List Touch) (next : ℕ) (blocks words g blocks' words' g' : List ℕ)
         (log log' : List Touch)
         → IsLaid slots size p blocks → IsStepWithin slots size p (length words) s → blocks' ≡ blocks_after p s blocks
@@ -146,11 +150,13 @@ pub there_more : (n : ℕ) (log more : List Touch) → AreThere n log → AreThe
 there_more n [] more h k = k
 there_more n (t ∷ log) more h k = (h.0, there_more n log more h.1 k)
 
+-- what is noted of a location that is there
 at_there : (slots size n : ℕ) (l : Location) (b : Bool) (at : ℕ) → IsWithin slots size n l → AreThere n (touches_at l b at)
 at_there slots size n (Frame own) b at h = tt
 at_there slots size n (New offset) b at h = tt
 at_there slots size n (Array word) b at h = (h, tt)
 
+-- and of a step
 pub step_noted : (slots size : ℕ) (p : Place) (n : ℕ) (s : Step) (at : ℕ) → IsStepWithin slots size p n s → AreThere n (touches_by s at)
 step_noted slots size p n (Loads l to) at h = at_there slots size n l false at h
 step_noted slots size p n (Stores l v) at h = at_there slots size n l true at h

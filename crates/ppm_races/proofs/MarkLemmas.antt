@@ -24,18 +24,22 @@ use Rattle.ppm_races.specs.Beside.{is_left_of, stands_beside, IsOneOf, IsInside,
 use Rattle.ppm_races.specs.Walks.{rise, marks_of, opens_fork, marks_with}
 use Rattle.ppm_races.specs.declared.stamps.Mark.{Mark}
 
+-- all of a list and one more
 all_push : (P : Mark → Type 0) (ms : List Mark) (n : Mark) → AllByRecursion P ms → P n → AllByRecursion P (ms ++ (n ∷ []))
 all_push P [] n all one = (one, tt)
 all_push P (m ∷ ms) n all one = (all.0, all_push P ms n all.1 one)
 
+-- false changes no join
 or_false : (x : Bool) → (x || false) ≡ x
 or_false true = refl
 or_false false = refl
 
+-- joins in another grouping
 or_more : (x y z : Bool) → (x || (y || z)) ≡ ((x || y) || z)
 or_more true y z = refl
 or_more false y z = refl
 
+-- what stands beside, with one fork more
 stands_append : (ms : List Mark) (m : Mark) (k : ℕ) → stands_beside (ms ++ (m ∷ [])) k ≡ (stands_beside ms k || is_left_of m k)
 stands_append [] m k = or_false (is_left_of m k)
 stands_append (n ∷ ms) m k = ap (λ (b : Bool). is_left_of n k || b) (stands_append ms m k) ∙ or_more (is_left_of n k) (stands_beside ms k) (is_left_of m k)
@@ -55,6 +59,7 @@ beside_marks (InRight g o start mid ∷ p) k =
     stands_append (marks_of p) (record { start = start; mid = mid }) k
     ∙ ap (λ (b : Bool). b || is_left_of (record { start = start; mid = mid }) k) (beside_marks p k)
 
+-- and as tests they are one
 pub same_beside : (marks : List Mark) (p : List (Standing Own Result)) → marks ≡ marks_of p → stands_beside marks ≡ beside_of p
 same_beside marks p e = ap (λ (ms : List Mark). stands_beside ms) e ∙ fun_ext (beside_marks p)
 
@@ -75,6 +80,7 @@ order_push : (ms : List Mark) (n : Mark) → AreInOrder ms → AllByRecursion (�
 order_push [] n are all = (tt, tt)
 order_push (m ∷ ms) n are all = (all_push (IsInside m) ms n are.0 all.0, order_push ms n are.1 all.1)
 
+-- all open forks are outside of a new one
 all_inside : (p : List (Standing Own Result)) (n : Mark) → AreBelow p n.start → AllByRecursion (λ (m : Mark). IsInside m n) (marks_of p)
 all_inside [] n below = tt
 all_inside (InCallee g ∷ p) n below = all_inside p n below
@@ -85,6 +91,7 @@ all_inside (InRight g o start mid ∷ p) n below =
     all_push (λ (m : Mark). IsInside m n) (marks_of p) (record { start = start; mid = mid }) (all_inside p n below.2)
     (record { start = below.0; mid = below.1 })
 
+-- the marks of what ascends
 in_order : (p : List (Standing Own Result)) → Ascends p → AreInOrder (marks_of p)
 in_order [] are = tt
 in_order (InCallee g ∷ p) are = in_order p are
@@ -93,6 +100,7 @@ in_order (InLeft g r start ∷ p) are =
 in_order (InRight g o start mid ∷ p) are =
     order_push (marks_of p) (record { start = start; mid = mid }) (in_order p are.1) (all_inside p (record { start = start; mid = mid }) are.0)
 
+-- at each moment of a run
 pub now_sorted : (c : Code Own Result) (root : Strands) (input : Words) (marks : List Mark) (p : List (Standing Own Result)) (t : Strands) (a : Words)
     (s : Stamps)
     → marks ≡ marks_of p → Comes c root input p t a s → AreInOrder marks
@@ -103,6 +111,7 @@ one_split : (ms : List Mark) (m n : Mark) → IsOneOf m (ms ++ (n ∷ [])) → I
 one_split [] m n h = elim h [ inl e ↦ inr e | inr y ↦ absurd y ]
 one_split (x ∷ ms) m n h = elim h [ inl e ↦ inl (inl e) | inr y ↦ elim (one_split ms m n y) [ inl z ↦ inl (inr z) | inr e ↦ inr e ] ]
 
+-- a mark with a right branch
 pub open_of : (p : List (Standing Own Result)) (m : Mark) → 0 < m.mid → IsOneOf m (marks_of p) → IsOpen m.start m.mid p
 open_of [] m some h = absurd h
 open_of (InCallee g ∷ p) m some h = open_of p m some h
@@ -134,6 +143,7 @@ entered c root input code frame block m s ms a u (Trap trap line) come = come
 entered c root input code frame block m s ms a u (Call q k to) come = Calls come
 entered c root input code frame block m s ms a u (Fork q r k left_to right_to) come = Forks come
 
+-- and so are the marks
 pub marks_entered : (code : CodeParts) (frame : Frame) (block : ℕ) (m : Memory Where) (s : Above) (ms : List Mark) (time : ℕ) (e : End) (marks : List Mark)
     → marks ≡ marks_of (rise s ms) → marks_with (opens_fork e) time marks ≡ marks_of (rise (above_after code frame block m s e) (forks_after time e ms))
 marks_entered code frame block m s ms time (Next k) marks is = is

@@ -53,10 +53,12 @@ forks_few code (Trap trap line) own block = omega arith
 forks_few code (Call procedure capsule to) own block = omega arith
 forks_few code (Fork left right capsule left_to right_to) own block = omega arith
 
+-- a frame that goes on opens none
 no_fork : (g : Own) (o : Result) → forks_in (resume g o) ≡ 0
 no_fork g (Gave value) = refl
 no_fork g (Trapped trap line) = refl
 
+-- the code of a listing does so
 is_plain : (code : CodeParts) (array_words : ℕ) → IsPlain (strands_over code array_words)
 is_plain code array_words = record { next = λ f a. forks_few code _ _ _; resume = no_fork }
 
@@ -64,12 +66,15 @@ module _ (code : CodeParts) (input : List NamedArray) where
   abbrev n : ℕ
   n = length (words_in input)
 
+  -- the strands of the code
   abbrev c : Code Own Result
   c = strands_over code n
 
+  -- the root's strand
   abbrev root : Strands
   root = root_strand code input
 
+  -- the words of the input
   abbrev words : Words
   words = words_of (words_in input)
 
@@ -97,6 +102,7 @@ module _ (code : CodeParts) (input : List NamedArray) where
       let before = moments_before c root words o a s (subst (λ (k : ℕ). Comes (strands_over code k) root words [] (Over o) a s) same come) run moment in
       omega (arith, before, few, is)
 
+  -- nor does a capsule before it meet another one
   pub not_met : (run limit array_words : ℕ) (m : Meeting) → array_words ≡ n → IsMeetingOf code root words array_words m → m.run ≤ limit → limit + 1 ≡ run
       → MomentWith code input run → ⊥
   not_met run limit array_words m same meets few is moment =
@@ -114,9 +120,11 @@ module _ (code : CodeParts) (input : List NamedArray) where
     opener = forks_are_opened c (is_plain code n) root words it.moment.above (Strand it.moment.frame) it.moment.words it.moment.stamps refl it.moment.come
         m.met.fork.start m.met.fork.mid it.fork
 
+    -- its number
     pub opener_is : opener.number ≡ m.met.fork.start - 1
     opener_is = let one = opener.before in omega (arith, one)
 
+    -- its moment
     pub opener_moment : MomentWith code input (m.met.fork.start - 1)
     opener_moment = subst (λ (k : ℕ). MomentWith code input k) opener_is opener.moment
 
@@ -125,6 +133,7 @@ module _ (code : CodeParts) (input : List NamedArray) where
       pub moment : MomentWith code input m.met.left
       pub touched : Has m.met.touch.word (touches c moment.frame moment.words)
 
+    -- by whether the last writer stands beside
     named_by : (b : Bool) → beside_of it.moment.above (it.moment.stamps.wrote m.met.touch.word) ≡ b
         → m.met.left ≡ cond b (it.moment.stamps.wrote m.met.touch.word) (it.moment.stamps.touched m.met.touch.word) → IsNamed
     named_by true is left =
@@ -142,6 +151,7 @@ module _ (code : CodeParts) (input : List NamedArray) where
           touched = was.has;
         }
 
+    -- the capsule that is met
     pub named : IsNamed
     named = named_by (beside_of it.moment.above (it.moment.stamps.wrote m.met.touch.word)) refl it.left
 
@@ -152,12 +162,15 @@ module _ (code : CodeParts) (input : List NamedArray) where
         let is = it.moment.time in
         omega (arith, low, is)
 
+    -- numbers are from 1 on
     pub opener_first : 1 ≤ m.met.fork.start - 1
     opener_first = from_one (m.met.fork.start - 1) opener_moment
 
+    -- and the opener's is low
     pub opener_low : m.met.fork.start - 1 ≤ m.run
     opener_low = let low = left_low in let since = it.from in omega (arith, low, since)
 
+    -- and the number of the one that is met
     pub left_first : 1 ≤ m.met.left
     left_first = from_one m.met.left named.moment
 
@@ -172,6 +185,7 @@ module _ (code : CodeParts) (input : List NamedArray) where
           written = visit.written;
         }
 
+    -- the opener is one
     fork_is : (v : Visit) → IsVisitTo code input (m.met.fork.start - 1) m.met.touch.word v
         → IsOpener code root words n (record { run = v.run; capsule = v.capsule })
     fork_is v visit =
@@ -190,6 +204,7 @@ module _ (code : CodeParts) (input : List NamedArray) where
           opens = subst₂ (λ (f : Own) (a : Words). forks_in (c.next f a) ≡ 1) one.frame one.words opener.opens;
         }
 
+    -- all of a race
     pub race_is : (v left : Visit) (at : ℕ) → IsVisitTo code input (m.met.fork.start - 1) m.met.touch.word v
         → IsVisitTo code input m.met.left m.met.touch.word left → at ≡ m.met.touch.at
         → IsRaceWith code input (record {
@@ -228,11 +243,13 @@ at_one k (Frame own) b at less = tt
 at_one k (New offset) b at less = tt
 at_one k (Array word) b at less = (less, tt)
 
+-- all of two logs
 all_append : (k : ℕ) (log more : List Touch) → AllByRecursion (λ (t : Touch). t.at < k) log → AllByRecursion (λ (t : Touch). t.at < k) more
     → AllByRecursion (λ (t : Touch). t.at < k) (log ++ more)
 all_append k [] more h g = g
 all_append k (t ∷ log) more h g = (h.0, all_append k log more h.1 g)
 
+-- by what an instruction does
 act_low : (k : ℕ) (go : ℕ → List ℕ → Memory Where → List Touch)
     → ((t : ℕ) (h : List ℕ) (m : Memory Where) → AllByRecursion (λ (t : Touch). t.at < k) (go t h m)) → (here : ℕ) (a : Act) (g : List ℕ) (m : Memory Where)
     → here < k → AllByRecursion (λ (t : Touch). t.at < k) (after_act go here a g m)
@@ -248,6 +265,7 @@ act_low k go low here (Steps (Stores l v)) g m less =
 act_low k go low here (Steps (Asks q)) g m less = low (here + 1) g m
 act_low k go low here (Stops e) g m less = tt
 
+-- at each instruction
 touches_low : (array_words k here skip : ℕ) (is : List Instr) (g : List ℕ) (m : Memory Where) → here + length is ≤ k
     → AllByRecursion (λ (t : Touch). t.at < k) (touches_from array_words here skip is g m)
 touches_low array_words k here skip [] g m le = tt
@@ -256,10 +274,12 @@ touches_low array_words k here zero (i ∷ is) g m le =
     act_low k (λ t h m. touches_from array_words (here + 1) (t - (here + 1)) is h m)
     (λ t h m. touches_low array_words k (here + 1) (t - (here + 1)) is h m (omega (arith, le))) here (does array_words i g) g m (omega (arith, le))
 
+-- one of a log
 one_low : (k : ℕ) (front rest : List Touch) (t : Touch) → AllByRecursion (λ (t : Touch). t.at < k) (front ++ (t ∷ rest)) → t.at < k
 one_low k [] rest t all = all.0
 one_low k (x ∷ front) rest t all = one_low k front rest t all.1
 
+-- a capsule has few instructions
 instrs_few : (code : CodeParts) → IsCode code → (number : ℕ) → length (instrs_of code number) ≤ 160
 instrs_few code is_code number = by (slice_get code.capsules number) refl
   where
@@ -267,6 +287,7 @@ instrs_few code is_code number = by (slice_get code.capsules number) refl
     by None e = omega arith
     by (Some q) e = (all_at (IsCapsule code) code.capsules number q is_code.capsules e).most
 
+-- the number of a touch that meets something
 pub at_few : (code : CodeParts) → IsCode code → (input : List NamedArray) (m : Meeting) → IsMeetingWith code input m → m.met.touch.at < 160
 at_few code is_code input m it =
     let is = instrs_of code it.moment.frame.point.capsule in

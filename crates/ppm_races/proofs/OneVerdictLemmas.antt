@@ -36,6 +36,7 @@ abbrev head_of : Touch → List Touch → Touch
 head_of d [] = d
 head_of d (t ∷ log) = t
 
+-- the others
 abbrev rest_of : List Touch → List Touch
 rest_of [] = []
 rest_of (t ∷ log) = log
@@ -51,6 +52,7 @@ first_by test t u yes_t yes_u (x ∷ front) rest [] rest' e no_t no_u =
 first_by test t u yes_t yes_u (x ∷ front) rest (y ∷ front') rest' e no_t no_u =
     first_by test t u yes_t yes_u front rest front' rest' (ap (λ (l : List Touch). rest_of l) e) no_t.1 no_u.1
 
+-- a log has one
 first_one : (test : Touch → Bool) (log : List Touch) (t u : Touch) → IsFirst test log t → IsFirst test log u → t ≡ u
 first_one test log t u p q = first_by test t u p.here q.here p.front p.rest q.front q.rest (sym p.all ∙ q.all) p.none q.none
 
@@ -92,6 +94,7 @@ module _ (code : CodeParts) (root : Strands) (input : Words) (n : ℕ) where
       (touch_meets code n it.moment.frame it.moment.words (beside_of it.moment.above) it.moment.stamps it.first.front it.first.rest (touch_of word r)
       it.first.all it.first.here)
 
+  -- two that do have one number
   same_run : (word word' : ℕ) (r s : Touching) → IsMeeting code root input n word r → IsMeeting code root input n word' s → r.run ≡ s.run
   same_run word word' r s p q = elim (cases_lt r.run s.run) [
     | inl h ↦ absurd (meeting_meets word r s.run p q.moment h)
@@ -101,6 +104,7 @@ module _ (code : CodeParts) (root : Strands) (input : Words) (n : ℕ) where
     ]
   ]
 
+  -- and one touch
   same_touch : (word word' : ℕ) (r s : Touching) (p : IsMeeting code root input n word r) (q : IsMeeting code root input n word' s)
       → touch_of word r ≡ touch_of word' s
   same_touch word word' r s p q =
@@ -111,6 +115,7 @@ module _ (code : CodeParts) (root : Strands) (input : Words) (n : ℕ) where
       (subst₂ (λ (f : Own) (a : Words). IsFirst (meets_at (beside_of p.moment.above) p.moment.stamps) (log_of code n f a) (touch_of word r))
       same.frame same.words p.first)) q.first
 
+  -- and are one
   same_right : (word word' : ℕ) (r s : Touching) (p : IsMeeting code root input n word r) (q : IsMeeting code root input n word' s) → r ≡ s
   same_right word word' r s p q =
       let run = same_run word word' r s p q in
@@ -123,6 +128,7 @@ module _ (code : CodeParts) (root : Strands) (input : Words) (n : ℕ) where
         writes = (touch i).writes;
       }
 
+  -- visits of one number are one
   same_visit : (word word' : ℕ) (v w : Visit) → word ≡ word' → v.run ≡ w.run → IsVisit code root input n word v → IsVisit code root input n word' w → v ≡ w
   same_visit word word' v w words run p q =
       let same = same_moments v.run w.run run p.moment q.moment in
@@ -132,6 +138,7 @@ module _ (code : CodeParts) (root : Strands) (input : Words) (n : ℕ) where
       (subst₂ (λ (f : Own) (a : Words). (v.writes ≡ true) ↔ Has word' (c.writes f a)) same.frame same.words one) q.written in
       λ i. record { run = run i; capsule = capsule i; writes = writes i }
 
+  -- and openers
   same_fork : (o u : Opener) → o.run ≡ u.run → IsOpener code root input n o → IsOpener code root input n u → o ≡ u
   same_fork o u run p q =
       let capsule = same_capsule o.run u.run o.capsule u.capsule run p.moment q.moment p.capsule q.capsule in
@@ -171,6 +178,7 @@ module _ (code : CodeParts) (input : List NamedArray) where
       p.counts.pool_words ∙ ap (λ (e : End Result). pool_words code e.counts) ends ∙ sym q.counts.pool_words in
       λ i. record { outcome = outcome i; capsules = capsules i; forks = forks i; pool_words = pools i }
 
+  -- by the cases of both
   pub verdicts_are_one : (limit : ℕ) (v w : Verdict) → IsVerdict code input limit v → IsVerdict code input limit w → v ≡ w
   verdicts_are_one limit (Calm r) (Calm s) p q = ap (λ (d : DepthRun). Calm d) (same_end limit r s p.1 q.1)
   verdicts_are_one limit (Races a) (Races b) p q =

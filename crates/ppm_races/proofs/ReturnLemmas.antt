@@ -32,6 +32,7 @@ module _ (code : CodeParts) (array_words : ℕ) (root : Strands) (input : Words)
   abbrev d : Code Own Result
   d = strands_over code array_words
 
+  -- the moment then
   goes_up : (w : Waiting) (on : For) (v : Waits) (s : Above) (ms : List Mark) (done : Finishes) (a : Words) (u : Stamps) (blocks : List ℕ) (end top : ℕ)
       → AreOne code blocks end top w.frame on v → Comes d root input (rise (On w v s) ms) (Over (result_of done)) a u
       → Comes d root input (rise (above_resumed code array_words w on v done s) (forks_resumed u.time on ms)) (leaf_resumed code array_words v done) a u
@@ -45,6 +46,7 @@ module _ (code : CodeParts) (array_words : ℕ) (root : Strands) (input : Words)
   goes_up w (Right l left_to to) (ForCallee f) s ms done a u blocks end top one come = absurd one
   goes_up w (Right l left_to to) (ForLeft f g) s ms done a u blocks end top one come = absurd one
 
+  -- its marks
   marks_up : (w : Waiting) (on : For) (v : Waits) (s : Above) (ms : List Mark) (done : Finishes) (blocks : List ℕ) (end top time : ℕ) (old new : List Mark)
       → AreOne code blocks end top w.frame on v → old ≡ marks_of (rise (On w v s) ms) → MarksResumed time on old new
       → new ≡ marks_of (rise (above_resumed code array_words w on v done s) (forks_resumed time on ms))
@@ -68,6 +70,7 @@ module _ (code : CodeParts) (array_words : ℕ) (root : Strands) (input : Words)
     pub come : Comes d root input (rise above forks) leaf a u
     pub marks_are : marks ≡ marks_of (rise above forks)
 
+  -- the whole of it
   pub resumed_then : (ws : List Waiting) (w : Waiting) (done : Finishes) (blocks : List ℕ) (old new : List Mark) (a : Words) (u : Stamps)
       → Stands blocks (ws ++ (w ∷ [])) (IsOver done) old a u → MarksResumed u.time w.on old new
       → Stands (stack_resumed w w.on done blocks) (waiting_resumed w w.on done ws) (resumed w w.on done) new a u
@@ -103,6 +106,7 @@ over_root c root input ws Root ms leaf a u o waits none over come = subst (λ (t
 over_root c root input ws (On w v s) ms leaf a u o waits none over come =
     absurd (let n = ap (λ (xs : List Waiting). length xs) waits in omega (arith, n, none, length_push (listed s) w))
 
+-- a turn counts one at most
 pub few_turns : (n : Now) → turns_of n ≤ 1
 few_turns (At frame) = omega arith
 few_turns (IsOver done) = omega arith

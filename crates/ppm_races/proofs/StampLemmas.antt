@@ -17,18 +17,22 @@ use Rattle.ppm_races.specs.declared.touch.Touch.{Touch}
 rest_is : {X : Type 0} (x : X) (xs : List X) → take (length (x ∷ xs) - 1) (drop 1 (x ∷ xs)) ≡ xs
 rest_is x xs = take_all (length (x ∷ xs) - 1) xs (omega arith)
 
+-- a join is false where both are
 or_none : (x y : Bool) → (x || y) ≡ false → (x ≡ false) × (y ≡ false)
 or_none true y h = absurd (cc)
 or_none false y h = (refl, h)
 
+-- a word that is written, by its first
 written_one : (b : Bool) (y x : ℕ) (xs : List ℕ) → Has x (with_written b y xs) → ((b ≡ true) × (x ≡ y)) ⊎ Has x xs
 written_one true y x xs h = elim h [ inl e ↦ inl (refl, e) | inr z ↦ inr z ]
 written_one false y x xs h = inr h
 
+-- the first, where it writes
 one_written : (b : Bool) (y : ℕ) (xs : List ℕ) → b ≡ true → Has y (with_written b y xs)
 one_written true y xs h = inl refl
 one_written false y xs h = absurd (cc)
 
+-- one of the others
 more_written : (b : Bool) (y x : ℕ) (xs : List ℕ) → Has x xs → Has x (with_written b y xs)
 more_written true y x xs h = inr h
 more_written false y x xs h = h
@@ -38,6 +42,7 @@ pub in_words : (front rest : List Touch) (t : Touch) → Has t.word (words_in (f
 in_words [] rest t = inl refl
 in_words (x ∷ front) rest t = inr (in_words front rest t)
 
+-- and of those that are written
 pub in_written : (front rest : List Touch) (t : Touch) → t.writes ≡ true → Has t.word (written_in (front ++ (t ∷ rest)))
 in_written [] rest t e = one_written t.writes t.word (written_in rest) e
 in_written (x ∷ front) rest t e = more_written x.writes x.word t.word (written_in (front ++ (t ∷ rest))) (in_written front rest t e)
@@ -59,9 +64,11 @@ pub record IsPassed (test : Touch → Bool) (log left : List Touch) : Type 0 whe
   pub all : log ≡ front ++ left
   pub none : AllByRecursion (λ x. test x ≡ false) front
 
+-- at the beginning
 pub none_passed : (test : Touch → Bool) (log : List Touch) → IsPassed test log log
 none_passed test log = record { front = []; all = refl; none = tt }
 
+-- one touch more
 one_passed : (test : Touch → Bool) (log left : List Touch) (t : Touch) → test t ≡ false → IsPassed test log (t ∷ left) → IsPassed test log left
 one_passed test log left t e it = record {
   front = it.front ++ (t ∷ []);
@@ -119,6 +126,7 @@ met_next marks wrote touched log (t ∷ left) d met some h it = record {
 abbrev pub WritesAs : (word : ℕ) → List Touch → List Touch → Type 0
 WritesAs word log left = Has word (written_in log) ↔ Has word (written_in left)
 
+-- the next touch does not write it
 pub writes_next : (word : ℕ) (log left : List Touch) (d : Touch) → 1 ≤ length left
     → ((get_or left 0 d).writes ≡ true → word ≡ (get_or left 0 d).word → ⊥) → WritesAs word log left
     → WritesAs word log (take (length left - 1) (drop 1 left))
@@ -129,12 +137,14 @@ writes_next word log (t ∷ left) d some other it =
       λ h. it.1 (more_written t.writes t.word word (written_in left) h),
     )
 
+-- the next touch writes it
 pub writes_here : (word : ℕ) (log left : List Touch) (d : Touch) → 1 ≤ length left → (get_or left 0 d).writes ≡ true → word ≡ (get_or left 0 d).word
     → WritesAs word log left → Has word (written_in log)
 writes_here word log [] d some e same it = absurd (omega (arith, some))
 writes_here word log (t ∷ left) d some e same it =
     it.1 (subst (λ (z : ℕ). Has z (with_written t.writes t.word (written_in left))) (sym same) (one_written t.writes t.word (written_in left) e))
 
+-- none is left
 pub writes_none : (word : ℕ) (log left : List Touch) → length left < 1 → WritesAs word log left → Has word (written_in log) → ⊥
 writes_none word log [] none it h = it.0 h
 writes_none word log (t ∷ left) none it h = absurd (omega (arith, none))
@@ -144,9 +154,11 @@ abbrev pub MarksAs : (q : ℕ → Bool) (time : ℕ) (wrote touched : List ℕ) 
 MarksAs q time wrote touched log wrote' touched' left =
     (w t : List ℕ) → AreMarked q wrote' touched' time left w t → AreMarked q wrote touched time log w t
 
+-- at the beginning
 pub marks_whole : (q : ℕ → Bool) (time : ℕ) (wrote touched : List ℕ) (log : List Touch) → MarksAs q time wrote touched log wrote touched log
 marks_whole q time wrote touched log w t h = h
 
+-- at the end
 pub marks_done : (q : ℕ → Bool) (time : ℕ) (wrote touched wrote' touched' : List ℕ) (log : List Touch)
     → MarksAs q time wrote touched log wrote' touched' [] → AreMarked q wrote touched time log wrote' touched'
 marks_done q time wrote touched wrote' touched' log it = it wrote' touched' (record {
@@ -165,14 +177,17 @@ module _ (q : ℕ → Bool) (time : ℕ) (now : q time ≡ false) (wrote touched
     set_wrote true x e is = ap (λ (y : ℕ). get_or (set wrote t.word time) y 0) e ∙ get_or-set_same wrote t.word time 0 there
     set_wrote false x e is = absurd (cc)
 
+    -- other words keep their writer
     kept_wrote : (b : Bool) (x : ℕ) → (x ≡ t.word → b ≡ true → ⊥) → get_or (wrote_with b t.word time wrote) x 0 ≡ get_or wrote x 0
     kept_wrote true x ne = get_or-set_other wrote t.word x time 0 (λ e. ne e refl)
     kept_wrote false x ne = refl
 
+    -- lengths stay
     wrote_long : (b : Bool) → length (wrote_with b t.word time wrote) ≡ length wrote
     wrote_long true = length-set wrote t.word time
     wrote_long false = refl
 
+    -- the list of touches keeps its length
     touched_long : (b : Bool) → length (touched_with b t.word time touched) ≡ length touched
     touched_long true = refl
     touched_long false = length-set touched t.word time
@@ -186,9 +201,11 @@ module _ (q : ℕ → Bool) (time : ℕ) (now : q time ≡ false) (wrote touched
           by true = refl
           by false = get_or-set_other touched t.word x time 0 ne
 
+      -- what stands beside stays
       same_true : b ≡ true → (x : ℕ) → get_or (touched_with b t.word time touched) x 0 ≡ get_or touched x 0
       same_true e x = ap (λ (c : Bool). get_or (touched_with c t.word time touched) x 0) e
 
+      -- else the stamp is now
       same_false : b ≡ false → get_or (touched_with b t.word time touched) t.word 0 ≡ time
       same_false e = ap (λ (c : Bool). get_or (touched_with c t.word time touched) t.word 0) e ∙ get_or-set_same touched t.word time 0 at
 
@@ -203,6 +220,7 @@ module _ (q : ℕ → Bool) (time : ℕ) (now : q time ≡ false) (wrote touched
         | inr ne ↦ ap q (other x ne)
       ]
 
+      -- one touch is marked, then the others
       pub marks_one : (left : List Touch) (w v : List ℕ)
           → AreMarked q (wrote_with t.writes t.word time wrote) (touched_with b t.word time touched) time left w v
           → AreMarked q wrote touched time (t ∷ left) w v
@@ -240,15 +258,18 @@ module _ (q : ℕ → Bool) (time : ℕ) (now : q time ≡ false) (wrote touched
             | inr ne ↦ other x ne
           ]
 
+-- those that are left are there
 pub there_next : (n m : ℕ) (left : List Touch) → 1 ≤ length left → m ≡ n → AreThere n left → AreThere m (take (length left - 1) (drop 1 left))
 there_next n m [] some same h = absurd (omega (arith, some))
 there_next n m (t ∷ left) some same h =
     subst (λ (xs : List Touch). AreThere m xs) (sym (rest_is t left)) (subst (λ (k : ℕ). AreThere k left) (sym same) h.1)
 
+-- lengths stay
 pub wrote_kept : (b : Bool) (word time : ℕ) (wrote : List ℕ) → length (wrote_with b word time wrote) ≡ length wrote
 wrote_kept true word time wrote = length-set wrote word time
 wrote_kept false word time wrote = refl
 
+-- the list of touches keeps its length
 pub touched_kept : (b : Bool) (word time : ℕ) (touched : List ℕ) → length (touched_with b word time touched) ≡ length touched
 touched_kept true word time touched = refl
 touched_kept false word time touched = length-set touched word time

@@ -90,9 +90,11 @@ module _ (code : CodeParts) (array_words : ℕ) where
         | inr y ↦ has_right x ((strands_over code array_words).reads f a) _ y
       ]
 
+  -- the words that a log writes
   pub log_writes : (f : Own) (a : Words) (x : ℕ) → Has x (written_in (log_of code array_words f a)) → Has x ((strands_over code array_words).writes f a)
   log_writes f a x h = ((is_log array_words (instrs_of code f.point.capsule) (start code_locations (table_of code array_words) f a)).written x).0 h
 
+  -- and back
   pub writes_log : (f : Own) (a : Words) (x : ℕ) → Has x ((strands_over code array_words).writes f a) → Has x (written_in (log_of code array_words f a))
   writes_log f a x h = ((is_log array_words (instrs_of code f.point.capsule) (start code_locations (table_of code array_words) f a)).written x).1 h
 
@@ -109,11 +111,13 @@ module _ (code : CodeParts) (array_words : ℕ) where
     ],
   )
 
+  -- by a meeting
   pub meets_of : (root : Strands) (input : Words) (m : Meeting) (it : IsMeetingOf code root input array_words m)
       → Meets (strands_over code array_words) (beside_of it.moment.above) it.moment.frame it.moment.words it.moment.stamps
   meets_of root input m it = touch_meets it.moment.frame it.moment.words (beside_of it.moment.above) it.moment.stamps it.first.front it.first.rest
       m.met.touch it.first.all it.first.here
 
+  -- by which the code is not calm
   pub meeting_not_calm : (root : Strands) (input : Words) (m : Meeting) → IsMeetingOf code root input array_words m
       → Calm (strands_over code array_words) root input → ⊥
   meeting_not_calm root input m it = met_not_calm (strands_over code array_words) (code_is_local code_locations (table_of code array_words)) root input
@@ -127,6 +131,7 @@ shown_root code blocks current t shown = by shown.above shown.waits shown.leaf s
     by Root e u tree at = record { waits = refl; at = subst (λ (z : Strands). IsNow code blocks current Root z) (sym tree) at }
     by (On w v s) e u tree at = absurd (let n = ap (λ (xs : List Waiting). length xs) e in omega (arith, n, length_push (listed s) w))
 
+-- the stamps at the beginning
 fresh_is : (n : ℕ) → stamps_of 1 (replicate n 0) (replicate n 0) ≡ fresh
 fresh_is n =
     let none : (λ (x : ℕ). get_or (replicate n 0) x 0) ≡ (λ (x : ℕ). 0) = fun_ext (zeros n) in
@@ -157,6 +162,7 @@ module _ (code : CodeParts) (input : List NamedArray) (ws : List ℕ) (begins : 
   not_within (Gave value) is none = cc
   not_within (Trapped trap line) is none = cc
 
+  -- within the limit
   pub within_of : (finish : Finish) → HasCome code (length ws) limit (root_strand code input) (words_of ws) strand (Some finish)
       → strand.counts.capsules ≤ limit → word_count input ≤ length strand.store.words.items → IsRunOf arrays strand frame_words (Some finish) r
       → IsWithin code input limit r

@@ -60,26 +60,33 @@ module _ (code : CodeParts) (is_code : IsCode code) (frame : Frame) (block : ℕ
   abbrev c : Code Own Result
   c = strands_over code (length words_before)
 
+  -- the strand's frame
   abbrev f : Own
   f = at.at.0
 
+  -- the tree that is shown
   abbrev shown : IsShown code before_blocks waiting (At frame) (tree_at above leaf)
   shown = record { above = above; waits = at.waits; leaf = leaf; tree = refl; at = at.at }
 
+  -- the memory with which the capsule begins
   abbrev before : Memory Where
   before = start code_locations (table_of code (length words_before)) f (words_of words_before)
 
+  -- and the one that it leaves
   abbrev came : Memory Where
   came = leaves code_locations (capsule_of (length words) (instrs_of code frame.capsule)) before
 
+  -- the stack shows the first
   shows : Shows (slots_at code frame.capsule) (block_at code frame.capsule) (record { frame = frame.base; block = block }) opened words_before before
   shows = began_shows code is_code frame block before_blocks opened blocks words_before words done block_is opens_block whole keeps same_words fits waiting
       (tree_at above leaf) shown
 
+  -- the tree after it
   next_is : c.next f (words_of words_before) ≡ opens code done.end (own_of came) (new_of came)
   next_is = came_next code is_code frame block before_blocks opened blocks words_before words done block_is opens_block whole keeps same_words fits waiting
       (tree_at above leaf) shown
 
+  -- the words after it
   after_is : c.after f (words_of words_before) ≡ words_of words
   after_is = came_after code is_code frame block before_blocks opened blocks words_before words done block_is opens_block whole keeps same_words fits waiting
       (tree_at above leaf) shown
@@ -89,6 +96,7 @@ module _ (code : CodeParts) (is_code : IsCode code) (frame : Frame) (block : ℕ
   log_is = is_log before shows
       ∙ ap (λ (p : Point). touches_of (length words_before) (instrs_of code p.capsule) before) (sym at.at.2.point)
 
+  -- as sets of words
   logged : IsLogOf log (capsule_of (length words_before) (instrs_of code f.point.capsule)) before
   logged = subst (λ (l : List Touch). IsLogOf l (capsule_of (length words_before) (instrs_of code f.point.capsule)) before) (sym log_is)
       (touches_are_log (length words_before) (instrs_of code f.point.capsule) before)
@@ -100,18 +108,23 @@ module _ (code : CodeParts) (is_code : IsCode code) (frame : Frame) (block : ℕ
     | inr y ↦ has_right x (c.reads f (words_of words_before)) _ y
   ]
 
+  -- and back
   touched_all : (x : ℕ) → Has x (touches c f (words_of words_before)) → Has x (words_in log)
   touched_all x h = (logged.touched x).1 (has_cases x (c.reads f (words_of words_before)) _ h)
 
+  -- what stands beside, by the marks
   q_is : stands_beside marks ≡ beside_of (rise above forks)
   q_is = same_beside marks (rise above forks) marks_are
 
+  -- an answer of the marks
   said : (b : Bool) (k : ℕ) → stands_beside marks k ≡ b → beside_of (rise above forks) k ≡ b
   said b k h = sym (ap (λ (q : ℕ → Bool). q k) q_is) ∙ h
 
+  -- and back
   asked : (b : Bool) (k : ℕ) → beside_of (rise above forks) k ≡ b → stands_beside marks k ≡ b
   asked b k h = ap (λ (q : ℕ → Bool). q k) q_is ∙ h
 
+  -- the moment, at a strand
   at_strand : Comes c root input (rise above forks) (Strand f) (words_of words_before) (stamps_of time wrote touched)
   at_strand = subst (λ (t : Strands). Comes c root input (rise above forks) t (words_of words_before) (stamps_of time wrote touched)) at.at.1 come
 
@@ -126,6 +139,7 @@ module _ (code : CodeParts) (is_code : IsCode code) (frame : Frame) (block : ℕ
     time = refl;
   }
 
+  -- what was noted
   pub has_logged : IsLogged code root input (length words_before) time frame.capsule log
   has_logged = record { moment = moment; same = ap (λ (p : Point). p.capsule) at.at.2.point; all = log_is }
 
@@ -159,6 +173,7 @@ module _ (code : CodeParts) (is_code : IsCode code) (frame : Frame) (block : ℕ
       untouched = λ x h. said false (get_or touched x 0) (none.untouched x ((logged.written x).1 h));
     }
 
+    -- and is marked
     leaves_marks : Marks c (beside_of (rise above forks)) f (words_of words_before) (stamps_of time wrote touched) (stamps_of (time + 1) wrote' touched')
     leaves_marks = record {
       time = omega arith;
@@ -169,6 +184,7 @@ module _ (code : CodeParts) (is_code : IsCode code) (frame : Frame) (block : ℕ
       untouched = λ x h. marked.untouched x (λ y. h (all_touched x y));
     }
 
+    -- the next moment, before it is entered
     opened_next : Comes c root input (rise above forks) (opens code done.end (own_of came) (new_of came)) (words_of words)
         (stamps_of (time + 1) wrote' touched')
     opened_next =
@@ -180,23 +196,28 @@ module _ (code : CodeParts) (is_code : IsCode code) (frame : Frame) (block : ℕ
     abbrev pub above_then : Above
     above_then = above_after code frame block came above done.end
 
+    -- the strand then
     abbrev pub leaf_then : Strands
     leaf_then = leaf_after code came done.end
 
+    -- its forks
     abbrev pub forks_then : List Mark
     forks_then = forks_after (time + 1) done.end forks
 
+    -- it is shown
     pub shown_then : IsShownAt code (stack_after block blocks done.end) (waiting_after code frame block waiting done.end)
         (now_after code frame block blocks done.end) above_then leaf_then
     shown_then = advanced_at code is_code frame block before_blocks opened blocks words_before words done block_is opens_block whole keeps same_words fits
         waiting
         (tree_at above leaf) shown
 
+    -- it is a moment
     pub come_then : Comes (strands_over code (length words)) root input (rise above_then forks_then) leaf_then (words_of words)
         (stamps_of (time + 1) wrote' touched')
     come_then = subst (λ (n : ℕ). Comes (strands_over code n) root input (rise above_then forks_then) leaf_then (words_of words)
         (stamps_of (time + 1) wrote' touched')) (sym same_words)
         (entered c root input code frame block came above forks (words_of words) (stamps_of (time + 1) wrote' touched') done.end opened_next)
 
+    -- and these are its marks
     pub marks_then : marks_with (opens_fork done.end) (time + 1) marks ≡ marks_of (rise above_then forks_then)
     marks_then = marks_entered code frame block came above forks (time + 1) done.end marks marks_are

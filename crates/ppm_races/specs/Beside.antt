@@ -72,6 +72,7 @@ abbrev pub wrote_with : Bool → ℕ → ℕ → List ℕ → List ℕ
 wrote_with true word time wrote = set wrote word time
 wrote_with false word time wrote = wrote
 
+-- where the old stamp stands beside, it stays
 abbrev pub touched_with : Bool → ℕ → ℕ → List ℕ → List ℕ
 touched_with true word time touched = touched
 touched_with false word time touched = set touched word time

@@ -25,7 +25,7 @@ module _ (code : CodeParts) (input : List NamedArray) where
   abbrev pub MomentWith : (number : ℕ) → Type 0
   MomentWith number = MomentOf code (root_strand code input) (words_of (words_in input)) (length (words_in input)) number
 
-  -- likewise a verdict, but that the first capsule that meets another one is told as it was found
+  -- a verdict, but that the first capsule that meets another one is told as it was found
   abbrev pub IsJudged : (limit : ℕ) → Judged → Type 0
   IsJudged limit (Calm run) = IsCalmWith code input × IsWithin code input limit run
   IsJudged limit (Meets meeting) = (IsCalmWith code input → ⊥) × IsMeetingWith meeting × (meeting.run ≤ limit)

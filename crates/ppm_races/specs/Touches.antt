@@ -18,6 +18,7 @@ touches_at (Frame own) writes at = []
 touches_at (New offset) writes at = []
 touches_at (Array word) writes at = record { word = word; writes = writes; at = at } ∷ []
 
+-- an ask touches no array word
 abbrev pub touches_by : Step → (at : ℕ) → List Touch
 touches_by (Loads location to) at = touches_at location false at
 touches_by (Stores location word) at = touches_at location true at
@@ -33,6 +34,7 @@ abbrev pub with_written : Bool → ℕ → List ℕ → List ℕ
 with_written false x xs = xs
 with_written true x xs = x ∷ xs
 
+-- the words that a log writes
 abbrev pub written_in : List Touch → List ℕ
 written_in [] = []
 written_in (t ∷ log) = with_written t.writes t.word (written_in log)
@@ -48,7 +50,7 @@ after_step go next (Loads l d) g m = go next (slice_set g d.index (m (location_o
 after_step go next (Stores l v) g m = go next g (store code_locations m (location_of l) v)
 after_step go next (Asks n) g m = go next g m
 
--- likewise of an act, with its own touch first; a branch that does not lead forward goes on at the next instruction
+-- the touches of an act, with its own touch first; a branch that does not lead forward goes on at the next instruction
 abbrev pub after_act : (go : ℕ → List ℕ → Memory Where → List Touch) → (here : ℕ) → Act → List ℕ → Memory Where → List Touch
 after_act go here (Sets d v) g m = go (here + 1) (slice_set g d.index v) m
 after_act go here Passes g m = go (here + 1) g m

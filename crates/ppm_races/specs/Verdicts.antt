@@ -82,7 +82,7 @@ module _ (code : CodeParts) (input : List NamedArray) where
   abbrev pub IsCalmWith : Type 0
   IsCalmWith = IsCalm (strands_of code input) (root_strand code input) (words_of (words_in input))
 
-  -- so many capsules of its depth-first run met nothing, and one more is next
+  -- a number of capsules of its depth-first run met nothing, and one more is next
   abbrev pub HasMetNothing : (limit : ℕ) → Type 0
   HasMetNothing limit = MomentOf code (root_strand code input) (words_of (words_in input)) (length (words_in input)) (limit + 1)
 

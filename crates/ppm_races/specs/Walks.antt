@@ -38,10 +38,12 @@ abbrev pub start_of : List Mark → ℕ
 start_of [] = 0
 start_of (m ∷ ms) = m.start
 
+-- the stamp of its right branch
 abbrev pub mid_of : List Mark → ℕ
 mid_of [] = 0
 mid_of (m ∷ ms) = m.mid
 
+-- the others
 abbrev pub outside_of : List Mark → List Mark
 outside_of [] = []
 outside_of (m ∷ ms) = ms
@@ -92,6 +94,7 @@ pub record IsAtWith (code : CodeParts) (root : Strands) (input : Words) (blocks 
       (words_of walk.strand.store.words.items) (stamps_in walk)
   pub marks : walk.marks.items ≡ marks_of (rise above forks)
 
+-- a walk stands there with its own stack and frames
 abbrev pub IsAt : (code : CodeParts) (root : Strands) (input : Words) → Walk → Now → Type 0
 IsAt code root input walk current = IsAtWith code root input walk.strand.store.blocks.items walk.strand.waiting.items walk current
 
@@ -133,6 +136,7 @@ pub record KeptOn (before after : Walk) : Type 0 where
   pub few : AreFew after.strand.counts
   pub pending : pending after.strand.waiting.items ≤ pending before.strand.waiting.items + 4
 
+-- what a capsule keeps; where it meets another one, the count of words alone
 abbrev pub KeptBy : Walk → Walk → Turn → Type 0
 KeptBy before after (Goes current) = KeptOn before after
 KeptBy before after (Meets meeting) = length after.strand.store.words.items ≡ length before.strand.store.words.items

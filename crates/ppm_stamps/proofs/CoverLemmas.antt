@@ -50,7 +50,7 @@ told_as q i j p r x same told = record {
   only = λ h. elim (told.only h) [ inl y ↦ inl y | inr y ↦ inr (same.0 y) ];
 }
 
--- the same of other words for what it wrote and touched
+-- it covers other words for what it wrote and touched
 pub covers_as : (beside : ℕ → Bool) (w t v r : ℕ → Type 0) (s u : Stamps) → ((x : ℕ) → w x ↔ v x) → ((x : ℕ) → t x ↔ r x)
     → Covers beside w t s u → Covers beside v r s u
 covers_as beside w t v r s u wv tr it = record {

@@ -26,6 +26,7 @@ record State (F O : Type 0) : Type 0 where
   pub words : Words
   pub stamps : Stamps
 
+-- its parts
 abbrev state : {F O : Type 0} → List (Above F O) → Tree F O → Words → Stamps → State F O
 state above t a s = record { above = above; tree = t; words = a; stamps = s }
 
@@ -52,6 +53,7 @@ module _ {F O : Type 0} (c : Code F O) where
     touched = λ x. choose (has_or_not x (touches c f a)) (cond (beside (s.touched x)) (s.touched x) s.time) (s.touched x);
   }
 
+  -- marks are those
   are_marked : (beside : ℕ → Bool) (f : F) (a : Words) (s u : Stamps) → Marks c beside f a s u → u ≡ marked beside f a s
   are_marked beside f a s u marks = stamps_path marks.time
       (fun_ext (λ x. wrote_is x (has_or_not x (c.writes f a)))) (fun_ext (λ x. touched_is x (has_or_not x (touches c f a))))
@@ -76,12 +78,14 @@ module _ {F O : Type 0} (c : Code F O) where
   after_over (InLeft g r start ∷ above) o a s = state (InRight g o start s.time ∷ above) r a s
   after_over (InRight g o start mid ∷ above) p a s = state above (rejoin c g o p) a s
 
+  -- by the tree
   abbrev goes_on : List (Above F O) → Tree F O → Words → Stamps → State F O
   goes_on above (Strand f) a s = state above (c.next f a) (c.after f a) (marked (beside_of above) f a s)
   goes_on above (Call g t) a s = state (InCallee g ∷ above) t a s
   goes_on above (Fork g l r) a s = state (InLeft g r s.time ∷ above) l a s
   goes_on above (Over o) a s = after_over above o a s
 
+  -- the next state
   abbrev next : State F O → State F O
   next m = goes_on m.above m.tree m.words m.stamps
 
@@ -92,6 +96,7 @@ module _ {F O : Type 0} (c : Code F O) where
   PassesAt above (Fork g l r) a s = Unit {0}
   PassesAt above (Over o) a s = Unit {0}
 
+  -- of a state
   abbrev IsPassed : State F O → Type 0
   IsPassed m = PassesAt m.above m.tree m.words m.stamps
 
@@ -102,6 +107,7 @@ module _ {F O : Type 0} (c : Code F O) where
   over_time (InLeft g r start ∷ above) o a s = omega arith
   over_time (InRight g o start mid ∷ above) p a s = omega arith
 
+  -- in general
   goes_time : (above : List (Above F O)) (t : Tree F O) (a : Words) (s : Stamps) → s.time ≤ (goes_on above t a s).stamps.time
   goes_time above (Strand f) a s = omega arith
   goes_time above (Call g t) a s = omega arith
@@ -120,6 +126,7 @@ module _ {F O : Type 0} (c : Code F O) where
       pub same : at steps ≡ state above t a s
       pub passed : (i : ℕ) → i < steps → IsPassed (at i)
 
+    -- one step more
     one_step : (above above' : List (Above F O)) (t t' : Tree F O) (a a' : Words) (s s' : Stamps) → Reached above t a s → PassesAt above t a s
         → goes_on above t a s ≡ state above' t' a' s' → Reached above' t' a' s'
     one_step above above' t t' a a' s s' it passes is = record {
@@ -134,6 +141,7 @@ module _ {F O : Type 0} (c : Code F O) where
         few : (i : ℕ) → i < suc it.steps → (i ≡ it.steps → ⊥) → i < it.steps
         few i less ne = elim (cases_lt i it.steps) [ inl h ↦ h | inr h ↦ absurd (ne (omega (arith, h, less))) ]
 
+    -- by induction on the moment
     reached : {above : List (Above F O)} {t : Tree F O} {a : Words} {s : Stamps} → Comes c root input above t a s → Reached above t a s
     reached Begins = record { steps = 0; same = refl; passed = λ i less. absurd (omega (arith, less)) }
     reached (Runs {above = above} {f = f} {a = a} {s = s} {m = m} come passes marks) =
@@ -150,6 +158,7 @@ module _ {F O : Type 0} (c : Code F O) where
     reached (Joins {above = above} {g = g} {o = o} {p = p} {start = start} {mid = mid} {a = a} {s = s} come) =
         one_step (InRight g o start mid ∷ above) above (Over p) (rejoin c g o p) a a s s (reached come) tt refl
 
+    -- over more steps
     later : (k n : ℕ) → (at n).stamps.time ≤ (at (k + n)).stamps.time
     later zero n = let e : 0 + n ≡ n = omega arith in subst (λ (i : ℕ). (at n).stamps.time ≤ (at i).stamps.time) (sym e) (omega arith)
     later (suc k) n =
@@ -194,9 +203,11 @@ module _ {F O : Type 0} (c : Code F O) where
         ]
       ]
 
+      -- both are one state
       one_state : state p.above (Strand p.frame) p.words p.stamps ≡ state q.above (Strand q.frame) q.words q.stamps
       one_state = sym (reached p.come).same ∙ ap (λ (i : ℕ). at i) same_steps ∙ (reached q.come).same
 
+      -- part by part
       are_one : AreOne c root input n p q
       are_one = record {
         above = ap (λ (z : State F O). z.above) one_state;

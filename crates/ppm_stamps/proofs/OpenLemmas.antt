@@ -23,6 +23,7 @@ module _ {F O : Type 0} where
   Ascends (InLeft g r start ∷ above) = AreBelow above start × Ascends above
   Ascends (InRight g o start mid ∷ above) = AreBelow above start × Ascends above
 
+  -- a larger stamp is as good
   below_more : (above : List (Above F O)) (j k : ℕ) → j ≤ k → AreBelow above j → AreBelow above k
   below_more [] j k le h = tt
   below_more (InCallee g ∷ above) j k le h = below_more above j k le h
@@ -55,6 +56,7 @@ module _ {F O : Type 0} where
     | inr y ↦ right_more (beside_of above) start mid k (open_beside above s m k y from before)
   ]
 
+  -- one fork alone has the stamp
   in_one_left : (above : List (Above F O)) → Ascends above → (k : ℕ) → beside_of above k ≡ true → IsInOneLeft above k
   in_one_left [] are k h = absurd (cc)
   in_one_left (InCallee g ∷ above) are k h =
@@ -111,6 +113,7 @@ module _ {F O : Type 0} (c : Code F O) where
   ascends (GoesRight come) = let it = ascends come in ((it.0.0, omega arith, it.0.1), it.1)
   ascends (Joins come) = let it = ascends come in (it.0.2, it.1.1)
 
+  -- at each moment
   pub lefts_are_one : LeftsAreOne c
   lefts_are_one root input above t a s come k h = in_one_left above (ascends come).1 k h
 
@@ -126,10 +129,12 @@ module _ {F O : Type 0} (c : Code F O) (plain : IsPlain c) (root : Tree F O) (in
   abbrev IsFresh : Tree F O → Stamps → Type 0
   IsFresh t s = (forks_in t ≡ 0) ⊎ ((forks_in t ≤ 1) × Opened c root input s.time)
 
+  -- a fork is fresh alone, and its branches have none
   fork_fresh : (g : F) (l r : Tree F O) (s : Stamps) → IsFresh (Fork g l r) s → (forks_in l ≡ 0) × (forks_in r ≡ 0) × Opened c root input s.time
   fork_fresh g l r s (inl e) = absurd (omega (arith, e))
   fork_fresh g l r s (inr h) = let few = h.0 in (omega (arith, few), omega (arith, few), h.1)
 
+  -- by induction on the moment
   opened : {above : List (Above F O)} {t : Tree F O} {a : Words} {s : Stamps} → forks_in root ≡ 0 → Comes c root input above t a s
       → IsFresh t s × AreOpened above
   opened none Begins = (inl none, tt)
@@ -163,6 +168,7 @@ module _ {F O : Type 0} (c : Code F O) (plain : IsPlain c) (root : Tree F O) (in
   opened none (GoesRight come) = let it = (opened none come).1 in (inl it.1, (it.0, it.2))
   opened none (Joins {g = g} {o = o} {p = p} come) = (inl (plain.resume (c.kept g o) (joined c o p)), (opened none come).1.1)
 
+  -- an open fork is one of them
   opened_there : (above : List (Above F O)) → AreOpened above → (start mid : ℕ) → IsOpen start mid above → Opened c root input start
   opened_there [] are start mid h = absurd h
   opened_there (InCallee g ∷ above) are start mid h = opened_there above are start mid h
@@ -172,6 +178,7 @@ module _ {F O : Type 0} (c : Code F O) (plain : IsPlain c) (root : Tree F O) (in
     | inr y ↦ opened_there above are.1 start mid y
   ]
 
+-- at each moment
 pub forks_are_opened : {F O : Type 0} (c : Code F O) → IsPlain c → ForksAreOpened c
 forks_are_opened c plain root input above t a s none come start mid there =
     opened_there c plain root input above (opened c plain root input none come).1 start mid there

@@ -29,7 +29,7 @@ loop-now-init c = record {
   within = none_within c.args.self.now.strand.counts c.args.limit c.requires.counts;
 }
 
--- so many are run, and one more is to be
+-- the limit is run, and one more is to be
 pub returns-then-self-limit-clause-told : goal.returns-then-self-limit-clause-told
 returns-then-self-limit-clause-told c = λ tree input at.
     let inv = c.loop-now.invariant in

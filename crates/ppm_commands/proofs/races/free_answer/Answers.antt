@@ -1,0 +1,14 @@
+use Rattle.std.proofs.Common.{ℕ, ◌∙◌, ap}
+use Rattle.ppm_commands.specs.Cases.{store_told}
+use Rattle.ppm_commands.proofs.races.free_answer.Goals as goal
+
+-- the first store that is not tidy is told
+pub returns-in-Some : goal.returns-in-Some
+returns-in-Some c = (
+  c.requires.free,
+  record {
+    store = c.in-Some.store;
+    first = c.in-Some.ensures;
+    tells = c.store_told.ensures ∙ ap (λ (n : ℕ). store_told n c.args.code.now c.in-Some.store) c.array_count.ensures.value;
+  },
+)
