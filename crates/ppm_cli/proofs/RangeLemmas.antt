@@ -15,7 +15,7 @@ use Rattle.ppm_cli.specs.CommandLine.{few_processors, after, small_room, few_slo
 use Rattle.ppm_cli.specs.Words.{number_in, number_given, value_of_digits, run_options, serial_in, replay_options, resume_options, self_in, self_options, stop_options, text_given}
 use Rattle.ppm_cli.specs.Words.{takeover_given, idle_given, command_named, command_in, without_fault, command_of}
 use Rattle.ppm_cli.specs.Words.{fitting_room, room_given, with_text, AreReplayed, AreResumed, AreRun, AreSelf, AreStopped, DoPoolsFit, IsInRange, IsLimit, IsOfForm}
-use Rattle.ppm_cli.specs.Words.{choice_given, code_in, capsule_limit, depth_in, races_in}
+use Rattle.ppm_cli.specs.Words.{by_input, choice_given, code_in, capsule_limit, depth_in, is_case_given, races_in, with_input}
 use Rattle.ppm_cli.specs.declared.capsules.CapsuleLimit.{CapsuleLimit}
 use Rattle.ppm_cli.specs.declared.command.Command.{Command}
 use Rattle.ppm_cli.specs.declared.command.Command.TheVariants as commands
@@ -84,6 +84,23 @@ with_text_are P make text (Some o) rows in_range h = go (text_given text rows) w
   go : (t : Option Text) → IfSome (option_map (make o) t) IsInRange
   go None = tt
   go (Some t) = in_range o t h
+
+-- a command over a source or over a case is in range where both are
+by_input_are : (a b : Command) (rows : List Row) → IsInRange a → IsInRange b → IfSome (by_input a b rows) IsInRange
+by_input_are a b rows h k = go (is_case_given rows) where
+  go : (is : Option Bool) → IfSome (option_map (λ is_case. if is_case then b else a) is) IsInRange
+  go None = tt
+  go (Some true) = k
+  go (Some false) = h
+
+-- one with options and a text is where the options are
+with_input_are : {O : Type 0} (P : O → Type 0) (of_source of_case : O → Text → Command) (text : OptionRule) (options : Option O) (rows : List Row)
+    → ((o : O) (t : Text) → P o → IsInRange (of_source o t)) → ((o : O) (t : Text) → P o → IsInRange (of_case o t)) → IfSome options P
+    → IfSome (with_input of_source of_case text options rows) IsInRange
+with_input_are P of_source of_case text None rows source_in case_in h = tt
+with_input_are P of_source of_case text (Some o) rows source_in case_in h =
+    bound IsInRange (text_given text rows) (λ t. by_input (of_source o t) (of_case o t) rows)
+    (λ t e. by_input_are (of_source o t) (of_case o t) rows (source_in o t h) (case_in o t h))
 
 -- ---- the options of each command
 
@@ -177,7 +194,7 @@ limited_are make in_range (Some l) h = in_range l h
 named_are : (name : Text) (rows : List Row) → IfSome (command_named name rows) IsInRange
 named_are name rows =
     either IsInRange (bytes_eq name (codes "run")) _ _
-    (with_text_are AreRun commands.Run faults (run_options rows) rows (λ o t h. h) (run_are rows))
+    (with_input_are AreRun commands.Run commands.RunCase faults (run_options rows) rows (λ o t h. h) (λ o t h. h) (run_are rows))
     (either IsInRange (bytes_eq name (codes "serial")) _ _ (serial_are rows)
     (either IsInRange (bytes_eq name (codes "code")) _ _ (code_are rows)
     (either IsInRange (bytes_eq name (codes "check")) _ _ tt
@@ -186,7 +203,7 @@ named_are name rows =
     (either IsInRange (bytes_eq name (codes "races")) _ _
     (limited_are (λ l. commands.Races l) (λ l h. h) (capsule_limit rows) (limit_are rows))
     (either IsInRange (bytes_eq name (codes "replay")) _ _
-    (with_text_are AreReplayed commands.Replay schedule (replay_options rows) rows (λ o t h. h) (replay_are rows))
+    (with_input_are AreReplayed commands.Replay commands.ReplayCase schedule (replay_options rows) rows (λ o t h. h) (λ o t h. h) (replay_are rows))
     (either IsInRange (bytes_eq name (codes "self")) _ _ (example_are rows)
     (either IsInRange (bytes_eq name (codes "stop")) _ _
     (with_text_are AreStopped commands.Stop schedule (stop_options rows) rows (λ o t h. h) (stop_are rows))

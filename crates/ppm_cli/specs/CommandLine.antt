@@ -131,19 +131,23 @@ idle = choice "idle" "leave" "park"
 abbrev pub arrays : OptionRule
 arrays = choice "arrays" "no" "yes"
 
+-- whether the text that is read is a source or a case
+abbrev pub input : OptionRule
+input = choice "input" "source" "case"
+
 -- ---- the commands
 
 -- the whole command line; a `later_command` becomes a `command` where it is admitted
 abbrev pub command_line : List CommandRule
 command_line =
     command "run"
-    (processors ∷ turns ∷ room ∷ slots ∷ looks ∷ seed ∷ faults ∷ takeover ∷ idle ∷ [])
+    (processors ∷ turns ∷ room ∷ slots ∷ looks ∷ seed ∷ faults ∷ takeover ∷ idle ∷ input ∷ [])
     ∷ command "serial" (turns ∷ [])
     ∷ command "code" (arrays ∷ [])
     ∷ command "check" []
     ∷ command "depth" (capsules ∷ [])
     ∷ command "races" (capsules ∷ [])
-    ∷ command "replay" (processors ∷ turns ∷ room ∷ slots ∷ takeover ∷ schedule ∷ [])
+    ∷ command "replay" (processors ∷ turns ∷ room ∷ slots ∷ takeover ∷ schedule ∷ input ∷ [])
     ∷ command "self" (few_processors ∷ size ∷ seed ∷ count ∷ [])
     ∷ command "stop" (few_processors ∷ after ∷ small_room ∷ few_slots ∷ schedule ∷ [])
     ∷ command "resume" (turns ∷ looks ∷ seed ∷ faults ∷ [])

@@ -1,5 +1,5 @@
 -- The command that the words of the command line give, as clap reads them.
-use Rattle.std.specs.Prelude.{◌≤◌, ◌*◌, ℕ, true, false, List, [], ◌∷◌, Option, Some, None, codes, if◌then◌else◌, nat_le, ◌&&◌, option_and_then, option_map, ⊤}
+use Rattle.std.specs.Prelude.{◌≤◌, ◌*◌, ℕ, Bool, true, false, List, [], ◌∷◌, Option, Some, None, codes, if◌then◌else◌, nat_le, ◌&&◌, option_and_then, option_map, ⊤}
 use Rattle.std.specs.Str.{bytes_eq}
 use Rattle.std.specs.Str.Parse.{digits_value, without_leading_plus}
 use Rattle.clap.specs.Words.{Kinds, Row, Text, fault_of, first_of, one_of, subcommand_of}
@@ -12,7 +12,7 @@ use Rattle.ppm_cells.specs.declared.shape.Takeover.TheVariants.{ByPlaces, ByEntr
 use Rattle.ppm_cli.specs.Application.{ppm_application}
 use Rattle.ppm_cli.specs.CommandLine.{Form, Number, Choice, AnyText, OptionRule, is_free_text}
 use Rattle.ppm_cli.specs.CommandLine.{processors, turns, room, slots, looks, seed, faults, schedule, takeover, idle}
-use Rattle.ppm_cli.specs.CommandLine.{few_processors, after, small_room, few_slots, size, count, capsules, arrays}
+use Rattle.ppm_cli.specs.CommandLine.{few_processors, after, small_room, few_slots, size, count, capsules, arrays, input}
 use Rattle.ppm_cli.specs.declared.capsules.CapsuleLimit.{CapsuleLimit}
 use Rattle.ppm_cli.specs.declared.command.Command.{Command}
 use Rattle.ppm_cli.specs.declared.command.Command.TheVariants as commands
@@ -87,6 +87,19 @@ room_given processors rows = and_then (number_given room rows) (fitting_room pro
 abbrev pub with_text : {O : Type 0} → (O → Text → Command) → OptionRule → Option O → List Row → Option Command
 with_text make text options rows = and_then options (λ o. option_map (make o) (text_given text rows))
 
+-- whether the text that is read is a case, and not a source
+abbrev pub is_case_given : List Row → Option Bool
+is_case_given rows = choice_given input (false ∷ true ∷ []) rows
+
+-- of two commands that of a source, or that of a case
+abbrev pub by_input : (of_source of_case : Command) → List Row → Option Command
+by_input of_source of_case rows = option_map (λ is_case. if is_case then of_case else of_source) (is_case_given rows)
+
+-- a command over a source or over a case that has options and a text, if each has a value of its form
+abbrev pub with_input : {O : Type 0} → (of_source of_case : O → Text → Command) → OptionRule → Option O → List Row → Option Command
+with_input of_source of_case text options rows =
+    and_then options (λ o. and_then (text_given text rows) (λ t. by_input (of_source o t) (of_case o t) rows))
+
 -- the options of `run` but for its plan, if each has a value of its form
 abbrev pub run_options : List Row → Option RunOptions
 run_options rows =
@@ -100,9 +113,9 @@ run_options rows =
     and_then (idle_given rows) (λ i.
     Some (record { processors = p; turns = n; room = w; slots = e; looks = l; seed = s; takeover = t; idle = i })))))))))
 
--- the command `run` with its options and its plan
+-- the command `run` with its options and its plan, over a source or over a case
 abbrev pub run_in : List Row → Option Command
-run_in rows = with_text commands.Run faults (run_options rows) rows
+run_in rows = with_input commands.Run commands.RunCase faults (run_options rows) rows
 
 -- the command `serial` with its options
 abbrev pub serial_in : List Row → Option Command
@@ -118,9 +131,9 @@ replay_options rows =
     and_then (takeover_given rows) (λ t.
     Some (record { processors = p; turns = n; room = w; slots = e; takeover = t }))))))
 
--- the command `replay` with its options and its schedule
+-- the command `replay` with its options and its schedule, over a source or over a case
 abbrev pub replay_in : List Row → Option Command
-replay_in rows = with_text commands.Replay schedule (replay_options rows) rows
+replay_in rows = with_input commands.Replay commands.ReplayCase schedule (replay_options rows) rows
 
 -- the options of `stop` but for its schedule, if each has a value of its form
 abbrev pub stop_options : List Row → Option StopOptions
@@ -260,3 +273,5 @@ IsInRange (commands.Resume options _) = AreResumed options
 IsInRange (commands.Depth limit) = IsLimit limit
 IsInRange (commands.Races limit) = IsLimit limit
 IsInRange commands.CodeCase = ⊤
+IsInRange (commands.RunCase options _) = AreRun options
+IsInRange (commands.ReplayCase options _) = AreReplayed options

@@ -42,6 +42,10 @@ pub enum Command {
     Races(CapsuleLimit),
     /// To write the case of the source that is read: its arrays and its code.
     CodeCase,
+    /// To run the case that is read, under a plan of faults, of which these are the bytes.
+    RunCase(RunOptions, Items<u8>),
+    /// To replay the case that is read, by a schedule, of which these are the bytes.
+    ReplayCase(ReplayOptions, Items<u8>),
 }
 
 /// The command of the subcommand that was met, with its options.

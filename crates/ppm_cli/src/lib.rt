@@ -13,6 +13,7 @@ mod code;
 mod command;
 mod example;
 mod getters;
+mod input;
 mod laws;
 mod line;
 mod replay;

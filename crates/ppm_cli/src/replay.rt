@@ -1,16 +1,19 @@
 //! The command `replay`, as its words give it.
 ghost use Rattle.std.specs.Prelude.{◌≡◌, IfOk, IfSome};
 ghost use Rattle.clap.specs.Words.{found_of, rows_of};
-ghost use Rattle.ppm_cli.specs.Words.{AreReplayed, IsInRange, replay_in};
+ghost use Rattle.ppm_cli.specs.declared.command.Command.TheVariants as commands;
+ghost use Rattle.ppm_cli.specs.Words.{AreReplayed, IsInRange, by_input, replay_in};
 ghost use Rattle.ppm_cli.specs.Words.{replay_options as options_in};
 
 use crate::command::Command;
 use crate::getters::{bytes_of, number_of};
+use crate::input::is_case;
 use crate::room::room_of;
 use crate::table::{PROCESSORS, SCHEDULE, SLOTS, TURNS};
 use crate::takeover::takeover_of;
 use clap::ArgMatches;
 use ppm_cells::Takeover;
+use ppm_words::Items;
 use std::alloc::{AllocError, Global};
 
 /// The options of `replay` but for its schedule.
@@ -40,10 +43,29 @@ pub(crate) fn replay_from(
 {
     match replay_options(matches) {
         Some(options) => match bytes_of(alloc, matches, SCHEDULE)? {
-            Some(schedule) => Ok(Some(Command::Replay(options, schedule))),
+            Some(schedule) => Ok(replay_of(matches, options, schedule)),
             None => Ok(None),
         },
         None => Ok(None),
+    }
+}
+
+/// The command with these options and this schedule: over a source or over a case, as the matches say.
+fn replay_of(
+    matches: &ArgMatches<'_>,
+    options: ReplayOptions,
+    schedule: Items<u8>,
+) -> Option<Command>
+    requires { AreReplayed options }
+    ensures value { result
+        ≡ by_input (commands.Replay options schedule) (commands.ReplayCase options schedule) (rows_of (found_of matches.now)) }
+    ensures in_range { IfSome result IsInRange }
+{
+    let of_case = is_case(matches)?;
+    if of_case {
+        Some(Command::ReplayCase(options, schedule))
+    } else {
+        Some(Command::Replay(options, schedule))
     }
 }
 

@@ -1,17 +1,19 @@
 //! The command `run`, as its words give it.
 ghost use Rattle.std.specs.Prelude.{◌≡◌, IfOk, IfSome};
 ghost use Rattle.clap.specs.Words.{found_of, rows_of};
-ghost use Rattle.ppm_cli.specs.Words.{AreRun, IsInRange, idle_given, run_in};
+ghost use Rattle.ppm_cli.specs.declared.command.Command.TheVariants as commands;
+ghost use Rattle.ppm_cli.specs.Words.{AreRun, IsInRange, by_input, idle_given, run_in};
 ghost use Rattle.ppm_cli.specs.Words.{run_options as options_in};
 
 use crate::command::Command;
 use crate::getters::{bytes_of, choice_of, number_of};
+use crate::input::is_case;
 use crate::room::room_of;
 use crate::table::{FAULTS, IDLE, LOOKS, PROCESSORS, SEED, SLOTS, TURNS};
 use crate::takeover::takeover_of;
 use clap::ArgMatches;
 use ppm_cells::Takeover;
-use ppm_words::Idle;
+use ppm_words::{Idle, Items};
 use std::alloc::{AllocError, Global};
 
 /// The options of `run` but for its plan of faults.
@@ -47,10 +49,25 @@ pub(crate) fn run_from(
 {
     match run_options(matches) {
         Some(options) => match bytes_of(alloc, matches, FAULTS)? {
-            Some(plan) => Ok(Some(Command::Run(options, plan))),
+            Some(plan) => Ok(run_of(matches, options, plan)),
             None => Ok(None),
         },
         None => Ok(None),
+    }
+}
+
+/// The command with these options and this plan: over a source or over a case, as the matches say.
+fn run_of(matches: &ArgMatches<'_>, options: RunOptions, plan: Items<u8>) -> Option<Command>
+    requires { AreRun options }
+    ensures value { result
+        ≡ by_input (commands.Run options plan) (commands.RunCase options plan) (rows_of (found_of matches.now)) }
+    ensures in_range { IfSome result IsInRange }
+{
+    let of_case = is_case(matches)?;
+    if of_case {
+        Some(Command::RunCase(options, plan))
+    } else {
+        Some(Command::Run(options, plan))
     }
 }
 

@@ -201,6 +201,13 @@ pub(crate) const ARRAYS: ChoiceOption = ChoiceOption {
     second: "yes",
 };
 
+/// Whether the text that is read is a source or a case.
+pub(crate) const INPUT: ChoiceOption = ChoiceOption {
+    name: "input",
+    first: "source",
+    second: "case",
+};
+
 /// The schedule of acts.
 pub(crate) const SCHEDULE: TextOption = TextOption {
     name: "schedule",
@@ -221,6 +228,7 @@ pub const COMMANDS: [CommandRow; 10] = [
             OptionRow::Text(FAULTS),
             OptionRow::Choice(TAKEOVER),
             OptionRow::Choice(IDLE),
+            OptionRow::Choice(INPUT),
         ],
     },
     CommandRow {
@@ -252,6 +260,7 @@ pub const COMMANDS: [CommandRow; 10] = [
             OptionRow::Number(SLOTS),
             OptionRow::Choice(TAKEOVER),
             OptionRow::Text(SCHEDULE),
+            OptionRow::Choice(INPUT),
         ],
     },
     CommandRow {

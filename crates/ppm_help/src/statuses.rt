@@ -69,7 +69,7 @@ fn meaning_of(status: Status) -> &'static str {
         Status::NoMemory => "out of memory",
         Status::CodeRefused => {
             "code refused by `check`, `depth` or `races`: a conflict, an untidy store or a race, the\n       \
-             first one; or why it is no listing or no case (docs/CODE.md)"
+             first one; or why what was read is no listing or no case (docs/CODE.md)"
         }
         Status::NotWithin => {
             "not within: `serial` did not end within --turns, or `depth` or `races` within\n       \
@@ -79,8 +79,9 @@ fn meaning_of(status: Status) -> &'static str {
             "saved text refused by `resume`: the fault and its line (docs/SAVED.md)"
         }
         Status::Broken => {
-            "saved words broken: of `resume`, where a processor can't go on with those that it met\n       \
-             at that place; 64 where it has none, or where the saved finish word is none"
+            "saved words broken: of `resume`, and of a case that isn't sound, where a processor can't\n       \
+             go on with those that it met at that place; 64 where it has none, or where the saved\n       \
+             finish word is none"
         }
     }
 }

@@ -10,11 +10,11 @@ Ppm: a small fork-join language, its capsules, and the machine that runs them wh
   ./ppm help [COMMAND]                 this page, or what it says of a command; also --help and -h
   ./ppm --version                      the kit, the sum of the sources, and whether they are built
 
-Input is standard input alone: a source (docs/LANGUAGE.md), of `check` a listing, of `depth` and
-`races` a case, which is arrays and a listing (docs/CODE.md), of `resume` a saved text
-(docs/SAVED.md), of `self` nothing. A source has at most 1,048,576 bytes, a listing and a case
-536,870,912, a saved text 671,088,640. An option is given as `--turns 5` or `--turns=5`, at most
-once. A value never begins with `-`.
+Input is standard input alone: a source (docs/LANGUAGE.md), of `check` a listing, of `depth`,
+`races` and wherever `--input case` stands a case, which is arrays and a listing (docs/CODE.md),
+of `resume` a saved text (docs/SAVED.md), of `self` nothing. A source has at most 1,048,576 bytes,
+a listing and a case 536,870,912, a saved text 671,088,640. An option is given as `--turns 5` or
+`--turns=5`, at most once. A value never begins with `-`.
 ";
 
 /// What stands behind the commands.
@@ -72,6 +72,7 @@ pub(crate) fn meaning_of(command: &str, option: &str) -> &'static str {
         "schedule" => "as 0*9,1>0,1!h: acts, a victim, a hard fault",
         "takeover" => "what others take over of a processor that stopped",
         "idle" => "one that rests makes no more acts, or sleeps",
+        "input" => "what is read; the code of a case runs, sound or not",
         _ => NO_WORDS,
     }
 }

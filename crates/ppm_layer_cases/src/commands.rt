@@ -1,7 +1,7 @@
 //! The commands that words ask for, as lines with all their options.
 use crate::said::Said;
 use ppm_cells::Takeover;
-use ppm_cli::{Command, read_words};
+use ppm_cli::{Command, ReplayOptions, RunOptions, read_words};
 use ppm_sheets::Fault;
 use ppm_words::Idle;
 use std::alloc::Global;
@@ -31,6 +31,26 @@ pub(crate) fn command(alloc: Global, words: &[String]) -> Result<Said, Fault> {
     }
 }
 
+/// The line of a command with the options of `run`.
+fn run_line(alloc: Global, name: &str, it: &RunOptions) -> Result<String, Fault> {
+    let (takeover, idle) = (takeover_word(it.takeover), idle_word(it.idle));
+    let line = format!(in alloc;
+        "{name} processors {} turns {} room {} slots {} looks {} seed {} takeover {takeover} idle {idle}",
+        it.processors, it.turns, it.room, it.slots, it.looks, it.seed
+    )?;
+    Ok(line)
+}
+
+/// The line of a command with the options of `replay`.
+fn replay_line(alloc: Global, name: &str, it: &ReplayOptions) -> Result<String, Fault> {
+    let takeover = takeover_word(it.takeover);
+    let line = format!(in alloc;
+        "{name} processors {} turns {} room {} slots {} takeover {takeover}",
+        it.processors, it.turns, it.room, it.slots
+    )?;
+    Ok(line)
+}
+
 /// The line of a command: its name and its options, the plan or the schedule last.
 fn line_of(alloc: Global, command: &Command) -> Result<Vec<u8>, Fault> {
     let mut plan: &[u8] = b"";
@@ -39,11 +59,12 @@ fn line_of(alloc: Global, command: &Command) -> Result<Vec<u8>, Fault> {
         Command::Run(it, faults) => {
             front = " faults=";
             plan = faults.as_slice();
-            let (takeover, idle) = (takeover_word(it.takeover), idle_word(it.idle));
-            format!(in alloc;
-                "run processors {} turns {} room {} slots {} looks {} seed {} takeover {takeover} idle {idle}",
-                it.processors, it.turns, it.room, it.slots, it.looks, it.seed
-            )?
+            run_line(alloc, "run", it)?
+        }
+        Command::RunCase(it, faults) => {
+            front = " faults=";
+            plan = faults.as_slice();
+            run_line(alloc, "run of a case", it)?
         }
         Command::Serial(it) => format!(in alloc; "serial turns {}", it.turns)?,
         Command::Code => String::from_str(alloc, "code")?,
@@ -54,11 +75,12 @@ fn line_of(alloc: Global, command: &Command) -> Result<Vec<u8>, Fault> {
         Command::Replay(it, schedule) => {
             front = " schedule=";
             plan = schedule.as_slice();
-            let takeover = takeover_word(it.takeover);
-            format!(in alloc;
-                "replay processors {} turns {} room {} slots {} takeover {takeover}",
-                it.processors, it.turns, it.room, it.slots
-            )?
+            replay_line(alloc, "replay", it)?
+        }
+        Command::ReplayCase(it, schedule) => {
+            front = " schedule=";
+            plan = schedule.as_slice();
+            replay_line(alloc, "replay of a case", it)?
         }
         Command::Example(it) => format!(in alloc;
             "self processors {} size {} seed {} count {}",

@@ -22,6 +22,8 @@ use Rattle.ppm_cli.specs.Words.{command_of}
 use Rattle.ppm_top.specs.Causes.{CommandMay, CommandTells, IsAnswered}
 use Rattle.ppm_plan.specs.Forms.{plan_form, schedule_form}
 use Rattle.ppm_cli.specs.declared.example.SelfOptions.{SelfOptions}
+use Rattle.ppm_driver.specs.CaseReplays.{TextHas as ReplayCaseTextHas}
+use Rattle.ppm_driver.specs.CaseRuns.{TextHas as RunCaseTextHas}
 use Rattle.ppm_driver.specs.Examples.{ExampleMay, ExampleTells}
 use Rattle.ppm_driver.specs.Replays.{TextHas as ReplayTextHas}
 use Rattle.ppm_driver.specs.Resumes.{TextHas as ResumeTextHas}
@@ -49,6 +51,10 @@ memory_before (Some (commands.Resume options plan)) o h =
     judged.memory_before saved_limit (ResumeTextHas options plan o.told_before o.told_now) o.source h
 memory_before (Some (commands.Stop options schedule)) o h =
     planned.memory_before schedule_form schedule options.processors (StopTextReads options) text_limit o.source h
+memory_before (Some (commands.RunCase options plan)) o h =
+    planned.memory_before plan_form plan options.processors (RunCaseTextHas options options.processors o.told_before o.told_now) case_limit o.source h
+memory_before (Some (commands.ReplayCase options schedule)) o h =
+    planned.memory_before schedule_form schedule options.processors (ReplayCaseTextHas options) case_limit o.source h
 memory_before (Some (commands.Example options)) o h = (h, tt)
 
 -- an answer of the command that the words give answers the words
@@ -85,4 +91,6 @@ told_nothing (Some (commands.Races limit)) o answer lists = refl
 told_nothing (Some (commands.Replay options schedule)) o answer lists = refl
 told_nothing (Some (commands.Resume options plan)) o answer lists = untold_source options plan o.source answer lists
 told_nothing (Some (commands.Stop options schedule)) o answer lists = refl
+told_nothing (Some (commands.RunCase options plan)) o answer lists = untold options.processors _ _ answer lists
+told_nothing (Some (commands.ReplayCase options schedule)) o answer lists = refl
 told_nothing (Some (commands.Example options)) o answer lists = untold options.processors _ _ answer lists

@@ -1,2 +1,3 @@
 pub mod CausesLemmas
+pub mod OfCases
 pub mod OfAll

@@ -36,12 +36,12 @@ use Rattle.ppm_commands.proofs.SerialRows.{serial_rows}
 use Rattle.ppm_plan.specs.Forms.{Form, plan_form, schedule_form}
 use Rattle.ppm_loading.specs.Planned.{PlannedMay}
 use Rattle.ppm_loading.specs.MachineRows.{RefusesPlan}
-use Rattle.ppm_driver.specs.Legs.{RunsInLegsAreAsPrograms}
-use Rattle.ppm_driver.specs.Meant.{RunsAreAsPrograms}
+use Rattle.ppm_driver.specs.CaseReplays.{TextHas as ReplayCaseTextHas}
+use Rattle.ppm_driver.specs.CaseRuns.{TextHas as RunCaseTextHas}
 use Rattle.ppm_driver.specs.Replays.{TextHas as ReplayTextHas}
-use Rattle.ppm_driver.specs.Resumes.{TextHas as ResumeTextHas, LeftWordsComeBack}
+use Rattle.ppm_driver.specs.Resumes.{TextHas as ResumeTextHas}
 use Rattle.ppm_driver.specs.ResumeRows.{RefusesPlan as RefusesResumed}
-use Rattle.ppm_driver.specs.Runs.{TextHas as RunTextHas, FrontsDecideAnswers}
+use Rattle.ppm_driver.specs.Runs.{TextHas as RunTextHas}
 use Rattle.ppm_driver.specs.Stops.{TextReads as StopTextReads}
 use Rattle.ppm_driver.proofs.OfStop as of_stop
 use Rattle.ppm_driver.proofs.OfExample as of_example
@@ -56,7 +56,8 @@ use Rattle.ppm_answers.proofs.Delivered.{of_answers}
 use Rattle.ppm_answers.specs.Rows.{IsOneOf}
 use Rattle.ppm_top.specs.Causes.{NoCommandMay, CommandMay, CommandTells, IsAnswered}
 use Rattle.ppm_top.specs.Laws.{ProgramLaws}
-use Rattle.ppm_top.specs.Rows.{HasRefusedPlan, OfRun, OfReplay, OfStop, OfResume, RefusesWords, ReportsFaults, ProgramRows}
+use Rattle.ppm_top.specs.Rows.{HasRefusedPlan, OfRun, OfReplay, OfRunCase, OfReplayCase, OfStop, OfResume, RefusesWords, ReportsFaults, ProgramRows}
+use Rattle.ppm_top.proofs.OfCases as of_cases
 use Rattle.ppm_answers.proofs.Delivered as delivered
 use Rattle.ppm_answers.proofs.Judged as judged
 
@@ -68,11 +69,11 @@ pub record ReportsReads (o : Outside) (may : Answer → Type 0) : Type 0 where
 judging_reports : (limit : ℕ) (Has : List ℕ → Answer → Type 0) (o : Outside) → ReportsReads o (JudgingMay limit Has o.source)
 judging_reports limit Has o = record { failed = λ h. h.0; fails = λ answer h f. judged.source_failed limit Has o.source answer h f }
 
-planned_reports : {A : Type 0} (form : Form A) (plan : List ℕ) (processors : ℕ) (Has : List A → List ℕ → Answer → Type 0) (o : Outside)
-    → ReportsReads o (PlannedMay form plan processors Has text_limit o.source)
-planned_reports form plan processors Has o = record {
+planned_reports : {A : Type 0} (form : Form A) (plan : List ℕ) (processors : ℕ) (Has : List A → List ℕ → Answer → Type 0) (limit : ℕ)
+    (o : Outside) → ReportsReads o (PlannedMay form plan processors Has limit o.source)
+planned_reports form plan processors Has limit o = record {
   failed = λ h. h.0.0;
-  fails = λ answer h f. planned.source_failed form plan processors Has text_limit o.source answer h f;
+  fails = λ answer h f. planned.source_failed form plan processors Has limit o.source answer h f;
 }
 
 example_reports : (options : SelfOptions) (o : Outside) → ReportsReads o (CommandMay (Some (commands.Example options)) o)
@@ -90,7 +91,12 @@ none_reports o = record { failed = λ h. absurd h; fails = fails } where
 
 command_reports : (o : Outside) (command : Option Command) → ReportsReads o (CommandMay command o)
 command_reports o None = none_reports o
-command_reports o (Some (commands.Run options plan)) = planned_reports plan_form plan options.processors (RunTextHas options options.processors o.told_before o.told_now) o
+command_reports o (Some (commands.Run options plan)) =
+    planned_reports plan_form plan options.processors (RunTextHas options options.processors o.told_before o.told_now) text_limit o
+command_reports o (Some (commands.RunCase options plan)) =
+    planned_reports plan_form plan options.processors (RunCaseTextHas options options.processors o.told_before o.told_now) case_limit o
+command_reports o (Some (commands.ReplayCase options schedule)) =
+    planned_reports schedule_form schedule options.processors (ReplayCaseTextHas options) case_limit o
 command_reports o (Some (commands.Serial options)) = judging_reports text_limit (SerialHas options.turns) o
 command_reports o (Some commands.Code) = judging_reports text_limit CodeReads o
 command_reports o (Some commands.CodeCase) = judging_reports text_limit CaseReads o
@@ -98,10 +104,10 @@ command_reports o (Some commands.Check) = judging_reports listing_limit CheckHas
 command_reports o (Some (commands.Depth limit)) = judging_reports case_limit (DepthHas limit.capsules) o
 command_reports o (Some (commands.Races limit)) = judging_reports case_limit (RacesHas limit.capsules) o
 command_reports o (Some (commands.Replay options schedule)) =
-    planned_reports schedule_form schedule options.processors (ReplayTextHas options) o
+    planned_reports schedule_form schedule options.processors (ReplayTextHas options) text_limit o
 command_reports o (Some (commands.Resume options plan)) = judging_reports saved_limit (ResumeTextHas options plan o.told_before o.told_now) o
 command_reports o (Some (commands.Stop options schedule)) =
-    planned_reports schedule_form schedule options.processors (StopTextReads options) o
+    planned_reports schedule_form schedule options.processors (StopTextReads options) text_limit o
 command_reports o (Some (commands.Example options)) = example_reports options o
 
 -- an answer of status 7 is a read fault
@@ -143,6 +149,8 @@ data IsPlanned (command : Option Command) : Type 0 where
   IsRun : (options : RunOptions) (plan : List ℕ) → command ≡ Some (commands.Run options plan) → IsPlanned command
   IsReplay : (options : ReplayOptions) (schedule : List ℕ) → command ≡ Some (commands.Replay options schedule) → IsPlanned command
   IsResume : (options : ResumeOptions) (plan : List ℕ) → command ≡ Some (commands.Resume options plan) → IsPlanned command
+  IsRunCase : (options : RunOptions) (plan : List ℕ) → command ≡ Some (commands.RunCase options plan) → IsPlanned command
+  IsReplayCase : (options : ReplayOptions) (schedule : List ℕ) → command ≡ Some (commands.ReplayCase options schedule) → IsPlanned command
   IsStop : (options : StopOptions) (schedule : List ℕ) → command ≡ Some (commands.Stop options schedule) → IsPlanned command
 
 no_command : (command : Option Command) (o : Outside) (answer : Answer) → CommandMay command o answer →
@@ -151,6 +159,8 @@ no_command None o answer h e = inl refl
 no_command (Some (commands.Run options plan)) o answer h e = inr (IsRun options plan refl)
 no_command (Some (commands.Replay options schedule)) o answer h e = inr (IsReplay options schedule refl)
 no_command (Some (commands.Resume options plan)) o answer h e = inr (IsResume options plan refl)
+no_command (Some (commands.RunCase options plan)) o answer h e = inr (IsRunCase options plan refl)
+no_command (Some (commands.ReplayCase options schedule)) o answer h e = inr (IsReplayCase options schedule refl)
 no_command (Some (commands.Stop options schedule)) o answer h e = inr (IsStop options schedule refl)
 no_command (Some (commands.Serial options)) o answers.WordsRefused h e = absurd h.2
 no_command (Some commands.Code) o answers.WordsRefused h e = absurd h.2
@@ -177,8 +187,8 @@ refusal o answers.WordsRefused h = (h, inl refl)
 refusal o answers.NoMemory h = (h, inr refl)
 refusal o answer h = absurd h
 
-refuses_words : RunsAreAsPrograms → FrontsDecideAnswers → RunsInLegsAreAsPrograms → LeftWordsComeBack → (words : List (List ℕ)) (o : Outside) (status : Status) → IsAnswered words o status → RefusesWords words o status
-refuses_words meant fronts legs comes words o status a = record {
+refuses_words : ProgramLaws → (words : List (List ℕ)) (o : Outside) (status : Status) → IsAnswered words o status → RefusesWords words o status
+refuses_words laws words o status a = record {
   only = only;
   unread = λ e. (refusal o a.answer (cause e)).0;
   always = λ e. always (refusal o a.answer (cause e)).1 (delivered.own_or_fault o.out o.err a.answer status a.delivered);
@@ -193,7 +203,7 @@ refuses_words meant fronts legs comes words o status a = record {
         refuses : (options : ReplayOptions) (schedule : List ℕ) → command_of words ≡ Some (commands.Replay options schedule) →
             RefusesPlan schedule_form schedule options.processors (ports_of o)
         refuses options schedule c =
-            of_replay.schedule_refused meant options (is_in_range words (commands.Replay options schedule) c) schedule (ports_of o) status
+            of_replay.schedule_refused laws.meant options (is_in_range words (commands.Replay options schedule) c) schedule (ports_of o) status
             (subst (λ x. DeliversAnswer (CommandMay x o) (ports_of o) status) c (delivers words o status a)) e
 
         refuses_stop : (options : StopOptions) (schedule : List ℕ) → command_of words ≡ Some (commands.Stop options schedule) →
@@ -204,12 +214,12 @@ refuses_words meant fronts legs comes words o status a = record {
 
         refuses_plan : (options : RunOptions) (plan : List ℕ) → command_of words ≡ Some (commands.Run options plan) →
             RefusesPlan plan_form plan options.processors (ports_of o)
-        refuses_plan options plan c = of_run.plan_refused meant options (is_in_range words (commands.Run options plan) c) options.processors plan o status
-            (subst (λ x. Answers (CommandMay x o) (CommandTells x o) o status) c a) fronts e
+        refuses_plan options plan c = of_run.plan_refused laws.meant options (is_in_range words (commands.Run options plan) c) options.processors plan o status
+            (subst (λ x. Answers (CommandMay x o) (CommandTells x o) o status) c a) laws.fronts e
 
         refuses_resumed : (options : ResumeOptions) (plan : List ℕ) → command_of words ≡ Some (commands.Resume options plan) →
             RefusesResumed options plan o
-        refuses_resumed options plan c = of_resume.plan_refused legs comes options plan o status
+        refuses_resumed options plan c = of_resume.plan_refused laws.legs laws.comes options plan o status
             (subst (λ x. Answers (CommandMay x o) (CommandTells x o) o status) c a) e
 
         by_words : (command_of words ≡ None) ⊎ IsPlanned (command_of words) → (command_of words ≡ None) ⊎ HasRefusedPlan words o
@@ -217,6 +227,10 @@ refuses_words meant fronts legs comes words o status a = record {
         by_words (inr (IsRun options plan c)) = inr (OfRun options plan c (refuses_plan options plan c))
         by_words (inr (IsReplay options schedule c)) = inr (OfReplay options schedule c (refuses options schedule c))
         by_words (inr (IsResume options plan c)) = inr (OfResume options plan c (refuses_resumed options plan c))
+        by_words (inr (IsRunCase options plan c)) =
+            inr (OfRunCase options plan c (of_cases.case_plan_refused laws words o status a options plan c e))
+        by_words (inr (IsReplayCase options schedule c)) =
+            inr (OfReplayCase options schedule c (of_cases.case_schedule_refused laws words o status a options schedule c e))
         by_words (inr (IsStop options schedule c)) = inr (OfStop options schedule c (refuses_stop options schedule c))
 
   always : (status_of a.answer ≡ statuses.WordsRefused) ⊎ (status_of a.answer ≡ statuses.NoMemory) →
@@ -234,6 +248,7 @@ program_rows laws words o status a = record {
     of_run.run_rows laws.meant options (is_in_range words (commands.Run options plan) e) options.processors plan o status
         (answered (Some (commands.Run options plan)) e) laws.plans laws.runs laws.fronts laws.complete,
   );
+  run_case = of_cases.runs_case laws words o status a;
   serial = λ options e. serial_rows options.turns (ports_of o) (laws.outcomes options.turns) status (by_words (Some (commands.Serial options)) e);
   code = λ e. code_rows laws.codes laws.faithful (ports_of o) status (by_words (Some commands.Code) e);
   case = λ e. case_rows laws.texts laws.cases laws.faithful (ports_of o) status (by_words (Some commands.CodeCase) e);
@@ -251,6 +266,7 @@ program_rows laws words o status a = record {
     of_replay.replay_rows laws.meant options (is_in_range words (commands.Replay options schedule) e) schedule (ports_of o) status
         (by_words (Some (commands.Replay options schedule)) e) laws.plans laws.replays,
   );
+  replay_case = of_cases.replays_case laws words o status a;
   resume = λ options plan e. (
     is_in_range words (commands.Resume options plan) e,
     of_resume.resume_rows laws.legs laws.comes options plan o status (answered (Some (commands.Resume options plan)) e) laws.resumes,
@@ -271,7 +287,7 @@ program_rows laws words o status a = record {
         of_example.example_rows laws.meant laws.sums options range o status
             (record { answer = x.answer; cause = x.cause.1; delivered = x.delivered; told = x.told }),
       );
-  words_refused = refuses_words laws.meant laws.fronts laws.legs laws.comes words o status a;
+  words_refused = refuses_words laws words o status a;
   faults = faults words o status a;
   nothing_on_out = delivered.nothing_on_out o.out o.err a.answer status a.delivered;
 } where

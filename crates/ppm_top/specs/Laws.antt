@@ -1,11 +1,16 @@
 -- The laws on which the rows of the program rest.
 use Rattle.ppm_plan.specs.Correct.{HaveOneAnswer as PlansHaveOneAnswer}
+use Rattle.ppm_case.specs.Correct.{FaultsTellCases}
 use Rattle.ppm_commands.specs.Case.{AreCases, HaveOneAnswer as CaseTextsHaveOneAnswer}
 use Rattle.ppm_commands.specs.Check.{HaveOneAnswer as ListingsHaveOneAnswer}
 use Rattle.ppm_commands.specs.Code.{CodesAreFaithful, HaveOneAnswer as CodesHaveOneAnswer}
 use Rattle.ppm_commands.specs.Depth.{HaveOneAnswer as DepthRunsHaveOneAnswer}
 use Rattle.ppm_commands.specs.Races.{HaveOneAnswer as CasesHaveOneAnswer}
 use Rattle.ppm_commands.specs.Serial.{HaveOneAnswer as OutcomesHaveOneAnswer}
+use Rattle.ppm_driver.specs.CaseReplays.{HaveOneCaseAnswer}
+use Rattle.ppm_driver.specs.CaseRuns.{CaseAnswersAreOne, CaseFrontsDecide}
+use Rattle.ppm_driver.specs.CodeReplays.{ReplaysAreAsCode}
+use Rattle.ppm_driver.specs.CodeRuns.{AnswersAreAsCode}
 use Rattle.ppm_driver.specs.Completeness.{RunsComplete}
 use Rattle.ppm_driver.specs.Examples.{ExamplesSumUp}
 use Rattle.ppm_driver.specs.Legs.{RunsInLegsAreAsPrograms}
@@ -38,3 +43,9 @@ pub record ProgramLaws : Type 0 where
   pub plans : PlansHaveOneAnswer
   pub replays : ReplaysHaveOneAnswer
   pub stops : StopsHaveOneAnswer
+  pub case_runs : AnswersAreAsCode
+  pub case_replays : ReplaysAreAsCode
+  pub case_faults : FaultsTellCases
+  pub case_answers : CaseAnswersAreOne
+  pub case_fronts : CaseFrontsDecide
+  pub replayed_cases : HaveOneCaseAnswer

@@ -24,6 +24,8 @@ use Rattle.ppm_commands.specs.Depth.{DepthRows}
 use Rattle.ppm_commands.specs.Races.{RacesRows}
 use Rattle.ppm_commands.specs.Serial.{SerialRows}
 use Rattle.ppm_loading.specs.MachineRows.{RefusesPlan}
+use Rattle.ppm_driver.specs.CaseReplayRows.{ReplayCaseRows}
+use Rattle.ppm_driver.specs.CaseRows.{RunCaseRows}
 use Rattle.ppm_driver.specs.ExampleRows.{ExampleRows}
 use Rattle.ppm_driver.specs.ReplayRows.{ReplayRows}
 use Rattle.ppm_driver.specs.ResumeRows.{ResumeRows, RefusesPlan as RefusesResumed}
@@ -37,6 +39,11 @@ use Rattle.ppm_plan.specs.Forms.{plan_form, schedule_form}
 abbrev pub RunsByWords : List (List ℕ) → Outside → Status → Type 0
 RunsByWords words o status = (options : RunOptions) (plan : List ℕ) → command_of words ≡ Some (commands.Run options plan)
     → AreRun options × RunRows options options.processors plan o status
+
+-- those of `run` of a case hold where they ask for that, with these options, which are in their ranges, and this plan
+abbrev pub RunsCaseByWords : List (List ℕ) → Outside → Status → Type 0
+RunsCaseByWords words o status = (options : RunOptions) (plan : List ℕ) → command_of words ≡ Some (commands.RunCase options plan)
+    → AreRun options × RunCaseRows options options.processors plan o status
 
 -- those of `serial` hold where they ask for it, with as many turns
 abbrev pub InterpretsByWords : List (List ℕ) → Outside → Status → Type 0
@@ -69,6 +76,11 @@ ChecksByWords words o status = command_of words ≡ Some commands.Check → Chec
 abbrev pub ReplaysByWords : List (List ℕ) → Outside → Status → Type 0
 ReplaysByWords words o status = (options : ReplayOptions) (schedule : List ℕ) → command_of words ≡ Some (commands.Replay options schedule) →
     AreReplayed options × ReplayRows options schedule (ports_of o) status
+
+-- those of `replay` of a case where they ask for that, with these options, which are in their ranges, and this schedule
+abbrev pub ReplaysCaseByWords : List (List ℕ) → Outside → Status → Type 0
+ReplaysCaseByWords words o status = (options : ReplayOptions) (schedule : List ℕ) → command_of words ≡ Some (commands.ReplayCase options schedule)
+    → AreReplayed options × ReplayCaseRows options schedule (ports_of o) status
 
 -- those of `resume` where they ask for that, with these options, which are in their ranges, and this plan
 abbrev pub ResumesByWords : List (List ℕ) → Outside → Status → Type 0
@@ -104,6 +116,10 @@ pub data HasRefusedPlan (words : List (List ℕ)) (o : Outside) : Type 0 where
       → RefusesPlan schedule_form schedule options.processors (ports_of o) → HasRefusedPlan words o
   OfResume : (options : ResumeOptions) (plan : List ℕ) → command_of words ≡ Some (commands.Resume options plan)
       → RefusesResumed options plan o → HasRefusedPlan words o
+  OfRunCase : (options : RunOptions) (plan : List ℕ) → command_of words ≡ Some (commands.RunCase options plan)
+      → RefusesPlan plan_form plan options.processors (ports_of o) → HasRefusedPlan words o
+  OfReplayCase : (options : ReplayOptions) (schedule : List ℕ) → command_of words ≡ Some (commands.ReplayCase options schedule)
+      → RefusesPlan schedule_form schedule options.processors (ports_of o) → HasRefusedPlan words o
   OfStop : (options : StopOptions) (schedule : List ℕ) → command_of words ≡ Some (commands.Stop options schedule)
       → RefusesPlan schedule_form schedule options.processors (ports_of o) → HasRefusedPlan words o
 
@@ -131,6 +147,7 @@ IsSilentOnOut o status =
 -- the rows of the program: those of each command, those of words that give none, and those that all commands share
 pub record ProgramRows (words : List (List ℕ)) (o : Outside) (status : Status) : Type 0 where
   pub run : RunsByWords words o status
+  pub run_case : RunsCaseByWords words o status
   pub serial : InterpretsByWords words o status
   pub code : ListsByWords words o status
   pub case : ListsCaseByWords words o status
@@ -138,6 +155,7 @@ pub record ProgramRows (words : List (List ℕ)) (o : Outside) (status : Status)
   pub depth : RunsDepthFirstByWords words o status
   pub races : SeeksRacesByWords words o status
   pub replay : ReplaysByWords words o status
+  pub replay_case : ReplaysCaseByWords words o status
   pub resume : ResumesByWords words o status
   pub stop : StopsByWords words o status
   pub example : SumsByWords words o status

@@ -1,13 +1,15 @@
 //! The laws of all commands, shown by a call that does nothing.
 ghost use Rattle.ppm_top.specs.Laws.{ProgramLaws};
 
+use ppm_case::faults_tell_cases;
 use ppm_commands::{
     case_texts_are_cases, case_texts_have_one_answer, cases_have_one_answer, codes_are_faithful,
     codes_have_one_answer, depth_runs_have_one_answer, listings_have_one_answer,
     outcomes_have_one_answer,
 };
 use ppm_driver::{
-    answers_are_one as runs_have_one_answer, examples_sum_up, left_words_come_back,
+    answers_are_as_code, answers_are_one as runs_have_one_answer, case_answers_are_one,
+    case_replays_have_one_answer, examples_sum_up, left_words_come_back, replays_are_as_code,
     replays_have_one_answer, resumes_complete, runs_are_as_programs, runs_complete,
     runs_in_legs_are_as_programs, stops_have_one_answer, stops_leave_states,
 };
@@ -37,4 +39,9 @@ pub fn program_laws()
     plans_have_one_answer();
     replays_have_one_answer();
     stops_have_one_answer();
+    answers_are_as_code();
+    replays_are_as_code();
+    faults_tell_cases();
+    case_answers_are_one();
+    case_replays_have_one_answer();
 }

@@ -13,7 +13,10 @@ use ppm_cli::{Command, read_words};
 use ppm_commands::{
     case_command, check_command, code_command, depth_command, races_command, serial_command,
 };
-use ppm_driver::{replay_command, resume_command, run_command, self_command, stop_command};
+use ppm_driver::{
+    replay_case_command, replay_command, resume_command, run_case_command, run_command,
+    self_command, stop_command,
+};
 use ppm_ports::{Sink, Source, Watch};
 use ppm_words::NoMemory;
 use std::alloc::Global;
@@ -79,6 +82,16 @@ fn answer_words<R: Threads + Wait + Sync, S: Source, K: Sink, E: Sink, W: Watch>
             err,
             watch,
         ),
+        Ok(Some(Command::RunCase(options, case_plan))) => run_case_command(
+            rt,
+            alloc,
+            options,
+            case_plan.as_slice(),
+            source,
+            out,
+            err,
+            watch,
+        ),
         Ok(Some(Command::Serial(options))) => serial_command(
             alloc,
             options.turns,
@@ -95,6 +108,14 @@ fn answer_words<R: Threads + Wait + Sync, S: Source, K: Sink, E: Sink, W: Watch>
             alloc,
             options,
             schedule.as_slice(),
+            source,
+            out,
+            err,
+        ),
+        Ok(Some(Command::ReplayCase(options, case_schedule))) => replay_case_command(
+            alloc,
+            options,
+            case_schedule.as_slice(),
             source,
             out,
             err,

@@ -24,5 +24,11 @@ returns c = record {
     plans = c.have_one_answer.ensures.law;
     replays = c.replays_have_one_answer.ensures.law;
     stops = c.stops_have_one_answer.ensures.law;
+    case_runs = c.answers_are_as_code.ensures.law;
+    case_replays = c.replays_are_as_code.ensures.law;
+    case_faults = c.faults_tell_cases.ensures.law;
+    case_answers = c.case_answers_are_one.ensures.one;
+    case_fronts = c.case_answers_are_one.ensures.front;
+    replayed_cases = c.case_replays_have_one_answer.ensures.law;
   };
 }

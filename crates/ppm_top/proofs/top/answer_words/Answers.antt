@@ -49,6 +49,18 @@ returns-in-Ok-Some-Run-clause-answers g c = by_command (map string_bytes c.args.
     (cc (c.in-Ok-Some-Run.ensures.value, c.in-Ok-Some-Run.field-0-is, c.in-Ok-Some-Run.field-0-0-is))
     c.run_command.ensures.answers
 
+-- the words ask for a run of a case, which was answered
+pub returns-in-Ok-Some-RunCase-clause-answers : goal.returns-in-Ok-Some-RunCase-clause-answers
+returns-in-Ok-Some-RunCase-clause-answers g c = by_command (map string_bytes c.args.words.now) _ _ (Some (commands.RunCase _ _))
+    (cc (c.in-Ok-Some-RunCase.ensures.value, c.in-Ok-Some-RunCase.field-0-is, c.in-Ok-Some-RunCase.field-0-0-is))
+    c.run_case_command.ensures.answers
+
+-- the words ask for a replay of a case, which was answered
+pub returns-in-Ok-Some-ReplayCase-clause-answers : goal.returns-in-Ok-Some-ReplayCase-clause-answers
+returns-in-Ok-Some-ReplayCase-clause-answers g c = by_ports (map string_bytes c.args.words.now) _ _ (Some (commands.ReplayCase _ _))
+    (cc (c.in-Ok-Some-ReplayCase.ensures.value, c.in-Ok-Some-ReplayCase.field-0-is, c.in-Ok-Some-ReplayCase.field-0-0-is)) refl refl
+    c.replay_case_command.ensures.delivers
+
 -- the words ask for a replay, which was answered
 pub returns-in-Ok-Some-Replay-clause-answers : goal.returns-in-Ok-Some-Replay-clause-answers
 returns-in-Ok-Some-Replay-clause-answers g c = by_ports (map string_bytes c.args.words.now) _ _ (Some (commands.Replay _ _))
