@@ -50,7 +50,8 @@ pub(crate) fn replay_from(
     }
 }
 
-/// The command with these options and this schedule: over a source or over a case, as the matches say.
+/// The command with these options and this schedule: over a source or over a case, as the matches
+/// say.
 fn replay_of(
     matches: &ArgMatches<'_>,
     options: ReplayOptions,
@@ -58,7 +59,8 @@ fn replay_of(
 ) -> Option<Command>
     requires { AreReplayed options }
     ensures value { result
-        ≡ by_input (commands.Replay options schedule) (commands.ReplayCase options schedule) (rows_of (found_of matches.now)) }
+        ≡ by_input (commands.Replay options schedule) (commands.ReplayCase options schedule)
+        (rows_of (found_of matches.now)) }
     ensures in_range { IfSome result IsInRange }
 {
     let of_case = is_case(matches)?;

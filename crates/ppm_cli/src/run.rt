@@ -60,7 +60,8 @@ pub(crate) fn run_from(
 fn run_of(matches: &ArgMatches<'_>, options: RunOptions, plan: Items<u8>) -> Option<Command>
     requires { AreRun options }
     ensures value { result
-        ≡ by_input (commands.Run options plan) (commands.RunCase options plan) (rows_of (found_of matches.now)) }
+        ≡ by_input (commands.Run options plan) (commands.RunCase options plan)
+        (rows_of (found_of matches.now)) }
     ensures in_range { IfSome result IsInRange }
 {
     let of_case = is_case(matches)?;
