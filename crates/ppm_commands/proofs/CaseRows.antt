@@ -53,7 +53,9 @@ module _ (law : HaveOneAnswer) (are : AreCases) (faithful : CodesAreFaithful) (o
         gets = g;
         case = subst (λ (l : List ℕ). IsCaseOf l (code_of t) (initial_arrays t)) (sym h.2.writes.written_is)
             (are.cases h.0 t h.2.writes.program h.2.fits short);
+        input = are.inputs h.0 t h.2.writes.program;
         sound = code.sound (initial_arrays t) (are.inputs h.0 t h.2.writes.program);
+        faithful = code;
       }
 
   -- what an answer's own status says follows from the answer

@@ -22,6 +22,7 @@ use Rattle.ppm_answers.specs.declared.status.Status.TheVariants as statuses
 use Rattle.ppm_answers.specs.Texts.{refusal_text}
 use Rattle.ppm_answers.specs.Reading.{ReadHas, JudgingMay, AreOne, FrontsDecide}
 use Rattle.ppm_answers.specs.Rows.{PortsSay, JudgedRows, IsShown, IsDone}
+use Rattle.ppm_commands.specs.Code.{IsFaithful}
 
 -- the text that a program is written as: its code, with the arrays that it starts with
 abbrev pub text_of : ProgramTree → List ℕ
@@ -79,14 +80,17 @@ CaseMay source answer = JudgingMay text_limit CaseReads source answer
 abbrev pub HasRead : Port → Answer → Type 0
 HasRead source answer = ReadHas text_limit CaseReads source answer
 
--- The text that was read has a program, and out got exactly the text of its code with its arrays. That text is of just this code and these arrays, and the
--- code is sound with them.
+-- The text that was read has a program, and out got exactly the text of its code with its arrays. That text is of just this code and these arrays.
+-- They are an input of the program, the code is sound with them, and what is true of each program's code is true of it: run depth first it ends
+-- as the program does.
 pub record WritesCode (o : Ports) : Type 0 where
   pub written : List ℕ
   pub read : HasRead o.source (answers.Listed written)
   pub gets : Gets o.out written
   pub case : IsCaseOf written (code_of read.2.writes.tree) (initial_arrays read.2.writes.tree)
+  pub input : IsInputOf read.2.writes.tree (initial_arrays read.2.writes.tree)
   pub sound : IsSound (code_of read.2.writes.tree) (initial_arrays read.2.writes.tree)
+  pub faithful : IsFaithful read.2.writes.tree
 
 -- the text that was read is refused, and err got exactly the refusal's text
 abbrev pub WritesRefusal : Ports → Type 0
