@@ -11,8 +11,12 @@ use std::alloc::Global;
 /// The answer of this kind that the words after it give.
 pub(crate) fn case_answer_of(alloc: Global, call: &Call, kind: &str) -> Result<Answer, Fault> {
     match kind {
-        "after" => Ok(Answer::TrappedAfter(Trap::Split, number_at(call, 2)?, counts_of(call, 3)?)),
-        "sound" => Ok(Answer::Sound(counts_of(call, 2)?)),
+        "after" => Ok(Answer::TrappedAfter(
+            Trap::Split,
+            number_at(call, 2)?,
+            counts_of(call, 3, 4, 5)?,
+        )),
+        "sound" => Ok(Answer::Sound(counts_of(call, 2, 3, 4)?)),
         "capsules" => Ok(Answer::NotWithinCapsules(wide_at(call, 2)?)),
         "raced" => Ok(Answer::Raced(race_of(alloc, call)?)),
         "untidy" => Ok(Answer::Untidy(untidy_of(call)?)),
@@ -29,12 +33,17 @@ pub(crate) fn case_answer_of(alloc: Global, call: &Call, kind: &str) -> Result<A
     }
 }
 
-/// `CAPSULES FORKS WORDS` from this word of the call on.
-fn counts_of(call: &Call, at: usize) -> Result<Counts, Fault> {
+/// The counts that these words of the call give.
+fn counts_of(
+    call: &Call,
+    capsules: usize,
+    forks: usize,
+    pool_words: usize,
+) -> Result<Counts, Fault> {
     Ok(Counts {
-        capsules: wide_at(call, at)?,
-        forks: wide_at(call, at + 1)?,
-        pool_words: wide_at(call, at + 2)?,
+        capsules: wide_at(call, capsules)?,
+        forks: wide_at(call, forks)?,
+        pool_words: wide_at(call, pool_words)?,
     })
 }
 
