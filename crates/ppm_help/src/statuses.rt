@@ -68,8 +68,9 @@ fn meaning_of(status: Status) -> &'static str {
         Status::WriteFault => "write fault: standard output or standard error failed",
         Status::NoMemory => "out of memory",
         Status::CodeRefused => {
-            "code refused by `check`, `depth` or `races`: a conflict, an untidy store or a race, the\n       \
-             first one; or why what was read is no listing or no case (docs/CODE.md)"
+            "code refused: of `check`, `depth` or `races` a conflict, an untidy store or a race, the\n       \
+             first one; of these, and of `run` and `replay` with --input case, why what was read\n       \
+             is no listing or no case (docs/CODE.md)"
         }
         Status::NotWithin => {
             "not within: `serial` did not end within --turns, or `depth` or `races` within\n       \
@@ -79,9 +80,9 @@ fn meaning_of(status: Status) -> &'static str {
             "saved text refused by `resume`: the fault and its line (docs/SAVED.md)"
         }
         Status::Broken => {
-            "saved words broken: of `resume`, and of a case that isn't sound, where a processor can't\n       \
-             go on with those that it met at that place; 64 where it has none, or where the saved\n       \
-             finish word is none"
+            "saved words broken: place P, of `resume`, or of a case that isn't sound: the machine\n       \
+             can't go on from a word at place P; P is 64 where no place is known, or where the\n       \
+             saved finish word means nothing"
         }
     }
 }
