@@ -29,6 +29,7 @@ use ppm_plan::{
 use ppm_printer::{canonical_texts_tell_programs, printed_texts_have_their_tree};
 use ppm_saved_reader::faults_tell_saved_texts;
 use ppm_step::{done_has_cause, finish_stays, records_lead, room_has_cause, turns_have_cause};
+use ppm_top::sound_cases_run_as_depth;
 
 #[test]
 fn laws_of_texts_are_called(_: HostRuntime) {
@@ -98,6 +99,7 @@ fn laws_of_runs_of_codes_are_called(_: HostRuntime) {
     runs_in_legs_are_as_code();
     runs_of_code_complete_in_legs();
     case_answers_are_one();
+    sound_cases_run_as_depth();
 }
 
 #[test]

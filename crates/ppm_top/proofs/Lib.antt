@@ -1,3 +1,4 @@
 pub mod CausesLemmas
 pub mod OfCases
 pub mod OfAll
+pub mod SoundCaseLemmas

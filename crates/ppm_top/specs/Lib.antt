@@ -1,3 +1,4 @@
 pub mod Causes
 pub mod Laws
 pub mod Rows
+pub mod SoundCases

@@ -1,5 +1,6 @@
 //! The laws of all commands, shown by a call that does nothing.
 ghost use Rattle.ppm_top.specs.Laws.{ProgramLaws};
+ghost use Rattle.ppm_top.specs.SoundCases.{SoundCasesRunAsDepth};
 
 use ppm_case::faults_tell_cases;
 use ppm_commands::{
@@ -44,4 +45,14 @@ pub fn program_laws()
     faults_tell_cases();
     case_answers_are_one();
     case_replays_have_one_answer();
+}
+
+/// A case that `races` calls sound comes to the result of `depth` in each `run` with turns and room
+/// enough for its counts and the plan's faults: with every plan, schedule and takeover.
+pub fn sound_cases_run_as_depth()
+    ensures law { SoundCasesRunAsDepth }
+{
+    answers_are_as_code();
+    faults_tell_cases();
+    plans_have_one_answer();
 }

@@ -12,6 +12,6 @@
 mod laws;
 mod top;
 
-pub use laws::program_laws;
+pub use laws::{program_laws, sound_cases_run_as_depth};
 pub use ppm_driver::WATCHERS;
 pub use top::ppm;
