@@ -1,5 +1,5 @@
 -- A text that `races` calls sound runs as `depth` says: the text is of one case, that has one depth-first end, and each run of it ends so.
-use Rattle.std.proofs.Common.{◌≤◌, ℕ, ◌+◌, ◌*◌, List, ◌∙◌, ap, subst, arith}
+use Rattle.std.proofs.Common.{◌<◌, ℕ, ◌+◌, ◌*◌, List, ◌∙◌, ap, subst, arith}
 use Rattle.ppm_words.specs.declared.named_array.NamedArray.{NamedArray}
 use Rattle.ppm_words.specs.declared.outcome.Outcome.{Outcome}
 use Rattle.ppm_words.specs.declared.outcome.Outcome.TheVariants as outcome
@@ -39,35 +39,34 @@ ends_within capsules code input k sound o ends =
 
 module _ (runs : AnswersAreAsCode) (texts : FaultsTellCases) (plans : PlansHaveOneAnswer) (capsules : ℕ) (text : List ℕ) (k : Counts)
     (case : HasCase text) (sound : IsSoundWithin capsules case.code case.input k) (options : RunOptions) (are : AreRun options) (plan : List ℕ)
-    (items : List PlanItem) (accepted : IsAccepted plan_form plan options.processors items)
-    (for_turns : 256 * (k.capsules + fault_count items) ≤ options.turns) (for_room : k.pool_words ≤ options.room) where
-  -- turns and room are enough
-  not_few : CodeNeedsMoreTurns case.code case.input (fault_count items) options.turns → ⊥
-  not_few needs =
+    (items : List PlanItem) (accepted : IsAccepted plan_form plan options.processors items) where
+  -- what the code needs, in the counts that are told
+  few_turns : CodeNeedsMoreTurns case.code case.input (fault_count items) options.turns → options.turns < 256 * (k.capsules + fault_count items)
+  few_turns needs =
       let few = needs sound.within.end sound.within.comes in
       let told = ap (λ (c : Counts). c.capsules) sound.counts ∙ sound.within.counts.capsules in
-      omega (arith, few, told, for_turns)
+      omega (arith, few, told)
 
-  not_little : CodeNeedsMoreRoom case.code case.input options.room → ⊥
-  not_little needs =
+  little_room : CodeNeedsMoreRoom case.code case.input options.room → options.room < k.pool_words
+  little_room needs =
       let more = needs sound.within.end sound.within.comes in
       let told = ap (λ (c : Counts). c.pool_words) sound.counts ∙ sound.within.counts.pool_words in
-      omega (arith, more, told, for_room)
+      omega (arith, more, told)
 
   module _ (watching : ℕ) (before now : ToldLists) where
     -- the result of a run of the case, which is what the code says
     by_answer : (a : Answer) (h : CodeHas options watching before now items case.code case.input a)
-        → SaysAsCode options items case.code case.input h.start h.run.turns a → ComesToDepth capsules text k a
+        → SaysAsCode options items case.code case.input h.start h.run.turns a → ComesToDepth options (fault_count items) capsules text k a
     by_answer (answers.Ended arrays) h said = (case, ends_within capsules case.code case.input k sound (outcome.Ended arrays) said.depth_first)
     by_answer (answers.Trapped trap line) h said =
         (case, ends_within capsules case.code case.input k sound (outcome.Trapped trap line) said.depth_first)
-    by_answer (answers.OutOfTurns c) h said = absurd (not_few said)
-    by_answer (answers.OutOfRoom place) h said = absurd (not_little said)
+    by_answer (answers.OutOfTurns c) h said = few_turns said
+    by_answer (answers.OutOfRoom place) h said = little_room said
     by_answer a h said = absurd said
 
     -- the text is of one case, and the plan has one list of items
     by_case : (a : Answer) (others : List PlanItem) → IsAccepted plan_form plan options.processors others → (c : CodeParts) (l : List NamedArray)
-        → IsCaseOf text c l → CodeHas options watching before now others c l a → ComesToDepth capsules text k a
+        → IsCaseOf text c l → CodeHas options watching before now others c l a → ComesToDepth options (fault_count items) capsules text k a
     by_case a others also c l other h =
         let same = texts.one_case text c case.code l case.input other case.is in
         let with_items = subst (λ (x : List PlanItem). CodeHas options watching before now x c l a)
@@ -79,7 +78,7 @@ module _ (runs : AnswersAreAsCode) (texts : FaultsTellCases) (plans : PlansHaveO
 
     -- the plan is not refused, and the text is not
     comes : (a : Answer) → PlannedHas plan_form plan options.processors (TextHas options watching before now) text a
-        → ComesToDepth capsules text k a
+        → ComesToDepth options (fault_count items) capsules text k a
     comes (answers.PlanRefused number) h = absurd (plans.plans.apart plan options.processors items h.error h.of_text accepted h.refused)
     comes (answers.InputRefused r) h = absurd (texts.excludes text case.code case.input _ r.line case.is h.has.there)
     comes (answers.ListingRefused r) h = absurd (texts.excludes text case.code case.input _ r.line case.is h.has.there)
@@ -87,5 +86,5 @@ module _ (runs : AnswersAreAsCode) (texts : FaultsTellCases) (plans : PlansHaveO
 
 -- by the laws of runs, of cases and of plans
 pub sound_cases_run_as_depth : AnswersAreAsCode → FaultsTellCases → PlansHaveOneAnswer → SoundCasesRunAsDepth
-sound_cases_run_as_depth runs texts plans capsules text k has options are plan items accepted for_turns for_room watching before now answer h =
-    comes runs texts plans capsules text k has.0 has.1 options are plan items accepted for_turns for_room watching before now answer h
+sound_cases_run_as_depth runs texts plans capsules text k has options are plan items accepted watching before now answer h =
+    comes runs texts plans capsules text k has.0 has.1 options are plan items accepted watching before now answer h

@@ -1,5 +1,5 @@
--- A case that `races` calls sound: what each `run` of it with limits high enough comes to, whatever the plan, the schedule and the takeover are.
-use Rattle.std.specs.Prelude.{◌≤◌, ℕ, ◌+◌, ◌*◌, List}
+-- A case that `races` calls sound: what each `run` of it comes to, whatever the plan, the schedule and the takeover are.
+use Rattle.std.specs.Prelude.{◌<◌, ℕ, ◌+◌, ◌*◌, List}
 use Rattle.ppm_ports.specs.Outside.{ToldLists}
 use Rattle.ppm_plan.specs.declared.plan_item.PlanItem.{PlanItem}
 use Rattle.ppm_plan.specs.Forms.{plan_form}
@@ -15,19 +15,20 @@ use Rattle.ppm_loading.specs.Planned.{PlannedHas}
 use Rattle.ppm_driver.specs.CaseRuns.{TextHas}
 use Rattle.ppm_driver.specs.Strikes.{fault_count}
 
--- the answer of a run is the result of `depth` of the text, which has these counts: its arrays, or its trap
-abbrev pub ComesToDepth : (capsules : ℕ) → (text : List ℕ) → Counts → Answer → Type 0
-ComesToDepth capsules text k (answers.Ended arrays) = DepthHas capsules text (answers.Counted arrays k)
-ComesToDepth capsules text k (answers.Trapped trap line) = DepthHas capsules text (answers.TrappedAfter trap line k)
-ComesToDepth capsules text k answer = ⊥
+-- The answer of a run with such options, of a text that has these counts, and so many faults in the plan, is the result of `depth` of the text: its
+-- arrays, or its trap. Else the turns of a processor are fewer than 256 for each of the capsules and each of the faults, or a pool has fewer words.
+abbrev pub ComesToDepth : RunOptions → (faults capsules : ℕ) → (text : List ℕ) → Counts → Answer → Type 0
+ComesToDepth options faults capsules text k (answers.Ended arrays) = DepthHas capsules text (answers.Counted arrays k)
+ComesToDepth options faults capsules text k (answers.Trapped trap line) = DepthHas capsules text (answers.TrappedAfter trap line k)
+ComesToDepth options faults capsules text k (answers.OutOfTurns processor) = options.turns < 256 * (k.capsules + faults)
+ComesToDepth options faults capsules text k (answers.OutOfRoom place) = options.room < k.pool_words
+ComesToDepth options faults capsules text k answer = ⊥
 
--- Where `races` finds a text sound, with these counts, and the plan is accepted, and the turns of a processor are at least 256 for each of the
--- capsules and each fault of the plan, and a pool has room for the words: each answer of `run` is the result of `depth`.
+-- Where `races` finds a text sound, with these counts, and the plan is accepted, each answer of `run` is the result of `depth`, or a limit is too low.
 abbrev pub SoundCasesRunAsDepth : Type 0
 SoundCasesRunAsDepth = (capsules : ℕ) (text : List ℕ) (k : Counts) → RacesHas capsules text (answers.Sound k)
     → (options : RunOptions) → AreRun options
     → (plan : List ℕ) (items : List PlanItem) → IsAccepted plan_form plan options.processors items
-    → 256 * (k.capsules + fault_count items) ≤ options.turns → k.pool_words ≤ options.room
     → (watching : ℕ) (before now : ToldLists) (answer : Answer)
     → PlannedHas plan_form plan options.processors (TextHas options watching before now) text answer
-    → ComesToDepth capsules text k answer
+    → ComesToDepth options (fault_count items) capsules text k answer

@@ -47,8 +47,8 @@ pub fn program_laws()
     case_replays_have_one_answer();
 }
 
-/// A case that `races` calls sound comes to the result of `depth` in each `run` with turns and room
-/// enough for its counts and the plan's faults: with every plan, schedule and takeover.
+/// A case that `races` calls sound comes to the result of `depth` in each `run`, with every plan,
+/// schedule and takeover, or a limit is too low for its counts and the plan's faults.
 pub fn sound_cases_run_as_depth()
     ensures law { SoundCasesRunAsDepth }
 {
