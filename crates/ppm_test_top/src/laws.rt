@@ -5,7 +5,9 @@ use ppm_choice::{
 };
 use ppm_cli::any_rule_may_be_admitted;
 use ppm_commands::{
-    codes_are_faithful, codes_have_one_answer, listings_have_one_answer, outcomes_have_one_answer,
+    case_texts_are_cases, case_texts_have_one_answer, cases_have_one_answer, codes_are_faithful,
+    codes_have_one_answer, depth_runs_have_one_answer, listings_have_one_answer,
+    outcomes_have_one_answer,
 };
 use ppm_cut_code::{
     few_capsules, keeps_the_rules, lines_alone, names_have_slots, procedures_stand,
@@ -13,9 +15,9 @@ use ppm_cut_code::{
 use ppm_cut_correct::{end_as_meant, ends_serially, name_arrays, start_with_input};
 use ppm_cut_sound::{code_is_sound, may_be_stopped, store_tidily};
 use ppm_driver::{
-    answers_are_as_code, answers_are_one, case_answers_are_one, examples_sum_up,
-    fronts_decide_resumed, left_words_come_back, replays_are_as_code, resumes_complete,
-    resumes_leave_states, runs_are_as_code, runs_are_as_programs, runs_complete,
+    answers_are_as_code, answers_are_one, case_answers_are_one, case_replays_have_one_answer,
+    examples_sum_up, fronts_decide_resumed, left_words_come_back, replays_are_as_code,
+    resumes_complete, resumes_leave_states, runs_are_as_code, runs_are_as_programs, runs_complete,
     runs_in_legs_are_as_code, runs_in_legs_are_as_programs, runs_leave_states,
     runs_of_code_complete, runs_of_code_complete_in_legs, stopped_runs_go_on,
     stops_have_one_answer, stops_leave_states,
@@ -99,6 +101,7 @@ fn laws_of_runs_of_codes_are_called(_: HostRuntime) {
     runs_in_legs_are_as_code();
     runs_of_code_complete_in_legs();
     case_answers_are_one();
+    case_replays_have_one_answer();
     sound_cases_run_as_depth();
 }
 
@@ -115,4 +118,8 @@ fn laws_of_the_other_commands_are_called(_: HostRuntime) {
     codes_have_one_answer();
     codes_are_faithful();
     outcomes_have_one_answer();
+    case_texts_have_one_answer();
+    case_texts_are_cases();
+    depth_runs_have_one_answer();
+    cases_have_one_answer();
 }
