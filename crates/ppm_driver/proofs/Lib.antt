@@ -50,11 +50,13 @@ pub mod CaseHeadlineLemmas
 pub mod OfRunCase
 pub mod OfReplayCase
 pub mod ResumeLemmas
-pub mod OfResume
 pub mod TellLemmas
 pub mod LeftLemmas
-pub mod StoppedLemmas
+pub mod ResumedOfCode
 pub mod ResumeComplete
+pub mod OfResume
+pub mod StoppedLemmas
+pub mod CaseStoppedLemmas
 pub mod NamesLemmas
 pub mod CaseNamesLemmas
 pub mod StopLemmas

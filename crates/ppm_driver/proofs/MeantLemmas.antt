@@ -21,6 +21,7 @@ use Rattle.ppm_step.specs.declared.turn.Turn.{Turn}
 use Rattle.ppm_core.specs.Situation.{Situation}
 use Rattle.ppm_driver.specs.Meant.{HasOutcome, NeedsMoreRoom, EndsAsProgram, IsAsProgram, RunsAreAsPrograms}
 use Rattle.ppm_driver.specs.AsCode.{MayRun, CodeEnds, CodeNeedsMoreRoom, EndsAsCode, IsAsCode, RunsAreAsCode}
+use Rattle.ppm_driver.specs.ProgramsAsCode.{ProgramsAreAsCode}
 
 -- what the crates below show of every text and every program's code
 pub record Laws : Type 0 where
@@ -85,6 +86,11 @@ module _ (laws : Laws) (text : List ℕ) (t : ProgramTree) (has : HasProgram tex
       few = h.few;
       pools = h.pools;
     }
+
+-- each text's program is as its code
+pub programs_are_as_code : Laws → ProgramsAreAsCode
+programs_are_as_code laws text t has =
+    record { may = may_run laws text t has; serially = serial_is laws text t has; more_room = more_room laws text t has }
 
 -- so it is with each text's program
 pub runs_are_as_programs : Laws → RunsAreAsCode → RunsAreAsPrograms

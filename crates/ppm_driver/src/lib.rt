@@ -36,6 +36,7 @@ mod one_replay;
 mod one_run;
 mod one_stop;
 mod orders;
+mod probe;
 mod replay;
 mod replay_case;
 mod resuming;
@@ -48,19 +49,23 @@ mod stopped;
 mod sums;
 
 pub use complete::{runs_complete, runs_of_code_complete};
-pub use complete_resume::{resumes_complete, runs_of_code_complete_in_legs};
+pub use complete_resume::{resume_laws, resumes_complete, runs_of_code_complete_in_legs};
 pub use example::self_command;
 pub use fronts::fronts_decide_resumed;
 pub use legs::{
     left_words_come_back, resumes_leave_states, runs_in_legs_are_as_code,
     runs_in_legs_are_as_programs, runs_leave_states, stops_leave_states,
 };
-pub use meant::{answers_are_as_code, replays_are_as_code, runs_are_as_code, runs_are_as_programs};
+pub use meant::{
+    answers_are_as_code, programs_are_as_code, replays_are_as_code, runs_are_as_code,
+    runs_are_as_programs,
+};
 pub use one_case::{
     case_answers_are_one, case_replays_have_one_answer, case_stops_have_one_answer,
 };
 pub use one_replay::replays_have_one_answer;
 pub use one_run::answers_are_one;
+pub use probe::probe_stop;
 pub use one_stop::stops_have_one_answer;
 pub use replay::replay_command;
 pub use replay_case::replay_case_command;
@@ -69,5 +74,5 @@ pub use run::{WATCHERS, run_command};
 pub use run_case::run_case_command;
 pub use stop::stop_command;
 pub use stop_case::stop_case_command;
-pub use stopped::stopped_runs_go_on;
+pub use stopped::{stopped_cases_go_on, stopped_runs_go_on};
 pub use sums::examples_sum_up;

@@ -219,7 +219,7 @@ refuses_words laws words o status a = record {
 
         refuses_resumed : (options : ResumeOptions) (plan : List ℕ) → command_of words ≡ Some (commands.Resume options plan) →
             RefusesResumed options plan o
-        refuses_resumed options plan c = of_resume.plan_refused laws.legs laws.comes options plan o status
+        refuses_resumed options plan c = of_resume.plan_refused laws.resumes options plan o status
             (subst (λ x. Answers (CommandMay x o) (CommandTells x o) o status) c a) e
 
         by_words : (command_of words ≡ None) ⊎ IsPlanned (command_of words) → (command_of words ≡ None) ⊎ HasRefusedPlan words o
@@ -269,7 +269,7 @@ program_rows laws words o status a = record {
   replay_case = of_cases.replays_case laws words o status a;
   resume = λ options plan e. (
     is_in_range words (commands.Resume options plan) e,
-    of_resume.resume_rows laws.legs laws.comes options plan o status (answered (Some (commands.Resume options plan)) e) laws.resumes,
+    of_resume.resume_rows laws.resumes options plan o status (answered (Some (commands.Resume options plan)) e),
   );
   stop = λ options schedule e.
       let range = is_in_range words (commands.Stop options schedule) e in (
