@@ -67,7 +67,7 @@ pub runs_of_code_leave_states : RunsOfCodeLeaveStates
 runs_of_code_leave_states code input sizes places keeper m b turns among = left code input sizes places keeper m b turns among
 
 -- what the code of a source's program left is left by the source
-pub by_source : (source : List ℕ) (t : ProgramTree) → HasProgram source t → (z : SavedState) → IsLeftByCode (code_of t) (initial_arrays t) z
+abbrev pub by_source : (source : List ℕ) (t : ProgramTree) → HasProgram source t → (z : SavedState) → IsLeftByCode (code_of t) (initial_arrays t) z
     → IsLeftBy source z
 by_source source t has z l = record {
   tree = t;
@@ -104,7 +104,7 @@ text_by_source source t has faults text l = record {
 }
 
 -- the text of a state that a source left is left by the code of its program
-pub text_by_code : (source : List ℕ) (faults : ℕ) (text : List ℕ) (l : IsTextLeftBy source faults text)
+abbrev pub text_by_code : (source : List ℕ) (faults : ℕ) (text : List ℕ) (l : IsTextLeftBy source faults text)
     → IsTextLeftByCode (code_of l.by.tree) (initial_arrays l.by.tree) faults text
 text_by_code source faults text l = record {
   state = l.state;

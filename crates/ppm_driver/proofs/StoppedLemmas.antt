@@ -144,7 +144,7 @@ module _ (laws : ResumeLaws) (law : StopsLeaveStates) (texts : TextsHaveOneProgr
   abbrev tree : ProgramTree
   tree = text_left.by.tree
 
-  code_left : IsTextLeftByCode (code_of tree) (initial_arrays tree) faults w.text
+  abbrev code_left : IsTextLeftByCode (code_of tree) (initial_arrays tree) faults w.text
   code_left = text_by_code source faults w.text text_left
 
   may : MayRun (code_of tree) (initial_arrays tree)

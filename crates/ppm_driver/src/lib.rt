@@ -15,9 +15,10 @@
 //! room are enough, a run ends (`specs/Completeness`, `specs/ResumeCompleteness`). What is stopped
 //! and resumed ends as its program does (`specs/Stopped`). The laws of runs are of each sound code
 //! on an input, whoever wrote it (`specs/AsCode`, `specs/LegsAsCode`), and of a text's program as
-//! an instance. `run_case_command` and `replay_case_command` run the case that is read, sound or
-//! not (`specs/CaseRuns`, `specs/CaseReplays`); what follows: `specs/CaseHeadline`,
-//! `specs/CaseRows` and `specs/CaseReplayRows`.
+//! an instance. `run_case_command`, `replay_case_command` and `stop_case_command` run the case that
+//! is read, sound or not (`specs/CaseRuns`, `specs/CaseReplays`, `specs/CaseStops`); what follows:
+//! `specs/CaseHeadline`, `specs/CaseRows`, `specs/CaseReplayRows`, `specs/CaseStopRows`; and over
+//! stops `specs/CodeResumeRows` and `specs/CaseStopped`.
 //! Stands on `ppm_threads`, `ppm_following`, `ppm_loading`, `ppm_case`, `ppm_saved`,
 //! `ppm_saved_reader` and `ppm_answers`; `ppm_top` calls it. The schedules and limits and their
 //! rules are this project's. `stop` and `resume` come after the persistent memory of Blelloch et
@@ -36,7 +37,6 @@ mod one_replay;
 mod one_run;
 mod one_stop;
 mod orders;
-mod probe;
 mod replay;
 mod replay_case;
 mod resuming;
@@ -65,7 +65,6 @@ pub use one_case::{
 };
 pub use one_replay::replays_have_one_answer;
 pub use one_run::answers_are_one;
-pub use probe::probe_stop;
 pub use one_stop::stops_have_one_answer;
 pub use replay::replay_command;
 pub use replay_case::replay_case_command;

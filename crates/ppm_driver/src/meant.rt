@@ -62,13 +62,7 @@ pub fn runs_are_as_programs()
     ensures law { RunsAreAsPrograms }
 {
     // The law rests on these; the calls do nothing.
-    trees_are_within();
-    keeps_the_rules();
-    code_is_sound();
-    start_with_input();
-    name_arrays();
-    ends_serially();
-    end_as_meant();
+    programs_are_as_code();
     runs_are_as_code();
 }
 
