@@ -115,13 +115,8 @@ pub(crate) fn stopped_code(
     let names = names_of(alloc, input.arrays())?;
     let mut machine = load_code(alloc, sizes_of(options), code, input, schedule.keeper())?;
     follow(&mut machine, schedule, options.after);
-    let text = write_saved(
-        alloc,
-        machine.code(),
-        machine.shape(),
-        &names,
-        machine.words(),
-    )?;
+    let capsules = machine.code();
+    let text = write_saved(alloc, capsules, machine.shape(), &names, machine.words())?;
     Ok(text)
 }
 

@@ -27,11 +27,12 @@ stopped_code-requires-clause-names c =
 pub returns : goal.returns
 returns c =
     let t = tree_of c.args.program.now in
-    of_program_code c.args.options c.args.schedule.now.items t _
+    let saved = answers.Saved c.in_ok-text.text.items in
+    of_program_code c.args.options c.args.schedule.now.items t saved
     (record {
       free = c.may_be_stopped.ensures.law t c.program.ensures.admitted;
       tidy = c.store_tidily.ensures.law t c.program.ensures.admitted;
     })
-    (subst (λ (k : CodeParts). CodeReads c.args.options c.args.schedule.now.items k (initial_arrays t) (answers.Saved c.in_ok-text.text.items)) c.in_ok-code.ensures.code
-    (subst (λ (l : List NamedArray). CodeReads c.args.options c.args.schedule.now.items c.in_ok-code.code l (answers.Saved c.in_ok-text.text.items)) c.input.ensures.value
+    (subst (λ (k : CodeParts). CodeReads c.args.options c.args.schedule.now.items k (initial_arrays t) saved) c.in_ok-code.ensures.code
+    (subst (λ (l : List NamedArray). CodeReads c.args.options c.args.schedule.now.items c.in_ok-code.code l saved) c.input.ensures.value
     c.in_ok-text.ensures))

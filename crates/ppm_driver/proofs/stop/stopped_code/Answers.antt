@@ -19,7 +19,7 @@ write_saved-requires c = record {
 pub returns : goal.returns
 returns c =
     code_reads c.args.options c.args.schedule.now.items c.args.code c.args.input.now _ _ _ _ _ _ _ _ _ _ c.sizes_of.ensures c.keeper.ensures.keeper
-    c.in_ok-machine.ensures c.follow.ensures c.arrays.ensures.value c.in_ok-names.ensures c.shape.ensures c.code.ensures c.words.ensures
+    c.in_ok-machine.ensures c.follow.ensures c.arrays.ensures.value c.in_ok-names.ensures c.shape.ensures c.code-capsules.ensures c.words.ensures
     c.in_ok-text.ensures.text c.in_ok-text.ensures.fits
     (λ opens fits. read_back c.saved_texts_tell_states.ensures.law c.args.code c.args.input.now c.parts.ensures.code c.requires.arrays c.args.options c.requires.options
     _ _ opens c.args.schedule.now.items fits)
