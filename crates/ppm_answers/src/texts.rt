@@ -17,6 +17,7 @@ use crate::race::race_text_of;
 use crate::refusal::{Pass, Refusal};
 use crate::saved::saved_line_of;
 use crate::sums::sums_text_of;
+use crate::sweep::{difference_text_of, sweep_text_of};
 use crate::tally::with_tally;
 use ppm_words::{NamedArray, Trap};
 use std::alloc::{AllocError, Global};
@@ -87,6 +88,14 @@ pub fn texts_of(alloc: Global, answer: &Answer) -> Result<(Text, Text), AllocErr
         Answer::Summed(sums) => Ok((
             CowSlice::Owned(sums_text_of(alloc, *sums)?),
             CowSlice::Borrowed(none),
+        )),
+        Answer::Swept(sweep) => Ok((
+            CowSlice::Owned(sweep_text_of(alloc, *sweep)?),
+            CowSlice::Borrowed(none),
+        )),
+        Answer::Differs(difference) => Ok((
+            CowSlice::Borrowed(none),
+            CowSlice::Owned(difference_text_of(alloc, difference)?),
         )),
         Answer::SourceRefused(refusal) => Ok((
             CowSlice::Borrowed(none),
@@ -172,7 +181,7 @@ fn turns_text_of(alloc: Global, processor: u32) -> Result<Vec<u8>, AllocError>
 }
 
 /// The line of a place that has no room left.
-fn room_text_of(alloc: Global, place: u32) -> Result<Vec<u8>, AllocError>
+pub(crate) fn room_text_of(alloc: Global, place: u32) -> Result<Vec<u8>, AllocError>
     ensures { IfOk result (λ text. text.items ≡ room_text place) }
 {
     let text = format!(in alloc; "out of room: place {place}\n")?;
@@ -180,7 +189,7 @@ fn room_text_of(alloc: Global, place: u32) -> Result<Vec<u8>, AllocError>
 }
 
 /// The line of a replay that did not end within its acts.
-fn unfinished_text_of(alloc: Global, acts: u64) -> Result<Vec<u8>, AllocError>
+pub(crate) fn unfinished_text_of(alloc: Global, acts: u64) -> Result<Vec<u8>, AllocError>
     ensures { IfOk result (λ text. text.items ≡ unfinished_text acts) }
 {
     let text = format!(in alloc; "unfinished after {acts} turns\n")?;
@@ -188,7 +197,7 @@ fn unfinished_text_of(alloc: Global, acts: u64) -> Result<Vec<u8>, AllocError>
 }
 
 /// The line of words that are broken at a place.
-fn broken_text_of(alloc: Global, place: u32) -> Result<Vec<u8>, AllocError>
+pub(crate) fn broken_text_of(alloc: Global, place: u32) -> Result<Vec<u8>, AllocError>
     ensures { IfOk result (λ text. text.items ≡ broken_text place) }
 {
     let text = format!(in alloc; "saved words broken: place {place}\n")?;
@@ -257,7 +266,7 @@ fn place_name(pass: Pass) -> &'static str
 }
 
 /// The arrays, a line each.
-fn arrays_text_of(alloc: Global, arrays: &[NamedArray]) -> Result<Vec<u8>, AllocError>
+pub(crate) fn arrays_text_of(alloc: Global, arrays: &[NamedArray]) -> Result<Vec<u8>, AllocError>
     ensures { IfOk result (λ text. text.items ≡ arrays_text arrays.now) }
 {
     let mut text = Vec::new(alloc);
@@ -290,7 +299,7 @@ fn push_values(alloc: Global, text: &mut Vec<u8>, values: &[i64]) -> Result<(), 
 }
 
 /// The line of a trap.
-fn trap_text_of(alloc: Global, trap: Trap, line: u32) -> Result<Vec<u8>, AllocError>
+pub(crate) fn trap_text_of(alloc: Global, trap: Trap, line: u32) -> Result<Vec<u8>, AllocError>
     ensures { IfOk result (λ text. text.items ≡ trap_text trap line) }
 {
     let name = trap_name(trap);
