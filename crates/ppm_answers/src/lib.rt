@@ -12,6 +12,7 @@ mod case;
 mod conflict;
 mod counts;
 mod delivery;
+mod ends;
 mod race;
 mod refusal;
 mod saved;

@@ -4,9 +4,7 @@ ghost use Rattle.ppm_answers.specs.Texts.{came_text, difference_text, sweep_text
 ghost use Rattle.ppm_answers.specs.Texts.{schedule_line, takeover_line};
 ghost use Rattle.ppm_answers.specs.Texts.{takeover_name as name_of_takeover};
 
-use crate::texts::{
-    arrays_text_of, broken_text_of, room_text_of, trap_text_of, unfinished_text_of,
-};
+use crate::ends::{arrays_text_of, broken_text_of, room_text_of, trap_text_of, unfinished_text_of};
 use ppm_cells::Takeover;
 use ppm_words::{Items, NamedArray, Trap};
 use std::alloc::{AllocError, Global};
