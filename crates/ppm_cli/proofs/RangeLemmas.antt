@@ -17,13 +17,11 @@ use Rattle.ppm_cli.specs.Words.{number_in, number_given, value_of_digits, run_op
 use Rattle.ppm_cli.specs.Words.{takeover_given, idle_given, command_named, command_in, without_fault, command_of}
 use Rattle.ppm_cli.specs.Words.{fitting_room, room_given, with_text, AreReplayed, AreResumed, AreRun, AreSelf, AreStopped, DoPoolsFit, IsInRange, IsLimit, IsOfForm}
 use Rattle.ppm_cli.specs.Words.{swept_takeovers_given, sweep_options, AreSwept}
-use Rattle.ppm_cli.specs.Words.{by_input, choice_given, code_in, capsule_limit, depth_in, is_case_given, races_in, with_input}
+use Rattle.ppm_cli.specs.Words.{by_input, choice_given, code_in, capsule_limit, is_case_given, with_input}
 use Rattle.ppm_cli.specs.declared.capsules.CapsuleLimit.{CapsuleLimit}
 use Rattle.ppm_cli.specs.declared.command.Command.{Command}
 use Rattle.ppm_cli.specs.declared.command.Command.TheVariants as commands
 use Rattle.ppm_cli.specs.declared.example.SelfOptions.{SelfOptions}
-use Rattle.ppm_cli.specs.declared.replay.ReplayOptions.{ReplayOptions}
-use Rattle.ppm_cli.specs.declared.run.RunOptions.{RunOptions}
 
 -- a value with what came of it
 record Came {A B : Type 0} (o : Option A) (f : A → Option B) (b : B) : Type 0 where
