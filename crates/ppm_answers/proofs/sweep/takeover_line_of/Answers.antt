@@ -1,4 +1,4 @@
-use Rattle.std.proofs.Common.{◌≡◌, ◌++◌, ℕ, List, [], ◌∷◌, ◌∙◌, ap, codes, append_assoc}
+use Rattle.std.proofs.Common.{◌++◌, [], ◌∷◌, ◌∙◌, ap, codes}
 use Rattle.ppm_answers.proofs.sweep.takeover_line_of.Goals as goal
 
 -- the bytes of the string, and those of the word in it
