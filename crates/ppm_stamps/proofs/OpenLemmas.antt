@@ -24,7 +24,7 @@ module _ {F O : Type 0} where
   Ascends (InRight g o start mid ∷ above) = AreBelow above start × Ascends above
 
   -- a larger stamp is as good
-  below_more : (above : List (Above F O)) (j k : ℕ) → j ≤ k → AreBelow above j → AreBelow above k
+  pub below_more : (above : List (Above F O)) (j k : ℕ) → j ≤ k → AreBelow above j → AreBelow above k
   below_more [] j k le h = tt
   below_more (InCallee g ∷ above) j k le h = below_more above j k le h
   below_more (InLeft g r start ∷ above) j k le h = let first = h.0 in (omega (arith, first, le), below_more above j k le h.1)
