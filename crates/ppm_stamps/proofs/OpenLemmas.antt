@@ -34,7 +34,7 @@ module _ {F O : Type 0} where
       (omega (arith, first, le), omega (arith, second, le), below_more above j k le h.2)
 
   -- an open fork's left branch ended no later
-  open_below : (above : List (Above F O)) (k s m : ℕ) → AreBelow above k → IsOpen s m above → m ≤ k
+  pub open_below : (above : List (Above F O)) (k s m : ℕ) → AreBelow above k → IsOpen s m above → m ≤ k
   open_below [] k s m below h = absurd h
   open_below (InCallee g ∷ above) k s m below h = open_below above k s m below h
   open_below (InLeft g r start ∷ above) k s m below h = open_below above k s m below.1 h
