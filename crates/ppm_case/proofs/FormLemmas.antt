@@ -1,10 +1,11 @@
 -- The words of an array that has its form are such, and by them the array is found again.
-use Rattle.std.proofs.Common.{◌≡◌, ◌∙◌, ℕ, ◌==◌, Bool, true, false, not, ◌&&◌, ◌||◌, nat_lt, cond, is_none, is_some, List, [], ◌∷◌, ◌++◌, length, Option, Some, None, refl, ap, append_assoc}
-use Rattle.std.specs.List.{list_all, AllByRecursion}
+use Rattle.std.proofs.Common.{◌≡◌, ◌∙◌, ℕ, ◌-◌, ◌==◌, Bool, true, false, not, ◌&&◌, ◌||◌, nat_le, nat_lt, cond, is_none, is_some, List, [], ◌∷◌, ◌++◌, length, Option, Some, None, refl, sym, ap, subst, append_assoc}
+use Rattle.std.specs.List.{list_all, flat_map, AllByRecursion}
+use Rattle.std.specs.Str.{bytes_eq}
 use Rattle.std.specs.Cmp.Derive.{both_true}
 use Rattle.std.specs.Option.{option_map}
 use Rattle.std.specs.Prelude.{ℤ}
-use Rattle.std.proofs.lemmas.Bool.{both_ways, and_parts, eqb-true, ltb-true}
+use Rattle.std.proofs.lemmas.Bool.{both_ways, and_parts, and_from, cond-true, eqb-true, ltb-true}
 use Rattle.std.proofs.lemmas.List.Elements.{All-from_recursion}
 use Rattle.ppm_words.specs.Limits.{name_limit}
 use Rattle.ppm_words.specs.Names.{IsName, is_letter, is_name_byte}
@@ -12,10 +13,11 @@ use Rattle.ppm_pieces.specs.Numbers.{is_digit, is_numeral, value}
 use Rattle.ppm_pieces.specs.Pieces.{split, halves_of}
 use Rattle.ppm_pieces.proofs.NumberLemmas.{numeral_parts}
 use Rattle.ppm_text.specs.Spelling.{keyword_of}
-use Rattle.ppm_case.specs.Spelling.{array_word, Written, array_text, array_line, below_zero, from_zero, negative_in, natural_in, number_in}
+use Rattle.ppm_case.specs.declared.run.Run.{Run}
+use Rattle.ppm_case.specs.Spelling.{spaced, joined, array_word, Written, array_text, array_line, below_zero, from_zero, negative_in, natural_in, number_in}
 use Rattle.ppm_case.specs.Spelling.{run_of, run_between, run_in, is_name, is_array_name, has_form}
-use Rattle.ppm_case.proofs.OptionLemmas.{or_left, or_right}
-use Rattle.ppm_case.proofs.WordLemmas.{halves_at, halves_back, split_joined, joined_text, is_piece, is_text, all_wider, all_append}
+use Rattle.ppm_case.proofs.OptionLemmas.{not_both, or_left, or_right}
+use Rattle.ppm_case.proofs.WordLemmas.{halves_at, halves_off, halves_back, split_joined, joined_split, joined_text, is_piece, is_text, all_wider, all_append}
 
 -- the bytes of numerals
 digit_piece : (b : ℕ) → is_digit b ≡ true → is_piece b ≡ true

@@ -1,5 +1,5 @@
 -- What is written of values is read as they are.
-use Rattle.std.proofs.Common.{◌≡◌, ◌∙◌, ℕ, suc, ◌+◌, ◌-◌, ◌^◌, ◌<◌, ◌≤◌, ◌==◌, Bool, true, false, not, ◌&&◌, ◌||◌, nat_le, nat_lt, cond, is_some, List, [], ◌∷◌, ◌++◌, length, map, replicate, decimal, Option, Some, None, refl, sym, ap, arith, length-append}
+use Rattle.std.proofs.Common.{◌≡◌, ◌∙◌, ℕ, zero, suc, ◌+◌, ◌-◌, ◌^◌, ◌<◌, ◌≤◌, ◌==◌, Bool, true, false, not, ◌&&◌, ◌||◌, nat_le, nat_lt, cond, is_some, List, [], ◌∷◌, ◌++◌, length, map, get_or, replicate, decimal, Option, Some, None, refl, sym, ap, subst, arith, length-append, append_assoc}
 use Rattle.std.proofs.Common.{eqb-true, ne_eqb}
 use Rattle.std.specs.Prelude.{ℤ, pos, negsuc, FitsSigned}
 use Rattle.std.specs.Int.{w64}
@@ -10,13 +10,14 @@ use Rattle.std.specs.Cmp.Derive.{both_true}
 use Rattle.std.proofs.lemmas.Bool.{both_ways, cond-true, cond-false, lt-ltb, le-leb}
 use Rattle.std.proofs.lemmas.List.{length-replicate}
 use Rattle.ppm_pieces.specs.Numbers.{is_digit, is_numeral, value}
+use Rattle.ppm_pieces.specs.Pieces.{halves_of}
 use Rattle.ppm_pieces.proofs.NumberLemmas.{numeral_parts, numeral-decimal, value-decimal, first_digit, digit_bounds}
 use Rattle.ppm_case.specs.declared.run.Run.{Run}
 use Rattle.ppm_case.specs.declared.row.Row.{Row}
 use Rattle.ppm_case.specs.Spelling.{from_zero, below_zero, negative_in, natural_in, number_in, run_of, run_between, run_in, run_values, values_in, filled}
-use Rattle.ppm_case.specs.Rules.{said_fits, times_of, values_fit}
+use Rattle.ppm_case.specs.Rules.{run_fits, said_fits, times_of, values_fit}
 use Rattle.ppm_case.specs.Text.{row, same_value, in_front, rows_of, row_text}
-use Rattle.ppm_case.proofs.OptionLemmas.{or_left}
+use Rattle.ppm_case.proofs.OptionLemmas.{or_left, or_right}
 use Rattle.ppm_case.proofs.WordLemmas.{halves_at, halves_off, all_wider}
 use Rattle.ppm_case.proofs.RowLemmas.{same_is}
 

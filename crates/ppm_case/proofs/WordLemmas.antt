@@ -1,5 +1,5 @@
 -- Where bytes are cut, and words that are put together again.
-use Rattle.std.proofs.Common.{◌≡◌, ◌≢◌, ◌∙◌, ◌⊎◌, inl, inr, ℕ, ◌==◌, Bool, true, false, ◌||◌, cond, List, [], ◌∷◌, ◌++◌, Option, Some, None, refl, sym, ap}
+use Rattle.std.proofs.Common.{◌≡◌, ◌≢◌, ◌∙◌, ◌⊎◌, inl, inr, ℕ, ◌==◌, Bool, true, false, ◌&&◌, ◌||◌, cond, List, [], ◌∷◌, ◌++◌, Option, Some, None, refl, sym, ap}
 use Rattle.std.specs.List.{list_all, flat_map}
 use Rattle.std.specs.Cmp.Derive.{both_true}
 use Rattle.std.proofs.lemmas.Bool.{both_ways, and_parts}
@@ -8,7 +8,7 @@ use Rattle.std.proofs.lemmas.List.{append-nil}
 use Rattle.ppm_words.specs.Names.{is_name_byte}
 use Rattle.ppm_pieces.specs.Pieces.{split, in_front, halves_of, more_in_front}
 use Rattle.ppm_case.specs.Spelling.{spaced, joined}
-use Rattle.ppm_case.proofs.OptionLemmas.{some_same, not_both, or_left}
+use Rattle.ppm_case.proofs.OptionLemmas.{some_same, not_both, or_left, or_right}
 
 -- a number is another one, or the same
 abbrev Tells : Bool → (b s : ℕ) → Type 0
