@@ -22,7 +22,7 @@ mod FaultLemmas
 mod LawLemmas
 mod WrittenLemmas
 mod PartsLemmas
-mod NoFaultLemmas
+pub mod NoFaultLemmas
 mod OutlineLemmas
 mod AgreeLemmas
 mod FrontLemmas
