@@ -6,8 +6,8 @@ use ppm_choice::{
 use ppm_cli::any_rule_may_be_admitted;
 use ppm_commands::{
     case_texts_are_cases, case_texts_have_one_answer, cases_have_one_answer, codes_are_faithful,
-    codes_have_one_answer, depth_runs_have_one_answer, listings_have_one_answer,
-    outcomes_have_one_answer,
+    codes_have_one_answer, depth_runs_have_one_answer, instructions_have_their_lines,
+    listings_have_one_answer, outcomes_have_one_answer,
 };
 use ppm_cut_code::{
     few_capsules, keeps_the_rules, lines_alone, names_have_slots, procedures_stand,
@@ -122,4 +122,5 @@ fn laws_of_the_other_commands_are_called(_: HostRuntime) {
     case_texts_are_cases();
     depth_runs_have_one_answer();
     cases_have_one_answer();
+    instructions_have_their_lines();
 }
