@@ -13,15 +13,18 @@ use Rattle.ppm_cli.specs.Application.{ppm_application}
 use Rattle.ppm_cli.specs.CommandLine.{Form, Number, Choice, AnyText, OptionRule, is_free_text}
 use Rattle.ppm_cli.specs.CommandLine.{processors, turns, room, slots, looks, seed, faults, schedule, takeover, idle}
 use Rattle.ppm_cli.specs.CommandLine.{few_processors, after, small_room, few_slots, size, count, capsules, arrays, input}
+use Rattle.ppm_cli.specs.CommandLine.{copied_room, copied_slots, swept_takeovers, met, from, acts, runs}
 use Rattle.ppm_cli.specs.declared.capsules.CapsuleLimit.{CapsuleLimit}
 use Rattle.ppm_cli.specs.declared.command.Command.{Command}
 use Rattle.ppm_cli.specs.declared.command.Command.TheVariants as commands
 use Rattle.ppm_cli.specs.declared.example.SelfOptions.{SelfOptions}
-use Rattle.ppm_cli.specs.declared.serial.SerialOptions.{SerialOptions}
 use Rattle.ppm_cli.specs.declared.replay.ReplayOptions.{ReplayOptions}
 use Rattle.ppm_cli.specs.declared.resume.ResumeOptions.{ResumeOptions}
 use Rattle.ppm_cli.specs.declared.run.RunOptions.{RunOptions}
 use Rattle.ppm_cli.specs.declared.stop.StopOptions.{StopOptions}
+use Rattle.ppm_cli.specs.declared.sweep.SweepOptions.{SweepOptions}
+use Rattle.ppm_cli.specs.declared.takeover.SweptTakeovers.{SweptTakeovers}
+use Rattle.ppm_cli.specs.declared.takeover.SweptTakeovers.TheVariants as swept
 
 -- the number that decimal digits write; a plus may stand in front
 abbrev pub value_of_digits : Text → ℕ
@@ -67,6 +70,10 @@ choice_given o values rows = option_and_then (choice_in o.form values) (first_of
 abbrev pub takeover_given : List Row → Option Takeover
 takeover_given rows = choice_given takeover (ByPlaces ∷ ByEntries ∷ []) rows
 
+-- under which takeovers a sweep has its runs
+abbrev pub swept_takeovers_given : List Row → Option SweptTakeovers
+swept_takeovers_given rows = choice_given swept_takeovers (swept.ByPlaces ∷ swept.ByEntries ∷ swept.Both ∷ []) rows
+
 -- what a processor does that finds no work
 abbrev pub idle_given : List Row → Option Idle
 idle_given rows = choice_given idle (Leave ∷ Park ∷ []) rows
@@ -80,8 +87,8 @@ abbrev pub fitting_room : ℕ → ℕ → Option ℕ
 fitting_room processors words = if nat_le (processors * words) most_pool_words then Some words else None
 
 -- the words of the pool of each of so many places
-abbrev pub room_given : ℕ → List Row → Option ℕ
-room_given processors rows = and_then (number_given room rows) (fitting_room processors)
+abbrev pub room_given : OptionRule → ℕ → List Row → Option ℕ
+room_given o processors rows = and_then (number_given o rows) (fitting_room processors)
 
 -- a command that has options and a text, if each has a value of its form
 abbrev pub with_text : {O : Type 0} → (O → Text → Command) → OptionRule → Option O → List Row → Option Command
@@ -105,7 +112,7 @@ abbrev pub run_options : List Row → Option RunOptions
 run_options rows =
     and_then (number_given processors rows) (λ p.
     and_then (number_given turns rows) (λ n.
-    and_then (room_given p rows) (λ w.
+    and_then (room_given room p rows) (λ w.
     and_then (number_given slots rows) (λ e.
     and_then (number_given looks rows) (λ l.
     and_then (number_given seed rows) (λ s.
@@ -126,7 +133,7 @@ abbrev pub replay_options : List Row → Option ReplayOptions
 replay_options rows =
     and_then (number_given processors rows) (λ p.
     and_then (number_given turns rows) (λ n.
-    and_then (room_given p rows) (λ w.
+    and_then (room_given room p rows) (λ w.
     and_then (number_given slots rows) (λ e.
     and_then (takeover_given rows) (λ t.
     Some (record { processors = p; turns = n; room = w; slots = e; takeover = t }))))))
@@ -144,9 +151,9 @@ stop_options rows =
     and_then (number_given few_slots rows) (λ e.
     Some (record { processors = p; after = n; room = w; slots = e })))))
 
--- the command `stop` with its options and its schedule
+-- the command `stop` with its options and its schedule, over a source or over a case
 abbrev pub stop_in : List Row → Option Command
-stop_in rows = with_text commands.Stop schedule (stop_options rows) rows
+stop_in rows = with_input commands.Stop commands.StopCase schedule (stop_options rows) rows
 
 -- the options of `resume` but for its plan, if each has a value of its form
 abbrev pub resume_options : List Row → Option ResumeOptions
@@ -159,6 +166,38 @@ resume_options rows =
 -- the command `resume` with its options and its plan
 abbrev pub resume_in : List Row → Option Command
 resume_in rows = with_text commands.Resume faults (resume_options rows) rows
+
+-- the options of `sweep` but for its schedule, if each has a value of its form
+abbrev pub sweep_options : List Row → Option SweepOptions
+sweep_options rows =
+    and_then (number_given processors rows) (λ p.
+    and_then (number_given turns rows) (λ n.
+    and_then (room_given copied_room p rows) (λ w.
+    and_then (number_given copied_slots rows) (λ e.
+    and_then (swept_takeovers_given rows) (λ t.
+    and_then (number_given met rows) (λ m.
+    and_then (number_given from rows) (λ f.
+    and_then (number_given acts rows) (λ a.
+    and_then (number_given runs rows) (λ r.
+    and_then (number_given seed rows) (λ s.
+    and_then (number_given capsules rows) (λ c.
+    Some (record {
+      processors = p;
+      turns = n;
+      room = w;
+      slots = e;
+      takeover = t;
+      faults = m;
+      from = f;
+      acts = a;
+      runs = r;
+      seed = s;
+      capsules = c;
+    }))))))))))))
+
+-- the command `sweep` with its options and its schedule, over a source or over a case
+abbrev pub sweep_in : List Row → Option Command
+sweep_in rows = with_input commands.Sweep commands.SweepCase schedule (sweep_options rows) rows
 
 -- the options of `self`, if each has a value of its form
 abbrev pub self_options : List Row → Option SelfOptions
@@ -202,6 +241,7 @@ command_named name rows =
     else if bytes_eq name (codes "self") then self_in rows
     else if bytes_eq name (codes "stop") then stop_in rows
     else if bytes_eq name (codes "resume") then resume_in rows
+    else if bytes_eq name (codes "sweep") then sweep_in rows
     else None
 
 -- the command of the subcommand that was met, with its options
@@ -256,6 +296,14 @@ abbrev pub AreResumed : ResumeOptions → Type 0
 AreResumed options =
     IsOfForm turns.form options.turns × IsOfForm looks.form options.looks × IsOfForm seed.form options.seed
 
+-- each option of a sweep is in its range, and the pools fit
+abbrev pub AreSwept : SweepOptions → Type 0
+AreSwept options =
+    IsOfForm processors.form options.processors × IsOfForm turns.form options.turns × IsOfForm copied_room.form options.room
+    × IsOfForm copied_slots.form options.slots × IsOfForm met.form options.faults × IsOfForm from.form options.from
+    × IsOfForm acts.form options.acts × IsOfForm runs.form options.runs × IsOfForm seed.form options.seed
+    × IsOfForm capsules.form options.capsules × DoPoolsFit options.processors options.room
+
 -- the limit of a depth-first run is in its range
 abbrev pub IsLimit : CapsuleLimit → Type 0
 IsLimit limit = IsOfForm capsules.form limit.capsules
@@ -275,3 +323,6 @@ IsInRange (commands.Races limit) = IsLimit limit
 IsInRange commands.CodeCase = ⊤
 IsInRange (commands.RunCase options _) = AreRun options
 IsInRange (commands.ReplayCase options _) = AreReplayed options
+IsInRange (commands.StopCase options _) = AreStopped options
+IsInRange (commands.Sweep options _) = AreSwept options
+IsInRange (commands.SweepCase options _) = AreSwept options

@@ -12,5 +12,5 @@ use clap::ArgMatches;
 pub(crate) fn is_case(matches: &ArgMatches<'_>) -> Option<bool>
     ensures { result ≡ is_case_given (rows_of (found_of matches.now)) }
 {
-    choice_of(matches, INPUT, false, true)
+    choice_of(matches, INPUT, &[false, true])
 }

@@ -56,10 +56,13 @@ pub mod LeftLemmas
 pub mod StoppedLemmas
 pub mod ResumeComplete
 pub mod NamesLemmas
-pub mod ReadBackLemmas
+pub mod CaseNamesLemmas
 pub mod StopLemmas
+pub mod ReadBackLemmas
 pub mod OneStop
 pub mod OfStop
+pub mod OneStopCase
+pub mod OfStopCase
 pub mod ExampleLemmas
 pub mod ExampleSums
 pub mod OfExample

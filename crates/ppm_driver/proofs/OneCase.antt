@@ -13,6 +13,7 @@ use Rattle.ppm_answers.specs.declared.answer.Answer.{Answer}
 use Rattle.ppm_answers.specs.declared.answer.Answer.TheVariants as answers
 use Rattle.ppm_cli.specs.declared.replay.ReplayOptions.{ReplayOptions}
 use Rattle.ppm_cli.specs.Words.{AreReplayed}
+use Rattle.ppm_loading.specs.Planned.{PlannedHas}
 use Rattle.ppm_loading.proofs.CaseInputLemmas.{case_input}
 use Rattle.ppm_loading.proofs.LoadingLemmas.{some_opening}
 use Rattle.ppm_loading.proofs.PlannedLemmas.{planned_one, planned_front, lifted}
@@ -48,6 +49,27 @@ steady : (options : ReplayOptions) (items : List ScheduleItem) (text : List ℕ)
 steady options items text number h =
     plain (replays_of.CodeHas options items) (replay_kinds options.processors options.turns) (replay_lemmas.of_code options items) text number h
 
+-- Where a text has an answer by the items of each schedule that is accepted, it has one with each schedule: that it is refused, or the answer by its
+-- items.
+module _ (Has : List ScheduleItem → List ℕ → Answer → Type 0)
+    (plain : (items : List ScheduleItem) (text : List ℕ) (number : ℕ) → ¬ Has items text (answers.PlanRefused number)) where
+  pub some_scheduled : PlansHaveOneAnswer → (schedule : List ℕ) (processors : ℕ) (text : List ℕ)
+      → ((items : List ScheduleItem) → IsAccepted schedule_form schedule processors items → (a : Answer) × Has items text a)
+      → (a : Answer) × PlannedHas schedule_form schedule processors Has text a
+  some_scheduled plans schedule processors text some = go (plans.schedules.some schedule processors)
+    where
+      go : SomeAccepted schedule_form schedule processors ⊎ SomeRefused schedule_form schedule processors
+          → (a : Answer) × PlannedHas schedule_form schedule processors Has text a
+      go (inl h) =
+          let a = some h.items h.accepted in (
+            a.0,
+            lifted schedule_form schedule processors Has case_limit plain text a.0 (record { items = h.items; accepted = h.accepted; has = a.1 }),
+          )
+      go (inr h) = (
+        answers.PlanRefused (number_of h.error),
+        record { error = h.error; of_text = h.of_text; refused = h.refused; number_is = refl },
+      )
+
 module _ (texts : FaultsTellCases) (images : ImagesAreOne) (plans : PlansHaveOneAnswer) where
   -- a text without a fault has an answer by items that may be obeyed
   some_by_items : (options : ReplayOptions) → AreReplayed options → (schedule : List ℕ) (items : List ScheduleItem) (text : List ℕ)
@@ -63,23 +85,12 @@ module _ (texts : FaultsTellCases) (images : ImagesAreOne) (plans : PlansHaveOne
             has.input has.is a.0 a.1,
       )
 
-  -- so is one with each schedule
+  -- and so it has one with each schedule
   some_answer : (options : ReplayOptions) (schedule : List ℕ) → AreReplayed options → (text : List ℕ)
       → ((f : CaseFault) (line : ℕ) → ¬ HasFault text f line) → (a : Answer) × ReplayCaseHas options schedule text a
-  some_answer options schedule are text free = go (plans.schedules.some schedule options.processors)
-    where
-      go : SomeAccepted schedule_form schedule options.processors ⊎ SomeRefused schedule_form schedule options.processors
-          → (a : Answer) × ReplayCaseHas options schedule text a
-      go (inl h) =
-          let a = some_by_items options are schedule h.items text h.accepted free in (
-            a.0,
-            lifted schedule_form schedule options.processors (replays.TextHas options) case_limit (steady options) text a.0
-                (record { items = h.items; accepted = h.accepted; has = a.1 }),
-          )
-      go (inr h) = (
-        answers.PlanRefused (number_of h.error),
-        record { error = h.error; of_text = h.of_text; refused = h.refused; number_is = refl },
-      )
+  some_answer options schedule are text free =
+      some_scheduled (replays.TextHas options) (steady options) plans schedule options.processors text
+      (λ items accepted. some_by_items options are schedule items text accepted free)
 
   -- with all options and all schedules
   pub have_one_case_answer : HaveOneCaseAnswer

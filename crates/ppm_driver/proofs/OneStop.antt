@@ -12,7 +12,9 @@ use Rattle.ppm_tree.specs.Tree.{ProgramTree}
 use Rattle.ppm_tree.specs.Program.{initial_arrays}
 use Rattle.ppm_rows.specs.Correct.{TreesAreWithin}
 use Rattle.ppm_cut_code.specs.Routines.{code_of}
+use Rattle.ppm_code.specs.declared.code.CodeParts.{CodeParts}
 use Rattle.ppm_words.specs.Inputs.{IsInput}
+use Rattle.ppm_words.specs.declared.named_array.NamedArray.{NamedArray}
 use Rattle.ppm_regions.proofs.Inputs.{input_fits}
 use Rattle.ppm_program.specs.Programs.{HasProgram}
 use Rattle.ppm_program.proofs.WithinLemmas.{tree_within}
@@ -28,7 +30,7 @@ use Rattle.ppm_loading.specs.Loading.{OpensRun}
 use Rattle.ppm_loading.proofs.LoadingLemmas.{one_opening, some_opening}
 use Rattle.ppm_loading.proofs.PlannedLemmas.{IsSteady, planned_one, planned_front, some_answer}
 use Rattle.ppm_loading.proofs.ProgramLemmas.{text_one, text_front, of_text, plain}
-use Rattle.ppm_driver.specs.Stops.{sizes_of, text_of, ProgramHas, ProgramReads, TextHas, TextReads, HaveOneAnswer}
+use Rattle.ppm_driver.specs.Stops.{sizes_of, text_of, CodeHas, ProgramHas, ProgramReads, TextHas, TextReads, HaveOneAnswer}
 use Rattle.ppm_driver.proofs.StopLemmas.{stopped_sizes, kinds, of_program, of_reading, some_has}
 
 -- what the crates below show of every text, every image and every schedule
@@ -45,16 +47,20 @@ steady options items text number = plain (ProgramHas options items) kinds (of_pr
 pub steady_read : (options : StopOptions) → IsSteady schedule_form [] options.processors (TextReads options) text_limit
 steady_read options items text number = plain (ProgramReads options items) kinds (of_reading options items) text number
 
+-- a code has one answer by items
+pub code_one : ImagesAreOne → (options : StopOptions) (items : List ScheduleItem) (code : CodeParts) (input : List NamedArray) (a b : Answer)
+    → CodeHas options items code input a → CodeHas options items code input b → a ≡ b
+code_one images options items code input a b h k =
+    let keeper : k.keeper ≡ h.keeper = one_keeper schedule_form items k.keeper h.keeper k.spared h.spared in
+    let begins = subst (λ (n : ℕ). OpensRun (sizes_of options) code input n k.start) keeper k.opens in
+    let start : h.start ≡ k.start = one_opening (sizes_of options) code input h.keeper images h.start k.start h.opens begins in
+    h.saves ∙ ap (λ (m : Situation). answers.Saved (text_of (followed m items options.after) input)) start ∙ sym k.saves
+
 module _ (laws : Laws) (options : StopOptions) where
-  -- a program has one answer by items
+  -- and so has a program
   program_one : (items : List ScheduleItem) (t : ProgramTree) (a b : Answer) → ProgramHas options items t a → ProgramHas options items t b
       → a ≡ b
-  program_one items t a b h k =
-      let keeper : k.keeper ≡ h.keeper = one_keeper schedule_form items k.keeper h.keeper k.spared h.spared in
-      let begins = subst (λ (n : ℕ). OpensRun (sizes_of options) (code_of t) (initial_arrays t) n k.start) keeper k.opens in
-      let start : h.start ≡ k.start =
-      one_opening (sizes_of options) (code_of t) (initial_arrays t) h.keeper laws.images h.start k.start h.opens begins in
-      h.saves ∙ ap (λ (m : Situation). answers.Saved (text_of (followed m items options.after) (initial_arrays t))) start ∙ sym k.saves
+  program_one items t a b h k = code_one laws.images options items (code_of t) (initial_arrays t) a b h k
 
   -- a text that is not refused has an answer by items that may be obeyed
   some : AreStopped options → (schedule : List ℕ) (items : List ScheduleItem) (text : List ℕ)
@@ -66,7 +72,7 @@ module _ (laws : Laws) (options : StopOptions) where
       let fits : IsInput (initial_arrays has.0) = input_fits has.0 within has.1.admitted.admitted in
       let m = some_opening (sizes_of options) (code_of has.0) (initial_arrays has.0) accepted.keeper (stopped_sizes options are)
       accepted.obeyed.below fits in
-      let a = some_has options items has.0 accepted.keeper m.0 accepted.obeyed.kept m.1 in
+      let a = some_has options items (code_of has.0) (initial_arrays has.0) accepted.keeper m.0 accepted.obeyed.kept m.1 in
       (a.0, of_text (ProgramHas options items) kinds (of_program options items) text has.0 has.1 a.0 a.1)
 
 -- so it is with all options and all schedules

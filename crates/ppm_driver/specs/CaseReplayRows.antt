@@ -15,18 +15,17 @@ use Rattle.ppm_step.specs.Laws.{IsFilledBehind}
 use Rattle.ppm_step.specs.Standings.{unknown_place}
 use Rattle.ppm_answers.specs.declared.answer.Answer.{Answer}
 use Rattle.ppm_answers.specs.declared.answer.Answer.TheVariants as answers
-use Rattle.ppm_answers.specs.declared.case.InputRefusal.{InputRefusal}
-use Rattle.ppm_answers.specs.declared.conflict.ListingRefusal.{ListingRefusal}
 use Rattle.ppm_answers.specs.declared.status.Status.{Status}
 use Rattle.ppm_answers.specs.declared.status.Status.TheVariants as statuses
 use Rattle.ppm_answers.specs.declared.tally.Tally.{Tally}
 use Rattle.ppm_answers.specs.Reading.{IsUnread, ReadHas}
 use Rattle.ppm_answers.specs.Rows.{IsDone, IsShown, PlannedRows, PortsSay}
-use Rattle.ppm_answers.specs.Texts.{arrays_text, tally_text, trap_text, unfinished_text, room_text, broken_text, input_text, listing_text}
+use Rattle.ppm_answers.specs.Texts.{arrays_text, tally_text, trap_text, unfinished_text, room_text, broken_text}
 use Rattle.ppm_cli.specs.declared.replay.ReplayOptions.{ReplayOptions}
 use Rattle.ppm_loading.specs.MachineRows as machine
 use Rattle.ppm_loading.specs.Planned.{IsRefusedBy, HasByItems}
 use Rattle.ppm_driver.specs.AsCode.{MayRun, CodeNeedsMoreRoom, IsAsCode}
+use Rattle.ppm_driver.specs.CaseRefusals.{RefusesCase}
 use Rattle.ppm_driver.specs.CaseReplays.{ReplayCaseHas, ReplayCaseMay, TextHas}
 use Rattle.ppm_driver.specs.CodeReplays.{EndsTallied, SaysAsReplay, turns_in}
 use Rattle.ppm_driver.specs.Meant.{NoneIsTakenTwice}
@@ -86,18 +85,11 @@ module _ (options : ReplayOptions) (schedule : List ℕ) (o : Ports) where
     pub unsound : let h = read.2.has in ¬ IsSound h.code h.input
     pub gets : Gets o.err (broken_text place)
 
-  -- the text that was read is of no case, for a fault of its arrays or of its root, or for one of its listing, and err got exactly its line
-  abbrev pub WritesInputRefusal : Type 0
-  WritesInputRefusal = (r : InputRefusal) × HasRead (answers.InputRefused r) × Gets o.err (input_text r)
-
-  abbrev pub WritesListingRefusal : Type 0
-  WritesListingRefusal = (r : ListingRefusal) × HasRead (answers.ListingRefused r) × Gets o.err (listing_text r)
-
   -- what each status says; the others never come
   abbrev pub ReplayCaseSays : Status → Type 0
   ReplayCaseSays statuses.Ended = WritesArrays
   ReplayCaseSays statuses.Trapped = WritesTrap
-  ReplayCaseSays statuses.CodeRefused = WritesInputRefusal ⊎ WritesListingRefusal
+  ReplayCaseSays statuses.CodeRefused = RefusesCase HasRead o
   ReplayCaseSays statuses.WordsRefused = machine.RefusesPlan schedule_form schedule options.processors o × IsUnread o.source
   ReplayCaseSays statuses.OutOfTurns = WritesUnfinished
   ReplayCaseSays statuses.OutOfRoom = WritesOutOfRoom

@@ -16,10 +16,13 @@ pub mod CaseRows
 pub mod Replays
 pub mod ReplayRows
 pub mod CodeReplays
+pub mod CaseRefusals
 pub mod CaseReplays
 pub mod CaseReplayRows
 pub mod Stops
 pub mod StopRows
+pub mod CaseStops
+pub mod CaseStopRows
 pub mod Legs
 pub mod LegsAsCode
 pub mod CompleteLegsAsCode

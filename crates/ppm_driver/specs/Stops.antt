@@ -9,6 +9,9 @@ use Rattle.ppm_plan.specs.Forms.{schedule_form}
 use Rattle.ppm_plan.specs.Refusals.{IsKeeper}
 use Rattle.ppm_tree.specs.Tree.{ProgramTree}
 use Rattle.ppm_tree.specs.Program.{initial_arrays}
+use Rattle.ppm_code.specs.Free.{IsFree}
+use Rattle.ppm_code.specs.Tidy.{IsTidy}
+use Rattle.ppm_code.specs.declared.code.CodeParts.{CodeParts}
 use Rattle.ppm_cut_code.specs.Routines.{code_of}
 use Rattle.ppm_words.specs.declared.named_array.NamedArray.{NamedArray}
 use Rattle.ppm_answers.specs.declared.answer.Answer.{Answer}
@@ -23,7 +26,7 @@ use Rattle.ppm_loading.specs.Planned.{PlannedHas, PlannedMay, HasSomeAnswer}
 use Rattle.ppm_loading.specs.Programs as programs
 use Rattle.ppm_saved.specs.Text.{saved_text}
 use Rattle.ppm_saved.specs.declared.names.NamedLength.{NamedLength}
-use Rattle.ppm_saved_reader.specs.Correct.{IsSavedText}
+use Rattle.ppm_saved_reader.specs.Correct.{HasState, IsSavedText}
 
 -- the machine's sizes, as the options say them; a place is taken over as a whole
 abbrev pub sizes_of : StopOptions → Sizes
@@ -41,14 +44,30 @@ text_of m arrays = saved_text m.shape (names_of arrays) m.code m.state.words
 abbrev pub IsReadBack : Situation → List NamedArray → Type 0
 IsReadBack m arrays = IsSavedText (text_of m arrays) m.shape (names_of arrays) m.code m.state.words
 
--- The answer of a program by the items of a schedule: the saved text of the machine after the run that these say, of at most so many acts,
--- whatever its finish word is. The run is from the machine with which a run of the program begins, with the schedule's keeper.
-pub record ProgramHas (options : StopOptions) (items : List ScheduleItem) (t : ProgramTree) (answer : Answer) : Type 0 where
+-- The answer of a code on an input by the items of a schedule: the saved text of the machine after the run that these say, of at most so many acts,
+-- whatever its finish word is. The run is from the machine with which a run of the code on these arrays begins, with the schedule's keeper.
+pub record CodeHas (options : StopOptions) (items : List ScheduleItem) (code : CodeParts) (input : List NamedArray) (answer : Answer) : Type 0 where
   pub keeper : ℕ
   pub spared : IsKeeper schedule_form items keeper
   pub start : Situation
-  pub opens : OpensRun (sizes_of options) (code_of t) (initial_arrays t) keeper start
-  pub saves : answer ≡ answers.Saved (text_of (followed start items options.after) (initial_arrays t))
+  pub opens : OpensRun (sizes_of options) code input keeper start
+  pub saves : answer ≡ answers.Saved (text_of (followed start items options.after) input)
+
+-- what is asked of a code where its state is to be resumed: no capsule has a conflict on a path, and it is tidy
+pub record MayBeResumed (code : CodeParts) : Type 0 where
+  pub free : IsFree code
+  pub tidy : IsTidy code
+
+-- A code on an input has this answer. If the code may be resumed, exactly this machine's state is read from the text; and if a state is read from
+-- it, the code may be resumed. Of a machine in memory it is known that its numbers fit 64 bits.
+pub record CodeReads (options : StopOptions) (items : List ScheduleItem) (code : CodeParts) (input : List NamedArray) (answer : Answer) : Type 0 where
+  pub has : CodeHas options items code input answer
+  pub read_back : MayBeResumed code → IsReadBack (followed has.start items options.after) input
+  pub only : HasState (text_of (followed has.start items options.after) input) → MayBeResumed code
+
+-- that of a program: of its code on the arrays that it starts with
+abbrev pub ProgramHas : StopOptions → List ScheduleItem → ProgramTree → Answer → Type 0
+ProgramHas options items t answer = CodeHas options items (code_of t) (initial_arrays t) answer
 
 -- it is so, and the text is read back: of a machine in memory it is known that its numbers fit 64 bits
 pub record ProgramReads (options : StopOptions) (items : List ScheduleItem) (t : ProgramTree) (answer : Answer) : Type 0 where

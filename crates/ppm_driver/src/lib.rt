@@ -43,6 +43,7 @@ mod run;
 mod run_case;
 mod saying;
 mod stop;
+mod stop_case;
 mod stopped;
 mod sums;
 
@@ -55,7 +56,9 @@ pub use legs::{
     runs_in_legs_are_as_programs, runs_leave_states, stops_leave_states,
 };
 pub use meant::{answers_are_as_code, replays_are_as_code, runs_are_as_code, runs_are_as_programs};
-pub use one_case::{case_answers_are_one, case_replays_have_one_answer};
+pub use one_case::{
+    case_answers_are_one, case_replays_have_one_answer, case_stops_have_one_answer,
+};
 pub use one_replay::replays_have_one_answer;
 pub use one_run::answers_are_one;
 pub use one_stop::stops_have_one_answer;
@@ -65,5 +68,6 @@ pub use resuming::resume_command;
 pub use run::{WATCHERS, run_command};
 pub use run_case::run_case_command;
 pub use stop::stop_command;
+pub use stop_case::stop_case_command;
 pub use stopped::stopped_runs_go_on;
 pub use sums::examples_sum_up;

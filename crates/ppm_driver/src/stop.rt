@@ -4,9 +4,11 @@ ghost use Rattle.ppm_ports.specs.Ports.{port};
 ghost use Rattle.ppm_ports.specs.Outside.{ports};
 ghost use Rattle.ppm_answers.specs.declared.answer.Answer.TheVariants as answers;
 ghost use Rattle.ppm_cli.specs.Words.{AreStopped};
+ghost use Rattle.ppm_depth.specs.Start.{NamesArrays};
+ghost use Rattle.ppm_saved.specs.Names.{AreNames};
 ghost use Rattle.ppm_tree.specs.Tree.{tree_of};
 ghost use Rattle.ppm_cut_bounds.specs.Bounds.{IsWithinBounds};
-ghost use Rattle.ppm_driver.specs.Stops.{ProgramReads, StopMay, sizes_of as sizes_in};
+ghost use Rattle.ppm_driver.specs.Stops.{CodeReads, ProgramReads, StopMay, names_of as names_in, sizes_of as sizes_in};
 ghost use Rattle.ppm_driver.specs.StopRows.{IsStopped};
 
 use crate::names::names_of;
@@ -15,16 +17,15 @@ use crate::orders::read_task;
 use ppm_answers::{Answer, Status, deliver};
 use ppm_cells::Takeover;
 use ppm_cli::StopOptions;
-use ppm_cut_code::keeps_the_rules;
-use ppm_cut_correct::{name_arrays, start_with_input};
+use ppm_code::Code;
 use ppm_cut_sound::{may_be_stopped, store_tidily};
 use ppm_following::follow;
-use ppm_loading::{Sizes, load};
+use ppm_loading::{Sizes, load_code, program_code};
 use ppm_plan::{Schedule, have_one_answer as schedules_have_one_answer};
 use ppm_ports::{Sink, Source};
 use ppm_regions::Admitted;
-use ppm_saved::write_saved;
-use ppm_words::{Items, NoMemory};
+use ppm_saved::{saved_texts_tell_states, write_saved};
+use ppm_words::{Input, Items, NoMemory};
 use std::alloc::Global;
 
 /// Runs the text that is read, on a machine whose processors act as the schedule says, for so many
@@ -85,14 +86,34 @@ fn stopped(
 {
     // What the type of its tree keeps is known once its tree was seen.
     let _ = program.program().tree();
-    // The text is read back by these laws; the calls do nothing.
-    keeps_the_rules();
+    // Its code may be resumed, by these laws; the calls do nothing.
     may_be_stopped();
     store_tidily();
-    start_with_input();
-    name_arrays();
-    let names = names_of(alloc, program.input().arrays())?;
-    let mut machine = load(alloc, sizes_of(options), program, schedule.keeper())?;
+    let code = program_code(alloc, program)?;
+    let text = stopped_code(alloc, options, schedule, code, program.input())?;
+    Ok(text)
+}
+
+/// The saved text of the run of a code on an input, whose arrays have names of their own.
+pub(crate) fn stopped_code(
+    alloc: Global,
+    options: StopOptions,
+    schedule: &Schedule,
+    code: Code,
+    input: &Input,
+) -> Result<Vec<u8>, NoMemory>
+    requires options { AreStopped options }
+    requires processors { schedule.now.processors ≡ options.processors }
+    requires arrays { NamesArrays code input.now }
+    requires names { AreNames (names_in input.now) }
+    ensures { IfOk result (λ text. CodeReads options schedule.now.items code input.now (answers.Saved text.items)) }
+{
+    // No other state has the text, by this law; the call does nothing.
+    saved_texts_tell_states();
+    let names = names_of(alloc, input.arrays())?;
+    let mut machine = load_code(alloc, sizes_of(options), code, input, schedule.keeper())?;
+    // What the type of its code keeps is known once its parts were seen.
+    let _ = machine.code().parts();
     follow(&mut machine, schedule, options.after);
     let text = write_saved(
         alloc,

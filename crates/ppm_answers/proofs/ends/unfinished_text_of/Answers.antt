@@ -1,6 +1,6 @@
 use Rattle.std.proofs.Common.{◌≡◌, ◌++◌, ℕ, List, [], ◌∷◌, ◌∙◌, ap, codes, append_assoc}
 use Rattle.std.specs.Prelude.{decimal}
-use Rattle.ppm_answers.proofs.texts.unfinished_text_of.Goals as goal
+use Rattle.ppm_answers.proofs.ends.unfinished_text_of.Goals as goal
 
 -- the parts of the line, put together from the right
 from_the_right : (k a m : List ℕ) → k ++ (a ++ (m ++ 10 ∷ [])) ≡ (k ++ a ++ m) ++ 10 ∷ []
