@@ -20,6 +20,7 @@ pub mod TouchLemmas
 pub mod RacesAnswers
 pub mod RacesRows
 pub mod LineLemmas
+pub mod PlaceLemmas
 pub mod CaseTextAnswers
 pub mod NameLemmas
 pub mod WrittenLemmas

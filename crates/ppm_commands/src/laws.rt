@@ -1,5 +1,6 @@
 //! That a text has one answer by each command, shown by calls that do nothing.
 ghost use Rattle.ppm_commands.specs.Case.{AreCases, HaveOneAnswer as CaseTextsHaveOneAnswer};
+ghost use Rattle.ppm_commands.specs.Cases.{InstructionsHaveTheirLines};
 ghost use Rattle.ppm_commands.specs.Check.{HaveOneAnswer as ListingsHaveOneAnswer};
 ghost use Rattle.ppm_commands.specs.Code.{CodesAreFaithful, HaveOneAnswer as CodesHaveOneAnswer};
 ghost use Rattle.ppm_commands.specs.Depth.{HaveOneAnswer as DepthRunsHaveOneAnswer};
@@ -106,3 +107,8 @@ pub fn cases_have_one_answer()
     verdicts_are_one();
     verdicts_are_there();
 }
+
+/// The line that is told of an instruction of a case is the line of the text in which it stands.
+pub fn instructions_have_their_lines()
+    ensures law { InstructionsHaveTheirLines }
+{}

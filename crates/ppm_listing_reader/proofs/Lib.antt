@@ -20,7 +20,7 @@ mod SmallLemmas
 mod ReadingLemmas
 mod FaultLemmas
 mod LawLemmas
-mod WrittenLemmas
+pub mod WrittenLemmas
 mod PartsLemmas
 pub mod NoFaultLemmas
 mod OutlineLemmas

@@ -4,6 +4,7 @@ use ppm_choice::{
     runs_finish, schedules_go_on, schedules_keep_order, schedules_skip_done, unfinished_is_exact,
 };
 use ppm_cli::any_rule_may_be_admitted;
+use ppm_commands::instructions_have_their_lines;
 use ppm_cut_code::{few_capsules, lines_alone, names_have_slots, procedures_stand};
 use ppm_driver::{
     fronts_decide_resumed, resumes_leave_states, runs_leave_states, runs_of_code_complete,
@@ -18,6 +19,7 @@ use ppm_top::sound_cases_run_as_depth;
 
 #[test]
 fn laws_of_texts_are_called(_: HostRuntime) {
+    instructions_have_their_lines();
     printed_texts_have_their_tree();
     canonical_texts_tell_programs();
     any_rule_may_be_admitted();
