@@ -16,11 +16,12 @@ use ppm_cut_correct::{end_as_meant, ends_serially, name_arrays, start_with_input
 use ppm_cut_sound::{code_is_sound, may_be_stopped, store_tidily};
 use ppm_driver::{
     answers_are_as_code, answers_are_one, case_answers_are_one, case_replays_have_one_answer,
-    examples_sum_up, fronts_decide_resumed, left_words_come_back, replays_are_as_code,
-    resumes_complete, resumes_leave_states, runs_are_as_code, runs_are_as_programs, runs_complete,
-    runs_in_legs_are_as_code, runs_in_legs_are_as_programs, runs_leave_states,
-    runs_of_code_complete, runs_of_code_complete_in_legs, stopped_runs_go_on,
-    stops_have_one_answer, stops_leave_states,
+    case_stops_have_one_answer, examples_sum_up, fronts_decide_resumed, left_words_come_back,
+    programs_are_as_code, replays_are_as_code, resumes_complete, resumes_leave_states,
+    runs_are_as_code, runs_are_as_programs, runs_complete, runs_in_legs_are_as_code,
+    runs_in_legs_are_as_programs, runs_leave_states, runs_of_code_complete,
+    runs_of_code_complete_in_legs, stopped_cases_go_on, stopped_runs_go_on, stops_have_one_answer,
+    stops_leave_states,
 };
 use ppm_example::{examples_are_programs, examples_sum};
 use ppm_listing_reader::faults_tell_listings;
@@ -102,6 +103,9 @@ fn laws_of_runs_of_codes_are_called(_: HostRuntime) {
     runs_of_code_complete_in_legs();
     case_answers_are_one();
     case_replays_have_one_answer();
+    case_stops_have_one_answer();
+    programs_are_as_code();
+    stopped_cases_go_on();
     sound_cases_run_as_depth();
 }
 
