@@ -8,7 +8,7 @@ use ppm_commands::instructions_have_their_lines;
 use ppm_cut_code::{few_capsules, lines_alone, names_have_slots, procedures_stand};
 use ppm_driver::{
     fronts_decide_resumed, resumes_leave_states, runs_leave_states, runs_of_code_complete,
-    runs_of_code_complete_in_legs, stopped_runs_go_on,
+    runs_of_code_complete_in_legs, stopped_cases_go_on, stopped_runs_go_on,
 };
 use ppm_plan::{
     plan_items_read_as_written, schedule_items_read_as_written, texts_read_as_written,
@@ -55,6 +55,7 @@ fn laws_of_runs_are_called(_: HostRuntime) {
     fronts_decide_resumed();
     runs_leave_states();
     stopped_runs_go_on();
+    stopped_cases_go_on();
     resumes_leave_states();
     runs_of_code_complete();
     runs_of_code_complete_in_legs();
