@@ -1,8 +1,8 @@
 -- The lines of a case: those of its arrays, then those of its listing, each where it is told to stand.
-use Rattle.std.proofs.Common.{◌≡◌, ℕ, zero, suc, ◌+◌, ◌-◌, ◌<◌, ◌≤◌, List, [], ◌∷◌, ◌++◌, length, map, take, Option, Some, None, refl, sym, ap, ◌∙◌, subst, arith}
-use Rattle.std.proofs.Common.{append_assoc, length-append}
+use Rattle.std.proofs.Common.{◌≡◌, ℕ, zero, suc, ◌+◌, ◌-◌, List, [], ◌∷◌, ◌++◌, length, map, take, Some, refl, sym, ap, ◌∙◌, subst, arith}
+use Rattle.std.proofs.Common.{append_assoc}
 use Rattle.std.specs.Prelude.{slice_get}
-use Rattle.std.specs.List.{flat_map, AllByRecursion}
+use Rattle.std.specs.List.{flat_map}
 use Rattle.std.proofs.lemmas.List.{length-map}
 use Rattle.std.proofs.lemmas.Option.{slice_get_within}
 use Rattle.ppm_words.specs.declared.named_array.NamedArray.{NamedArray}
@@ -12,10 +12,9 @@ use Rattle.ppm_code.specs.declared.code.Procedure.{Procedure}
 use Rattle.ppm_code.specs.declared.instr.Instr.{Instr}
 use Rattle.ppm_code.specs.Strands.{instrs_in, instrs_of}
 use Rattle.ppm_pieces.specs.Pieces.{split}
-use Rattle.ppm_listing.specs.Tokens.{Line, line_text}
-use Rattle.ppm_listing.specs.Listing.{instr_line, procedure_line, procedure_lines, lines_of_capsule, lines_of}
+use Rattle.ppm_listing.specs.Tokens.{line_text}
+use Rattle.ppm_listing.specs.Listing.{instr_line, procedure_lines, lines_of_capsule, lines_of}
 use Rattle.ppm_listing.specs.Listing.{capsule_lines as lines_of_capsules}
-use Rattle.ppm_listing.specs.Correct.{LineFits}
 use Rattle.ppm_listing_reader.proofs.WrittenLemmas.{bytes_of, split_lines}
 use Rattle.ppm_case.specs.Case.{IsCaseOf}
 use Rattle.ppm_case.specs.Rules.{AllFollow}
@@ -24,7 +23,7 @@ use Rattle.ppm_case.proofs.FormLemmas.{line_of_text}
 use Rattle.ppm_case.proofs.WordLemmas.{split_some}
 use Rattle.ppm_commands.specs.Cases.{capsule_lines, line_at, HasLine, InstructionsHaveTheirLines}
 
-module _ {A B : Type 0} where
+module _ {A : Type 0} where
   -- what stands behind others
   behind : (xs ys : List A) (n k : ℕ) → n ≡ length xs + k → slice_get (xs ++ ys) n ≡ slice_get ys k
   behind [] ys n k e = ap (λ (m : ℕ). slice_get ys m) (omega (arith, e))
@@ -38,20 +37,20 @@ module _ {A B : Type 0} where
   before (y ∷ xs) ys (suc k) x e = before xs ys k x e
 
   -- one of a list, mapped
-  mapped : (f : A → B) (xs : List A) (k : ℕ) (x : A) → slice_get xs k ≡ Some x → slice_get (map f xs) k ≡ Some (f x)
+  mapped : {B : Type 0} (f : A → B) (xs : List A) (k : ℕ) (x : A) → slice_get xs k ≡ Some x → slice_get (map f xs) k ≡ Some (f x)
   mapped f [] k x e = absurd (let less = slice_get_within [] k x e in omega (arith, less))
   mapped f (y ∷ xs) zero x e = let same : y ≡ x = cc in ap (λ (z : A). Some (f z)) same
   mapped f (y ∷ xs) (suc k) x e = mapped f xs k x e
 
 -- the lines of arrays are cut off
-arrays_cut : (before : List NamedArray) (as : List Written) (rest : List ℕ) → AllFollow before as
-    → split 10 (flat_map array_line as ++ rest) ≡ map array_text as ++ split 10 rest
-arrays_cut before [] rest h = refl
-arrays_cut before (a ∷ as) rest h =
-    ap (λ (t : List ℕ). split 10 t) (append_assoc (array_line a) (flat_map array_line as) rest)
-    ∙ split_some 10 (array_line a ++ (flat_map array_line as ++ rest)) (array_text a) (flat_map array_line as ++ rest)
-    (line_of_text a (flat_map array_line as ++ rest) h.0.form)
-    ∙ ap (λ (ls : List (List ℕ)). array_text a ∷ ls) (arrays_cut _ as rest h.1)
+arrays_cut : (done : List NamedArray) (xs : List Written) (rest : List ℕ) → AllFollow done xs
+    → split 10 (flat_map array_line xs ++ rest) ≡ map array_text xs ++ split 10 rest
+arrays_cut done [] rest h = refl
+arrays_cut done (a ∷ xs) rest h =
+    ap (λ (t : List ℕ). split 10 t) (append_assoc (array_line a) (flat_map array_line xs) rest)
+    ∙ split_some 10 (array_line a ++ (flat_map array_line xs ++ rest)) (array_text a) (flat_map array_line xs ++ rest)
+    (line_of_text a (flat_map array_line xs ++ rest) h.0.form)
+    ∙ ap (λ (ls : List (List ℕ)). array_text a ∷ ls) (arrays_cut (done ++ array_of a ∷ []) xs rest h.1)
 
 -- the lines of procedures are as many as these
 count_procedures : (from : ℕ) (ps : List Procedure) → length (procedure_lines from ps) ≡ length ps

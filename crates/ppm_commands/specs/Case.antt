@@ -1,5 +1,5 @@
 -- The command `code` with arrays: what it says of a text, when it may give each answer, and what follows from each status.
-use Rattle.std.specs.Prelude.{◌≡◌, ◌≤◌, ℕ, List, length, ⊤}
+use Rattle.std.specs.Prelude.{◌≡◌, ℕ, List, ⊤}
 use Rattle.ppm_ports.specs.Ports.{Port, Gets}
 use Rattle.ppm_ports.specs.Outside.{Ports}
 use Rattle.ppm_text.specs.Limits.{text_limit}
@@ -11,7 +11,6 @@ use Rattle.ppm_cut_code.specs.Inputs.{IsInputOf}
 use Rattle.ppm_cut_code.specs.Routines.{code_of}
 use Rattle.ppm_program.specs.Programs.{HasProgram}
 use Rattle.ppm_program.specs.Refusals.{IsRefusal}
-use Rattle.ppm_case.specs.Rules.{case_limit}
 use Rattle.ppm_case.specs.Case.{IsCaseOf}
 use Rattle.ppm_case.specs.Text.{case_text}
 use Rattle.ppm_answers.specs.declared.refusal.Refusal.{Refusal}
