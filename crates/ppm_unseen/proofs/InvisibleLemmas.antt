@@ -1,0 +1,227 @@
+-- Faults are invisible: by induction on the history a strand has one without faults beside it (`BesideLemmas`). That what is settled stands is asked
+-- of the history before the deed, which is that of a run without faults.
+use Rattle.std.proofs.Common.{◌≡◌, ℕ, List, [], ◌∷◌, inl, inr, refl, sym, ap, ◌∙◌}
+use Rattle.std.specs.Prelude.{Option, Some, None}
+use Rattle.ppm_capsules.specs.Strand.{Frame}
+use Rattle.ppm_unseen.specs.Capsule.{Loads, Keeps, Reads, Changes, Ends}
+use Rattle.ppm_unseen.specs.Run.{System, Deed, doer, State, NotYet, UnderWay, Waits, IsOver, Change, AllStill}
+use Rattle.ppm_unseen.specs.Run.{now, numbered, begun, begun_if_any, forked_by, once_done, passed, settled, IsHistory}
+use Rattle.ppm_unseen.specs.Run.{Comes, Begins, Others, Takes, Stores, Finds, Alters, Leaves, Opens, Splits, Finishes, Joins, Faults}
+use Rattle.ppm_unseen.specs.Conditions.{IsFilled, AreOrdered, AreFilled, Stands}
+use Rattle.ppm_unseen.specs.Correct.{IsBetween, FaultsAreInvisible, FaultsAreInvisibleSo}
+use Rattle.ppm_unseen.proofs.OwnLemmas.{store_same_off}
+use Rattle.ppm_unseen.proofs.WayLemmas.{onto}
+use Rattle.ppm_unseen.proofs.BesideLemmas.{Quiet, Faulty, Made, Beside, end_of}
+use Rattle.ppm_unseen.proofs.BesideLemmas.{takes_early, takes_late, stores_early, stores_late, finds_early, finds_late, leaves_early, alters_early}
+use Rattle.ppm_unseen.proofs.BesideLemmas.{replay_takes, replay_stores, replay_finds, replay_leaves, replay_alters, again, others_made}
+
+module _ {A K E O : Type 0} (s : System A K E O) (me : ℕ) (ordered : AreOrdered s) (filled : AreFilled s) where
+  -- a capsule that begins
+  begins : {t : List (Deed A K O)} (f : Frame A K) (run : Quiet s me t (begun s f)) → passed run ≡ [] → settled run ≡ []
+      → Beside s me t (begun s f)
+  begins {t = t} f run none unsettled =
+      let all : IsFilled (s.code.capsule f.point) = filled f.point in
+      let fills = all f.own in
+      let here : Made s me fills.0 f.own t f.point (s.code.capsule f.point) = record {
+        q = f.own;
+        w = [];
+        run = run;
+        made = λ h hh. (0, (refl, ap (λ (ks : List Change). onto ks []) none, refl, λ x i. absurd i));
+        inputs = λ x i. refl;
+        fills = fills.1;
+        ordered = ordered f.point;
+      } in (
+        record { out = fills.0; o = f.own; rest = s.code.capsule f.point; at = here; same = none ∙ sym unsettled },
+        (λ x i. refl, inr (inl (record { at = here; agree = λ x i. refl }))),
+      )
+
+  -- or a strand that is not forked yet
+  begins_if_any : {t : List (Deed A K O)} (f : Option (Frame A K)) (run : Quiet s me t (begun_if_any s f)) → passed run ≡ [] → settled run ≡ []
+      → Beside s me t (begun_if_any s f)
+  begins_if_any None run none unsettled = record { run = run; none = none; unsettled = unsettled }
+  begins_if_any (Some f) run none unsettled = begins f run none unsettled
+
+  -- others do something meanwhile
+  others : (t : List (Deed A K O)) (d : Deed A K O) → (doer d ≡ me → ⊥) → (σ : State A K E) → Beside s me t σ
+      → Beside s me (d ∷ t) (once_done s me t d σ)
+  others t d ne NotYet so = begins_if_any (forked_by s t d me) (Others d ne so.run) so.none so.unsettled
+  others t d ne (Waits g n fs) so = Others d ne so
+  others t d ne IsOver so = Others d ne so
+  others t d ne (UnderWay k rest f) so = (
+    record { out = so.0.out; o = so.0.o; rest = so.0.rest; at = others_made s me so.0.out so.0.o d ne so.0.at; same = so.0.same },
+    (
+      so.1.0,
+      elim so.1.1 [
+        | inl r ↦ inl (record { n = r.n; w = r.w; to_do = r.to_do; goes = r.goes; still = r.still })
+        | inr e ↦ elim e [
+          | inl e ↦ inr (inl (record { at = others_made s me so.0.out so.0.o d ne e.at; agree = e.agree }))
+          | inr l ↦ inr (inr (record {
+            q = l.q;
+            w = l.w;
+            run = Others d ne l.run;
+            agree = l.agree;
+            inputs = l.inputs;
+            fills = l.fills;
+            none = l.none;
+          }))
+        ]
+      ],
+    ),
+  )
+
+  -- what is settled stands after the histories of M
+  abbrev StandsIn : (List (Deed A K O) → Type 0) → Type 0
+  StandsIn M = (t : List (Deed A K O)) (σ : State A K E) (h : Quiet s me t σ) → M t → AllStill (now s t) (settled h)
+
+  -- the histories before the last deed are of M
+  abbrev Before : (List (Deed A K O) → Type 0) → List (Deed A K O) → Type 0
+  Before M [] = Unit {0}
+  Before M (d ∷ t) = M t × Before M t
+
+  module _ (M : List (Deed A K O) → Type 0) (stands : StandsIn M) where
+    -- a strand with faults has one without beside it
+    beside : {t : List (Deed A K O)} {σ : State A K E} → Before M t → Faulty s me t σ → Beside s me t σ
+    beside all Begins = begins_if_any (numbered 0 s.start me) Begins refl refl
+    beside all (Others {σ = σ} d ne h) = others _ d ne σ (beside all.1 h)
+    beside all (Takes {o = f} x go h) = let so = beside all h in (
+      so.0,
+      elim so.1.1 [
+        | inl r ↦ replay_takes s me f so.0 x go so.1.0 r.n r.w r.to_do r.goes r.still
+        | inr e ↦ elim e [
+          | inl e ↦ (so.1.0, inr (inl (takes_early s me so.0.out so.0.o f x go so.1.0 e)))
+          | inr l ↦ (so.1.0, inr (inr (takes_late s me so.0.out so.0.o f x go so.1.0 l)))
+        ]
+      ],
+    )
+    beside all (Stores {o = f} x v rest h) = let so = beside all h in (
+      so.0,
+      elim so.1.1 [
+        | inl r ↦ replay_stores s me f so.0 x v rest so.1.0 r.n r.w r.to_do r.goes r.still
+        | inr e ↦ elim e [
+          | inl e ↦ (store_same_off s.code.names so.0.out so.0.o f x v e.at.fills.0 so.1.0, inr (inl (stores_early s me so.0.out so.0.o f x v rest e)))
+          | inr l ↦ (store_same_off s.code.names so.0.out so.0.o f x v l.fills.0 so.1.0, inr (inr (stores_late s me so.0.out so.0.o f x v rest l)))
+        ]
+      ],
+    )
+    beside all (Finds {o = f} x go h) = let so = beside all h in (
+      so.0,
+      (
+        so.1.0,
+        elim so.1.1 [
+          | inl r ↦ inr (inr (replay_finds s me f so.0 x go r.n r.w r.to_do r.goes))
+          | inr e ↦ elim e [
+            | inl e ↦ inr (inr (finds_early s me so.0.out so.0.o f x go e))
+            | inr l ↦ inr (inr (finds_late s me so.0.out so.0.o f x go l))
+          ]
+        ],
+      ),
+    )
+    beside all (Leaves {o = f} x g rest h same) = let so = beside all h in (
+      so.0,
+      (
+        so.1.0,
+        elim so.1.1 [
+          | inl r ↦ replay_leaves s me f so.0 x g rest same r.n r.w r.to_do r.goes r.still
+          | inr e ↦ elim e [
+            | inl e ↦ inr (inl (leaves_early s me so.0.out so.0.o f x g rest same e))
+            | inr l ↦ absurd l.none
+          ]
+        ],
+      ),
+    )
+    beside all (Alters {o = f} x g rest h ne) = let so = beside all.1 h in elim so.1.1 [
+      | inl r ↦ replay_alters s me f so.0 x g rest ne so.1.0 r.n r.w r.to_do r.goes (r.still _ (stands _ _ so.0.at.run all.0))
+      | inr e ↦ elim e [
+        | inl e ↦ alters_early s me so.0.out so.0.o f x g rest ne so.1.0 e
+        | inr l ↦ absurd l.none
+      ]
+    ]
+    beside all (Opens {o = f} e g h is) = begins g (Opens e g (end_of s me e f (beside all h)) is) refl refl
+    beside all (Splits {o = f} e fs g h is) = Splits e fs g (end_of s me e f (beside all.1 h)) is
+    beside all (Finishes {o = f} e outcome h is) = Finishes e outcome (end_of s me e f (beside all.1 h)) is
+    beside all (Joins g n fs os h over) = begins (s.code.rejoin g os) (Joins g n fs os (beside all h) over) refl refl
+    beside all (Faults {o = f} z h) = let so = beside all h in (so.0, (so.1.0, inl (again s me f so.0 so.1.0)))
+
+    -- some run without faults has these deeds
+    possible_at : {t : List (Deed A K O)} (σ : State A K E) → Beside s me t σ → (τ : State A K E) × Quiet s me t τ
+    possible_at NotYet so = (_, so.run)
+    possible_at (UnderWay k rest f) so = (_, so.0.at.run)
+    possible_at (Waits g n fs) so = (_, so)
+    possible_at IsOver so = (_, so)
+
+    pub possible : {t : List (Deed A K O)} {σ : State A K E} → Before M t → Faulty s me t σ → (τ : State A K E) × Quiet s me t τ
+    possible {σ = σ} all h = possible_at σ (beside all h)
+
+    -- between capsules the strand is where it is with faults
+    between_at : {t : List (Deed A K O)} (σ : State A K E) → IsBetween σ → Beside s me t σ → Quiet s me t σ
+    between_at NotYet b so = so.run
+    between_at (UnderWay k (Loads x go) f) b so = absurd b
+    between_at (UnderWay k (Keeps x v rest) f) b so = absurd b
+    between_at (UnderWay k (Reads x go) f) b so = absurd b
+    between_at (UnderWay k (Changes x g rest) f) b so = absurd b
+    between_at (UnderWay k (Ends e) f) b so = end_of s me e f so
+    between_at (Waits g n fs) b so = so
+    between_at IsOver b so = so
+
+    pub between : {t : List (Deed A K O)} (σ : State A K E) → IsBetween σ → Before M t → Faulty s me t σ → Quiet s me t σ
+    between σ b all h = between_at σ b (beside all h)
+
+module _ {A K E O : Type 0} (s : System A K E O) where
+  -- a run up to its last deed
+  abbrev Cut : (faults : Type 0) → ℕ → List (Deed A K O) → Type 0
+  Cut faults me [] = Unit {0}
+  Cut faults me (d ∷ t) = (σ : State A K E) × Comes s faults me t σ
+
+  cut : {faults : Type 0} {me : ℕ} {t : List (Deed A K O)} {σ : State A K E} → Comes s faults me t σ → Cut faults me t
+  cut {t = t} Begins = tt
+  cut (Others d ne h) = (_, h)
+  cut (Takes x go h) = cut h
+  cut (Stores x v rest h) = cut h
+  cut (Finds x go h) = cut h
+  cut (Alters x g rest h ne) = (_, h)
+  cut (Leaves x g rest h same) = cut h
+  cut (Opens e f h is) = cut h
+  cut (Splits e fs g h is) = (_, h)
+  cut (Finishes e outcome h is) = (_, h)
+  cut (Joins g n fs os h over) = cut h
+  cut (Faults z h) = cut h
+
+  -- a history up to its last deed is one
+  pub history_before : {faults : Type 0} (d : Deed A K O) (t : List (Deed A K O)) → IsHistory s faults (d ∷ t) → IsHistory s faults t
+  history_before d t all i = cut (all i).1
+
+  -- a run without faults is one with faults, of which it has none
+  faultless : {me : ℕ} {t : List (Deed A K O)} {σ : State A K E} → Comes s ⊥ me t σ → Comes s (Unit {0}) me t σ
+  faultless Begins = Begins
+  faultless (Others d ne h) = Others d ne (faultless h)
+  faultless (Takes x go h) = Takes x go (faultless h)
+  faultless (Stores x v rest h) = Stores x v rest (faultless h)
+  faultless (Finds x go h) = Finds x go (faultless h)
+  faultless (Alters x g rest h ne) = Alters x g rest (faultless h) ne
+  faultless (Leaves x g rest h same) = Leaves x g rest (faultless h) same
+  faultless (Opens e f h is) = Opens e f (faultless h) is
+  faultless (Splits e fs g h is) = Splits e fs g (faultless h) is
+  faultless (Finishes e outcome h is) = Finishes e outcome (faultless h) is
+  faultless (Joins g n fs os h over) = Joins g n fs os (faultless h) over
+  faultless (Faults z h) = absurd z
+
+  module _ (ordered : AreOrdered s) (filled : AreFilled s) (stands : Stands s) where
+    -- each history before the last deed of a run with faults is one of a run without
+    before : (t : List (Deed A K O)) → IsHistory s (Unit {0}) t → (i : ℕ) → Before s i ordered filled (IsHistory s ⊥) t
+    before [] all i = tt
+    before (d ∷ t) all i =
+        let one = history_before d t all in
+        ((λ j. possible s j ordered filled (IsHistory s ⊥) (λ u σ h m. stands j u σ h m) (before t one j) (one j).1), before t one i)
+
+    invisible : FaultsAreInvisible s
+    invisible = record {
+      histories = λ t. (
+        λ all i. possible s i ordered filled (IsHistory s ⊥) (λ u σ h m. stands i u σ h m) (before t all i) (all i).1,
+        λ all i. ((all i).0, faultless (all i).1),
+      );
+      strands = λ t all i σ b h. between s i ordered filled (IsHistory s ⊥) (λ u τ g m. stands i u τ g m) σ b (before t all i) h;
+    }
+
+-- the law
+pub faults_are_invisible : {A K E O : Type 0} (s : System A K E O) → FaultsAreInvisibleSo s
+faults_are_invisible s ordered filled stands = invisible s ordered filled stands

@@ -1,0 +1,5 @@
+pub mod BesideLemmas
+pub mod CalmLemmas
+pub mod InvisibleLemmas
+pub mod OwnLemmas
+pub mod WayLemmas

@@ -1,0 +1,172 @@
+-- What strands do to shared words, with faults and without: one history, along which each of them comes so far.
+use Rattle.std.specs.Prelude.{◌≡◌, ◌⊎◌, ℕ, suc, ◌+◌, ◌==◌, cond, List, [], ◌∷◌, length, Option, Some, None}
+use Rattle.ppm_strands.specs.Tree.{Words}
+use Rattle.ppm_strands.specs.Ahead.{put}
+use Rattle.ppm_capsules.specs.Capsule.{Memory, store}
+use Rattle.ppm_capsules.specs.Strand.{Frame}
+use Rattle.ppm_unseen.specs.Capsule.{Capsule, Loads, Keeps, Reads, Changes, Ends, GoesOn, Forks, Closes, Code}
+
+-- a system: its code, the frames of the strands that it begins with, by numbers from 0, and the shared words then
+pub record System (A K E O : Type 0) : Type 0 where
+  pub code : Code A K E O
+  pub start : List (Frame A K)
+  pub words : Words
+
+-- what a strand does that others see: it changes a shared word, forks branches, or is over with an outcome
+pub data Deed (A K O : Type 0) : Type 0 where
+  Changed : (who at word : ℕ) → Deed A K O
+  Forked : (who : ℕ) → List (Frame A K) → Deed A K O
+  Finished : (who : ℕ) → O → Deed A K O
+
+-- where a strand is: it is not forked yet; it is under way, at a point, with what is left of the capsule there, and with its own words; it waits,
+-- as a frame, for branches whose numbers begin with `first`; or it is over
+pub data State (A K E : Type 0) : Type 0 where
+  NotYet : State A K E
+  UnderWay : K → (rest : Capsule A E) → (own : Memory A) → State A K E
+  Waits : Frame A K → (first : ℕ) → List (Frame A K) → State A K E
+  IsOver : State A K E
+
+-- one change that a capsule asks for
+pub record Change : Type 0 where
+  pub at : ℕ
+  pub by : ℕ → ℕ
+
+abbrev pub change : ℕ → (ℕ → ℕ) → Change
+change x g = record { at = x; by = g }
+
+-- each of these changes would leave the words as they are
+abbrev pub AllStill : Words → List Change → Type 0
+AllStill a [] = Unit {0}
+AllStill a (k ∷ ks) = (k.by (a k.at) ≡ a k.at) × AllStill a ks
+
+-- of frames with the numbers from n on, the one with the number i
+abbrev pub numbered : {A K : Type 0} → ℕ → List (Frame A K) → ℕ → Option (Frame A K)
+numbered n [] i = None
+numbered n (f ∷ fs) i = cond (i == n) (Some f) (numbered (suc n) fs i)
+
+module _ {A K O : Type 0} where
+  -- who did it
+  abbrev pub doer : Deed A K O → ℕ
+  doer (Changed who x v) = who
+  doer (Forked who fs) = who
+  doer (Finished who o) = who
+
+  -- the shared words after these deeds, of which the last one comes first
+  abbrev pub after : Words → List (Deed A K O) → Words
+  after words [] = words
+  after words (Changed who x v ∷ t) = put (after words t) x v
+  after words (Forked who fs ∷ t) = after words t
+  after words (Finished who o ∷ t) = after words t
+
+  -- how many strands there are after them, if there were n at the beginning: the branches of a fork have the next numbers
+  abbrev pub strands_after : ℕ → List (Deed A K O) → ℕ
+  strands_after n [] = n
+  strands_after n (Changed who x v ∷ t) = strands_after n t
+  strands_after n (Forked who fs ∷ t) = strands_after n t + length fs
+  strands_after n (Finished who o ∷ t) = strands_after n t
+
+  -- strand i is over with this outcome
+  abbrev pub HasFinished : ℕ → O → List (Deed A K O) → Type 0
+  HasFinished i o [] = ⊥
+  HasFinished i o (d ∷ t) = (d ≡ Finished i o) ⊎ HasFinished i o t
+
+  -- so are these branches, which have the numbers from i on, with these outcomes
+  abbrev pub HaveFinished : ℕ → List (Frame A K) → List O → List (Deed A K O) → Type 0
+  HaveFinished i [] [] t = Unit {0}
+  HaveFinished i [] (o ∷ os) t = ⊥
+  HaveFinished i (f ∷ fs) [] t = ⊥
+  HaveFinished i (f ∷ fs) (o ∷ os) t = HasFinished i o t × HaveFinished (suc i) fs os t
+
+module _ {A K E O : Type 0} (s : System A K E O) where
+  -- a strand at the beginning of a capsule
+  abbrev pub begun : Frame A K → State A K E
+  begun f = UnderWay f.point (s.code.capsule f.point) f.own
+
+  -- so if there is a frame for it
+  abbrev pub begun_if_any : Option (Frame A K) → State A K E
+  begun_if_any None = NotYet
+  begun_if_any (Some f) = begun f
+
+  -- how many strands there are, and the shared words, after these deeds
+  abbrev pub count : List (Deed A K O) → ℕ
+  count t = strands_after (length s.start) t
+
+  abbrev pub now : List (Deed A K O) → Words
+  now t = after s.words t
+
+  -- the frame with which a deed begins strand i, if it does
+  abbrev pub forked_by : List (Deed A K O) → Deed A K O → ℕ → Option (Frame A K)
+  forked_by t (Changed who x v) i = None
+  forked_by t (Forked who fs) i = numbered (count t) fs i
+  forked_by t (Finished who o) i = None
+
+  -- where strand i is once another one has done something: as before, unless it is forked by that
+  abbrev pub once_done : ℕ → List (Deed A K O) → Deed A K O → State A K E → State A K E
+  once_done i t d NotYet = begun_if_any (forked_by t d i)
+  once_done i t d (UnderWay k rest o) = UnderWay k rest o
+  once_done i t d (Waits g n fs) = Waits g n fs
+  once_done i t d IsOver = IsOver
+
+  -- how strand `me` comes along a history to where it is. It begins; others do something; it loads, keeps or reads a word; it makes a change, or asks
+  -- for one that leaves the word as it is; an end opens the next capsule, forks, or closes the strand; a frame goes on once its branches are over;
+  -- by a fault the strand begins its capsule again, with its own words as they are. Where `faults` has no proof there is no fault.
+  pub data Comes (faults : Type 0) (me : ℕ) : List (Deed A K O) → State A K E → Type 0 where
+    Begins : Comes faults me [] (begun_if_any (numbered 0 s.start me))
+    Others : {t : List (Deed A K O)} {σ : State A K E} (d : Deed A K O) → (doer d ≡ me → ⊥)
+        → Comes faults me t σ → Comes faults me (d ∷ t) (once_done me t d σ)
+    Takes : {t : List (Deed A K O)} {k : K} {o : Memory A} (x : A) (go : ℕ → Capsule A E)
+        → Comes faults me t (UnderWay k (Loads x go) o) → Comes faults me t (UnderWay k (go (o x)) o)
+    Stores : {t : List (Deed A K O)} {k : K} {o : Memory A} (x : A) (v : ℕ) (rest : Capsule A E)
+        → Comes faults me t (UnderWay k (Keeps x v rest) o) → Comes faults me t (UnderWay k rest (store s.code.names o x v))
+    Finds : {t : List (Deed A K O)} {k : K} {o : Memory A} (x : ℕ) (go : ℕ → Capsule A E)
+        → Comes faults me t (UnderWay k (Reads x go) o) → Comes faults me t (UnderWay k (go (now t x)) o)
+    Alters : {t : List (Deed A K O)} {k : K} {o : Memory A} (x : ℕ) (g : ℕ → ℕ) (rest : Capsule A E)
+        → Comes faults me t (UnderWay k (Changes x g rest) o) → (g (now t x) ≡ now t x → ⊥)
+        → Comes faults me (Changed me x (g (now t x)) ∷ t) (UnderWay k rest o)
+    Leaves : {t : List (Deed A K O)} {k : K} {o : Memory A} (x : ℕ) (g : ℕ → ℕ) (rest : Capsule A E)
+        → Comes faults me t (UnderWay k (Changes x g rest) o) → g (now t x) ≡ now t x → Comes faults me t (UnderWay k rest o)
+    Opens : {t : List (Deed A K O)} {k : K} {o : Memory A} (e : E) (f : Frame A K)
+        → Comes faults me t (UnderWay k (Ends e) o) → s.code.opens e o ≡ GoesOn f → Comes faults me t (begun f)
+    Splits : {t : List (Deed A K O)} {k : K} {o : Memory A} (e : E) (fs : List (Frame A K)) (g : Frame A K)
+        → Comes faults me t (UnderWay k (Ends e) o) → s.code.opens e o ≡ Forks fs g → Comes faults me (Forked me fs ∷ t) (Waits g (count t) fs)
+    Finishes : {t : List (Deed A K O)} {k : K} {o : Memory A} (e : E) (outcome : O)
+        → Comes faults me t (UnderWay k (Ends e) o) → s.code.opens e o ≡ Closes outcome → Comes faults me (Finished me outcome ∷ t) IsOver
+    Joins : {t : List (Deed A K O)} (g : Frame A K) (n : ℕ) (fs : List (Frame A K)) (os : List O)
+        → Comes faults me t (Waits g n fs) → HaveFinished n fs os t → Comes faults me t (begun (s.code.rejoin g os))
+    Faults : {t : List (Deed A K O)} {k : K} {rest : Capsule A E} {o : Memory A} → faults
+        → Comes faults me t (UnderWay k rest o) → Comes faults me t (UnderWay k (s.code.capsule k) o)
+
+  -- a history of the system: each strand comes along it somewhere. So each makes its own deeds of it, and sees all of them.
+  abbrev pub IsHistory : (faults : Type 0) → List (Deed A K O) → Type 0
+  IsHistory faults t = (i : ℕ) → (σ : State A K E) × Comes faults i t σ
+
+module _ {A K E O : Type 0} {s : System A K E O} {faults : Type 0} {me : ℕ} where
+  -- the changes that the capsule under way has asked for, the last one first
+  abbrev pub passed : {t : List (Deed A K O)} {σ : State A K E} → Comes s faults me t σ → List Change
+  passed Begins = []
+  passed (Others d ne h) = passed h
+  passed (Takes x go h) = passed h
+  passed (Stores x v rest h) = passed h
+  passed (Finds x go h) = passed h
+  passed (Alters x g rest h ne) = change x g ∷ passed h
+  passed (Leaves x g rest h same) = change x g ∷ passed h
+  passed (Opens e f h is) = []
+  passed (Splits e fs g h is) = []
+  passed (Finishes e outcome h is) = []
+  passed (Joins g n fs os h over) = []
+  passed (Faults f h) = []
+
+  -- those up to the last one that changed a word
+  abbrev pub settled : {t : List (Deed A K O)} {σ : State A K E} → Comes s faults me t σ → List Change
+  settled Begins = []
+  settled (Others d ne h) = settled h
+  settled (Takes x go h) = settled h
+  settled (Stores x v rest h) = settled h
+  settled (Finds x go h) = settled h
+  settled (Alters x g rest h ne) = change x g ∷ passed h
+  settled (Leaves x g rest h same) = settled h
+  settled (Opens e f h is) = []
+  settled (Splits e fs g h is) = []
+  settled (Finishes e outcome h is) = []
+  settled (Joins g n fs os h over) = []
+  settled (Faults f h) = []
