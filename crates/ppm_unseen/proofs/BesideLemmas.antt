@@ -2,6 +2,7 @@
 -- first read (`Early`) or after it (`Late`); after a fault the strand is on its way again to where the commit stands (`Replay`).
 use Rattle.std.proofs.Common.{◌≡◌, ℕ, zero, suc, Bool, false, List, [], ◌∷◌, ◌⊎◌, inl, inr, refl, sym, ◌∙◌, subst}
 use Rattle.std.proofs.Math.Path.{fun_ext}
+use Rattle.std.proofs.lemmas.Bool.{cases_Bool}
 use Rattle.ppm_strands.specs.Tree.{Words}
 use Rattle.ppm_capsules.specs.Capsule.{Memory, In, store}
 use Rattle.ppm_unseen.specs.Capsule.{Capsule, Loads, Keeps, Reads, Changes, Ends}
@@ -9,7 +10,7 @@ use Rattle.ppm_unseen.specs.Run.{System, Deed, Changed, doer, State, NotYet, Und
 use Rattle.ppm_unseen.specs.Run.{now, passed, settled}
 use Rattle.ppm_unseen.specs.Run.{Comes, Others, Takes, Stores, Finds, Alters, Leaves}
 use Rattle.ppm_unseen.specs.Conditions.{HasNoChange, IsOrdered, FillsPast}
-use Rattle.ppm_unseen.proofs.OwnLemmas.{AreSameOn, AreSameOff, store_same_on, store_same_off, found, true_or_false}
+use Rattle.ppm_unseen.proofs.OwnLemmas.{AreSameOn, AreSameOff, store_same_on, store_same_off, found}
 use Rattle.ppm_unseen.proofs.WayLemmas.{onto, onto_snoc, still_onto, Goes, more_load, more_keep, more_change}
 
 module _ {A K E O : Type 0} (s : System A K E O) (me : ℕ) where
@@ -222,7 +223,7 @@ module _ {A K E O : Type 0} (s : System A K E O) (me : ℕ) where
   -- at an end the own words are the same
   at_end : (out : A → Bool) (o q f : Memory A) (w : List A) (e : E) → AreSameOff out o q → AreSameOff out o f → AreSameOn w q f
       → FillsPast out o w (Ends e) → q ≡ f
-  at_end out o q f w e hq hf h fills = fun_ext (λ x. elim (true_or_false (out x)) [
+  at_end out o q f w e hq hf h fills = fun_ext (λ x. elim (cases_Bool (out x)) [
     | inl is ↦ h x (fills x is)
     | inr off ↦ hq x off ∙ sym (hf x off)
   ])

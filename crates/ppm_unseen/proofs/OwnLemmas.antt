@@ -1,6 +1,6 @@
 -- Own words of two tries of a capsule: the same where nothing is kept, and where both have kept them.
-use Rattle.std.proofs.Common.{◌≡◌, ℕ, cond, Bool, true, false, List, ◌∷◌, ◌⊎◌, inl, inr, refl, sym, ap, ◌∙◌, subst}
-use Rattle.std.proofs.lemmas.Bool.{cond-false, cond-true}
+use Rattle.std.proofs.Common.{◌≡◌, ℕ, cond, Bool, true, false, List, ◌∷◌, ◌⊎◌, inl, inr, sym, ap, ◌∙◌, subst}
+use Rattle.std.proofs.lemmas.Bool.{cases_Bool, cond-false, cond-true, true≢false}
 use Rattle.ppm_capsules.specs.Capsule.{Equality, Memory, In, store}
 
 -- the same where w were kept
@@ -11,19 +11,10 @@ AreSameOn {A} w q f = (x : A) → In x w → q x ≡ f x
 abbrev pub AreSameOff : {A : Type 0} → (A → Bool) → Memory A → Memory A → Type 0
 AreSameOff {A} out o f = (x : A) → out x ≡ false → f x ≡ o x
 
--- a test answers one of both
-pub true_or_false : (b : Bool) → (b ≡ true) ⊎ (b ≡ false)
-true_or_false true = inl refl
-true_or_false false = inr refl
-
--- and not both
-pub true_is_not_false : true ≡ false → ⊥
-true_is_not_false h = cc
-
 module _ {A : Type 0} (eq : Equality A) where
   -- what differs is tested to differ
   pub ne_same : (x y : A) → (x ≡ y → ⊥) → eq.same x y ≡ false
-  ne_same x y ne = elim (true_or_false (eq.same x y)) [
+  ne_same x y ne = elim (cases_Bool (eq.same x y)) [
     | inl is ↦ absurd (ne (eq.is_one x y is))
     | inr isnt ↦ isnt
   ]
@@ -48,7 +39,7 @@ module _ {A : Type 0} (eq : Equality A) where
   -- what is kept changes nothing where nothing is kept
   pub store_same_off : (out : A → Bool) (o f : Memory A) (x : A) (v : ℕ) → out x ≡ true → AreSameOff out o f → AreSameOff out o (store eq f x v)
   store_same_off out o f x v is h y off =
-      store_else f x v y (λ e. true_is_not_false (sym is ∙ ap out (sym e) ∙ off)) ∙ h y off
+      store_else f x v y (λ e. true≢false (sym is ∙ ap out (sym e) ∙ off)) ∙ h y off
 
 -- an own word that may be loaded is the same
 pub found : {A : Type 0} (out : A → Bool) (o q f : Memory A) (w : List A) (x : A) → AreSameOff out o q → AreSameOff out o f → AreSameOn w q f

@@ -10,4 +10,7 @@
 
 mod laws;
 
-pub use laws::{calm_writes_stand, faults_are_invisible};
+pub use laws::{
+    calm_writes_stand, each_condition_is_needed, faults_are_invisible,
+    racing_claims_are_restartable,
+};
