@@ -8,10 +8,10 @@ use Rattle.ppm_capsules.specs.Capsule.{Memory, In, store}
 use Rattle.ppm_unseen.specs.Capsule.{Capsule, Loads, Keeps, Reads, Changes, Ends}
 use Rattle.ppm_unseen.specs.Run.{System, Deed, Changed, doer, State, NotYet, UnderWay, Waits, IsOver, Change, change, AllStill}
 use Rattle.ppm_unseen.specs.Run.{now, passed, settled}
-use Rattle.ppm_unseen.specs.Run.{Comes, Others, Takes, Stores, Finds, Alters, Leaves}
+use Rattle.ppm_unseen.specs.Run.{Comes, Others, Goes, Does, Takes, Stores, Finds, Leaves, Alters}
 use Rattle.ppm_unseen.specs.Conditions.{HasNoChange, IsOrdered, FillsPast}
 use Rattle.ppm_unseen.proofs.OwnLemmas.{AreSameOn, AreSameOff, store_same_on, store_same_off, found}
-use Rattle.ppm_unseen.proofs.WayLemmas.{onto, onto_snoc, still_onto, Goes, more_load, more_keep, more_change}
+use Rattle.ppm_unseen.proofs.WayLemmas.{onto, onto_snoc, still_onto, Leads, more_load, more_keep, more_change}
 
 module _ {A K E O : Type 0} (s : System A K E O) (me : ℕ) where
   -- without faults
@@ -27,7 +27,7 @@ module _ {A K E O : Type 0} (s : System A K E O) (me : ℕ) where
     pub q : Memory A
     pub w : List A
     pub run : Quiet t (UnderWay k rest q)
-    pub made : (f : Memory A) → AreSameOff out o f → (n : ℕ) × Goes s.code.names out n f [] (s.code.capsule k) (onto (passed run) []) rest q w
+    pub made : (f : Memory A) → AreSameOff out o f → (n : ℕ) × Leads s.code.names out n f [] (s.code.capsule k) (onto (passed run) []) rest q w
     pub inputs : AreSameOff out o q
     pub fills : FillsPast out o w rest
     pub ordered : IsOrdered rest
@@ -60,7 +60,7 @@ module _ {A K E O : Type 0} (s : System A K E O) (me : ℕ) where
     pub n : ℕ
     pub w : List A
     pub to_do : List Change
-    pub goes : Goes s.code.names c.out n f w rest to_do c.rest c.at.q c.at.w
+    pub goes : Leads s.code.names c.out n f w rest to_do c.rest c.at.q c.at.w
     pub still : (b : Words) → AllStill b (settled c.at.run) → AllStill b to_do
 
   -- one of these three
@@ -89,12 +89,12 @@ module _ {A K E O : Type 0} (s : System A K E O) (me : ℕ) where
 
   -- a change more on the way
   change_made : (out : A → Bool) (o : Memory A) (k : K) (q : Memory A) (w : List A) (x : ℕ) (g : ℕ → ℕ) (rest : Capsule A E) (ks : List Change)
-      → ((f : Memory A) → AreSameOff out o f → (n : ℕ) × Goes s.code.names out n f [] (s.code.capsule k) (onto ks []) (Changes x g rest) q w)
-      → (f : Memory A) → AreSameOff out o f → (n : ℕ) × Goes s.code.names out n f [] (s.code.capsule k) (onto ks (change x g ∷ [])) rest q w
+      → ((f : Memory A) → AreSameOff out o f → (n : ℕ) × Leads s.code.names out n f [] (s.code.capsule k) (onto ks []) (Changes x g rest) q w)
+      → (f : Memory A) → AreSameOff out o f → (n : ℕ) × Leads s.code.names out n f [] (s.code.capsule k) (onto ks (change x g ∷ [])) rest q w
   change_made out o k q w x g rest ks made f hf =
       let one = made f hf in
       let r = more_change s.code.names out x g rest q w one.0 f [] (s.code.capsule k) (onto ks []) one.1 in
-      (r.0, subst (λ (l : List Change). Goes s.code.names out r.0 f [] (s.code.capsule k) l rest q w) (sym (onto_snoc ks [] (change x g))) r.1)
+      (r.0, subst (λ (l : List Change). Leads s.code.names out r.0 f [] (s.code.capsule k) l rest q w) (sym (onto_snoc ks [] (change x g))) r.1)
 
   module _ (out : A → Bool) (o : Memory A) {t : List (Deed A K O)} {k : K} where
     -- a load
@@ -107,7 +107,7 @@ module _ {A K E O : Type 0} (s : System A K E O) (me : ℕ) where
           at = record {
             q = m.q;
             w = m.w;
-            run = Takes x go m.run;
+            run = Goes m.run (Takes x go);
             made = λ h hh. let g = m.made h hh in
                 more_load s.code.names out o x go m.q m.w m.inputs may.0 g.0 h [] (s.code.capsule k) _ hh g.1;
             inputs = m.inputs;
@@ -124,7 +124,7 @@ module _ {A K E O : Type 0} (s : System A K E O) (me : ℕ) where
         subst (λ (v : ℕ). Late out o t k (go v) f) (found out o l.q f l.w x l.inputs hf l.agree may.0) (record {
           q = l.q;
           w = l.w;
-          run = Takes x go l.run;
+          run = Goes l.run (Takes x go);
           agree = l.agree;
           inputs = l.inputs;
           fills = may.1;
@@ -140,7 +140,7 @@ module _ {A K E O : Type 0} (s : System A K E O) (me : ℕ) where
           at = record {
             q = store s.code.names m.q x v;
             w = x ∷ m.w;
-            run = Stores x v rest m.run;
+            run = Goes m.run (Stores x v rest);
             made = λ h hh. let g = m.made h hh in more_keep s.code.names out x v rest m.q m.w m.fills.0 g.0 h [] (s.code.capsule k) _ g.1;
             inputs = store_same_off s.code.names out o m.q x v m.fills.0 m.inputs;
             fills = m.fills.1;
@@ -155,7 +155,7 @@ module _ {A K E O : Type 0} (s : System A K E O) (me : ℕ) where
     stores_late f x v rest l = record {
       q = store s.code.names l.q x v;
       w = x ∷ l.w;
-      run = Stores x v rest l.run;
+      run = Goes l.run (Stores x v rest);
       agree = store_same_on s.code.names l.w l.q f x v l.agree;
       inputs = store_same_off s.code.names out o l.q x v l.fills.0 l.inputs;
       fills = l.fills.1;
@@ -167,7 +167,7 @@ module _ {A K E O : Type 0} (s : System A K E O) (me : ℕ) where
     finds_early f x go e = record {
       q = e.at.q;
       w = e.at.w;
-      run = Finds x go e.at.run;
+      run = Goes e.at.run (Finds x go);
       agree = e.agree;
       inputs = e.at.inputs;
       fills = e.at.fills (now s t x);
@@ -179,7 +179,7 @@ module _ {A K E O : Type 0} (s : System A K E O) (me : ℕ) where
     finds_late f x go l = record {
       q = l.q;
       w = l.w;
-      run = Finds x go l.run;
+      run = Goes l.run (Finds x go);
       agree = l.agree;
       inputs = l.inputs;
       fills = l.fills (now s t x);
@@ -195,7 +195,7 @@ module _ {A K E O : Type 0} (s : System A K E O) (me : ℕ) where
           at = record {
             q = m.q;
             w = m.w;
-            run = Leaves x g rest m.run same;
+            run = Goes m.run (Leaves x g rest same);
             made = change_made out o k m.q m.w x g rest (passed m.run) m.made;
             inputs = m.inputs;
             fills = m.fills;
@@ -212,7 +212,7 @@ module _ {A K E O : Type 0} (s : System A K E O) (me : ℕ) where
         let here : Made out o (Changed me x (g (now s t x)) ∷ t) k rest = record {
           q = m.q;
           w = m.w;
-          run = Alters x g rest m.run ne;
+          run = Does m.run (Alters x g rest ne);
           made = change_made out o k m.q m.w x g rest (passed m.run) m.made;
           inputs = m.inputs;
           fills = m.fills;
@@ -231,7 +231,7 @@ module _ {A K E O : Type 0} (s : System A K E O) (me : ℕ) where
   module _ {t : List (Deed A K O)} {k : K} (f : Memory A) (c : Commit t k) where
     -- on its way by nothing: the strand is at the commit
     settle : (rest : Capsule A E) (w : List A) (ch : List Change)
-        → Goes s.code.names c.out zero f w rest ch c.rest c.at.q c.at.w → Early c.out c.o t k rest f
+        → Leads s.code.names c.out zero f w rest ch c.rest c.at.q c.at.w → Early c.out c.o t k rest f
     settle rest w ch g = subst (λ (r : Capsule A E). Early c.out c.o t k r f) (sym g.0)
         (record { at = c.at; agree = subst (λ (u : List A). AreSameOn u c.at.q f) g.2 g.3 })
 
@@ -243,21 +243,21 @@ module _ {A K E O : Type 0} (s : System A K E O) (me : ℕ) where
         subst (λ (u : Memory A). Quiet t (UnderWay k (Ends e) u)) (at_end c.out c.o l.q f l.w e l.inputs hf l.agree l.fills) l.run
 
     -- a replay may be at an end only where the commit is
-    replay_ends : (e : E) (n : ℕ) (w : List A) (ch : List Change) → Goes s.code.names c.out n f w (Ends e) ch c.rest c.at.q c.at.w
+    replay_ends : (e : E) (n : ℕ) (w : List A) (ch : List Change) → Leads s.code.names c.out n f w (Ends e) ch c.rest c.at.q c.at.w
         → Early c.out c.o t k (Ends e) f
     replay_ends e zero w ch g = settle (Ends e) w ch g
     replay_ends e (suc n) w ch g = absurd g
 
     -- a load of a replay
     pub replay_takes : (x : A) (go : ℕ → Capsule A E) → AreSameOff c.out c.o f
-        → (n : ℕ) (w : List A) (ch : List Change) → Goes s.code.names c.out n f w (Loads x go) ch c.rest c.at.q c.at.w
+        → (n : ℕ) (w : List A) (ch : List Change) → Leads s.code.names c.out n f w (Loads x go) ch c.rest c.at.q c.at.w
         → ((b : Words) → AllStill b (settled c.at.run) → AllStill b ch) → Where t k (go (f x)) f c
     replay_takes x go hf zero w ch g still = (hf, inr (inl (takes_early c.out c.o f x go hf (settle (Loads x go) w ch g))))
     replay_takes x go hf (suc n) w ch g still = (hf, inl (record { n = n; w = w; to_do = ch; goes = g; still = still }))
 
     -- a word that it keeps
     pub replay_stores : (x : A) (v : ℕ) (rest : Capsule A E) → AreSameOff c.out c.o f
-        → (n : ℕ) (w : List A) (ch : List Change) → Goes s.code.names c.out n f w (Keeps x v rest) ch c.rest c.at.q c.at.w
+        → (n : ℕ) (w : List A) (ch : List Change) → Leads s.code.names c.out n f w (Keeps x v rest) ch c.rest c.at.q c.at.w
         → ((b : Words) → AllStill b (settled c.at.run) → AllStill b ch) → Where t k rest (store s.code.names f x v) c
     replay_stores x v rest hf zero w ch g still =
         let early = settle (Keeps x v rest) w ch g in
@@ -267,13 +267,13 @@ module _ {A K E O : Type 0} (s : System A K E O) (me : ℕ) where
 
     -- a read: there is none before the commit
     pub replay_finds : (x : ℕ) (go : ℕ → Capsule A E) (n : ℕ) (w : List A) (ch : List Change)
-        → Goes s.code.names c.out n f w (Reads x go) ch c.rest c.at.q c.at.w → Late c.out c.o t k (go (now s t x)) f
+        → Leads s.code.names c.out n f w (Reads x go) ch c.rest c.at.q c.at.w → Late c.out c.o t k (go (now s t x)) f
     replay_finds x go zero w ch g = finds_early c.out c.o f x go (settle (Reads x go) w ch g)
     replay_finds x go (suc n) w ch g = absurd g
 
     -- a change that leaves the word as it is
     pub replay_leaves : (x : ℕ) (g : ℕ → ℕ) (rest : Capsule A E) → g (now s t x) ≡ now s t x
-        → (n : ℕ) (w : List A) (ch : List Change) → Goes s.code.names c.out n f w (Changes x g rest) ch c.rest c.at.q c.at.w
+        → (n : ℕ) (w : List A) (ch : List Change) → Leads s.code.names c.out n f w (Changes x g rest) ch c.rest c.at.q c.at.w
         → ((b : Words) → AllStill b (settled c.at.run) → AllStill b ch)
         → Replay t k rest f c ⊎ (Early c.out c.o t k rest f ⊎ Late c.out c.o t k rest f)
     replay_leaves x g rest same zero w ch go still = inr (inl (leaves_early c.out c.o f x g rest same (settle (Changes x g rest) w ch go)))
@@ -287,7 +287,7 @@ module _ {A K E O : Type 0} (s : System A K E O) (me : ℕ) where
 
     -- one that changes it: there is none before the commit, since what is settled stands
     pub replay_alters : (x : ℕ) (g : ℕ → ℕ) (rest : Capsule A E) → (g (now s t x) ≡ now s t x → ⊥) → AreSameOff c.out c.o f
-        → (n : ℕ) (w : List A) (ch : List Change) → Goes s.code.names c.out n f w (Changes x g rest) ch c.rest c.at.q c.at.w
+        → (n : ℕ) (w : List A) (ch : List Change) → Leads s.code.names c.out n f w (Changes x g rest) ch c.rest c.at.q c.at.w
         → AllStill (now s t) ch → Beside (Changed me x (g (now s t x)) ∷ t) (UnderWay k rest f)
     replay_alters x g rest ne hf zero w ch go still = alters_early c.out c.o f x g rest ne hf (settle (Changes x g rest) w ch go)
     replay_alters x g rest ne hf (suc n) w ch go still = absurd (ne (subst (λ (l : List Change). AllStill (now s t) l) go.1 still).0)
@@ -300,7 +300,7 @@ module _ {A K E O : Type 0} (s : System A K E O) (me : ℕ) where
           n = g.0;
           w = [];
           to_do = onto (settled c.at.run) [];
-          goes = subst (λ (ks : List Change). Goes s.code.names c.out g.0 f [] (s.code.capsule k) (onto ks []) c.rest c.at.q c.at.w) c.same g.1;
+          goes = subst (λ (ks : List Change). Leads s.code.names c.out g.0 f [] (s.code.capsule k) (onto ks []) c.rest c.at.q c.at.w) c.same g.1;
           still = λ b h. still_onto b (settled c.at.run) [] h tt;
         }
 

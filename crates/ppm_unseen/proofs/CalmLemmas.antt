@@ -8,7 +8,7 @@ use Rattle.ppm_capsules.specs.Capsule.{In}
 use Rattle.ppm_capsules.specs.Strand.{Frame}
 use Rattle.ppm_unseen.specs.Run.{System, Deed, Changed, Forked, Finished, doer, State, NotYet, UnderWay, Waits, IsOver, Change, AllStill}
 use Rattle.ppm_unseen.specs.Run.{now, numbered, begun_if_any, forked_by, once_done, passed, settled, IsHistory}
-use Rattle.ppm_unseen.specs.Run.{Comes, Begins, Others, Takes, Stores, Finds, Alters, Leaves, Opens, Splits, Finishes, Joins, Faults}
+use Rattle.ppm_unseen.specs.Run.{Comes, Begins, Others, Goes, Does, Takes, Stores, Finds, Leaves, Opens, Joins, Faults, Alters, Splits, Finishes}
 use Rattle.ppm_unseen.specs.Calm.{places, ChangesOncePast, ChangeOnce, WritesAreCalm, CalmWritesStand}
 use Rattle.ppm_unseen.proofs.InvisibleLemmas.{history_before}
 
@@ -63,10 +63,10 @@ module _ {A K E O : Type 0} (s : System A K E O) where
       all_is_still (Others {t = t} {σ = σ} d ne h) all =
           let before = all_is_still h (history_before s d t all) in
           (still_once_done d t h ne all before.0, left_once_done i t d (passed h) σ before.1)
-      all_is_still (Takes {o = o} x go h) all = let before = all_is_still h all in (before.0, before.1 (o x))
-      all_is_still (Stores x v rest h) all = all_is_still h all
-      all_is_still (Finds {t = t} x go h) all = let before = all_is_still h all in (before.0, before.1 (now s t x))
-      all_is_still (Alters {t = t} x g rest h ne) all =
+      all_is_still (Goes h (Takes {o = o} x go)) all = let before = all_is_still h all in (before.0, before.1 (o x))
+      all_is_still (Goes h (Stores x v rest)) all = all_is_still h all
+      all_is_still (Goes {t = t} h (Finds x go)) all = let before = all_is_still h all in (before.0, before.1 (now s t x))
+      all_is_still (Does {t = t} h (Alters x g rest ne)) all =
           let before = all_is_still h (history_before s (Changed i x (g (now s t x))) t all) in (
             (
               subst (λ (w : ℕ). g w ≡ w) (sym (put_at (now s t) x (g (now s t x)))) (before.1.1 (now s t x)),
@@ -74,27 +74,27 @@ module _ {A K E O : Type 0} (s : System A K E O) where
             ),
             before.1.2,
           )
-      all_is_still (Leaves x g rest h same) all = let before = all_is_still h all in ((same, before.0), before.1.2)
-      all_is_still (Opens e f h is) all = (tt, once f.point)
-      all_is_still (Splits e fs g h is) all = (tt, refl)
-      all_is_still (Finishes e outcome h is) all = (tt, refl)
-      all_is_still (Joins g n fs os h over) all = (tt, once (s.code.rejoin g os).point)
-      all_is_still (Faults z h) all = absurd z
+      all_is_still (Goes h (Leaves x g rest same)) all = let before = all_is_still h all in ((same, before.0), before.1.2)
+      all_is_still (Goes h (Opens e f is)) all = (tt, once f.point)
+      all_is_still (Does h (Splits e fs g is)) all = (tt, refl)
+      all_is_still (Does h (Finishes e outcome is)) all = (tt, refl)
+      all_is_still (Goes h (Joins g n fs os over)) all = (tt, once (s.code.rejoin g os).point)
+      all_is_still (Goes h (Faults z)) all = absurd z
 
   -- what is settled is of what was asked for
   settled_is_still : {i : ℕ} (a : Words) {t : List (Deed A K O)} {σ : State A K E} (h : Comes s ⊥ i t σ) → AllStill a (passed h) → AllStill a (settled h)
   settled_is_still a Begins all = tt
   settled_is_still a (Others d ne h) all = settled_is_still a h all
-  settled_is_still a (Takes x go h) all = settled_is_still a h all
-  settled_is_still a (Stores x v rest h) all = settled_is_still a h all
-  settled_is_still a (Finds x go h) all = settled_is_still a h all
-  settled_is_still a (Alters x g rest h ne) all = all
-  settled_is_still a (Leaves x g rest h same) all = settled_is_still a h all.1
-  settled_is_still a (Opens e f h is) all = tt
-  settled_is_still a (Splits e fs g h is) all = tt
-  settled_is_still a (Finishes e outcome h is) all = tt
-  settled_is_still a (Joins g n fs os h over) all = tt
-  settled_is_still a (Faults z h) all = absurd z
+  settled_is_still a (Goes h (Takes x go)) all = settled_is_still a h all
+  settled_is_still a (Goes h (Stores x v rest)) all = settled_is_still a h all
+  settled_is_still a (Goes h (Finds x go)) all = settled_is_still a h all
+  settled_is_still a (Does h (Alters x g rest ne)) all = all
+  settled_is_still a (Goes h (Leaves x g rest same)) all = settled_is_still a h all.1
+  settled_is_still a (Goes h (Opens e f is)) all = tt
+  settled_is_still a (Does h (Splits e fs g is)) all = tt
+  settled_is_still a (Does h (Finishes e outcome is)) all = tt
+  settled_is_still a (Goes h (Joins g n fs os over)) all = tt
+  settled_is_still a (Goes h (Faults z)) all = absurd z
 
 -- the law
 pub calm_writes_stand : {A K E O : Type 0} (s : System A K E O) → CalmWritesStand s

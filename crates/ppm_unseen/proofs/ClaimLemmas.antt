@@ -7,7 +7,7 @@ use Rattle.ppm_capsules.specs.Strand.{Frame}
 use Rattle.ppm_unseen.specs.Capsule.{Capsule, Loads, Keeps, Reads, Changes, Ends, exchange}
 use Rattle.ppm_unseen.specs.Run.{Deed, Changed, Forked, Finished, doer, State, NotYet, UnderWay, Waits, IsOver, Change, AllStill}
 use Rattle.ppm_unseen.specs.Run.{now, numbered, begun_if_any, forked_by, once_done, passed, settled, IsHistory}
-use Rattle.ppm_unseen.specs.Run.{Comes, Begins, Others, Takes, Stores, Finds, Alters, Leaves, Opens, Splits, Finishes, Joins, Faults}
+use Rattle.ppm_unseen.specs.Run.{Comes, Begins, Others, Goes, Does, Takes, Stores, Finds, Leaves, Opens, Joins, Faults, Alters, Splits, Finishes}
 use Rattle.ppm_unseen.specs.Conditions.{IsFilled, AreOrdered, AreFilled, Stands}
 use Rattle.ppm_unseen.specs.Claims.{Point, First, Claims, Last, Exit, ForksAll, Tells, frame_at, claimers, claiming, claims, RacingClaims}
 use Rattle.ppm_unseen.proofs.CalmLemmas.{put_at}
@@ -101,18 +101,18 @@ module _ (js : List ℕ) where
   only_claims i Begins = (tt, tt, rest_if_any (numbered 0 (claims js).start i))
   only_claims i (Others {t = t} {σ = σ} d ne h) =
       let so = only_claims i h in (not_mine i d t ne, so.1, rest_once_done i t d σ so.2)
-  only_claims i (Takes {o = o} x go h) = let so = only_claims i h in (so.0, so.1, so.2 (o x))
-  only_claims i (Stores x v rest h) = only_claims i h
-  only_claims i (Finds {t = t} x go h) = let so = only_claims i h in (so.0, so.1, so.2 (now (claims js) t x))
-  only_claims i (Alters {t = t} x g rest h ne) =
+  only_claims i (Goes h (Takes {o = o} x go)) = let so = only_claims i h in (so.0, so.1, so.2 (o x))
+  only_claims i (Goes h (Stores x v rest)) = only_claims i h
+  only_claims i (Goes {t = t} h (Finds x go)) = let so = only_claims i h in (so.0, so.1, so.2 (now (claims js) t x))
+  only_claims i (Does {t = t} h (Alters x g rest ne)) =
       let so = only_claims i h in
       (λ e. (so.2.0, so.2.1.claims (now (claims js) t x) ne), ((so.2.0, so.2.1), so.1), so.2.2)
-  only_claims i (Leaves x g rest h same) = let so = only_claims i h in (so.0, ((so.2.0, so.2.1), so.1), so.2.2)
-  only_claims i (Opens e f h is) = let so = only_claims i h in (so.0, tt, all_claim f.point)
-  only_claims i (Splits e fs g h is) = (tt, tt, tt)
-  only_claims i (Finishes e outcome h is) = (tt, tt, tt)
-  only_claims i (Joins g n fs os h over) = let so = only_claims i h in (so.0, tt, all_claim g.point)
-  only_claims i (Faults z h) = absurd z
+  only_claims i (Goes h (Leaves x g rest same)) = let so = only_claims i h in (so.0, ((so.2.0, so.2.1), so.1), so.2.2)
+  only_claims i (Goes h (Opens e f is)) = let so = only_claims i h in (so.0, tt, all_claim f.point)
+  only_claims i (Does h (Splits e fs g is)) = (tt, tt, tt)
+  only_claims i (Does h (Finishes e outcome is)) = (tt, tt, tt)
+  only_claims i (Goes h (Joins g n fs os over)) = let so = only_claims i h in (so.0, tt, all_claim g.point)
+  only_claims i (Goes h (Faults z)) = absurd z
 
   -- what is settled claims, and if there is any, a word is changed
   settled_claims : (i : ℕ) {t : List (Deed ℕ Point ℕ)} {σ : State ℕ Point Exit} (h : Comes (claims js) ⊥ i t σ)
@@ -120,16 +120,16 @@ module _ (js : List ℕ) where
   settled_claims i Begins = (tt, inl refl)
   settled_claims i (Others {t = t} d ne h) =
       let so = settled_claims i h in (so.0, elim so.1 [ inl a ↦ inl a | inr a ↦ inr (still_changed d t a) ])
-  settled_claims i (Takes x go h) = settled_claims i h
-  settled_claims i (Stores x v rest h) = settled_claims i h
-  settled_claims i (Finds x go h) = settled_claims i h
-  settled_claims i (Alters x g rest h ne) = let so = only_claims i h in (((so.2.0, so.2.1), so.1), inr tt)
-  settled_claims i (Leaves x g rest h same) = settled_claims i h
-  settled_claims i (Opens e f h is) = (tt, inl refl)
-  settled_claims i (Splits e fs g h is) = (tt, inl refl)
-  settled_claims i (Finishes e outcome h is) = (tt, inl refl)
-  settled_claims i (Joins g n fs os h over) = (tt, inl refl)
-  settled_claims i (Faults z h) = absurd z
+  settled_claims i (Goes h (Takes x go)) = settled_claims i h
+  settled_claims i (Goes h (Stores x v rest)) = settled_claims i h
+  settled_claims i (Goes h (Finds x go)) = settled_claims i h
+  settled_claims i (Does h (Alters x g rest ne)) = let so = only_claims i h in (((so.2.0, so.2.1), so.1), inr tt)
+  settled_claims i (Goes h (Leaves x g rest same)) = settled_claims i h
+  settled_claims i (Goes h (Opens e f is)) = (tt, inl refl)
+  settled_claims i (Does h (Splits e fs g is)) = (tt, inl refl)
+  settled_claims i (Does h (Finishes e outcome is)) = (tt, inl refl)
+  settled_claims i (Goes h (Joins g n fs os over)) = (tt, inl refl)
+  settled_claims i (Goes h (Faults z)) = absurd z
 
   -- once a word is changed, word 0 is claimed
   claimed : (t : List (Deed ℕ Point ℕ)) → IsHistory (claims js) ⊥ t → HasChange t → now (claims js) t 0 ≡ 0 → ⊥
@@ -182,13 +182,13 @@ module _ (j k : ℕ) where
   first_by n v = Changed n 0 v ∷ Forked 0 (claimers both) ∷ []
 
   forks : (n v : ℕ) → (n ≡ 0 → ⊥) → (σ : State ℕ Point Exit) × Comes (claims both) ⊥ 0 (first_by n v) σ
-  forks n v ne = (_, Others (Changed n 0 v) ne (Splits ForksAll (claimers both) (frame_at Last) Begins refl))
+  forks n v ne = (_, Others (Changed n 0 v) ne (Does Begins (Splits ForksAll (claimers both) (frame_at Last) refl)))
 
   -- the strand that claims
   claims_first : (n : ℕ) → (n ≡ 0 → ⊥) → (i : ℕ)
       → Comes (claims both) ⊥ n (Forked 0 (claimers both) ∷ []) (UnderWay (Claims i) (claiming (Claims i)) (λ x. 0))
       → (σ : State ℕ Point Exit) × Comes (claims both) ⊥ n (first_by n (suc i)) σ
-  claims_first n ne i h = (_, Alters 0 (exchange 0 (suc i)) (Reads 0 (λ v. Keeps 0 v (Ends Tells))) h (λ e. omega (arith, e)))
+  claims_first n ne i h = (_, Does h (Alters 0 (exchange 0 (suc i)) (Reads 0 (λ v. Keeps 0 v (Ends Tells))) (λ e. omega (arith, e))))
 
   -- each strand comes along it
   all_come : (n v : ℕ) → (n ≡ 0 → ⊥) → (σ : State ℕ Point Exit) × Comes (claims both) ⊥ n (first_by n v) σ → IsHistory (claims both) ⊥ (first_by n v)

@@ -6,7 +6,7 @@ use Rattle.ppm_capsules.specs.Strand.{Frame}
 use Rattle.ppm_unseen.specs.Capsule.{Loads, Keeps, Reads, Changes, Ends}
 use Rattle.ppm_unseen.specs.Run.{System, Deed, doer, State, NotYet, UnderWay, Waits, IsOver, Change, AllStill}
 use Rattle.ppm_unseen.specs.Run.{now, numbered, begun, begun_if_any, forked_by, once_done, passed, settled, IsHistory}
-use Rattle.ppm_unseen.specs.Run.{Comes, Begins, Others, Takes, Stores, Finds, Alters, Leaves, Opens, Splits, Finishes, Joins, Faults}
+use Rattle.ppm_unseen.specs.Run.{Comes, Begins, Others, Goes, Does, Unseen, Takes, Stores, Finds, Leaves, Opens, Joins, Faults, Alters, Splits, Finishes}
 use Rattle.ppm_unseen.specs.Conditions.{IsFilled, AreOrdered, AreFilled, Stands}
 use Rattle.ppm_unseen.specs.Correct.{IsBetween, FaultsAreInvisible, FaultsAreInvisibleSo}
 use Rattle.ppm_unseen.proofs.OwnLemmas.{store_same_off}
@@ -83,7 +83,7 @@ module _ {A K E O : Type 0} (s : System A K E O) (me : ℕ) (ordered : AreOrdere
     beside : {t : List (Deed A K O)} {σ : State A K E} → Before M t → Faulty s me t σ → Beside s me t σ
     beside all Begins = begins_if_any (numbered 0 s.start me) Begins refl refl
     beside all (Others {σ = σ} d ne h) = others _ d ne σ (beside all.1 h)
-    beside all (Takes {o = f} x go h) = let so = beside all h in (
+    beside all (Goes h (Takes {o = f} x go)) = let so = beside all h in (
       so.0,
       elim so.1.1 [
         | inl r ↦ replay_takes s me f so.0 x go so.1.0 r.n r.w r.to_do r.goes r.still
@@ -93,7 +93,7 @@ module _ {A K E O : Type 0} (s : System A K E O) (me : ℕ) (ordered : AreOrdere
         ]
       ],
     )
-    beside all (Stores {o = f} x v rest h) = let so = beside all h in (
+    beside all (Goes h (Stores {o = f} x v rest)) = let so = beside all h in (
       so.0,
       elim so.1.1 [
         | inl r ↦ replay_stores s me f so.0 x v rest so.1.0 r.n r.w r.to_do r.goes r.still
@@ -103,7 +103,7 @@ module _ {A K E O : Type 0} (s : System A K E O) (me : ℕ) (ordered : AreOrdere
         ]
       ],
     )
-    beside all (Finds {o = f} x go h) = let so = beside all h in (
+    beside all (Goes h (Finds {o = f} x go)) = let so = beside all h in (
       so.0,
       (
         so.1.0,
@@ -116,7 +116,7 @@ module _ {A K E O : Type 0} (s : System A K E O) (me : ℕ) (ordered : AreOrdere
         ],
       ),
     )
-    beside all (Leaves {o = f} x g rest h same) = let so = beside all h in (
+    beside all (Goes h (Leaves {o = f} x g rest same)) = let so = beside all h in (
       so.0,
       (
         so.1.0,
@@ -129,18 +129,18 @@ module _ {A K E O : Type 0} (s : System A K E O) (me : ℕ) (ordered : AreOrdere
         ],
       ),
     )
-    beside all (Alters {o = f} x g rest h ne) = let so = beside all.1 h in elim so.1.1 [
+    beside all (Does h (Alters {o = f} x g rest ne)) = let so = beside all.1 h in elim so.1.1 [
       | inl r ↦ replay_alters s me f so.0 x g rest ne so.1.0 r.n r.w r.to_do r.goes (r.still _ (stands _ _ so.0.at.run all.0))
       | inr e ↦ elim e [
         | inl e ↦ alters_early s me so.0.out so.0.o f x g rest ne so.1.0 e
         | inr l ↦ absurd l.none
       ]
     ]
-    beside all (Opens {o = f} e g h is) = begins g (Opens e g (end_of s me e f (beside all h)) is) refl refl
-    beside all (Splits {o = f} e fs g h is) = Splits e fs g (end_of s me e f (beside all.1 h)) is
-    beside all (Finishes {o = f} e outcome h is) = Finishes e outcome (end_of s me e f (beside all.1 h)) is
-    beside all (Joins g n fs os h over) = begins (s.code.rejoin g os) (Joins g n fs os (beside all h) over) refl refl
-    beside all (Faults {o = f} z h) = let so = beside all h in (so.0, (so.1.0, inl (again s me f so.0 so.1.0)))
+    beside all (Goes h (Opens {o = f} e g is)) = begins g (Goes (end_of s me e f (beside all h)) (Opens e g is)) refl refl
+    beside all (Does h (Splits {o = f} e fs g is)) = Does (end_of s me e f (beside all.1 h)) (Splits e fs g is)
+    beside all (Does h (Finishes {o = f} e outcome is)) = Does (end_of s me e f (beside all.1 h)) (Finishes e outcome is)
+    beside all (Goes h (Joins g n fs os over)) = begins (s.code.rejoin g os) (Goes (beside all h) (Joins g n fs os over)) refl refl
+    beside all (Goes h (Faults {o = f} z)) = let so = beside all h in (so.0, (so.1.0, inl (again s me f so.0 so.1.0)))
 
     -- some run without faults has these deeds
     possible_at : {t : List (Deed A K O)} (σ : State A K E) → Beside s me t σ → (τ : State A K E) × Quiet s me t τ
@@ -173,37 +173,30 @@ module _ {A K E O : Type 0} (s : System A K E O) where
   Cut faults me (d ∷ t) = (σ : State A K E) × Comes s faults me t σ
 
   cut : {faults : Type 0} {me : ℕ} {t : List (Deed A K O)} {σ : State A K E} → Comes s faults me t σ → Cut faults me t
-  cut {t = t} Begins = tt
+  cut Begins = tt
   cut (Others d ne h) = (_, h)
-  cut (Takes x go h) = cut h
-  cut (Stores x v rest h) = cut h
-  cut (Finds x go h) = cut h
-  cut (Alters x g rest h ne) = (_, h)
-  cut (Leaves x g rest h same) = cut h
-  cut (Opens e f h is) = cut h
-  cut (Splits e fs g h is) = (_, h)
-  cut (Finishes e outcome h is) = (_, h)
-  cut (Joins g n fs os h over) = cut h
-  cut (Faults z h) = cut h
+  cut (Goes h u) = cut h
+  cut (Does h u) = (_, h)
 
   -- a history up to its last deed is one
   pub history_before : {faults : Type 0} (d : Deed A K O) (t : List (Deed A K O)) → IsHistory s faults (d ∷ t) → IsHistory s faults t
   history_before d t all i = cut (all i).1
 
   -- a run without faults is one with faults, of which it has none
+  faultless_step : {t : List (Deed A K O)} {σ τ : State A K E} → Unseen s ⊥ t σ τ → Unseen s (Unit {0}) t σ τ
+  faultless_step (Takes x go) = Takes x go
+  faultless_step (Stores x v rest) = Stores x v rest
+  faultless_step (Finds x go) = Finds x go
+  faultless_step (Leaves x g rest same) = Leaves x g rest same
+  faultless_step (Opens e f is) = Opens e f is
+  faultless_step (Joins g n fs os over) = Joins g n fs os over
+  faultless_step (Faults z) = absurd z
+
   faultless : {me : ℕ} {t : List (Deed A K O)} {σ : State A K E} → Comes s ⊥ me t σ → Comes s (Unit {0}) me t σ
   faultless Begins = Begins
   faultless (Others d ne h) = Others d ne (faultless h)
-  faultless (Takes x go h) = Takes x go (faultless h)
-  faultless (Stores x v rest h) = Stores x v rest (faultless h)
-  faultless (Finds x go h) = Finds x go (faultless h)
-  faultless (Alters x g rest h ne) = Alters x g rest (faultless h) ne
-  faultless (Leaves x g rest h same) = Leaves x g rest (faultless h) same
-  faultless (Opens e f h is) = Opens e f (faultless h) is
-  faultless (Splits e fs g h is) = Splits e fs g (faultless h) is
-  faultless (Finishes e outcome h is) = Finishes e outcome (faultless h) is
-  faultless (Joins g n fs os h over) = Joins g n fs os (faultless h) over
-  faultless (Faults z h) = absurd z
+  faultless (Goes h u) = Goes (faultless h) (faultless_step u)
+  faultless (Does h u) = Does (faultless h) u
 
   module _ (ordered : AreOrdered s) (filled : AreFilled s) (stands : Stands s) where
     -- each history before the last deed of a run with faults is one of a run without

@@ -5,4 +5,5 @@ pub mod InvisibleLemmas
 pub mod NeededLemmas
 pub mod OwnLemmas
 pub mod SingleLemmas
+pub mod TogetherLemmas
 pub mod WayLemmas

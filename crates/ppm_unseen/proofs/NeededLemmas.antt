@@ -8,7 +8,7 @@ use Rattle.ppm_capsules.specs.Strand.{Frame}
 use Rattle.ppm_unseen.specs.Capsule.{Capsule, Loads, Keeps, Reads, Changes, Ends, Next, GoesOn, Forks, Closes, constant, exchange}
 use Rattle.ppm_unseen.specs.Run.{System, Deed, Changed, Forked, Finished, doer, State, NotYet, UnderWay, Waits, IsOver}
 use Rattle.ppm_unseen.specs.Run.{now, numbered, once_done, IsHistory}
-use Rattle.ppm_unseen.specs.Run.{Comes, Begins, Others, Takes, Stores, Finds, Alters, Leaves, Opens, Splits, Finishes, Joins, Faults}
+use Rattle.ppm_unseen.specs.Run.{Comes, Begins, Others, Goes, Does, Takes, Stores, Finds, Leaves, Opens, Joins, Faults, Alters, Splits, Finishes}
 use Rattle.ppm_unseen.specs.Conditions.{HasNoChange, IsOrdered, IsFilled}
 use Rattle.ppm_unseen.specs.Correct.{FaultsAreInvisible}
 use Rattle.ppm_unseen.specs.Calm.{ChangesOncePast}
@@ -84,11 +84,11 @@ counts v = Changes 0 (constant (suc v)) (Ends 0)
 
 counts_twice : (σ : State ℕ ℕ ℕ) × Comes counter (Unit {0}) 0 (Changed 0 0 2 ∷ Changed 0 0 1 ∷ []) σ
 counts_twice =
-    let read : Comes counter (Unit {0}) 0 [] (UnderWay 0 (counts 0) (λ x. 0)) = Finds 0 counts Begins in
+    let read : Comes counter (Unit {0}) 0 [] (UnderWay 0 (counts 0) (λ x. 0)) = Goes Begins (Finds 0 counts) in
     let put : Comes counter (Unit {0}) 0 (Changed 0 0 1 ∷ []) (UnderWay 0 (Ends 0) (λ x. 0)) =
-    Alters 0 (constant 1) (Ends 0) read (λ e. omega (arith, e)) in
-    let again : Comes counter (Unit {0}) 0 (Changed 0 0 1 ∷ []) (UnderWay 0 (counts 1) (λ x. 0)) = Finds 0 counts (Faults tt put) in
-    (_, Alters 0 (constant 2) (Ends 0) again (λ e. omega (arith, e)))
+    Does read (Alters 0 (constant 1) (Ends 0) (λ e. omega (arith, e))) in
+    let again : Comes counter (Unit {0}) 0 (Changed 0 0 1 ∷ []) (UnderWay 0 (counts 1) (λ x. 0)) = Goes (Goes put (Faults tt)) (Finds 0 counts) in
+    (_, Does again (Alters 0 (constant 2) (Ends 0) (λ e. omega (arith, e))))
 
 counter_shows : FaultsAreInvisible counter → ⊥
 counter_shows f =
@@ -117,18 +117,18 @@ puts = Changes 0 (constant 1) (Ends 0)
 -- with a fault between two reads strand 0 keeps both words
 keeps_both : (σ : State ℕ ℕ ℕ) × Comes half_filled (Unit {0}) 0 (Finished 0 2 ∷ Changed 1 0 1 ∷ []) σ
 keeps_both =
-    let first : Comes half_filled (Unit {0}) 0 [] (UnderWay 0 (Keeps 0 1 (Ends 0)) (λ x. 0)) = Finds 0 picks Begins in
+    let first : Comes half_filled (Unit {0}) 0 [] (UnderWay 0 (Keeps 0 1 (Ends 0)) (λ x. 0)) = Goes Begins (Finds 0 picks) in
     let meanwhile : Comes half_filled (Unit {0}) 0 (Changed 1 0 1 ∷ []) (UnderWay 0 (Ends 0) (store numbers (λ x. 0) 0 1)) =
-    Others (Changed 1 0 1) (λ e. omega (arith, e)) (Stores 0 1 (Ends 0) first) in
+    Others (Changed 1 0 1) (λ e. omega (arith, e)) (Goes first (Stores 0 1 (Ends 0))) in
     let again : Comes half_filled (Unit {0}) 0 (Changed 1 0 1 ∷ []) (UnderWay 0 (Keeps 1 1 (Ends 0)) (store numbers (λ x. 0) 0 1)) =
-    Finds 0 picks (Faults tt meanwhile) in
-    (_, Finishes 0 2 (Stores 1 1 (Ends 0) again) refl)
+    Goes (Goes meanwhile (Faults tt)) (Finds 0 picks) in
+    (_, Does (Goes again (Stores 1 1 (Ends 0))) (Finishes 0 2 refl))
 
 -- strand 1 puts its word
 puts_once : (σ : State ℕ ℕ ℕ) × Comes half_filled (Unit {0}) 1 (Finished 0 2 ∷ Changed 1 0 1 ∷ []) σ
 puts_once =
     let put : Comes half_filled (Unit {0}) 1 (Changed 1 0 1 ∷ []) (UnderWay 1 (Ends 0) (λ x. 0)) =
-    Alters 0 (constant 1) (Ends 0) Begins (λ e. omega (arith, e)) in
+    Does Begins (Alters 0 (constant 1) (Ends 0) (λ e. omega (arith, e))) in
     (_, Others (Finished 0 2) (λ e. omega (arith, e)) put)
 
 -- from here on, without faults, no path ends with both words kept
@@ -176,19 +176,19 @@ keeps_one_once_done t d IsOver h = h
 keeps_one : {t : List (Deed ℕ ℕ ℕ)} {σ : State ℕ ℕ ℕ} → Comes half_filled ⊥ 0 t σ → KeepsOneAt σ × NotWithTwo 0 t
 keeps_one Begins = (picks_one, tt)
 keeps_one (Others {t = t} {σ = σ} d ne h) = let so = keeps_one h in (keeps_one_once_done t d σ so.0, (λ e. ne (ap doer e), so.1))
-keeps_one (Takes {o = o} x go h) = keeps_one h
-keeps_one (Stores x v rest h) = keeps_one h
-keeps_one (Finds {t = t} x go h) = let so = keeps_one h in (so.0 (now half_filled t x), so.1)
-keeps_one (Alters {t = t} x g rest h ne) = let so = keeps_one h in (so.0, (λ e. let zero_is_two : 0 ≡ 2 = ap told_of e in omega (arith, zero_is_two), so.1))
-keeps_one (Leaves x g rest h same) = keeps_one h
-keeps_one (Opens e f h is) = let two_is_zero : 2 ≡ 0 = ap way is in absurd (omega (arith, two_is_zero))
-keeps_one (Splits e fs g h is) = let two_is_one : 2 ≡ 1 = ap way is in absurd (omega (arith, two_is_one))
-keeps_one (Finishes {o = o} e outcome h is) =
+keeps_one (Goes h (Takes {o = o} x go)) = keeps_one h
+keeps_one (Goes h (Stores x v rest)) = keeps_one h
+keeps_one (Goes {t = t} h (Finds x go)) = let so = keeps_one h in (so.0 (now half_filled t x), so.1)
+keeps_one (Does {t = t} h (Alters x g rest ne)) = let so = keeps_one h in (so.0, (λ e. let zero_is_two : 0 ≡ 2 = ap told_of e in omega (arith, zero_is_two), so.1))
+keeps_one (Goes h (Leaves x g rest same)) = keeps_one h
+keeps_one (Goes h (Opens e f is)) = let two_is_zero : 2 ≡ 0 = ap way is in absurd (omega (arith, two_is_zero))
+keeps_one (Does h (Splits e fs g is)) = let two_is_one : 2 ≡ 1 = ap way is in absurd (omega (arith, two_is_one))
+keeps_one (Does h (Finishes {o = o} e outcome is)) =
     let so = keeps_one h in
     let sum : o 0 + o 1 ≡ outcome = ap outcome_of is in
     (tt, (λ e. so.0 (sum ∙ ap told_of e), so.1))
-keeps_one (Joins g n fs os h over) = absurd (keeps_one h).0
-keeps_one (Faults z h) = absurd z
+keeps_one (Goes h (Joins g n fs os over)) = absurd (keeps_one h).0
+keeps_one (Goes h (Faults z)) = absurd z
 
 half_filled_shows : FaultsAreInvisible half_filled → ⊥
 half_filled_shows f =
@@ -219,17 +219,17 @@ back = Changes 0 (exchange 1 0) (Ends 0)
 exchanges_twice : (σ : State ℕ ℕ ℕ) × Comes returning (Unit {0}) 0 (Changed 0 0 1 ∷ Changed 1 0 0 ∷ Changed 0 0 1 ∷ []) σ
 exchanges_twice =
     let one : Comes returning (Unit {0}) 0 (Changed 0 0 1 ∷ []) (UnderWay 0 (Ends 0) (λ x. 0)) =
-    Alters 0 (exchange 0 1) (Ends 0) Begins (λ e. omega (arith, e)) in
+    Does Begins (Alters 0 (exchange 0 1) (Ends 0) (λ e. omega (arith, e))) in
     let again : Comes returning (Unit {0}) 0 (Changed 1 0 0 ∷ Changed 0 0 1 ∷ []) (UnderWay 0 there (λ x. 0)) =
-    Faults tt (Others (Changed 1 0 0) (λ e. omega (arith, e)) one) in
-    (_, Alters 0 (exchange 0 1) (Ends 0) again (λ e. omega (arith, e)))
+    Goes (Others (Changed 1 0 0) (λ e. omega (arith, e)) one) (Faults tt) in
+    (_, Does again (Alters 0 (exchange 0 1) (Ends 0) (λ e. omega (arith, e))))
 
 -- strand 1 exchanges it back in between
 exchanges_back : (σ : State ℕ ℕ ℕ) × Comes returning (Unit {0}) 1 (Changed 0 0 1 ∷ Changed 1 0 0 ∷ Changed 0 0 1 ∷ []) σ
 exchanges_back =
     let meanwhile : Comes returning (Unit {0}) 1 (Changed 0 0 1 ∷ []) (UnderWay 1 back (λ x. 0)) = Others (Changed 0 0 1) (λ e. omega (arith, e)) Begins in
     let one : Comes returning (Unit {0}) 1 (Changed 1 0 0 ∷ Changed 0 0 1 ∷ []) (UnderWay 1 (Ends 0) (λ x. 0)) =
-    Alters 0 (exchange 1 0) (Ends 0) meanwhile (λ e. omega (arith, e)) in
+    Does meanwhile (Alters 0 (exchange 1 0) (Ends 0) (λ e. omega (arith, e))) in
     (_, Others (Changed 0 0 1) (λ e. omega (arith, e)) one)
 
 returning_shows : FaultsAreInvisible returning → ⊥

@@ -7,7 +7,7 @@ use Rattle.ppm_capsules.specs.Strand.{Frame}
 use Rattle.ppm_unseen.specs.Capsule.{Capsule, Loads, Keeps, Reads, Changes, Ends, Next, GoesOn, Forks, Closes}
 use Rattle.ppm_unseen.specs.Run.{System, Deed, Changed, Forked, Finished, doer, State, NotYet, UnderWay, Waits, IsOver, Change}
 use Rattle.ppm_unseen.specs.Run.{now, numbered, begun_if_any, once_done, passed, IsHistory}
-use Rattle.ppm_unseen.specs.Run.{Comes, Begins, Others, Takes, Stores, Finds, Alters, Leaves, Opens, Splits, Finishes, Joins, Faults}
+use Rattle.ppm_unseen.specs.Run.{Comes, Begins, Others, Goes, Does, Takes, Stores, Finds, Leaves, Opens, Joins, Faults, Alters, Splits, Finishes}
 use Rattle.ppm_unseen.specs.Calm.{places, WritesAreCalm}
 use Rattle.ppm_unseen.proofs.InvisibleLemmas.{history_before}
 
@@ -83,16 +83,16 @@ module _ {A K E O : Type 0} (s : System A K E O) (closes : (e : E) (o : Memory A
   forks_nothing : (i : ℕ) {t : List (Deed A K O)} {σ : State A K E} → Comes s ⊥ i t σ → DidNotFork i t
   forks_nothing i Begins = tt
   forks_nothing i (Others {t = t} d ne h) = did_not i d t ne
-  forks_nothing i (Takes x go h) = forks_nothing i h
-  forks_nothing i (Stores x v rest h) = forks_nothing i h
-  forks_nothing i (Finds x go h) = forks_nothing i h
-  forks_nothing i (Alters x g rest h ne) = tt
-  forks_nothing i (Leaves x g rest h same) = forks_nothing i h
-  forks_nothing i (Opens e f h is) = forks_nothing i h
-  forks_nothing i (Splits {o = o} e fs g h is) = let two : 1 ≡ 2 = opens_nothing e o (Forks fs g) is in omega (arith, two)
-  forks_nothing i (Finishes e outcome h is) = tt
-  forks_nothing i (Joins g n fs os h over) = forks_nothing i h
-  forks_nothing i (Faults z h) = absurd z
+  forks_nothing i (Goes h (Takes x go)) = forks_nothing i h
+  forks_nothing i (Goes h (Stores x v rest)) = forks_nothing i h
+  forks_nothing i (Goes h (Finds x go)) = forks_nothing i h
+  forks_nothing i (Does h (Alters x g rest ne)) = tt
+  forks_nothing i (Goes h (Leaves x g rest same)) = forks_nothing i h
+  forks_nothing i (Goes h (Opens e f is)) = forks_nothing i h
+  forks_nothing i (Does h (Splits {o = o} e fs g is)) = let two : 1 ≡ 2 = opens_nothing e o (Forks fs g) is in omega (arith, two)
+  forks_nothing i (Does h (Finishes e outcome is)) = tt
+  forks_nothing i (Goes h (Joins g n fs os over)) = forks_nothing i h
+  forks_nothing i (Goes h (Faults z)) = absurd z
 
   -- so a history has no fork
   pub no_fork : (t : List (Deed A K O)) → IsHistory s ⊥ t → HasNoFork t
@@ -141,23 +141,23 @@ module _ {A K E O : Type 0} (s : System A K E O) (closes : (e : E) (o : Memory A
   within n i may Begins none = begins_within n i (numbered 0 s.start i) may
   within n i may (Others {t = t} {σ = σ} d ne h) none =
       within_once_done n i d t (passed h) σ ne none (within n i may h (no_fork_before d t none))
-  within n i may (Takes {o = o} x go h) none = let w = within n i may h none in (w.0, w.1 (o x), w.2, w.3)
-  within n i may (Stores x v rest h) none = within n i may h none
-  within n i may (Finds {t = t} x go h) none = let w = within n i may h none in (w.0, w.1 (now s t x), w.2, w.3)
-  within n i may (Alters {t = t} x g rest h ne) none =
+  within n i may (Goes h (Takes {o = o} x go)) none = let w = within n i may h none in (w.0, w.1 (o x), w.2, w.3)
+  within n i may (Goes h (Stores x v rest)) none = within n i may h none
+  within n i may (Goes {t = t} h (Finds x go)) none = let w = within n i may h none in (w.0, w.1 (now s t x), w.2, w.3)
+  within n i may (Does {t = t} h (Alters x g rest ne)) none =
       let w = within n i may h none in
       let less = fewer w.0 x g rest w.1 in
       let one = counted i x (g (now s t x)) t in
       (less.0, less.2, omega (arith, less.1, w.2), omega (arith, less.1, one, w.3))
-  within n i may (Leaves x g rest h same) none =
+  within n i may (Goes h (Leaves x g rest same)) none =
       let w = within n i may h none in
       let less = fewer w.0 x g rest w.1 in
       (less.0, less.2, omega (arith, less.1, w.2), omega (arith, less.1, w.3))
-  within n i may (Opens {o = o} e f h is) none = let two : 0 ≡ 2 = opens_nothing e o (GoesOn f) is in absurd (omega (arith, two))
-  within n i may (Splits {o = o} e fs g h is) none = let two : 1 ≡ 2 = opens_nothing e o (Forks fs g) is in absurd (omega (arith, two))
-  within n i may (Finishes e outcome h is) none = let w = within n i may h none in (refl, omega (arith, w.3))
-  within n i may (Joins g j fs os h over) none = absurd (within n i may h none)
-  within n i may (Faults z h) none = absurd z
+  within n i may (Goes h (Opens {o = o} e f is)) none = let two : 0 ≡ 2 = opens_nothing e o (GoesOn f) is in absurd (omega (arith, two))
+  within n i may (Does h (Splits {o = o} e fs g is)) none = let two : 1 ≡ 2 = opens_nothing e o (Forks fs g) is in absurd (omega (arith, two))
+  within n i may (Does h (Finishes e outcome is)) none = let w = within n i may h none in (refl, omega (arith, w.3))
+  within n i may (Goes h (Joins g j fs os over)) none = absurd (within n i may h none)
+  within n i may (Goes h (Faults z)) none = absurd z
 
   -- no more changes are made, and no more asked for
   bound : (n i : ℕ) (t : List (Deed A K O)) (ks : List Change) (σ : State A K E) → Within n i t ks σ → (changes_by i t ≤ n) × (how_many ks ≤ n)

@@ -29,21 +29,21 @@ still_onto a (k ∷ ks) q s r = still_onto a ks (k ∷ q) s.1 (s.0, r)
 module _ {A E : Type 0} (eq : Equality A) (out : A → Bool) where
   -- in n word steps without a read, which ask for the changes ch, a capsule with the own words f, of which w were kept, comes to c, and its
   -- words to q, of which w' were kept
-  abbrev pub Goes : ℕ → Memory A → List A → Capsule A E → List Change → Capsule A E → Memory A → List A → Type 0
-  Goes zero f w r ch c q w' = (r ≡ c) × (ch ≡ []) × (w ≡ w') × AreSameOn w q f
-  Goes (suc n) f w (Loads x go) ch c q w' = Goes n f w (go (f x)) ch c q w'
-  Goes (suc n) f w (Keeps x v rest) ch c q w' = (out x ≡ true) × Goes n (store eq f x v) (x ∷ w) rest ch c q w'
-  Goes (suc n) f w (Reads x go) ch c q w' = ⊥
-  Goes (suc n) f w (Changes x g rest) ch c q w' = (left : List Change) × (ch ≡ change x g ∷ left) × Goes n f w rest left c q w'
-  Goes (suc n) f w (Ends e) ch c q w' = ⊥
+  abbrev pub Leads : ℕ → Memory A → List A → Capsule A E → List Change → Capsule A E → Memory A → List A → Type 0
+  Leads zero f w r ch c q w' = (r ≡ c) × (ch ≡ []) × (w ≡ w') × AreSameOn w q f
+  Leads (suc n) f w (Loads x go) ch c q w' = Leads n f w (go (f x)) ch c q w'
+  Leads (suc n) f w (Keeps x v rest) ch c q w' = (out x ≡ true) × Leads n (store eq f x v) (x ∷ w) rest ch c q w'
+  Leads (suc n) f w (Reads x go) ch c q w' = ⊥
+  Leads (suc n) f w (Changes x g rest) ch c q w' = (left : List Change) × (ch ≡ change x g ∷ left) × Leads n f w rest left c q w'
+  Leads (suc n) f w (Ends e) ch c q w' = ⊥
 
   -- a load more
   pub more_load : (o : Memory A) (x : A) (go : ℕ → Capsule A E) (q : Memory A) (w' : List A) → AreSameOff out o q → (out x ≡ false) ⊎ In x w'
-      → (n : ℕ) (f : Memory A) (w : List A) (r : Capsule A E) (ch : List Change) → AreSameOff out o f → Goes n f w r ch (Loads x go) q w'
-      → (m : ℕ) × Goes m f w r ch (go (q x)) q w'
+      → (n : ℕ) (f : Memory A) (w : List A) (r : Capsule A E) (ch : List Change) → AreSameOff out o f → Leads n f w r ch (Loads x go) q w'
+      → (m : ℕ) × Leads m f w r ch (go (q x)) q w'
   more_load o x go q w' hq may zero f w r ch hf g =
       let same : q x ≡ f x = found out o q f w' x hq hf (subst (λ (u : List A). AreSameOn u q f) g.2 g.3) may in
-      (1, subst (λ (c : Capsule A E). Goes 1 f w c ch (go (q x)) q w') (sym g.0) (ap go (sym same), g.1, g.2, g.3))
+      (1, subst (λ (c : Capsule A E). Leads 1 f w c ch (go (q x)) q w') (sym g.0) (ap go (sym same), g.1, g.2, g.3))
   more_load o x go q w' hq may (suc n) f w (Loads y to) ch hf g =
       let r = more_load o x go q w' hq may n f w (to (f y)) ch hf g in (suc r.0, r.1)
   more_load o x go q w' hq may (suc n) f w (Keeps y v rest) ch hf g =
@@ -55,11 +55,11 @@ module _ {A E : Type 0} (eq : Equality A) (out : A → Bool) where
 
   -- a word more that is kept
   pub more_keep : (x : A) (v : ℕ) (c : Capsule A E) (q : Memory A) (w' : List A) → out x ≡ true
-      → (n : ℕ) (f : Memory A) (w : List A) (r : Capsule A E) (ch : List Change) → Goes n f w r ch (Keeps x v c) q w'
-      → (m : ℕ) × Goes m f w r ch c (store eq q x v) (x ∷ w')
+      → (n : ℕ) (f : Memory A) (w : List A) (r : Capsule A E) (ch : List Change) → Leads n f w r ch (Keeps x v c) q w'
+      → (m : ℕ) × Leads m f w r ch c (store eq q x v) (x ∷ w')
   more_keep x v c q w' is zero f w r ch g = (
     1,
-    subst (λ (d : Capsule A E). Goes 1 f w d ch c (store eq q x v) (x ∷ w')) (sym g.0)
+    subst (λ (d : Capsule A E). Leads 1 f w d ch c (store eq q x v) (x ∷ w')) (sym g.0)
         (is, (refl, g.1, ap (λ (u : List A). x ∷ u) g.2, store_same_on eq w q f x v g.3)),
   )
   more_keep x v c q w' is (suc n) f w (Loads y to) ch g =
@@ -73,11 +73,11 @@ module _ {A E : Type 0} (eq : Equality A) (out : A → Bool) where
 
   -- a change more
   pub more_change : (x : ℕ) (by : ℕ → ℕ) (c : Capsule A E) (q : Memory A) (w' : List A)
-      → (n : ℕ) (f : Memory A) (w : List A) (r : Capsule A E) (ch : List Change) → Goes n f w r ch (Changes x by c) q w'
-      → (m : ℕ) × Goes m f w r (snoc ch (change x by)) c q w'
+      → (n : ℕ) (f : Memory A) (w : List A) (r : Capsule A E) (ch : List Change) → Leads n f w r ch (Changes x by c) q w'
+      → (m : ℕ) × Leads m f w r (snoc ch (change x by)) c q w'
   more_change x by c q w' zero f w r ch g = (
     1,
-    subst (λ (d : Capsule A E). Goes 1 f w d (snoc ch (change x by)) c q w') (sym g.0)
+    subst (λ (d : Capsule A E). Leads 1 f w d (snoc ch (change x by)) c q w') (sym g.0)
         ([], ap (λ (l : List Change). snoc l (change x by)) g.1, (refl, refl, g.2, g.3)),
   )
   more_change x by c q w' (suc n) f w (Loads y to) ch g =

@@ -5,3 +5,4 @@ pub mod Conditions
 pub mod Correct
 pub mod Needed
 pub mod Run
+pub mod Together

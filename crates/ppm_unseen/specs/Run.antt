@@ -107,66 +107,68 @@ module _ {A K E O : Type 0} (s : System A K E O) where
   once_done i t d (Waits g n fs) = Waits g n fs
   once_done i t d IsOver = IsOver
 
-  -- how strand `me` comes along a history to where it is. It begins; others do something; it loads, keeps or reads a word; it makes a change, or asks
-  -- for one that leaves the word as it is; an end opens the next capsule, forks, or closes the strand; a frame goes on once its branches are over;
-  -- by a fault the strand begins its capsule again, with its own words as they are. Where `faults` has no proof there is no fault.
+  -- how a strand goes on after the deeds t, unseen by others: it loads, keeps or reads a word; it asks for a change that leaves the word as it is; an
+  -- end opens the next capsule; a frame goes on once its branches are over; by a fault the strand begins its capsule again, with its own words as
+  -- they are. Where `faults` has no proof there is no fault.
+  pub data Unseen (faults : Type 0) (t : List (Deed A K O)) : State A K E → State A K E → Type 0 where
+    Takes : {k : K} {o : Memory A} (x : A) (go : ℕ → Capsule A E) → Unseen faults t (UnderWay k (Loads x go) o) (UnderWay k (go (o x)) o)
+    Stores : {k : K} {o : Memory A} (x : A) (v : ℕ) (rest : Capsule A E)
+        → Unseen faults t (UnderWay k (Keeps x v rest) o) (UnderWay k rest (store s.code.names o x v))
+    Finds : {k : K} {o : Memory A} (x : ℕ) (go : ℕ → Capsule A E) → Unseen faults t (UnderWay k (Reads x go) o) (UnderWay k (go (now t x)) o)
+    Leaves : {k : K} {o : Memory A} (x : ℕ) (g : ℕ → ℕ) (rest : Capsule A E) → g (now t x) ≡ now t x
+        → Unseen faults t (UnderWay k (Changes x g rest) o) (UnderWay k rest o)
+    Opens : {k : K} {o : Memory A} (e : E) (f : Frame A K) → s.code.opens e o ≡ GoesOn f → Unseen faults t (UnderWay k (Ends e) o) (begun f)
+    Joins : (g : Frame A K) (n : ℕ) (fs : List (Frame A K)) (os : List O) → HaveFinished n fs os t
+        → Unseen faults t (Waits g n fs) (begun (s.code.rejoin g os))
+    Faults : {k : K} {rest : Capsule A E} {o : Memory A} → faults → Unseen faults t (UnderWay k rest o) (UnderWay k (s.code.capsule k) o)
+
+  -- how strand `me` goes on by a deed: a change of a word; an end that forks, or closes the strand
+  pub data Seen (me : ℕ) (t : List (Deed A K O)) : State A K E → Deed A K O → State A K E → Type 0 where
+    Alters : {k : K} {o : Memory A} (x : ℕ) (g : ℕ → ℕ) (rest : Capsule A E) → (g (now t x) ≡ now t x → ⊥)
+        → Seen me t (UnderWay k (Changes x g rest) o) (Changed me x (g (now t x))) (UnderWay k rest o)
+    Splits : {k : K} {o : Memory A} (e : E) (fs : List (Frame A K)) (g : Frame A K) → s.code.opens e o ≡ Forks fs g
+        → Seen me t (UnderWay k (Ends e) o) (Forked me fs) (Waits g (count t) fs)
+    Finishes : {k : K} {o : Memory A} (e : E) (outcome : O) → s.code.opens e o ≡ Closes outcome
+        → Seen me t (UnderWay k (Ends e) o) (Finished me outcome) IsOver
+
+  -- strand `me` comes along a history to where it is: it begins; others do something; it goes on
   pub data Comes (faults : Type 0) (me : ℕ) : List (Deed A K O) → State A K E → Type 0 where
     Begins : Comes faults me [] (begun_if_any (numbered 0 s.start me))
     Others : {t : List (Deed A K O)} {σ : State A K E} (d : Deed A K O) → (doer d ≡ me → ⊥)
         → Comes faults me t σ → Comes faults me (d ∷ t) (once_done me t d σ)
-    Takes : {t : List (Deed A K O)} {k : K} {o : Memory A} (x : A) (go : ℕ → Capsule A E)
-        → Comes faults me t (UnderWay k (Loads x go) o) → Comes faults me t (UnderWay k (go (o x)) o)
-    Stores : {t : List (Deed A K O)} {k : K} {o : Memory A} (x : A) (v : ℕ) (rest : Capsule A E)
-        → Comes faults me t (UnderWay k (Keeps x v rest) o) → Comes faults me t (UnderWay k rest (store s.code.names o x v))
-    Finds : {t : List (Deed A K O)} {k : K} {o : Memory A} (x : ℕ) (go : ℕ → Capsule A E)
-        → Comes faults me t (UnderWay k (Reads x go) o) → Comes faults me t (UnderWay k (go (now t x)) o)
-    Alters : {t : List (Deed A K O)} {k : K} {o : Memory A} (x : ℕ) (g : ℕ → ℕ) (rest : Capsule A E)
-        → Comes faults me t (UnderWay k (Changes x g rest) o) → (g (now t x) ≡ now t x → ⊥)
-        → Comes faults me (Changed me x (g (now t x)) ∷ t) (UnderWay k rest o)
-    Leaves : {t : List (Deed A K O)} {k : K} {o : Memory A} (x : ℕ) (g : ℕ → ℕ) (rest : Capsule A E)
-        → Comes faults me t (UnderWay k (Changes x g rest) o) → g (now t x) ≡ now t x → Comes faults me t (UnderWay k rest o)
-    Opens : {t : List (Deed A K O)} {k : K} {o : Memory A} (e : E) (f : Frame A K)
-        → Comes faults me t (UnderWay k (Ends e) o) → s.code.opens e o ≡ GoesOn f → Comes faults me t (begun f)
-    Splits : {t : List (Deed A K O)} {k : K} {o : Memory A} (e : E) (fs : List (Frame A K)) (g : Frame A K)
-        → Comes faults me t (UnderWay k (Ends e) o) → s.code.opens e o ≡ Forks fs g → Comes faults me (Forked me fs ∷ t) (Waits g (count t) fs)
-    Finishes : {t : List (Deed A K O)} {k : K} {o : Memory A} (e : E) (outcome : O)
-        → Comes faults me t (UnderWay k (Ends e) o) → s.code.opens e o ≡ Closes outcome → Comes faults me (Finished me outcome ∷ t) IsOver
-    Joins : {t : List (Deed A K O)} (g : Frame A K) (n : ℕ) (fs : List (Frame A K)) (os : List O)
-        → Comes faults me t (Waits g n fs) → HaveFinished n fs os t → Comes faults me t (begun (s.code.rejoin g os))
-    Faults : {t : List (Deed A K O)} {k : K} {rest : Capsule A E} {o : Memory A} → faults
-        → Comes faults me t (UnderWay k rest o) → Comes faults me t (UnderWay k (s.code.capsule k) o)
+    Goes : {t : List (Deed A K O)} {σ τ : State A K E} → Comes faults me t σ → Unseen faults t σ τ → Comes faults me t τ
+    Does : {t : List (Deed A K O)} {σ τ : State A K E} {d : Deed A K O} → Comes faults me t σ → Seen me t σ d τ → Comes faults me (d ∷ t) τ
 
   -- a history of the system: each strand comes along it somewhere. So each makes its own deeds of it, and sees all of them.
   abbrev pub IsHistory : (faults : Type 0) → List (Deed A K O) → Type 0
   IsHistory faults t = (i : ℕ) → (σ : State A K E) × Comes faults i t σ
 
-module _ {A K E O : Type 0} {s : System A K E O} {faults : Type 0} {me : ℕ} where
-  -- the changes that the capsule under way has asked for, the last one first
-  abbrev pub passed : {t : List (Deed A K O)} {σ : State A K E} → Comes s faults me t σ → List Change
-  passed Begins = []
-  passed (Others d ne h) = passed h
-  passed (Takes x go h) = passed h
-  passed (Stores x v rest h) = passed h
-  passed (Finds x go h) = passed h
-  passed (Alters x g rest h ne) = change x g ∷ passed h
-  passed (Leaves x g rest h same) = change x g ∷ passed h
-  passed (Opens e f h is) = []
-  passed (Splits e fs g h is) = []
-  passed (Finishes e outcome h is) = []
-  passed (Joins g n fs os h over) = []
-  passed (Faults f h) = []
+-- the changes that a capsule under way has asked for, the last one first; and those up to the last one that changed a word
+pub record Asked : Type 0 where
+  pub all : List Change
+  pub settled : List Change
 
-  -- those up to the last one that changed a word
+abbrev pub nothing : Asked
+nothing = record { all = []; settled = [] }
+
+module _ {A K E O : Type 0} {s : System A K E O} {faults : Type 0} {me : ℕ} where
+  -- what the capsule under way has asked for
+  abbrev pub asked : {t : List (Deed A K O)} {σ : State A K E} → Comes s faults me t σ → Asked
+  asked Begins = nothing
+  asked (Others d ne h) = asked h
+  asked (Goes h (Takes x go)) = asked h
+  asked (Goes h (Stores x v rest)) = asked h
+  asked (Goes h (Finds x go)) = asked h
+  asked (Goes h (Leaves x g rest same)) = record { all = change x g ∷ (asked h).all; settled = (asked h).settled }
+  asked (Goes h (Opens e f is)) = nothing
+  asked (Goes h (Joins g n fs os over)) = nothing
+  asked (Goes h (Faults z)) = nothing
+  asked (Does h (Alters x g rest ne)) = record { all = change x g ∷ (asked h).all; settled = change x g ∷ (asked h).all }
+  asked (Does h (Splits e fs g is)) = nothing
+  asked (Does h (Finishes e outcome is)) = nothing
+
+  abbrev pub passed : {t : List (Deed A K O)} {σ : State A K E} → Comes s faults me t σ → List Change
+  passed h = (asked h).all
+
   abbrev pub settled : {t : List (Deed A K O)} {σ : State A K E} → Comes s faults me t σ → List Change
-  settled Begins = []
-  settled (Others d ne h) = settled h
-  settled (Takes x go h) = settled h
-  settled (Stores x v rest h) = settled h
-  settled (Finds x go h) = settled h
-  settled (Alters x g rest h ne) = change x g ∷ passed h
-  settled (Leaves x g rest h same) = settled h
-  settled (Opens e f h is) = []
-  settled (Splits e fs g h is) = []
-  settled (Finishes e outcome h is) = []
-  settled (Joins g n fs os h over) = []
-  settled (Faults f h) = []
+  settled h = (asked h).settled

@@ -4,10 +4,21 @@ ghost use Rattle.ppm_unseen.specs.Claims.{RacingClaims};
 ghost use Rattle.ppm_unseen.specs.Correct.{FaultsAreInvisibleSo};
 ghost use Rattle.ppm_unseen.specs.Needed.{FillingIsNeeded, OrderIsNeeded, StandingIsNeeded};
 ghost use Rattle.ppm_unseen.specs.Run.{System};
+ghost use Rattle.ppm_unseen.specs.Together.{EachRunHasOneWithout, RunsAreHistories};
 
-/// Faults are invisible, though strands may race.
+/// Faults are invisible, though strands may race: where each capsule makes its changes before its
+/// reads, keeps the same own words whatever it reads, and what is done stands in runs without
+/// faults, the history of each run with faults is that of a run without, and in that run each
+/// strand that is not in the middle of a capsule is where it is in the other.
 pub fn faults_are_invisible<A, K, E, O>()
-    ensures { (s : System A K E O) → FaultsAreInvisibleSo s }
+    ensures histories { (s : System A K E O) → FaultsAreInvisibleSo s }
+    ensures runs { (s : System A K E O) → EachRunHasOneWithout s }
+{}
+
+/// A history is that of a run of all strands together, in which one after another makes a step.
+pub fn runs_are_histories<A, K, E, O>()
+    ensures with_faults { (s : System A K E O) → RunsAreHistories s (Unit {0}) }
+    ensures without { (s : System A K E O) → RunsAreHistories s ⊥ }
 {}
 
 /// What strands do stands, if no strand changes a word that the capsule of another one, under way,

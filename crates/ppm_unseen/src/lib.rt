@@ -12,5 +12,5 @@ mod laws;
 
 pub use laws::{
     calm_writes_stand, each_condition_is_needed, faults_are_invisible,
-    racing_claims_are_restartable,
+    racing_claims_are_restartable, runs_are_histories,
 };
