@@ -1,17 +1,15 @@
 -- Beside a strand with faults goes one without. It stands where the capsule's last change was made (`Commit`), or where the strand is, before its
 -- first read (`Early`) or after it (`Late`); after a fault the strand is on its way again to where the commit stands (`Replay`).
-use Rattle.std.proofs.Common.{◌≡◌, ℕ, zero, suc, Bool, false, List, [], ◌∷◌, ◌⊎◌, inl, inr, refl, sym, ◌∙◌, subst}
-use Rattle.std.proofs.Math.Path.{fun_ext}
-use Rattle.std.proofs.lemmas.Bool.{cases_Bool}
+use Rattle.std.proofs.Common.{◌≡◌, ℕ, Bool, false, List, [], ◌∷◌, ◌⊎◌, inl, inr, refl, sym, subst}
 use Rattle.ppm_strands.specs.Tree.{Words}
 use Rattle.ppm_capsules.specs.Capsule.{Memory, In, store}
-use Rattle.ppm_unseen.specs.Capsule.{Capsule, Loads, Keeps, Reads, Changes, Ends}
-use Rattle.ppm_unseen.specs.Run.{System, Deed, Changed, doer, State, NotYet, UnderWay, Waits, IsOver, Change, change, AllStill}
+use Rattle.ppm_unseen.specs.Capsule.{Capsule, Loads, Keeps, Reads, Changes}
+use Rattle.ppm_unseen.specs.Run.{System, Deed, Changed, State, NotYet, UnderWay, Waits, IsOver, Change, change, AllStill}
 use Rattle.ppm_unseen.specs.Run.{now, passed, settled}
-use Rattle.ppm_unseen.specs.Run.{Comes, Others, Goes, Does, Takes, Stores, Finds, Leaves, Alters}
+use Rattle.ppm_unseen.specs.Run.{Comes, Goes, Does, Takes, Stores, Finds, Leaves, Alters}
 use Rattle.ppm_unseen.specs.Conditions.{HasNoChange, IsOrdered, FillsPast}
 use Rattle.ppm_unseen.proofs.OwnLemmas.{AreSameOn, AreSameOff, store_same_on, store_same_off, found}
-use Rattle.ppm_unseen.proofs.WayLemmas.{onto, onto_snoc, still_onto, Leads, more_load, more_keep, more_change}
+use Rattle.ppm_unseen.proofs.WayLemmas.{onto, onto_snoc, Leads, more_load, more_keep, more_change}
 
 module _ {A K E O : Type 0} (s : System A K E O) (me : ℕ) where
   -- without faults
@@ -117,7 +115,7 @@ module _ {A K E O : Type 0} (s : System A K E O) (me : ℕ) where
           agree = e.agree;
         })
 
-    -- so after a read
+    -- a load after a read
     pub takes_late : (f : Memory A) (x : A) (go : ℕ → Capsule A E) → AreSameOff out o f → Late out o t k (Loads x go) f → Late out o t k (go (f x)) f
     takes_late f x go hf l =
         let may = load_fills out o l.q l.w x go l.inputs l.fills in
@@ -149,7 +147,7 @@ module _ {A K E O : Type 0} (s : System A K E O) (me : ℕ) where
           agree = store_same_on s.code.names m.w m.q f x v e.agree;
         }
 
-    -- so after a read
+    -- a word that is kept after a read
     pub stores_late : (f : Memory A) (x : A) (v : ℕ) (rest : Capsule A E)
         → Late out o t k (Keeps x v rest) f → Late out o t k rest (store s.code.names f x v)
     stores_late f x v rest l = record {
@@ -219,107 +217,3 @@ module _ {A K E O : Type 0} (s : System A K E O) (me : ℕ) where
           ordered = m.ordered;
         } in
         (record { out = out; o = o; rest = rest; at = here; same = refl }, (hf, inr (inl (record { at = here; agree = e.agree }))))
-
-  -- at an end the own words are the same
-  at_end : (out : A → Bool) (o q f : Memory A) (w : List A) (e : E) → AreSameOff out o q → AreSameOff out o f → AreSameOn w q f
-      → FillsPast out o w (Ends e) → q ≡ f
-  at_end out o q f w e hq hf h fills = fun_ext (λ x. elim (cases_Bool (out x)) [
-    | inl is ↦ h x (fills x is)
-    | inr off ↦ hq x off ∙ sym (hf x off)
-  ])
-
-  module _ {t : List (Deed A K O)} {k : K} (f : Memory A) (c : Commit t k) where
-    -- on its way by nothing: the strand is at the commit
-    settle : (rest : Capsule A E) (w : List A) (ch : List Change)
-        → Leads s.code.names c.out zero f w rest ch c.rest c.at.q c.at.w → Early c.out c.o t k rest f
-    settle rest w ch g = subst (λ (r : Capsule A E). Early c.out c.o t k r f) (sym g.0)
-        (record { at = c.at; agree = subst (λ (u : List A). AreSameOn u c.at.q f) g.2 g.3 })
-
-    -- at an end the strand is where the one beside it is
-    end_run : (e : E) → AreSameOff c.out c.o f → Early c.out c.o t k (Ends e) f ⊎ Late c.out c.o t k (Ends e) f → Quiet t (UnderWay k (Ends e) f)
-    end_run e hf (inl l) =
-        subst (λ (u : Memory A). Quiet t (UnderWay k (Ends e) u)) (at_end c.out c.o l.at.q f l.at.w e l.at.inputs hf l.agree l.at.fills) l.at.run
-    end_run e hf (inr l) =
-        subst (λ (u : Memory A). Quiet t (UnderWay k (Ends e) u)) (at_end c.out c.o l.q f l.w e l.inputs hf l.agree l.fills) l.run
-
-    -- a replay may be at an end only where the commit is
-    replay_ends : (e : E) (n : ℕ) (w : List A) (ch : List Change) → Leads s.code.names c.out n f w (Ends e) ch c.rest c.at.q c.at.w
-        → Early c.out c.o t k (Ends e) f
-    replay_ends e zero w ch g = settle (Ends e) w ch g
-    replay_ends e (suc n) w ch g = absurd g
-
-    -- a load of a replay
-    pub replay_takes : (x : A) (go : ℕ → Capsule A E) → AreSameOff c.out c.o f
-        → (n : ℕ) (w : List A) (ch : List Change) → Leads s.code.names c.out n f w (Loads x go) ch c.rest c.at.q c.at.w
-        → ((b : Words) → AllStill b (settled c.at.run) → AllStill b ch) → Where t k (go (f x)) f c
-    replay_takes x go hf zero w ch g still = (hf, inr (inl (takes_early c.out c.o f x go hf (settle (Loads x go) w ch g))))
-    replay_takes x go hf (suc n) w ch g still = (hf, inl (record { n = n; w = w; to_do = ch; goes = g; still = still }))
-
-    -- a word that it keeps
-    pub replay_stores : (x : A) (v : ℕ) (rest : Capsule A E) → AreSameOff c.out c.o f
-        → (n : ℕ) (w : List A) (ch : List Change) → Leads s.code.names c.out n f w (Keeps x v rest) ch c.rest c.at.q c.at.w
-        → ((b : Words) → AllStill b (settled c.at.run) → AllStill b ch) → Where t k rest (store s.code.names f x v) c
-    replay_stores x v rest hf zero w ch g still =
-        let early = settle (Keeps x v rest) w ch g in
-        (store_same_off s.code.names c.out c.o f x v early.at.fills.0 hf, inr (inl (stores_early c.out c.o f x v rest early)))
-    replay_stores x v rest hf (suc n) w ch g still =
-        (store_same_off s.code.names c.out c.o f x v g.0 hf, inl (record { n = n; w = x ∷ w; to_do = ch; goes = g.1; still = still }))
-
-    -- a read: there is none before the commit
-    pub replay_finds : (x : ℕ) (go : ℕ → Capsule A E) (n : ℕ) (w : List A) (ch : List Change)
-        → Leads s.code.names c.out n f w (Reads x go) ch c.rest c.at.q c.at.w → Late c.out c.o t k (go (now s t x)) f
-    replay_finds x go zero w ch g = finds_early c.out c.o f x go (settle (Reads x go) w ch g)
-    replay_finds x go (suc n) w ch g = absurd g
-
-    -- a change that leaves the word as it is
-    pub replay_leaves : (x : ℕ) (g : ℕ → ℕ) (rest : Capsule A E) → g (now s t x) ≡ now s t x
-        → (n : ℕ) (w : List A) (ch : List Change) → Leads s.code.names c.out n f w (Changes x g rest) ch c.rest c.at.q c.at.w
-        → ((b : Words) → AllStill b (settled c.at.run) → AllStill b ch)
-        → Replay t k rest f c ⊎ (Early c.out c.o t k rest f ⊎ Late c.out c.o t k rest f)
-    replay_leaves x g rest same zero w ch go still = inr (inl (leaves_early c.out c.o f x g rest same (settle (Changes x g rest) w ch go)))
-    replay_leaves x g rest same (suc n) w ch go still = inl (record {
-      n = n;
-      w = w;
-      to_do = go.0;
-      goes = go.2;
-      still = λ b h. (subst (λ (l : List Change). AllStill b l) go.1 (still b h)).1;
-    })
-
-    -- one that changes it: there is none before the commit, since what is settled stands
-    pub replay_alters : (x : ℕ) (g : ℕ → ℕ) (rest : Capsule A E) → (g (now s t x) ≡ now s t x → ⊥) → AreSameOff c.out c.o f
-        → (n : ℕ) (w : List A) (ch : List Change) → Leads s.code.names c.out n f w (Changes x g rest) ch c.rest c.at.q c.at.w
-        → AllStill (now s t) ch → Beside (Changed me x (g (now s t x)) ∷ t) (UnderWay k rest f)
-    replay_alters x g rest ne hf zero w ch go still = alters_early c.out c.o f x g rest ne hf (settle (Changes x g rest) w ch go)
-    replay_alters x g rest ne hf (suc n) w ch go still = absurd (ne (subst (λ (l : List Change). AllStill (now s t) l) go.1 still).0)
-
-    -- begun again
-    pub again : AreSameOff c.out c.o f → Replay t k (s.code.capsule k) f c
-    again hf =
-        let g = c.at.made f hf in
-        record {
-          n = g.0;
-          w = [];
-          to_do = onto (settled c.at.run) [];
-          goes = subst (λ (ks : List Change). Leads s.code.names c.out g.0 f [] (s.code.capsule k) (onto ks []) c.rest c.at.q c.at.w) c.same g.1;
-          still = λ b h. still_onto b (settled c.at.run) [] h tt;
-        }
-
-  -- a strand at an end comes there without faults
-  pub end_of : {t : List (Deed A K O)} {k : K} (e : E) (f : Memory A) → Beside t (UnderWay k (Ends e) f) → Quiet t (UnderWay k (Ends e) f)
-  end_of e f so = elim so.1.1 [
-    | inl r ↦ end_run f so.0 e so.1.0 (inl (replay_ends f so.0 e r.n r.w r.to_do r.goes))
-    | inr l ↦ end_run f so.0 e so.1.0 l
-  ]
-
-  -- others do something meanwhile
-  abbrev pub others_made : (out : A → Bool) (o : Memory A) {t : List (Deed A K O)} {k : K} {rest : Capsule A E} (d : Deed A K O) → (doer d ≡ me → ⊥)
-      → Made out o t k rest → Made out o (d ∷ t) k rest
-  others_made out o d ne m = record {
-    q = m.q;
-    w = m.w;
-    run = Others d ne m.run;
-    made = m.made;
-    inputs = m.inputs;
-    fills = m.fills;
-    ordered = m.ordered;
-  }

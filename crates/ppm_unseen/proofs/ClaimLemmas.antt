@@ -41,7 +41,7 @@ all_claim First = tt
 all_claim (Claims k) = (refl, exchange_claims k, λ v. tt)
 all_claim Last = tt
 
--- so are those that it has asked for
+-- the changes that it has asked for are of word 0, and claim
 abbrev AreClaims : List Change → Type 0
 AreClaims [] = Unit {0}
 AreClaims (k ∷ ks) = ((k.at ≡ 0) × IsClaim k.by) × AreClaims ks
@@ -201,10 +201,12 @@ module _ (j k : ℕ) where
   ]
 
   left_first : IsHistory (claims both) ⊥ (first_by 1 (suc j))
-  left_first = all_come 1 (suc j) (λ e. omega (arith, e)) (claims_first 1 (λ e. omega (arith, e)) j (Others (Forked 0 (claimers both)) (λ e. omega (arith, e)) Begins))
+  left_first = all_come 1 (suc j) (λ e. omega (arith, e))
+      (claims_first 1 (λ e. omega (arith, e)) j (Others (Forked 0 (claimers both)) (λ e. omega (arith, e)) Begins))
 
   right_first : IsHistory (claims both) ⊥ (first_by 2 (suc k))
-  right_first = all_come 2 (suc k) (λ e. omega (arith, e)) (claims_first 2 (λ e. omega (arith, e)) k (Others (Forked 0 (claimers both)) (λ e. omega (arith, e)) Begins))
+  right_first = all_come 2 (suc k) (λ e. omega (arith, e))
+      (claims_first 2 (λ e. omega (arith, e)) k (Others (Forked 0 (claimers both)) (λ e. omega (arith, e)) Begins))
 
 -- the law
 pub racing_claims : RacingClaims

@@ -11,9 +11,9 @@ use Rattle.ppm_unseen.specs.Conditions.{IsFilled, AreOrdered, AreFilled, Stands}
 use Rattle.ppm_unseen.specs.Correct.{IsBetween, FaultsAreInvisible, FaultsAreInvisibleSo}
 use Rattle.ppm_unseen.proofs.OwnLemmas.{store_same_off}
 use Rattle.ppm_unseen.proofs.WayLemmas.{onto}
-use Rattle.ppm_unseen.proofs.BesideLemmas.{Quiet, Faulty, Made, Beside, end_of}
+use Rattle.ppm_unseen.proofs.BesideLemmas.{Quiet, Faulty, Made, Beside}
 use Rattle.ppm_unseen.proofs.BesideLemmas.{takes_early, takes_late, stores_early, stores_late, finds_early, finds_late, leaves_early, alters_early}
-use Rattle.ppm_unseen.proofs.BesideLemmas.{replay_takes, replay_stores, replay_finds, replay_leaves, replay_alters, again, others_made}
+use Rattle.ppm_unseen.proofs.ReplayLemmas.{replay_takes, replay_stores, replay_finds, replay_leaves, replay_alters, again, end_of, others_made}
 
 module _ {A K E O : Type 0} (s : System A K E O) (me : ℕ) (ordered : AreOrdered s) (filled : AreFilled s) where
   -- a capsule that begins

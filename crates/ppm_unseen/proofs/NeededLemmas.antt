@@ -172,14 +172,18 @@ keeps_one_once_done t d (UnderWay k rest o) h = h
 keeps_one_once_done t d (Waits g n fs) h = absurd h
 keeps_one_once_done t d IsOver h = h
 
--- so without faults strand 0 is never over with 2
+-- none is not two
+differs : 0 ≡ 2 → ⊥
+differs e = omega (arith, e)
+
+-- without faults strand 0 is never over with 2
 keeps_one : {t : List (Deed ℕ ℕ ℕ)} {σ : State ℕ ℕ ℕ} → Comes half_filled ⊥ 0 t σ → KeepsOneAt σ × NotWithTwo 0 t
 keeps_one Begins = (picks_one, tt)
 keeps_one (Others {t = t} {σ = σ} d ne h) = let so = keeps_one h in (keeps_one_once_done t d σ so.0, (λ e. ne (ap doer e), so.1))
 keeps_one (Goes h (Takes {o = o} x go)) = keeps_one h
 keeps_one (Goes h (Stores x v rest)) = keeps_one h
 keeps_one (Goes {t = t} h (Finds x go)) = let so = keeps_one h in (so.0 (now half_filled t x), so.1)
-keeps_one (Does {t = t} h (Alters x g rest ne)) = let so = keeps_one h in (so.0, (λ e. let zero_is_two : 0 ≡ 2 = ap told_of e in omega (arith, zero_is_two), so.1))
+keeps_one (Does {t = t} h (Alters x g rest ne)) = let so = keeps_one h in (so.0, (λ e. differs (ap told_of e), so.1))
 keeps_one (Goes h (Leaves x g rest same)) = keeps_one h
 keeps_one (Goes h (Opens e f is)) = let two_is_zero : 2 ≡ 0 = ap way is in absurd (omega (arith, two_is_zero))
 keeps_one (Does h (Splits e fs g is)) = let two_is_one : 2 ≡ 1 = ap way is in absurd (omega (arith, two_is_one))

@@ -3,11 +3,11 @@ use Rattle.std.proofs.Common.{◌≡◌, ℕ, cond, Bool, true, false, List, ◌
 use Rattle.std.proofs.lemmas.Bool.{cases_Bool, cond-false, cond-true, true≢false}
 use Rattle.ppm_capsules.specs.Capsule.{Equality, Memory, In, store}
 
--- the same where w were kept
+-- own words that agree where w were kept
 abbrev pub AreSameOn : {A : Type 0} → List A → Memory A → Memory A → Type 0
 AreSameOn {A} w q f = (x : A) → In x w → q x ≡ f x
 
--- the same where nothing is kept
+-- own words that agree where nothing is kept
 abbrev pub AreSameOff : {A : Type 0} → (A → Bool) → Memory A → Memory A → Type 0
 AreSameOff {A} out o f = (x : A) → out x ≡ false → f x ≡ o x
 

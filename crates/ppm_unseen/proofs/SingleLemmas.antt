@@ -94,7 +94,7 @@ module _ {A K E O : Type 0} (s : System A K E O) (closes : (e : E) (o : Memory A
   forks_nothing i (Goes h (Joins g n fs os over)) = forks_nothing i h
   forks_nothing i (Goes h (Faults z)) = absurd z
 
-  -- so a history has no fork
+  -- a history has no fork
   pub no_fork : (t : List (Deed A K O)) → IsHistory s ⊥ t → HasNoFork t
   no_fork [] all = tt
   no_fork (Changed who x v ∷ t) all = no_fork t (history_before s (Changed who x v) t all)
@@ -106,7 +106,7 @@ module _ {A K E O : Type 0} (s : System A K E O) (closes : (e : E) (o : Memory A
   Allows n None = Unit {0}
   Allows n (Some f) = HasAtMost n (s.code.capsule f.point)
 
-  -- so many changes are made or still to come
+  -- no more than n changes are made or still to come
   abbrev Within : (n i : ℕ) → List (Deed A K O) → List Change → State A K E → Type 0
   Within n i t ks NotYet = (ks ≡ []) × (changes_by i t ≡ 0)
   Within n i t ks (UnderWay k rest o) = (m : ℕ) × HasAtMost m rest × (how_many ks + m ≤ n) × (changes_by i t + m ≤ n)

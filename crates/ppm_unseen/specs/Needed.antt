@@ -32,19 +32,19 @@ half_filled = two (Reads 0 (λ v. cond (v == 0) (Keeps 0 1 (Ends 0)) (Keeps 1 1 
 abbrev pub returning : System ℕ ℕ ℕ ℕ
 returning = two (Changes 0 (exchange 0 1) (Ends 0)) (Changes 0 (exchange 1 0) (Ends 0))
 
--- without order a fault may show
+-- where a read comes before a change a fault may show
 pub record OrderIsNeeded : Type 0 where
   pub filled : AreFilled counter
   pub stands : Stands counter
   pub visible : FaultsAreInvisible counter → ⊥
 
--- so may it where ways keep different own words
+-- where two ways of a capsule keep different own words a fault may show
 pub record FillingIsNeeded : Type 0 where
   pub ordered : AreOrdered half_filled
   pub stands : Stands half_filled
   pub visible : FaultsAreInvisible half_filled → ⊥
 
--- and where a word comes back to what it was
+-- where a word comes back to what it was a fault may show
 pub record StandingIsNeeded : Type 0 where
   pub ordered : AreOrdered returning
   pub filled : AreFilled returning

@@ -51,26 +51,12 @@ module _ {A K O : Type 0} where
   doer (Forked who fs) = who
   doer (Finished who o) = who
 
-  -- the shared words after these deeds, of which the last one comes first
-  abbrev pub after : Words → List (Deed A K O) → Words
-  after words [] = words
-  after words (Changed who x v ∷ t) = put (after words t) x v
-  after words (Forked who fs ∷ t) = after words t
-  after words (Finished who o ∷ t) = after words t
-
-  -- how many strands there are after them, if there were n at the beginning: the branches of a fork have the next numbers
-  abbrev pub strands_after : ℕ → List (Deed A K O) → ℕ
-  strands_after n [] = n
-  strands_after n (Changed who x v ∷ t) = strands_after n t
-  strands_after n (Forked who fs ∷ t) = strands_after n t + length fs
-  strands_after n (Finished who o ∷ t) = strands_after n t
-
   -- strand i is over with this outcome
   abbrev pub HasFinished : ℕ → O → List (Deed A K O) → Type 0
   HasFinished i o [] = ⊥
   HasFinished i o (d ∷ t) = (d ≡ Finished i o) ⊎ HasFinished i o t
 
-  -- so are these branches, which have the numbers from i on, with these outcomes
+  -- these branches, which have the numbers from i on, are over with these outcomes
   abbrev pub HaveFinished : ℕ → List (Frame A K) → List O → List (Deed A K O) → Type 0
   HaveFinished i [] [] t = Unit {0}
   HaveFinished i [] (o ∷ os) t = ⊥
@@ -82,17 +68,24 @@ module _ {A K E O : Type 0} (s : System A K E O) where
   abbrev pub begun : Frame A K → State A K E
   begun f = UnderWay f.point (s.code.capsule f.point) f.own
 
-  -- so if there is a frame for it
+  -- a strand for which there may be a frame: it begins, or is not forked yet
   abbrev pub begun_if_any : Option (Frame A K) → State A K E
   begun_if_any None = NotYet
   begun_if_any (Some f) = begun f
 
-  -- how many strands there are, and the shared words, after these deeds
-  abbrev pub count : List (Deed A K O) → ℕ
-  count t = strands_after (length s.start) t
-
+  -- the shared words after these deeds, of which the last one comes first
   abbrev pub now : List (Deed A K O) → Words
-  now t = after s.words t
+  now [] = s.words
+  now (Changed who x v ∷ t) = put (now t) x v
+  now (Forked who fs ∷ t) = now t
+  now (Finished who o ∷ t) = now t
+
+  -- how many strands there are after these deeds: the branches of a fork have the next numbers
+  abbrev pub count : List (Deed A K O) → ℕ
+  count [] = length s.start
+  count (Changed who x v ∷ t) = count t
+  count (Forked who fs ∷ t) = count t + length fs
+  count (Finished who o ∷ t) = count t
 
   -- the frame with which a deed begins strand i, if it does
   abbrev pub forked_by : List (Deed A K O) → Deed A K O → ℕ → Option (Frame A K)

@@ -21,8 +21,9 @@ pub fn runs_are_histories<A, K, E, O>()
     ensures without { (s : System A K E O) → RunsAreHistories s ⊥ }
 {}
 
-/// What strands do stands, if no strand changes a word that the capsule of another one, under way,
-/// has changed, and each capsule changes a word once at most.
+/// What is done stands if writes are calm: no strand changes a word that the capsule of another
+/// one, under way, has asked to change. Each capsule changes a word once at most, as puts and
+/// exchanges do. Reads may race.
 pub fn calm_writes_stand<A, K, E, O>()
     ensures { (s : System A K E O) → CalmWritesStand s }
 {}
@@ -35,7 +36,8 @@ pub fn each_condition_is_needed()
     ensures standing { StandingIsNeeded }
 {}
 
-/// The three conditions can be met by strands that race.
+/// The three conditions can be met by strands that race: the branches of a fork all exchange a word
+/// from 0, either one may be first, and faults are invisible.
 pub fn racing_claims_are_restartable()
     ensures { RacingClaims }
 {}
