@@ -1,6 +1,6 @@
 -- Beside a strand with faults goes one without. It stands where the capsule's last change was made (`Commit`), or where the strand is, before its
 -- first read (`Early`) or after it (`Late`); after a fault the strand is on its way again to where the commit stands (`Replay`).
-use Rattle.std.proofs.Common.{◌≡◌, ℕ, Bool, false, List, [], ◌∷◌, ◌⊎◌, inl, inr, refl, sym, subst}
+use Rattle.std.proofs.Common.{◌≡◌, ℕ, Bool, true, false, List, [], ◌∷◌, ◌⊎◌, inl, inr, refl, sym, subst}
 use Rattle.ppm_strands.specs.Tree.{Words}
 use Rattle.ppm_capsules.specs.Capsule.{Memory, In, store}
 use Rattle.ppm_unseen.specs.Capsule.{Capsule, Loads, Keeps, Reads, Changes}
@@ -37,6 +37,7 @@ module _ {A K E O : Type 0} (s : System A K E O) (me : ℕ) where
     pub rest : Capsule A E
     pub at : Made out o t k rest
     pub same : passed at.run ≡ settled at.run
+    pub built : (x : A) → s.code.builds k x ≡ true → out x ≡ true
 
   -- the strand is there too, and no read was made in this capsule
   pub record Early (out : A → Bool) (o : Memory A) (t : List (Deed A K O)) (k : K) (rest : Capsule A E) (f : Memory A) : Type 0 where
@@ -203,9 +204,9 @@ module _ {A K E O : Type 0} (s : System A K E O) (me : ℕ) where
         }
 
     -- a change that changes it: the commit is here now
-    pub alters_early : (f : Memory A) (x : ℕ) (g : ℕ → ℕ) (rest : Capsule A E) → (g (now s t x) ≡ now s t x → ⊥) → AreSameOff out o f
+    pub alters_early : ((x : A) → s.code.builds k x ≡ true → out x ≡ true) → (f : Memory A) (x : ℕ) (g : ℕ → ℕ) (rest : Capsule A E) → (g (now s t x) ≡ now s t x → ⊥) → AreSameOff out o f
         → Early out o t k (Changes x g rest) f → Beside (Changed me x (g (now s t x)) ∷ t) (UnderWay k rest f)
-    alters_early f x g rest ne hf e =
+    alters_early built f x g rest ne hf e =
         let m = e.at in
         let here : Made out o (Changed me x (g (now s t x)) ∷ t) k rest = record {
           q = m.q;
@@ -216,4 +217,4 @@ module _ {A K E O : Type 0} (s : System A K E O) (me : ℕ) where
           fills = m.fills;
           ordered = m.ordered;
         } in
-        (record { out = out; o = o; rest = rest; at = here; same = refl }, (hf, inr (inl (record { at = here; agree = e.agree }))))
+        (record { out = out; o = o; rest = rest; at = here; same = refl; built = built }, (hf, inr (inl (record { at = here; agree = e.agree }))))

@@ -79,7 +79,7 @@ module _ {A K E O : Type 0} (s : System A K E O) where
       all_is_still (Does h (Splits e fs g is)) all = (tt, refl)
       all_is_still (Does h (Finishes e outcome is)) all = (tt, refl)
       all_is_still (Goes h (Joins g n fs os over)) all = (tt, once (s.code.rejoin g os).point)
-      all_is_still (Goes h (Faults z)) all = absurd z
+      all_is_still (Goes h (Faults z o' kept)) all = absurd z
 
   -- what is settled is of what was asked for
   settled_is_still : {i : ℕ} (a : Words) {t : List (Deed A K O)} {σ : State A K E} (h : Comes s ⊥ i t σ) → AllStill a (passed h) → AllStill a (settled h)
@@ -94,7 +94,7 @@ module _ {A K E O : Type 0} (s : System A K E O) where
   settled_is_still a (Does h (Splits e fs g is)) all = tt
   settled_is_still a (Does h (Finishes e outcome is)) all = tt
   settled_is_still a (Goes h (Joins g n fs os over)) all = tt
-  settled_is_still a (Goes h (Faults z)) all = absurd z
+  settled_is_still a (Goes h (Faults z o' kept)) all = absurd z
 
 -- the law
 pub calm_writes_stand : {A K E O : Type 0} (s : System A K E O) → CalmWritesStand s

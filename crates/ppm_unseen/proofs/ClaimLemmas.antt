@@ -112,7 +112,7 @@ module _ (js : List ℕ) where
   only_claims i (Does h (Splits e fs g is)) = (tt, tt, tt)
   only_claims i (Does h (Finishes e outcome is)) = (tt, tt, tt)
   only_claims i (Goes h (Joins g n fs os over)) = let so = only_claims i h in (so.0, tt, all_claim g.point)
-  only_claims i (Goes h (Faults z)) = absurd z
+  only_claims i (Goes h (Faults z o' kept)) = absurd z
 
   -- what is settled claims, and if there is any, a word is changed
   settled_claims : (i : ℕ) {t : List (Deed ℕ Point ℕ)} {σ : State ℕ Point Exit} (h : Comes (claims js) ⊥ i t σ)
@@ -129,7 +129,7 @@ module _ (js : List ℕ) where
   settled_claims i (Does h (Splits e fs g is)) = (tt, inl refl)
   settled_claims i (Does h (Finishes e outcome is)) = (tt, inl refl)
   settled_claims i (Goes h (Joins g n fs os over)) = (tt, inl refl)
-  settled_claims i (Goes h (Faults z)) = absurd z
+  settled_claims i (Goes h (Faults z o' kept)) = absurd z
 
   -- once a word is changed, word 0 is claimed
   claimed : (t : List (Deed ℕ Point ℕ)) → IsHistory (claims js) ⊥ t → HasChange t → now (claims js) t 0 ≡ 0 → ⊥
@@ -154,13 +154,13 @@ module _ (js : List ℕ) where
   ordered Last = tt
 
   -- a capsule that keeps nothing
-  keeps_nothing : (e : Exit) → IsFilled {A = ℕ} (Ends e)
-  keeps_nothing e o = (λ x. false, λ x is. absurd (true≢false (sym is)))
+  keeps_nothing : (e : Exit) → IsFilled {A = ℕ} (λ x. false) (Ends e)
+  keeps_nothing e o = (λ x. false, λ x is. absurd (true≢false (sym is)), λ x b. b)
 
   -- a branch keeps its own word 0, whatever it reads
   filled : AreFilled (claims js)
   filled First = keeps_nothing ForksAll
-  filled (Claims k) = λ o. (λ x. x == 0, λ v. (refl, λ x is. inl (eqb-true x 0 is)))
+  filled (Claims k) = λ o. (λ x. x == 0, λ v. (refl, λ x is. inl (eqb-true x 0 is)), λ x b. absurd (true≢false (sym b)))
   filled Last = keeps_nothing Tells
 
 -- who does nothing of a history comes along it

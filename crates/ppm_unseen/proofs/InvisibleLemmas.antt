@@ -1,6 +1,7 @@
 -- Faults are invisible: by induction on the history a strand has one without faults beside it (`BesideLemmas`). That what is settled stands is asked
 -- of the history before the deed, which is that of a run without faults.
 use Rattle.std.proofs.Common.{◌≡◌, ℕ, List, [], ◌∷◌, inl, inr, refl, sym, ap, ◌∙◌}
+use Rattle.std.proofs.lemmas.Bool.{false_from_ne_true, true≢false}
 use Rattle.std.specs.Prelude.{Option, Some, None}
 use Rattle.ppm_capsules.specs.Strand.{Frame}
 use Rattle.ppm_unseen.specs.Capsule.{Loads, Keeps, Reads, Changes, Ends}
@@ -9,7 +10,7 @@ use Rattle.ppm_unseen.specs.Run.{now, numbered, begun, begun_if_any, forked_by, 
 use Rattle.ppm_unseen.specs.Run.{Comes, Begins, Others, Goes, Does, Unseen, Takes, Stores, Finds, Leaves, Opens, Joins, Faults, Alters, Splits, Finishes}
 use Rattle.ppm_unseen.specs.Conditions.{IsFilled, AreOrdered, AreFilled, Stands}
 use Rattle.ppm_unseen.specs.Correct.{IsBetween, FaultsAreInvisible, FaultsAreInvisibleSo}
-use Rattle.ppm_unseen.proofs.OwnLemmas.{store_same_off}
+use Rattle.ppm_unseen.proofs.OwnLemmas.{AreSameOff, store_same_off}
 use Rattle.ppm_unseen.proofs.WayLemmas.{onto}
 use Rattle.ppm_unseen.proofs.BesideLemmas.{Quiet, Faulty, Made, Beside}
 use Rattle.ppm_unseen.proofs.BesideLemmas.{takes_early, takes_late, stores_early, stores_late, finds_early, finds_late, leaves_early, alters_early}
@@ -20,7 +21,7 @@ module _ {A K E O : Type 0} (s : System A K E O) (me : ℕ) (ordered : AreOrdere
   begins : {t : List (Deed A K O)} (f : Frame A K) (run : Quiet s me t (begun s f)) → passed run ≡ [] → settled run ≡ []
       → Beside s me t (begun s f)
   begins {t = t} f run none unsettled =
-      let all : IsFilled (s.code.capsule f.point) = filled f.point in
+      let all : IsFilled (s.code.builds f.point) (s.code.capsule f.point) = filled f.point in
       let fills = all f.own in
       let here : Made s me fills.0 f.own t f.point (s.code.capsule f.point) = record {
         q = f.own;
@@ -31,7 +32,7 @@ module _ {A K E O : Type 0} (s : System A K E O) (me : ℕ) (ordered : AreOrdere
         fills = fills.1;
         ordered = ordered f.point;
       } in (
-        record { out = fills.0; o = f.own; rest = s.code.capsule f.point; at = here; same = none ∙ sym unsettled },
+        record { out = fills.0; o = f.own; rest = s.code.capsule f.point; at = here; same = none ∙ sym unsettled; built = fills.2 },
         (λ x i. refl, inr (inl (record { at = here; agree = λ x i. refl }))),
       )
 
@@ -48,7 +49,7 @@ module _ {A K E O : Type 0} (s : System A K E O) (me : ℕ) (ordered : AreOrdere
   others t d ne (Waits g n fs) so = Others d ne so
   others t d ne IsOver so = Others d ne so
   others t d ne (UnderWay k rest f) so = (
-    record { out = so.0.out; o = so.0.o; rest = so.0.rest; at = others_made s me so.0.out so.0.o d ne so.0.at; same = so.0.same },
+    record { out = so.0.out; o = so.0.o; rest = so.0.rest; at = others_made s me so.0.out so.0.o d ne so.0.at; same = so.0.same; built = so.0.built },
     (
       so.1.0,
       elim so.1.1 [
@@ -132,7 +133,7 @@ module _ {A K E O : Type 0} (s : System A K E O) (me : ℕ) (ordered : AreOrdere
     beside all (Does h (Alters {o = f} x g rest ne)) = let so = beside all.1 h in elim so.1.1 [
       | inl r ↦ replay_alters s me f so.0 x g rest ne so.1.0 r.n r.w r.to_do r.goes (r.still _ (stands _ _ so.0.at.run all.0))
       | inr e ↦ elim e [
-        | inl e ↦ alters_early s me so.0.out so.0.o f x g rest ne so.1.0 e
+        | inl e ↦ alters_early s me so.0.out so.0.o so.0.built f x g rest ne so.1.0 e
         | inr l ↦ absurd l.none
       ]
     ]
@@ -140,7 +141,11 @@ module _ {A K E O : Type 0} (s : System A K E O) (me : ℕ) (ordered : AreOrdere
     beside all (Does h (Splits {o = f} e fs g is)) = Does (end_of s me e f (beside all.1 h)) (Splits e fs g is)
     beside all (Does h (Finishes {o = f} e outcome is)) = Does (end_of s me e f (beside all.1 h)) (Finishes e outcome is)
     beside all (Goes h (Joins g n fs os over)) = begins (s.code.rejoin g os) (Goes (beside all h) (Joins g n fs os over)) refl refl
-    beside all (Goes h (Faults {o = f} z)) = let so = beside all h in (so.0, (so.1.0, inl (again s me f so.0 so.1.0)))
+    beside all (Goes {t = t} h (Faults {k = k} {o = f} z f' kept)) =
+        let so = beside all h in
+        let inputs : AreSameOff so.0.out so.0.o f' = λ x off.
+        kept x (false_from_ne_true (s.code.builds k x) (λ b. true≢false (sym (so.0.built x b) ∙ off))) ∙ so.1.0 x off in
+        (so.0, (inputs, inl (again s me f' so.0 inputs)))
 
     -- some run without faults has these deeds
     possible_at : {t : List (Deed A K O)} (σ : State A K E) → Beside s me t σ → (τ : State A K E) × Quiet s me t τ
@@ -190,7 +195,7 @@ module _ {A K E O : Type 0} (s : System A K E O) where
   faultless_step (Leaves x g rest same) = Leaves x g rest same
   faultless_step (Opens e f is) = Opens e f is
   faultless_step (Joins g n fs os over) = Joins g n fs os over
-  faultless_step (Faults z) = absurd z
+  faultless_step (Faults z o' kept) = absurd z
 
   faultless : {me : ℕ} {t : List (Deed A K O)} {σ : State A K E} → Comes s ⊥ me t σ → Comes s (Unit {0}) me t σ
   faultless Begins = Begins

@@ -75,8 +75,8 @@ module _ (left right : Capsule ℕ ℕ) where
   not_twice l t all = changes_within (two left right) closes 1 0 l t all
 
 -- keeps nothing
-keeps_nothing : (e : ℕ) → IsFilled {A = ℕ} (Ends e)
-keeps_nothing e o = (λ x. false, λ x is. absurd (true≢false (sym is)))
+keeps_nothing : (e : ℕ) → IsFilled {A = ℕ} (λ x. false) (Ends e)
+keeps_nothing e o = (λ x. false, λ x is. absurd (true≢false (sym is)), λ x b. b)
 
 -- strand 0 of the counter, with a fault after its put
 abbrev counts : ℕ → Capsule ℕ ℕ
@@ -87,7 +87,7 @@ counts_twice =
     let read : Comes counter (Unit {0}) 0 [] (UnderWay 0 (counts 0) (λ x. 0)) = Goes Begins (Finds 0 counts) in
     let put : Comes counter (Unit {0}) 0 (Changed 0 0 1 ∷ []) (UnderWay 0 (Ends 0) (λ x. 0)) =
     Does read (Alters 0 (constant 1) (Ends 0) (λ e. omega (arith, e))) in
-    let again : Comes counter (Unit {0}) 0 (Changed 0 0 1 ∷ []) (UnderWay 0 (counts 1) (λ x. 0)) = Goes (Goes put (Faults tt)) (Finds 0 counts) in
+    let again : Comes counter (Unit {0}) 0 (Changed 0 0 1 ∷ []) (UnderWay 0 (counts 1) (λ x. 0)) = Goes (Goes put (Faults tt _ (λ x b. refl))) (Finds 0 counts) in
     (_, Does again (Alters 0 (constant 2) (Ends 0) (λ e. omega (arith, e))))
 
 counter_shows : FaultsAreInvisible counter → ⊥
@@ -101,7 +101,7 @@ counter_shows f =
 -- it counts twice
 pub order_is_needed : OrderIsNeeded
 order_is_needed = record {
-  filled = λ k. at_each IsFilled (Reads 0 counts) (Ends 0) (λ o. (λ x. false, λ v x is. absurd (true≢false (sym is)))) (keeps_nothing 0) k;
+  filled = λ k. at_each (IsFilled (λ x. false)) (Reads 0 counts) (Ends 0) (λ o. (λ x. false, λ v x is. absurd (true≢false (sym is)), λ x b. b)) (keeps_nothing 0) k;
   stands = calm_writes_stand counter (λ k. at_each (ChangesOncePast []) (Reads 0 counts) (Ends 0) (λ v. (λ i. i, λ w. refl, tt)) tt k)
       (one_writer_is_calm counter (closes (Reads 0 counts) (Ends 0)) 0 (only_left (Reads 0 counts) (Ends 0) tt));
   visible = counter_shows;
@@ -121,7 +121,7 @@ keeps_both =
     let meanwhile : Comes half_filled (Unit {0}) 0 (Changed 1 0 1 ∷ []) (UnderWay 0 (Ends 0) (store numbers (λ x. 0) 0 1)) =
     Others (Changed 1 0 1) (λ e. omega (arith, e)) (Goes first (Stores 0 1 (Ends 0))) in
     let again : Comes half_filled (Unit {0}) 0 (Changed 1 0 1 ∷ []) (UnderWay 0 (Keeps 1 1 (Ends 0)) (store numbers (λ x. 0) 0 1)) =
-    Goes (Goes meanwhile (Faults tt)) (Finds 0 picks) in
+    Goes (Goes meanwhile (Faults tt _ (λ x b. refl))) (Finds 0 picks) in
     (_, Does (Goes again (Stores 1 1 (Ends 0))) (Finishes 0 2 refl))
 
 -- strand 1 puts its word
@@ -172,9 +172,9 @@ keeps_one_once_done t d (UnderWay k rest o) h = h
 keeps_one_once_done t d (Waits g n fs) h = absurd h
 keeps_one_once_done t d IsOver h = h
 
--- none is not two
-differs : 0 ≡ 2 → ⊥
-differs e = omega (arith, e)
+-- another deed is not that end
+differs : (d : Deed ℕ ℕ ℕ) → told_of d ≡ 0 → d ≡ Finished 0 2 → ⊥
+differs d none e = let two : told_of d ≡ 2 = ap told_of e in omega (arith, none, two)
 
 -- without faults strand 0 is never over with 2
 keeps_one : {t : List (Deed ℕ ℕ ℕ)} {σ : State ℕ ℕ ℕ} → Comes half_filled ⊥ 0 t σ → KeepsOneAt σ × NotWithTwo 0 t
@@ -183,7 +183,7 @@ keeps_one (Others {t = t} {σ = σ} d ne h) = let so = keeps_one h in (keeps_one
 keeps_one (Goes h (Takes {o = o} x go)) = keeps_one h
 keeps_one (Goes h (Stores x v rest)) = keeps_one h
 keeps_one (Goes {t = t} h (Finds x go)) = let so = keeps_one h in (so.0 (now half_filled t x), so.1)
-keeps_one (Does {t = t} h (Alters x g rest ne)) = let so = keeps_one h in (so.0, (λ e. differs (ap told_of e), so.1))
+keeps_one (Does {t = t} h (Alters x g rest ne)) = let so = keeps_one h in (so.0, (λ e. differs (Changed 0 x (g (now half_filled t x))) refl e, so.1))
 keeps_one (Goes h (Leaves x g rest same)) = keeps_one h
 keeps_one (Goes h (Opens e f is)) = let two_is_zero : 2 ≡ 0 = ap way is in absurd (omega (arith, two_is_zero))
 keeps_one (Does h (Splits e fs g is)) = let two_is_one : 2 ≡ 1 = ap way is in absurd (omega (arith, two_is_one))
@@ -192,7 +192,7 @@ keeps_one (Does h (Finishes {o = o} e outcome is)) =
     let sum : o 0 + o 1 ≡ outcome = ap outcome_of is in
     (tt, (λ e. so.0 (sum ∙ ap told_of e), so.1))
 keeps_one (Goes h (Joins g n fs os over)) = absurd (keeps_one h).0
-keeps_one (Goes h (Faults z)) = absurd z
+keeps_one (Goes h (Faults z o' kept)) = absurd z
 
 half_filled_shows : FaultsAreInvisible half_filled → ⊥
 half_filled_shows f =
@@ -225,7 +225,7 @@ exchanges_twice =
     let one : Comes returning (Unit {0}) 0 (Changed 0 0 1 ∷ []) (UnderWay 0 (Ends 0) (λ x. 0)) =
     Does Begins (Alters 0 (exchange 0 1) (Ends 0) (λ e. omega (arith, e))) in
     let again : Comes returning (Unit {0}) 0 (Changed 1 0 0 ∷ Changed 0 0 1 ∷ []) (UnderWay 0 there (λ x. 0)) =
-    Goes (Others (Changed 1 0 0) (λ e. omega (arith, e)) one) (Faults tt) in
+    Goes (Others (Changed 1 0 0) (λ e. omega (arith, e)) one) (Faults tt _ (λ x b. refl)) in
     (_, Does again (Alters 0 (exchange 0 1) (Ends 0) (λ e. omega (arith, e))))
 
 -- strand 1 exchanges it back in between
@@ -248,6 +248,6 @@ returning_shows f =
 pub standing_is_needed : StandingIsNeeded
 standing_is_needed = record {
   ordered = λ k. at_each IsOrdered there back tt tt k;
-  filled = λ k. at_each IsFilled there back (keeps_nothing 0) (keeps_nothing 0) k;
+  filled = λ k. at_each (IsFilled (λ x. false)) there back (keeps_nothing 0) (keeps_nothing 0) k;
   visible = returning_shows;
 }

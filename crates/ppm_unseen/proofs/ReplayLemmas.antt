@@ -84,7 +84,7 @@ module _ {A K E O : Type 0} (s : System A K E O) (me : ℕ) where
     pub replay_alters : (x : ℕ) (g : ℕ → ℕ) (rest : Capsule A E) → (g (now s t x) ≡ now s t x → ⊥) → AreSameOff c.out c.o f
         → (n : ℕ) (w : List A) (ch : List Change) → Leads s.code.names c.out n f w (Changes x g rest) ch c.rest c.at.q c.at.w
         → AllStill (now s t) ch → Beside s me (Changed me x (g (now s t x)) ∷ t) (UnderWay k rest f)
-    replay_alters x g rest ne hf zero w ch go still = alters_early s me c.out c.o f x g rest ne hf (settle (Changes x g rest) w ch go)
+    replay_alters x g rest ne hf zero w ch go still = alters_early s me c.out c.o c.built f x g rest ne hf (settle (Changes x g rest) w ch go)
     replay_alters x g rest ne hf (suc n) w ch go still = absurd (ne (subst (λ (l : List Change). AllStill (now s t) l) go.1 still).0)
 
     -- begun again

@@ -92,7 +92,7 @@ module _ {A K E O : Type 0} (s : System A K E O) (closes : (e : E) (o : Memory A
   forks_nothing i (Does h (Splits {o = o} e fs g is)) = let two : 1 ≡ 2 = opens_nothing e o (Forks fs g) is in omega (arith, two)
   forks_nothing i (Does h (Finishes e outcome is)) = tt
   forks_nothing i (Goes h (Joins g n fs os over)) = forks_nothing i h
-  forks_nothing i (Goes h (Faults z)) = absurd z
+  forks_nothing i (Goes h (Faults z o' kept)) = absurd z
 
   -- a history has no fork
   pub no_fork : (t : List (Deed A K O)) → IsHistory s ⊥ t → HasNoFork t
@@ -157,7 +157,7 @@ module _ {A K E O : Type 0} (s : System A K E O) (closes : (e : E) (o : Memory A
   within n i may (Does h (Splits {o = o} e fs g is)) none = let two : 1 ≡ 2 = opens_nothing e o (Forks fs g) is in absurd (omega (arith, two))
   within n i may (Does h (Finishes e outcome is)) none = let w = within n i may h none in (refl, omega (arith, w.3))
   within n i may (Goes h (Joins g j fs os over)) none = absurd (within n i may h none)
-  within n i may (Goes h (Faults z)) none = absurd z
+  within n i may (Goes h (Faults z o' kept)) none = absurd z
 
   -- no more changes are made, and no more asked for
   bound : (n i : ℕ) (t : List (Deed A K O)) (ks : List Change) (σ : State A K E) → Within n i t ks σ → (changes_by i t ≤ n) × (how_many ks ≤ n)

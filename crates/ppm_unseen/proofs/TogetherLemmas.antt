@@ -79,7 +79,7 @@ module _ {A K E O : Type 0} (s : System A K E O) where
   wakes (Leaves x g rest same) = refl
   wakes (Opens e f is) = refl
   wakes (Joins g n fs os over) = refl
-  wakes (Faults z) = refl
+  wakes (Faults z o' kept) = refl
 
   acts : {i : ℕ} {t : List (Deed A K O)} {σ τ : State A K E} {d : Deed A K O} → Seen s i t σ d τ → asleep σ ≡ 0
   acts (Alters x g rest ne) = refl

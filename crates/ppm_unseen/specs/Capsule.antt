@@ -1,5 +1,5 @@
 -- Capsules over words of a strand's own and words that others change too, and codes of such capsules that fork and join.
-use Rattle.std.specs.Prelude.{ℕ, ◌==◌, cond, List}
+use Rattle.std.specs.Prelude.{ℕ, Bool, ◌==◌, cond, List}
 use Rattle.ppm_capsules.specs.Capsule.{Equality, Memory}
 use Rattle.ppm_capsules.specs.Strand.{Frame}
 
@@ -26,10 +26,11 @@ pub data Next (A K O : Type 0) : Type 0 where
   Forks : List (Frame A K) → Frame A K → Next A K O
   Closes : O → Next A K O
 
--- a code: the capsule of each point; what an end opens, by the strand's own words; and how a frame that waits goes on with the outcomes of its
--- branches. A fork of one branch is a call. The own words are slots, a value, and words of new blocks, of which an end makes frames.
+-- a code: the capsule of each point, and which own words are of the block that it builds; what an end opens, by the strand's own words; and how a
+-- frame that waits goes on with the outcomes of its branches. A fork of one branch is a call. The other own words are slots and a value.
 pub record Code (A K E O : Type 0) : Type 0 where
   pub names : Equality A
   pub capsule : K → Capsule A E
+  pub builds : K → A → Bool
   pub opens : E → Memory A → Next A K O
   pub rejoin : Frame A K → List O → Frame A K

@@ -1,5 +1,5 @@
 -- A system whose strands race, and which meets the three conditions: each branch of a fork claims a word for itself.
-use Rattle.std.specs.Prelude.{ℕ, suc, List, [], ◌∷◌}
+use Rattle.std.specs.Prelude.{ℕ, suc, false, List, [], ◌∷◌}
 use Rattle.ppm_capsules.specs.Strand.{Frame}
 use Rattle.ppm_capsules.specs.Equalities.{numbers}
 use Rattle.ppm_unseen.specs.Capsule.{Capsule, Keeps, Reads, Changes, Ends, Next, Forks, Closes, exchange}
@@ -40,7 +40,7 @@ opened ks Tells o = Closes (o 0)
 -- the system
 abbrev pub claims : List ℕ → System ℕ Point Exit ℕ
 claims ks = record {
-  code = record { names = numbers; capsule = claiming; opens = opened ks; rejoin = λ g os. g };
+  code = record { names = numbers; capsule = claiming; builds = λ k x. false; opens = opened ks; rejoin = λ g os. g };
   start = frame_at First ∷ [];
   words = λ x. 0;
 }

@@ -30,9 +30,9 @@ module _ {A E : Type 0} where
   FillsPast out o w (Changes x g rest) = FillsPast out o w rest
   FillsPast out o w (Ends e) = (x : A) → out x ≡ true → In x w
 
-  -- from whatever own words, it keeps some of them so
-  abbrev pub IsFilled : Capsule A E → Type 0
-  IsFilled c = (o : Memory A) → (out : A → Bool) × FillsPast out o [] c
+  -- from whatever own words, it keeps some of them so, and all words of the block that it builds
+  abbrev pub IsFilled : (builds : A → Bool) → Capsule A E → Type 0
+  IsFilled builds c = (o : Memory A) → (out : A → Bool) × FillsPast out o [] c × ((x : A) → builds x ≡ true → out x ≡ true)
 
 module _ {A K E O : Type 0} (s : System A K E O) where
   -- each capsule makes its changes before its reads
@@ -41,7 +41,7 @@ module _ {A K E O : Type 0} (s : System A K E O) where
 
   -- each capsule keeps the same own words whatever it reads
   abbrev pub AreFilled : Type 0
-  AreFilled = (k : K) → IsFilled (s.code.capsule k)
+  AreFilled = (k : K) → IsFilled (s.code.builds k) (s.code.capsule k)
 
   -- at each moment of a run without faults, what the capsule under way has settled would, made again, change nothing
   abbrev pub Stands : Type 0

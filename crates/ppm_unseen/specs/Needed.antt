@@ -1,5 +1,5 @@
 -- Small systems that show that each of the three conditions is needed: each meets two of them, and a fault shows.
-use Rattle.std.specs.Prelude.{ℕ, suc, ◌+◌, ◌==◌, cond, [], ◌∷◌}
+use Rattle.std.specs.Prelude.{ℕ, suc, ◌+◌, ◌==◌, cond, false, [], ◌∷◌}
 use Rattle.ppm_capsules.specs.Equalities.{numbers}
 use Rattle.ppm_unseen.specs.Capsule.{Capsule, Keeps, Reads, Changes, Ends, Closes, constant, exchange}
 use Rattle.ppm_unseen.specs.Run.{System}
@@ -12,6 +12,7 @@ two left right = record {
   code = record {
     names = numbers;
     capsule = λ k. cond (k == 0) left right;
+    builds = λ k x. false;
     opens = λ e o. Closes (o 0 + o 1);
     rejoin = λ g os. g;
   };

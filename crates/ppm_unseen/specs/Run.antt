@@ -1,5 +1,5 @@
 -- What strands do to shared words, with faults and without: one history, along which each of them comes so far.
-use Rattle.std.specs.Prelude.{◌≡◌, ◌⊎◌, ℕ, suc, ◌+◌, ◌==◌, cond, List, [], ◌∷◌, length, Option, Some, None}
+use Rattle.std.specs.Prelude.{◌≡◌, ◌⊎◌, ℕ, suc, ◌+◌, ◌==◌, cond, false, List, [], ◌∷◌, length, Option, Some, None}
 use Rattle.ppm_strands.specs.Tree.{Words}
 use Rattle.ppm_strands.specs.Ahead.{put}
 use Rattle.ppm_capsules.specs.Capsule.{Memory, store}
@@ -102,7 +102,7 @@ module _ {A K E O : Type 0} (s : System A K E O) where
 
   -- how a strand goes on after the deeds t, unseen by others: it loads, keeps or reads a word; it asks for a change that leaves the word as it is; an
   -- end opens the next capsule; a frame goes on once its branches are over; by a fault the strand begins its capsule again, with its own words as
-  -- they are. Where `faults` has no proof there is no fault.
+  -- they are, and any words in the block that it builds, since an heir builds elsewhere. Where `faults` has no proof there is no fault.
   pub data Unseen (faults : Type 0) (t : List (Deed A K O)) : State A K E → State A K E → Type 0 where
     Takes : {k : K} {o : Memory A} (x : A) (go : ℕ → Capsule A E) → Unseen faults t (UnderWay k (Loads x go) o) (UnderWay k (go (o x)) o)
     Stores : {k : K} {o : Memory A} (x : A) (v : ℕ) (rest : Capsule A E)
@@ -113,7 +113,8 @@ module _ {A K E O : Type 0} (s : System A K E O) where
     Opens : {k : K} {o : Memory A} (e : E) (f : Frame A K) → s.code.opens e o ≡ GoesOn f → Unseen faults t (UnderWay k (Ends e) o) (begun f)
     Joins : (g : Frame A K) (n : ℕ) (fs : List (Frame A K)) (os : List O) → HaveFinished n fs os t
         → Unseen faults t (Waits g n fs) (begun (s.code.rejoin g os))
-    Faults : {k : K} {rest : Capsule A E} {o : Memory A} → faults → Unseen faults t (UnderWay k rest o) (UnderWay k (s.code.capsule k) o)
+    Faults : {k : K} {rest : Capsule A E} {o : Memory A} → faults → (o' : Memory A) → ((x : A) → s.code.builds k x ≡ false → o' x ≡ o x)
+        → Unseen faults t (UnderWay k rest o) (UnderWay k (s.code.capsule k) o')
 
   -- how strand `me` goes on by a deed: a change of a word; an end that forks, or closes the strand
   pub data Seen (me : ℕ) (t : List (Deed A K O)) : State A K E → Deed A K O → State A K E → Type 0 where
@@ -155,7 +156,7 @@ module _ {A K E O : Type 0} {s : System A K E O} {faults : Type 0} {me : ℕ} wh
   asked (Goes h (Leaves x g rest same)) = record { all = change x g ∷ (asked h).all; settled = (asked h).settled }
   asked (Goes h (Opens e f is)) = nothing
   asked (Goes h (Joins g n fs os over)) = nothing
-  asked (Goes h (Faults z)) = nothing
+  asked (Goes h (Faults z o' kept)) = nothing
   asked (Does h (Alters x g rest ne)) = record { all = change x g ∷ (asked h).all; settled = change x g ∷ (asked h).all }
   asked (Does h (Splits e fs g is)) = nothing
   asked (Does h (Finishes e outcome is)) = nothing
