@@ -1,0 +1,5 @@
+pub mod WriteLemmas
+pub mod RestartLemmas
+pub mod FreshLemmas
+pub mod FreshTurns
+pub mod ReadyLemmas

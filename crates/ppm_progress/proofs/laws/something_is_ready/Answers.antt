@@ -1,0 +1,5 @@
+use Rattle.ppm_progress.proofs.ReadyLemmas.{something_is_ready}
+use Rattle.ppm_progress.proofs.laws.something_is_ready.Goals as goal
+
+pub returns : goal.returns
+returns c = record { law = something_is_ready }
