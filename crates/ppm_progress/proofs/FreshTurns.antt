@@ -89,7 +89,8 @@ module _ (i : Setting) (m : Cell → ℕ) (p q : ℕ) where
     abbrev seat : Seat
     seat = seat_at p (Bump q) b
 
-    end_some : (k : LinkKind) (z n : ℕ) (rest : Row) → link_of (m (BlockWord q)) ≡ Some (record { kind = k; size = z }) → Reach i m seat n (bumped seat q z k) rest
+    end_some : (k : LinkKind) (z n : ℕ) (rest : Row) → link_of (m (BlockWord q)) ≡ Some (record { kind = k; size = z })
+        → Reach i m seat n (bumped seat q z k) rest
         → EndsBy rest
     end_some (Called g y) z zero rest e a = subst EndsBy a tt
     end_some (Called g y) z (suc zero) rest e a = subst EndsBy a.1 (g, y, ap (λ (o : Option Link). (link_or o).kind) e)
@@ -102,7 +103,8 @@ module _ (i : Setting) (m : Cell → ℕ) (p q : ℕ) where
     end_some (Branch d x) z zero rest e a = subst EndsBy a tt
     end_some (Branch d x) z (suc n) rest e a = absurd a
 
-    end_by : (o : Option Link) → link_of (m (BlockWord q)) ≡ o → (n : ℕ) (rest : Row) → Reach i m seat n (on_link (read_so ALink o) (λ (l : Link). bumped seat q l.size l.kind)) rest
+    end_by : (o : Option Link) → link_of (m (BlockWord q)) ≡ o → (n : ℕ) (rest : Row)
+        → Reach i m seat n (on_link (read_so ALink o) (λ (l : Link). bumped seat q l.size l.kind)) rest
         → EndsBy rest
     end_by None e zero rest a = subst EndsBy a tt
     end_by None e (suc n) rest a = absurd a
@@ -255,7 +257,8 @@ module _ (s : Shape) (code : CodeParts) (fair : IsFair code) (root : Tree (Frame
 
         kind_now : spots.kinds s (acts s code state c turn.act (stand_of state c)).words p ≡ Bump o.block
         kind_now = subst₂ (λ (a : Act) (x : Standing). spots.kinds s (acts s code state c a x).words p ≡ Bump o.block) (sym o.act_is) (sym o.stands)
-            (ap (λ (x : Restart). x.kind) (restart_here s state.words p opened_restart run.lawful.0 at_work.place (restart_fits s (few_words s) opened_restart at_work.here)))
+            (ap (λ (x : Restart). x.kind) (restart_here s state.words p opened_restart run.lawful.0 at_work.place
+            (restart_fits s (few_words s) opened_restart at_work.here)))
 
         away_there : IsAway l p
         away_there = away_by l (places_of s state).kind p (λ e. let k : Run ran.0 ran.1 ≡ Seek = sym ran.2 ∙ e in cc)

@@ -1,20 +1,18 @@
 -- What the rows that push and pop install, by the words that their loads have found.
-use Rattle.std.proofs.Common.{◌≡◌, ◌⊎◌, ◌×◌, ◌+◌, ◌-◌, ℕ, Bool, true, false, if◌then◌else◌, List, [], ◌∷◌, inl, inr, refl, sym, ap, subst}
+use Rattle.std.proofs.Common.{◌≡◌, ◌⊎◌, ◌+◌, ◌-◌, ℕ, Bool, true, false, if◌then◌else◌, List, [], ◌∷◌, inl, inr, refl, subst}
 use Rattle.std.specs.Prelude.{nat_lt, ◌^◌}
 use Rattle.ppm_cells.specs.Cells.{word_count}
 use Rattle.ppm_cells.specs.declared.cell.Cell.TheVariants.{EntryWord}
-use Rattle.ppm_cells.specs.declared.entry.Entry.{Entry}
 use Rattle.ppm_cells.specs.declared.entry.Entry.TheVariants as entries
 use Rattle.ppm_cells.specs.declared.restart.Restart.{Restart}
-use Rattle.ppm_cells.specs.declared.restart.RestartKind.TheVariants.{Run, Pop2, Seek}
+use Rattle.ppm_cells.specs.declared.restart.RestartKind.TheVariants.{Run, Pop2}
 use Rattle.ppm_cells.specs.declared.shape.Shape.{Shape}
-use Rattle.ppm_step.specs.Rows.{raised, with_kind, right_begins}
+use Rattle.ppm_step.specs.Rows.{raised, with_kind}
 use Rattle.ppm_step.specs.State.{is_work}
 use Rattle.ppm_step.specs.declared.row.Point.TheVariants.{PushBottom, PopBelow, PopAgain, PopAbove, Offset}
 use Rattle.ppm_step.specs.declared.row.Row.{Row}
-use Rattle.ppm_step.specs.declared.row.Row.TheVariants.{Now, Store, Exchange}
+use Rattle.ppm_step.specs.declared.row.Row.TheVariants.{Now}
 use Rattle.ppm_step.specs.declared.row.Seat.{Seat}
-use Rattle.ppm_step.specs.declared.row.Then.{Then}
 use Rattle.ppm_step.specs.declared.row.Then.TheVariants.{Load, Install, Begin, Broken}
 use Rattle.ppm_tickets.specs.Lawful.{May, IsTaken}
 use Rattle.ppm_tickets.specs.Saw.{rest_of, Saw}
@@ -56,10 +54,8 @@ module _ (s : Shape) (seat : Seat) (v : ℕ) (M : Spot → Word) where
   push2_so r [] = tt
   push2_so r (Local t x ∷ ws) = by (nat_lt (t + 1) (2 ^ 34)) ws
     where
-      abbrev row : Bool → Row
-      row y = raised (EntryWord seat.place b) (entries.Local t x) (entries.Job (t + 1) r) (Install (record { kind = Run (r + 5) 0; bottom = b + 1 })) y
-
-      by : (y : Bool) (ws : List Word) → So (row y) ws
+      by : (y : Bool) (ws : List Word)
+          → So (raised (EntryWord seat.place b) (entries.Local t x) (entries.Job (t + 1) r) (Install (record { kind = Run (r + 5) 0; bottom = b + 1 })) y) ws
       by true [] = tt
       by true (w ∷ ws) = work_so (record { kind = Run (r + 5) 0; bottom = b + 1 }) refl ws
       by false ws = broken_so ws

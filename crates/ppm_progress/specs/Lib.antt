@@ -1,2 +1,5 @@
 pub mod Fresh
+pub mod Idle
 pub mod Ready
+pub mod Stuck
+pub mod Works

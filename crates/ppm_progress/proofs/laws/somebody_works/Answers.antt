@@ -1,0 +1,5 @@
+use Rattle.ppm_progress.proofs.WorkRuns.{somebody_works, all_idle_is_over}
+use Rattle.ppm_progress.proofs.laws.somebody_works.Goals as goal
+
+pub returns : goal.returns
+returns c = record { law = somebody_works; over = all_idle_is_over }
