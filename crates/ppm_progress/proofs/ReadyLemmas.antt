@@ -56,7 +56,7 @@ something_is_ready code input s keeper im places fair opens calm turns among =
     let a = ready_at s code places fair root arrays first (λ r. Unborn) [] [] _ turns among (advancing_first code input s keeper im opens calm) in (
       a.0,
       shows s code root arrays (after s code first turns) (homes s code first (λ r. Unborn) turns) (forked_in s code first [] turns)
-      (taken_in s code first [] turns) [] a.0 a.1.run.halves,
+          (taken_in s code first [] turns) [] a.0 a.1.run.halves,
       a.1.run.joint.agrees,
       ready a.0 a.1.advances,
     )

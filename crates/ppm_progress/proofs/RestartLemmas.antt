@@ -37,11 +37,11 @@ module _ (s : Shape) (code : CodeParts) (words : List ℕ) (fit : AreWordsOf s w
   given now w p re lt here gives e = elim (cases_eq w p) [
     | inr ne ↦ elsewhere now w (RestartWord p) (restart_word re) lt (λ z. ne (ap restart_place z)) e
     | inl same ↦ inr (
-        re,
-        subst (λ (q : ℕ). Gives act x q re) (sym same) gives,
-        ap (λ (l : List ℕ). restart_at s l w) e ∙ ap (restart_at s (store s words (RestartWord p) (restart_word re))) same
-        ∙ restart_here s words p re fit lt (restart_fits s (few_words s) re here),
-      )
+      re,
+      subst (λ (q : ℕ). Gives act x q re) (sym same) gives,
+      ap (λ (l : List ℕ). restart_at s l w) e ∙ ap (restart_at s (store s words (RestartWord p) (restart_word re))) same
+          ∙ restart_here s words p re fit lt (restart_fits s (few_words s) re here),
+    )
   ]
 
   pub restart_goes_on : (now : List ℕ) → Wrote s code words act x now → (w : ℕ) → GoesOn now w
