@@ -57,6 +57,20 @@ pub record IsAdvancing (s : Shape) (code : CodeParts) (root : Tree (Frame FrameW
   pub advances : Advances t
   pub fresh : FreshAtBump s code state h [] t
 
+-- by places that is a run's state
+pub run_of : (s : Shape) (code : CodeParts) (root : Tree (Frame FrameWord Point) Result) (input : Words) (state : RunState) (h : ℕ → Home)
+    → (forked taken : List ℕ) (t : Skeleton) → IsAdvancing s code root input state h forked taken t → s.takeover ≡ ByPlaces
+    → IsRun s code root input state h forked taken t
+run_of s code root input state h forked taken t now places = record {
+  lawful = now.run.halves.lawful;
+  kept = now.run.halves.kept;
+  agrees = now.run.joint.agrees;
+  last = λ r p held home. subst (λ (how : Takeover). IsCapped how s state.words p) places (now.run.joint.last r p held home);
+  ready = now.run.joint.ready;
+  broken = now.run.broken;
+  born = now.run.halves.born;
+}
+
 module _ (s : Shape) (code : CodeParts) (fair : IsFair code) (root : Tree (Frame FrameWord Point) Result) (input : Words) (state : RunState)
     (h : ℕ → Home) (f tk : List ℕ) (t : Skeleton) (now : IsAdvancing s code root input state h f tk t)
     (turn : Turn) (among : IsTurnAmong s.processors turn) where
@@ -90,20 +104,9 @@ module _ (s : Shape) (code : CodeParts) (fair : IsFair code) (root : Tree (Frame
       }
 
   -- by places
-  run_of : s.takeover ≡ ByPlaces → IsRun s code root input state h f tk t
-  run_of places = record {
-    lawful = now.run.halves.lawful;
-    kept = now.run.halves.kept;
-    agrees = now.run.joint.agrees;
-    last = λ r p held home. subst (λ (how : Takeover). IsCapped how s state.words p) places (now.run.joint.last r p held home);
-    ready = now.run.joint.ready;
-    broken = now.run.broken;
-    born = now.run.halves.born;
-  }
-
   pub places_go_on : s.takeover ≡ ByPlaces → Next
   places_go_on places =
-      let run = run_of places in
+      let run = run_of s code root input state h f tk t now places in
       goes_on (alone_by s.takeover places turn.act x)
       (by_places.acts_so s code places fair root input state h f tk t run turn.processor turn.act among.processor)
       (act_away (setting s code) places turn.act x)

@@ -85,7 +85,7 @@ module _ (code : CodeParts) (input : List NamedArray) (s : Shape) (keeper : ℕ)
       subst (λ (n : ℕ). IsTaken (spots.view s im.words (Slot p n))) (sym zero_) (floor_taken s code (opening im.words s.processors) (λ r. Unborn) [] [] law p)
 
 module _ (s : Shape) (code : CodeParts) (fair : IsFair code) (root : Tree (Frame FrameWord Point) Result) (input : Words) where
-  all_places : s.takeover ≡ ByPlaces → (state : RunState) (h : ℕ → Home) (f tk : List ℕ) (t : Skeleton) → IsRun s code root input state h f tk t
+  pub all_places : s.takeover ≡ ByPlaces → (state : RunState) (h : ℕ → Home) (f tk : List ℕ) (t : Skeleton) → IsRun s code root input state h f tk t
       → (turns : List Turn) → AllByRecursion (IsTurnAmong s.processors) turns → IdleAreEmpty s state.words → IdleAreEmpty s (after s code state turns).words
   all_places places state h f tk t run [] among empty = empty
   all_places places state h f tk t run (turn ∷ more) among empty =

@@ -10,5 +10,5 @@ mod laws;
 
 pub use laws::{
     idle_deques_are_empty, left_comes_later, somebody_works, something_is_ready,
-    stuck_states_are_allowed,
+    stuck_states_are_allowed, work_turns_come_soon,
 };

@@ -16,7 +16,7 @@ use ppm_kept::{
 use ppm_paces::{capsules_are_short, looks_are_free, rows_are_paid, rows_keep_pace};
 use ppm_progress::{
     idle_deques_are_empty, left_comes_later, somebody_works, something_is_ready,
-    stuck_states_are_allowed,
+    stuck_states_are_allowed, work_turns_come_soon,
 };
 use ppm_runs::{
     births_follow, heirs_lead, joints_stay, legs_come_to, nothing_breaks, nothing_breaks_over_legs,
@@ -147,5 +147,6 @@ fn the_laws_of_progress_are_called() {
     something_is_ready();
     idle_deques_are_empty();
     somebody_works();
+    work_turns_come_soon();
     stuck_states_are_allowed();
 }
