@@ -1,5 +1,5 @@
 -- What a status says of the delivery, whatever the answer is.
-use Rattle.std.proofs.Common.{◌≡◌, ◌≢◌, ◌⊎◌, ℕ, List, [], ◌∷◌, Option, Some, None}
+use Rattle.std.proofs.Common.{◌≡◌, ◌≢◌, ◌⊎◌, ℕ, List, [], Option, Some, None}
 use Rattle.std.proofs.Common.{refl, ◌∙◌, subst, inl, inr, append-nil}
 use Rattle.std.specs.Io.KnownBytes.{Keeps, Appends}
 use Rattle.std.proofs.KnownBytes.{Keeps-refl}
@@ -12,7 +12,7 @@ use Rattle.ppm_answers.specs.Texts.{IsFixed, out_text}
 use Rattle.ppm_answers.specs.Statuses.{status_of}
 use Rattle.ppm_answers.specs.Delivery.{IsWritten, Delivers}
 use Rattle.ppm_answers.specs.Reading.{IsUnread, DeliversAnswer, TellsNothing, Answers}
-use Rattle.ppm_ports.specs.Outside.{ToldLists, Ports, Outside, ports_of}
+use Rattle.ppm_ports.specs.Outside.{ToldLists, Outside, ports_of}
 
 -- a status is 8, or the answer is written
 pub own_or_fault : (out err : Port) (answer : Answer) (status : Status) → Delivers out err answer status →
@@ -53,6 +53,7 @@ no_text answers.Accepted status e n m = absurd (n e)
 no_text (answers.Counted arrays counts) status e n m = absurd (n e)
 no_text (answers.TrappedAfter t line counts) status e n m = absurd (m e)
 no_text (answers.Sound counts) status e n m = absurd (n e)
+no_text (answers.Swept sweep) status e n m = absurd (n e)
 no_text answer status e n m = refl
 
 appends_nothing : (before now : Option (List ℕ)) → Appends before now [] → Keeps before now

@@ -1,12 +1,12 @@
 -- A command that judges the text that it reads: how its answers are delivered, and its rows.
-use Rattle.std.proofs.Common.{◌≡◌, ◌⊎◌, ℕ, List, [], Some, Err}
+use Rattle.std.proofs.Common.{◌≡◌, ◌⊎◌, ℕ, List, [], Err}
 use Rattle.std.proofs.Common.{refl, sym, subst, inl, inr, arith}
 use Rattle.std.proofs.KnownBytes.{Consumes-nil, Consumes-kept}
 use Rattle.std.specs.declared.vec.Vec.{Vec}
 use Rattle.std.specs.declared.alloc.Global.{Global}
 use Rattle.ppm_ports.specs.declared.read_error.ReadError.{ReadError}
 use Rattle.ppm_ports.specs.declared.read_error.ReadError.TheVariants as errors
-use Rattle.ppm_ports.specs.Ports.{Port, Fails, Holds}
+use Rattle.ppm_ports.specs.Ports.{Port, Holds}
 use Rattle.ppm_ports.specs.Outside.{ToldLists, Ports, Outside}
 use Rattle.ppm_ports.specs.Whole.{ReadsTo, CountsFaults}
 use Rattle.ppm_answers.specs.declared.answer.Answer.{Answer}

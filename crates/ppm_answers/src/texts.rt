@@ -1,24 +1,21 @@
 //! The texts of answers.
-ghost use Rattle.std.specs.Prelude.{◌≡◌, ◌++◌, IfOk, IsOk, OnOk};
+ghost use Rattle.std.specs.Prelude.{◌≡◌, IfOk, IsOk};
 ghost use Rattle.std.specs.Cow.{cow_slice_items};
-ghost use Rattle.std.specs.List.{flat_map};
 ghost use Rattle.ppm_answers.specs.Texts.{IsFixed, out_text, err_text, refusal_text, fault_text};
 ghost use Rattle.ppm_answers.specs.Texts.{pass_name as name_of_pass, place_name as name_of_place};
-ghost use Rattle.ppm_answers.specs.Texts.{not_within_text, turns_text, room_text};
-ghost use Rattle.ppm_answers.specs.Texts.{unfinished_text, broken_text, plan_text};
-ghost use Rattle.ppm_answers.specs.Texts.{arrays_text, array_text, value_text, trap_text};
-ghost use Rattle.ppm_answers.specs.Texts.{trap_name as name_of_trap};
+ghost use Rattle.ppm_answers.specs.Texts.{not_within_text, turns_text, plan_text};
 
 use crate::answer::Answer;
 use crate::case::{input_text_of, untidy_text_of};
 use crate::conflict::{conflict_at_text_of, conflict_text_of, listing_text_of};
 use crate::counts::{not_within_capsules_text_of, sound_text_of, with_counts};
+use crate::ends::{arrays_text_of, broken_text_of, room_text_of, trap_text_of, unfinished_text_of};
 use crate::race::race_text_of;
 use crate::refusal::{Pass, Refusal};
 use crate::saved::saved_line_of;
 use crate::sums::sums_text_of;
+use crate::sweep::{difference_text_of, sweep_text_of};
 use crate::tally::with_tally;
-use ppm_words::{NamedArray, Trap};
 use std::alloc::{AllocError, Global};
 use std::borrow::CowSlice;
 
@@ -87,6 +84,14 @@ pub fn texts_of(alloc: Global, answer: &Answer) -> Result<(Text, Text), AllocErr
         Answer::Summed(sums) => Ok((
             CowSlice::Owned(sums_text_of(alloc, *sums)?),
             CowSlice::Borrowed(none),
+        )),
+        Answer::Swept(sweep) => Ok((
+            CowSlice::Owned(sweep_text_of(alloc, *sweep)?),
+            CowSlice::Borrowed(none),
+        )),
+        Answer::Differs(difference) => Ok((
+            CowSlice::Borrowed(none),
+            CowSlice::Owned(difference_text_of(alloc, difference)?),
         )),
         Answer::SourceRefused(refusal) => Ok((
             CowSlice::Borrowed(none),
@@ -171,30 +176,6 @@ fn turns_text_of(alloc: Global, processor: u32) -> Result<Vec<u8>, AllocError>
     Ok(text.into_bytes())
 }
 
-/// The line of a place that has no room left.
-fn room_text_of(alloc: Global, place: u32) -> Result<Vec<u8>, AllocError>
-    ensures { IfOk result (λ text. text.items ≡ room_text place) }
-{
-    let text = format!(in alloc; "out of room: place {place}\n")?;
-    Ok(text.into_bytes())
-}
-
-/// The line of a replay that did not end within its acts.
-fn unfinished_text_of(alloc: Global, acts: u64) -> Result<Vec<u8>, AllocError>
-    ensures { IfOk result (λ text. text.items ≡ unfinished_text acts) }
-{
-    let text = format!(in alloc; "unfinished after {acts} turns\n")?;
-    Ok(text.into_bytes())
-}
-
-/// The line of words that are broken at a place.
-fn broken_text_of(alloc: Global, place: u32) -> Result<Vec<u8>, AllocError>
-    ensures { IfOk result (λ text. text.items ≡ broken_text place) }
-{
-    let text = format!(in alloc; "saved words broken: place {place}\n")?;
-    Ok(text.into_bytes())
-}
-
 /// The line of a plan or schedule that is refused.
 fn plan_text_of(alloc: Global, number: u32) -> Result<Vec<u8>, AllocError>
     ensures { IfOk result (λ text. text.items ≡ plan_text number) }
@@ -253,59 +234,5 @@ fn place_name(pass: Pass) -> &'static str
     match pass {
         Pass::Region => "line",
         Pass::Text | Pass::Syntax | Pass::Cut => "at",
-    }
-}
-
-/// The arrays, a line each.
-fn arrays_text_of(alloc: Global, arrays: &[NamedArray]) -> Result<Vec<u8>, AllocError>
-    ensures { IfOk result (λ text. text.items ≡ arrays_text arrays.now) }
-{
-    let mut text = Vec::new(alloc);
-    for array in arrays {
-        push_array(alloc, &mut text, array)?;
-    }
-    Ok(text)
-}
-
-/// Appends an array's name, its values and a line feed.
-fn push_array(alloc: Global, text: &mut Vec<u8>, array: &NamedArray) -> Result<(), AllocError>
-    ensures { OnOk result (text.new.items ≡ text.old.items ++ array_text array.now) }
-{
-    text.extend_from_slice(array.name.as_bytes())?;
-    push_values(alloc, text, array.values.as_slice())?;
-    text.push(b'\n')?;
-    Ok(())
-}
-
-/// Appends a space and the value for each of the values.
-fn push_values(alloc: Global, text: &mut Vec<u8>, values: &[i64]) -> Result<(), AllocError>
-    ensures { OnOk result (text.new.items ≡ text.old.items ++ flat_map value_text values.now) }
-{
-    for value in values {
-        text.push(b' ')?;
-        let digits = value.to_string(alloc)?;
-        text.extend_from_slice(digits.as_bytes())?;
-    }
-    Ok(())
-}
-
-/// The line of a trap.
-fn trap_text_of(alloc: Global, trap: Trap, line: u32) -> Result<Vec<u8>, AllocError>
-    ensures { IfOk result (λ text. text.items ≡ trap_text trap line) }
-{
-    let name = trap_name(trap);
-    let text = format!(in alloc; "trap {name} line {line}\n")?;
-    Ok(text.into_bytes())
-}
-
-/// The name of a trap.
-fn trap_name(trap: Trap) -> &'static str
-    ensures { result.now ≡ name_of_trap trap }
-{
-    match trap {
-        Trap::Overflow => "overflow",
-        Trap::DivZero => "divzero",
-        Trap::Index => "index",
-        Trap::Split => "split",
     }
 }

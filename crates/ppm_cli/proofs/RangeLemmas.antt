@@ -12,16 +12,21 @@ use Rattle.ppm_cells.specs.Limits.{most_pool_words}
 use Rattle.ppm_cli.specs.Application.{ppm_application}
 use Rattle.ppm_cli.specs.CommandLine.{Number, OptionRule, processors, turns, room, slots, looks, seed, faults, schedule}
 use Rattle.ppm_cli.specs.CommandLine.{few_processors, after, small_room, few_slots, size, count, capsules, arrays}
-use Rattle.ppm_cli.specs.Words.{number_in, number_given, value_of_digits, run_options, serial_in, replay_options, resume_options, self_in, self_options, stop_options, text_given}
-use Rattle.ppm_cli.specs.Words.{takeover_given, idle_given, command_named, command_in, without_fault, command_of}
-use Rattle.ppm_cli.specs.Words.{fitting_room, room_given, with_text, AreReplayed, AreResumed, AreRun, AreSelf, AreStopped, DoPoolsFit, IsInRange, IsLimit, IsOfForm}
-use Rattle.ppm_cli.specs.Words.{by_input, choice_given, code_in, capsule_limit, depth_in, is_case_given, races_in, with_input}
+use Rattle.ppm_cli.specs.CommandLine.{copied_room, copied_slots, met, from, acts, runs}
+use Rattle.ppm_cli.specs.Words.{run_options, serial_in, replay_options, resume_options, self_in, self_options, stop_options}
+use Rattle.ppm_cli.specs.Values.{number_in, number_given, value_of_digits, text_given}
+use Rattle.ppm_cli.specs.Words.{command_named, command_in, without_fault, command_of}
+use Rattle.ppm_cli.specs.Values.{takeover_given, idle_given}
+use Rattle.ppm_cli.specs.Words.{with_text, AreReplayed, AreResumed, AreRun, AreSelf, AreStopped, DoPoolsFit, IsInRange, IsLimit, IsOfForm}
+use Rattle.ppm_cli.specs.Values.{fitting_room, room_given}
+use Rattle.ppm_cli.specs.Words.{sweep_options, AreSwept}
+use Rattle.ppm_cli.specs.Values.{swept_takeovers_given}
+use Rattle.ppm_cli.specs.Words.{by_input, code_in, capsule_limit, with_input}
+use Rattle.ppm_cli.specs.Values.{choice_given, is_case_given}
 use Rattle.ppm_cli.specs.declared.capsules.CapsuleLimit.{CapsuleLimit}
 use Rattle.ppm_cli.specs.declared.command.Command.{Command}
 use Rattle.ppm_cli.specs.declared.command.Command.TheVariants as commands
 use Rattle.ppm_cli.specs.declared.example.SelfOptions.{SelfOptions}
-use Rattle.ppm_cli.specs.declared.replay.ReplayOptions.{ReplayOptions}
-use Rattle.ppm_cli.specs.declared.run.RunOptions.{RunOptions}
 
 -- a value with what came of it
 record Came {A B : Type 0} (o : Option A) (f : A → Option B) (b : B) : Type 0 where
@@ -57,11 +62,12 @@ fits p words n e = go (nat_le (p * words) most_pool_words) refl e where
   go true h e = (some_is e, leb-true _ _ h)
   go false h e = cc
 
-room_fits : (p n : ℕ) (rows : List Row) → room_given p rows ≡ Some n → IsOfForm room.form n × DoPoolsFit p n
-room_fits p n rows e =
-    let c = came (number_given room rows) (fitting_room p) n e in
+room_fits : (o : OptionRule) (low high p n : ℕ) (rows : List Row) → o.form ≡ Number low high → room_given o p rows ≡ Some n
+    → ((low ≤ n) × (n ≤ high)) × DoPoolsFit p n
+room_fits o low high p n rows is e =
+    let c = came (number_given o rows) (fitting_room p) n e in
     let f = fits p c.value n c.came in
-    subst (λ words. IsOfForm room.form words × DoPoolsFit p words) f.0 (given room _ _ c.value rows refl c.there, f.1)
+    subst (λ words. ((low ≤ words) × (words ≤ high)) × DoPoolsFit p words) f.0 (given o low high c.value rows is c.there, f.1)
 
 -- ---- what each value has that may come of options
 
@@ -108,13 +114,13 @@ run_are : (rows : List Row) → IfSome (run_options rows) AreRun
 run_are rows =
     bound AreRun (number_given processors rows) _ (λ p a.
     bound AreRun (number_given turns rows) _ (λ n b.
-    bound AreRun (room_given p rows) _ (λ w c.
+    bound AreRun (room_given room p rows) _ (λ w c.
     bound AreRun (number_given slots rows) _ (λ s d.
     bound AreRun (number_given looks rows) _ (λ l e.
     bound AreRun (number_given seed rows) _ (λ x f.
     bound AreRun (takeover_given rows) _ (λ t g.
     bound AreRun (idle_given rows) _ (λ i h.
-    let r = room_fits p w rows c in (
+    let r = room_fits room _ _ p w rows refl c in (
       given processors _ _ p rows refl a,
       given turns _ _ n rows refl b,
       r.0,
@@ -128,10 +134,10 @@ replay_are : (rows : List Row) → IfSome (replay_options rows) AreReplayed
 replay_are rows =
     bound AreReplayed (number_given processors rows) _ (λ p a.
     bound AreReplayed (number_given turns rows) _ (λ n b.
-    bound AreReplayed (room_given p rows) _ (λ w c.
+    bound AreReplayed (room_given room p rows) _ (λ w c.
     bound AreReplayed (number_given slots rows) _ (λ s d.
     bound AreReplayed (takeover_given rows) _ (λ t e.
-    let r = room_fits p w rows c in
+    let r = room_fits room _ _ p w rows refl c in
     (given processors _ _ p rows refl a, given turns _ _ n rows refl b, r.0, given slots _ _ s rows refl d, r.1))))))
 
 serial_are : (rows : List Row) → IfSome (serial_in rows) IsInRange
@@ -154,6 +160,33 @@ resume_are rows =
     bound AreResumed (number_given looks rows) _ (λ l b.
     bound AreResumed (number_given seed rows) _ (λ s c.
     (given turns _ _ n rows refl a, given looks _ _ l rows refl b, given seed _ _ s rows refl c))))
+
+sweep_are : (rows : List Row) → IfSome (sweep_options rows) AreSwept
+sweep_are rows =
+    bound AreSwept (number_given processors rows) _ (λ p a.
+    bound AreSwept (number_given turns rows) _ (λ n b.
+    bound AreSwept (room_given copied_room p rows) _ (λ w c.
+    bound AreSwept (number_given copied_slots rows) _ (λ e d.
+    bound AreSwept (swept_takeovers_given rows) _ (λ t g.
+    bound AreSwept (number_given met rows) _ (λ m h.
+    bound AreSwept (number_given from rows) _ (λ f i.
+    bound AreSwept (number_given acts rows) _ (λ x j.
+    bound AreSwept (number_given runs rows) _ (λ r k.
+    bound AreSwept (number_given seed rows) _ (λ s l.
+    bound AreSwept (number_given capsules rows) _ (λ y o.
+    let z = room_fits copied_room _ _ p w rows refl c in (
+      given processors _ _ p rows refl a,
+      given turns _ _ n rows refl b,
+      z.0,
+      given copied_slots _ _ e rows refl d,
+      given met _ _ m rows refl h,
+      given from _ _ f rows refl i,
+      given acts _ _ x rows refl j,
+      given runs _ _ r rows refl k,
+      given seed _ _ s rows refl l,
+      given capsules _ _ y rows refl o,
+      z.1,
+    ))))))))))))
 
 self_are : (rows : List Row) → IfSome (self_options rows) AreSelf
 self_are rows =
@@ -206,15 +239,17 @@ named_are name rows =
     (with_input_are AreReplayed commands.Replay commands.ReplayCase schedule (replay_options rows) rows (λ o t h. h) (λ o t h. h) (replay_are rows))
     (either IsInRange (bytes_eq name (codes "self")) _ _ (example_are rows)
     (either IsInRange (bytes_eq name (codes "stop")) _ _
-    (with_text_are AreStopped commands.Stop schedule (stop_options rows) rows (λ o t h. h) (stop_are rows))
+    (with_input_are AreStopped commands.Stop commands.StopCase schedule (stop_options rows) rows (λ o t h. h) (λ o t h. h) (stop_are rows))
     (either IsInRange (bytes_eq name (codes "resume")) _ _
     (with_text_are AreResumed commands.Resume faults (resume_options rows) rows (λ o t h. h) (resume_are rows))
-    tt)))))))))
+    (either IsInRange (bytes_eq name (codes "sweep")) _ _
+    (with_input_are AreSwept commands.Sweep commands.SweepCase schedule (sweep_options rows) rows (λ o t h. h) (λ o t h. h) (sweep_are rows))
+    tt))))))))))
 
 -- the options of a command that words give
 pub is_in_range : (words : List Text) (command : Command) → command_of words ≡ Some command → IsInRange command
 is_in_range words command e =
     subst (λ c. IfSome c IsInRange) e (go (fault_of ppm_application words) (subcommand_of ppm_application words)) where
-      go : (kinds : Kinds) (met : Option (Text × List Row)) → IfSome (without_fault kinds (command_in met)) IsInRange
-      go [] met = bound IsInRange met _ (λ m f. named_are m.0 m.1)
-      go (k ∷ kinds) met = tt
+      go : (kinds : Kinds) (named : Option (Text × List Row)) → IfSome (without_fault kinds (command_in named)) IsInRange
+      go [] named = bound IsInRange named _ (λ m f. named_are m.0 m.1)
+      go (k ∷ kinds) named = tt

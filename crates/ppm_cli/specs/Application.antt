@@ -56,10 +56,10 @@ ppm_application = application_of (admitted command_line)
 abbrev pub number_rule : NumberOption → OptionRule
 number_rule o = record { name = o.name.now; form = Number o.low o.high; default = o.default.now }
 
--- of a choice of two words
+-- of a choice among words
 abbrev pub choice_rule : ChoiceOption → OptionRule
 choice_rule o =
-    record { name = o.name.now; form = Choice (o.first.now ∷ o.second.now ∷ []); default = o.first.now }
+    record { name = o.name.now; form = Choice (map (λ word. word.now) o.words.now); default = o.default.now }
 
 -- of a text
 abbrev pub text_rule : TextOption → OptionRule

@@ -1,6 +1,6 @@
--- The command line as a table of rules: the eleven commands, their options with ranges and defaults, and which of these are admitted today.
+-- The command line as a table of rules: the twelve commands, their options with ranges and defaults, and which of these are admitted today.
 use Prim.Native.String.{String}
-use Rattle.std.specs.Prelude.{ℕ, Bool, true, false, List, [], ◌∷◌, codes, decimal, filter, not, nat_eq}
+use Rattle.std.specs.Prelude.{ℕ, Bool, true, false, List, [], ◌∷◌, codes, decimal, filter, map, not, nat_eq}
 use Rattle.clap.specs.Words.{Text}
 use Rattle.ppm_words.specs.Limits.{processor_limit, entry_limit, turn_limit}
 use Rattle.ppm_cells.specs.Limits.{most_pool_words}
@@ -28,13 +28,10 @@ abbrev pub number : String → ℕ → ℕ → ℕ → OptionRule
 number name low high default =
     record { name = codes name; form = Number low high; default = decimal default }
 
--- an option whose value is one of two words, the first of which is the default
-abbrev pub choice : String → String → String → OptionRule
-choice name first second = record {
-  name = codes name;
-  form = Choice (codes first ∷ codes second ∷ []);
-  default = codes first;
-}
+-- an option whose value is one of some words, with its default
+abbrev pub choice : String → List String → String → OptionRule
+choice name words default =
+    record { name = codes name; form = Choice (map codes words); default = codes default }
 
 -- a text that does not begin with a hyphen
 abbrev pub is_free_text : Text → Bool
@@ -83,6 +80,10 @@ room = number "room" 64 most_pool_words 65536
 abbrev pub small_room : OptionRule
 small_room = number "room" 64 65536 16384
 
+-- and where each run has words of its own
+abbrev pub copied_room : OptionRule
+copied_room = number "room" 64 most_pool_words 16384
+
 -- the entries of a place's deque
 abbrev pub slots : OptionRule
 slots = number "slots" 2 entry_limit 4096
@@ -90,6 +91,10 @@ slots = number "slots" 2 entry_limit 4096
 -- and where all words are written out
 abbrev pub few_slots : OptionRule
 few_slots = number "slots" 2 4096 256
+
+-- and where each run has words of its own
+abbrev pub copied_slots : OptionRule
+copied_slots = number "slots" 2 entry_limit 256
 
 -- the acts after which a run is stopped
 abbrev pub after : OptionRule
@@ -111,6 +116,22 @@ size = number "size" 1 4096 64
 abbrev pub count : OptionRule
 count = number "count" 0 4096 0
 
+-- the faults that a run of a sweep meets at most
+abbrev pub met : OptionRule
+met = number "faults" 1 2 1
+
+-- the first act of the base run before which faults are put
+abbrev pub from : OptionRule
+from = number "from" 0 268435455 0
+
+-- the acts from that one on before which faults are put
+abbrev pub acts : OptionRule
+acts = number "acts" 1 turn_limit 268435456
+
+-- the runs that are drawn; where there are none, faults are put at every place
+abbrev pub runs : OptionRule
+runs = number "runs" 0 1048576 0
+
 -- the plan of faults
 abbrev pub faults : OptionRule
 faults = text "faults" "none"
@@ -121,19 +142,23 @@ schedule = text "schedule" "none"
 
 -- what is taken over of a dead processor: its place, or the entries of its deque
 abbrev pub takeover : OptionRule
-takeover = choice "takeover" "place" "entry"
+takeover = choice "takeover" ("place" ∷ "entry" ∷ []) "place"
+
+-- under which takeovers a sweep has its runs
+abbrev pub swept_takeovers : OptionRule
+swept_takeovers = choice "takeover" ("place" ∷ "entry" ∷ "both" ∷ []) "both"
 
 -- what a processor does that finds no work: it leaves, or it parks
 abbrev pub idle : OptionRule
-idle = choice "idle" "leave" "park"
+idle = choice "idle" ("leave" ∷ "park" ∷ []) "leave"
 
 -- whether the arrays of a source are written before its code
 abbrev pub arrays : OptionRule
-arrays = choice "arrays" "no" "yes"
+arrays = choice "arrays" ("no" ∷ "yes" ∷ []) "no"
 
 -- whether the text that is read is a source or a case
 abbrev pub input : OptionRule
-input = choice "input" "source" "case"
+input = choice "input" ("source" ∷ "case" ∷ []) "source"
 
 -- ---- the commands
 
@@ -149,8 +174,10 @@ command_line =
     ∷ command "races" (capsules ∷ [])
     ∷ command "replay" (processors ∷ turns ∷ room ∷ slots ∷ takeover ∷ schedule ∷ input ∷ [])
     ∷ command "self" (few_processors ∷ size ∷ seed ∷ count ∷ [])
-    ∷ command "stop" (few_processors ∷ after ∷ small_room ∷ few_slots ∷ schedule ∷ [])
+    ∷ command "stop" (few_processors ∷ after ∷ small_room ∷ few_slots ∷ schedule ∷ input ∷ [])
     ∷ command "resume" (turns ∷ looks ∷ seed ∷ faults ∷ [])
+    ∷ command "sweep"
+    (processors ∷ turns ∷ copied_room ∷ copied_slots ∷ swept_takeovers ∷ schedule ∷ met ∷ from ∷ acts ∷ runs ∷ seed ∷ capsules ∷ input ∷ [])
     ∷ later_command "ram" (processors ∷ turns ∷ room ∷ slots ∷ looks ∷ seed ∷ faults ∷ takeover ∷ idle ∷ [])
     ∷ []
 

@@ -1,95 +1,27 @@
 -- The command that the words of the command line give, as clap reads them.
-use Rattle.std.specs.Prelude.{◌≤◌, ◌*◌, ℕ, Bool, true, false, List, [], ◌∷◌, Option, Some, None, codes, if◌then◌else◌, nat_le, ◌&&◌, option_and_then, option_map, ⊤}
+use Rattle.std.specs.Prelude.{◌≤◌, ◌*◌, ℕ, true, false, List, [], ◌∷◌, Option, Some, None, codes, if◌then◌else◌, option_and_then, option_map, ⊤}
 use Rattle.std.specs.Str.{bytes_eq}
-use Rattle.std.specs.Str.Parse.{digits_value, without_leading_plus}
-use Rattle.clap.specs.Words.{Kinds, Row, Text, fault_of, first_of, one_of, subcommand_of}
-use Rattle.clap.specs.ValueTests.{is_unsigned_in}
-use Rattle.ppm_words.specs.declared.idle.Idle.{Idle}
-use Rattle.ppm_words.specs.declared.idle.Idle.TheVariants.{Leave, Park}
+use Rattle.clap.specs.Words.{Kinds, Row, Text, fault_of, subcommand_of}
 use Rattle.ppm_cells.specs.Limits.{most_pool_words}
-use Rattle.ppm_cells.specs.declared.shape.Takeover.{Takeover}
-use Rattle.ppm_cells.specs.declared.shape.Takeover.TheVariants.{ByPlaces, ByEntries}
 use Rattle.ppm_cli.specs.Application.{ppm_application}
-use Rattle.ppm_cli.specs.CommandLine.{Form, Number, Choice, AnyText, OptionRule, is_free_text}
-use Rattle.ppm_cli.specs.CommandLine.{processors, turns, room, slots, looks, seed, faults, schedule, takeover, idle}
-use Rattle.ppm_cli.specs.CommandLine.{few_processors, after, small_room, few_slots, size, count, capsules, arrays, input}
+use Rattle.ppm_cli.specs.CommandLine.{Form, Number, OptionRule}
+use Rattle.ppm_cli.specs.CommandLine.{processors, turns, room, slots, looks, seed, faults, schedule}
+use Rattle.ppm_cli.specs.CommandLine.{few_processors, after, small_room, few_slots, size, count, capsules, arrays}
+use Rattle.ppm_cli.specs.CommandLine.{copied_room, copied_slots, met, from, acts, runs}
+use Rattle.ppm_cli.specs.Values.{and_then, choice_given, idle_given, is_case_given, number_given, room_given, swept_takeovers_given, takeover_given, text_given}
 use Rattle.ppm_cli.specs.declared.capsules.CapsuleLimit.{CapsuleLimit}
 use Rattle.ppm_cli.specs.declared.command.Command.{Command}
 use Rattle.ppm_cli.specs.declared.command.Command.TheVariants as commands
 use Rattle.ppm_cli.specs.declared.example.SelfOptions.{SelfOptions}
-use Rattle.ppm_cli.specs.declared.serial.SerialOptions.{SerialOptions}
 use Rattle.ppm_cli.specs.declared.replay.ReplayOptions.{ReplayOptions}
 use Rattle.ppm_cli.specs.declared.resume.ResumeOptions.{ResumeOptions}
 use Rattle.ppm_cli.specs.declared.run.RunOptions.{RunOptions}
 use Rattle.ppm_cli.specs.declared.stop.StopOptions.{StopOptions}
-
--- the number that decimal digits write; a plus may stand in front
-abbrev pub value_of_digits : Text → ℕ
-value_of_digits text = digits_value 10 (without_leading_plus text)
-
--- the number that a text writes, if it writes one in the range of the form
-abbrev pub number_in : Form → Text → Option ℕ
-number_in (Number low high) text = if is_unsigned_in low high text then Some (value_of_digits text) else None
-number_in _ text = None
-
--- the number, if it is in the range
-abbrev pub kept_in : ℕ → ℕ → ℕ → Option ℕ
-kept_in low high n = if nat_le low n && nat_le n high then Some n else None
-
--- the number of an option in the matches of its command: clap puts the default there where the words do not give the option
-abbrev pub number_given : OptionRule → List Row → Option ℕ
-number_given o rows = option_and_then (number_in o.form) (one_of o.name rows)
-
--- the text, if the form takes it
-abbrev pub text_in : Form → Text → Option Text
-text_in AnyText text = if is_free_text text then Some text else None
-text_in _ text = None
-
--- the text of an option in the matches of its command, with the default there, too
-abbrev pub text_given : OptionRule → List Row → Option Text
-text_given o rows = option_and_then (text_in o.form) (first_of o.name rows)
-
--- the value that a word stands for among these words, which stand in the order of the values
-abbrev pub value_among : {T : Type 0} → List Text → List T → Text → Option T
-value_among (first ∷ words) (value ∷ values) word = if bytes_eq word first then Some value else value_among words values word
-value_among _ _ word = None
-
--- the value that a text stands for, if it is one of the words of the form
-abbrev pub choice_in : {T : Type 0} → Form → List T → Text → Option T
-choice_in (Choice words) values text = value_among words values text
-choice_in _ values text = None
-
--- the value of an option in the matches of its command, by the word that is chosen there
-abbrev pub choice_given : {T : Type 0} → OptionRule → List T → List Row → Option T
-choice_given o values rows = option_and_then (choice_in o.form values) (first_of o.name rows)
-
--- what is taken over of a dead processor
-abbrev pub takeover_given : List Row → Option Takeover
-takeover_given rows = choice_given takeover (ByPlaces ∷ ByEntries ∷ []) rows
-
--- what a processor does that finds no work
-abbrev pub idle_given : List Row → Option Idle
-idle_given rows = choice_given idle (Leave ∷ Park ∷ []) rows
-
--- what comes of a value, if there is one: as Rust's `and_then`, the value first
-abbrev pub and_then : {A B : Type 0} → Option A → (A → Option B) → Option B
-and_then value f = option_and_then f value
-
--- the words, if so many processors may have pools of so many
-abbrev pub fitting_room : ℕ → ℕ → Option ℕ
-fitting_room processors words = if nat_le (processors * words) most_pool_words then Some words else None
-
--- the words of the pool of each of so many places
-abbrev pub room_given : ℕ → List Row → Option ℕ
-room_given processors rows = and_then (number_given room rows) (fitting_room processors)
+use Rattle.ppm_cli.specs.declared.sweep.SweepOptions.{SweepOptions}
 
 -- a command that has options and a text, if each has a value of its form
 abbrev pub with_text : {O : Type 0} → (O → Text → Command) → OptionRule → Option O → List Row → Option Command
 with_text make text options rows = and_then options (λ o. option_map (make o) (text_given text rows))
-
--- whether the text that is read is a case, and not a source
-abbrev pub is_case_given : List Row → Option Bool
-is_case_given rows = choice_given input (false ∷ true ∷ []) rows
 
 -- of two commands that of a source, or that of a case
 abbrev pub by_input : (of_source of_case : Command) → List Row → Option Command
@@ -105,7 +37,7 @@ abbrev pub run_options : List Row → Option RunOptions
 run_options rows =
     and_then (number_given processors rows) (λ p.
     and_then (number_given turns rows) (λ n.
-    and_then (room_given p rows) (λ w.
+    and_then (room_given room p rows) (λ w.
     and_then (number_given slots rows) (λ e.
     and_then (number_given looks rows) (λ l.
     and_then (number_given seed rows) (λ s.
@@ -126,7 +58,7 @@ abbrev pub replay_options : List Row → Option ReplayOptions
 replay_options rows =
     and_then (number_given processors rows) (λ p.
     and_then (number_given turns rows) (λ n.
-    and_then (room_given p rows) (λ w.
+    and_then (room_given room p rows) (λ w.
     and_then (number_given slots rows) (λ e.
     and_then (takeover_given rows) (λ t.
     Some (record { processors = p; turns = n; room = w; slots = e; takeover = t }))))))
@@ -144,9 +76,9 @@ stop_options rows =
     and_then (number_given few_slots rows) (λ e.
     Some (record { processors = p; after = n; room = w; slots = e })))))
 
--- the command `stop` with its options and its schedule
+-- the command `stop` with its options and its schedule, over a source or over a case
 abbrev pub stop_in : List Row → Option Command
-stop_in rows = with_text commands.Stop schedule (stop_options rows) rows
+stop_in rows = with_input commands.Stop commands.StopCase schedule (stop_options rows) rows
 
 -- the options of `resume` but for its plan, if each has a value of its form
 abbrev pub resume_options : List Row → Option ResumeOptions
@@ -159,6 +91,38 @@ resume_options rows =
 -- the command `resume` with its options and its plan
 abbrev pub resume_in : List Row → Option Command
 resume_in rows = with_text commands.Resume faults (resume_options rows) rows
+
+-- the options of `sweep` but for its schedule, if each has a value of its form
+abbrev pub sweep_options : List Row → Option SweepOptions
+sweep_options rows =
+    and_then (number_given processors rows) (λ p.
+    and_then (number_given turns rows) (λ n.
+    and_then (room_given copied_room p rows) (λ w.
+    and_then (number_given copied_slots rows) (λ e.
+    and_then (swept_takeovers_given rows) (λ t.
+    and_then (number_given met rows) (λ m.
+    and_then (number_given from rows) (λ f.
+    and_then (number_given acts rows) (λ a.
+    and_then (number_given runs rows) (λ r.
+    and_then (number_given seed rows) (λ s.
+    and_then (number_given capsules rows) (λ c.
+    Some (record {
+      processors = p;
+      turns = n;
+      room = w;
+      slots = e;
+      takeover = t;
+      faults = m;
+      from = f;
+      acts = a;
+      runs = r;
+      seed = s;
+      capsules = c;
+    }))))))))))))
+
+-- the command `sweep` with its options and its schedule, over a source or over a case
+abbrev pub sweep_in : List Row → Option Command
+sweep_in rows = with_input commands.Sweep commands.SweepCase schedule (sweep_options rows) rows
 
 -- the options of `self`, if each has a value of its form
 abbrev pub self_options : List Row → Option SelfOptions
@@ -202,6 +166,7 @@ command_named name rows =
     else if bytes_eq name (codes "self") then self_in rows
     else if bytes_eq name (codes "stop") then stop_in rows
     else if bytes_eq name (codes "resume") then resume_in rows
+    else if bytes_eq name (codes "sweep") then sweep_in rows
     else None
 
 -- the command of the subcommand that was met, with its options
@@ -256,6 +221,14 @@ abbrev pub AreResumed : ResumeOptions → Type 0
 AreResumed options =
     IsOfForm turns.form options.turns × IsOfForm looks.form options.looks × IsOfForm seed.form options.seed
 
+-- each option of a sweep is in its range, and the pools fit
+abbrev pub AreSwept : SweepOptions → Type 0
+AreSwept options =
+    IsOfForm processors.form options.processors × IsOfForm turns.form options.turns × IsOfForm copied_room.form options.room
+    × IsOfForm copied_slots.form options.slots × IsOfForm met.form options.faults × IsOfForm from.form options.from
+    × IsOfForm acts.form options.acts × IsOfForm runs.form options.runs × IsOfForm seed.form options.seed
+    × IsOfForm capsules.form options.capsules × DoPoolsFit options.processors options.room
+
 -- the limit of a depth-first run is in its range
 abbrev pub IsLimit : CapsuleLimit → Type 0
 IsLimit limit = IsOfForm capsules.form limit.capsules
@@ -275,3 +248,6 @@ IsInRange (commands.Races limit) = IsLimit limit
 IsInRange commands.CodeCase = ⊤
 IsInRange (commands.RunCase options _) = AreRun options
 IsInRange (commands.ReplayCase options _) = AreReplayed options
+IsInRange (commands.StopCase options _) = AreStopped options
+IsInRange (commands.Sweep options _) = AreSwept options
+IsInRange (commands.SweepCase options _) = AreSwept options

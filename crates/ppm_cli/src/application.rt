@@ -60,7 +60,7 @@ fn argument<'a>(alloc: Global, option: OptionRow) -> Arg<'a>
 {
     match option {
         OptionRow::Number(number) => number_argument(alloc, number),
-        OptionRow::Choice(choice) => text_argument(alloc, choice.name, choice.first),
+        OptionRow::Choice(choice) => text_argument(alloc, choice.name, choice.default),
         OptionRow::Text(text) => text_argument(alloc, text.name, text.default),
     }
 }

@@ -13,7 +13,7 @@ pub(crate) fn code_from(matches: &ArgMatches<'_>) -> Option<Command>
     ensures value { result ≡ code_in (rows_of (found_of matches.now)) }
     ensures in_range { IfSome result IsInRange }
 {
-    let arrays = choice_of(matches, ARRAYS, false, true)?;
+    let arrays = choice_of(matches, ARRAYS, &[false, true])?;
     if arrays {
         Some(Command::CodeCase)
     } else {

@@ -1,10 +1,10 @@
 //! What the matches of a command hold of its options, by the form of the value.
-ghost use Rattle.std.specs.Prelude.{◌≡◌, ◌≤◌, IfOk, IfSome, [], ◌∷◌, option_map};
+ghost use Rattle.std.specs.Prelude.{◌≡◌, ◌≤◌, IfOk, IfSome, map, option_map};
 ghost use Rattle.clap.specs.Words.{first_of, found_of, rows_of};
 ghost use Rattle.ppm_cli.specs.Application.{choice_rule, number_rule, text_rule};
 ghost use Rattle.ppm_cli.specs.CommandLine.{AnyText};
-ghost use Rattle.ppm_cli.specs.Words.{choice_given, kept_in as kept, number_given, text_given};
-ghost use Rattle.ppm_cli.specs.Words.{text_in};
+ghost use Rattle.ppm_cli.specs.Values.{choice_given, kept_in as kept, number_given, text_given};
+ghost use Rattle.ppm_cli.specs.Values.{text_in, value_among as value_by};
 
 use crate::table::{ChoiceOption, NumberOption, TextOption};
 use clap::ArgMatches;
@@ -33,24 +33,33 @@ fn kept_in(number: u32, low: u32, high: u32) -> Option<u32>
     }
 }
 
-/// What an option stands for whose value is one of two words: `first` for its first word, `second`
-/// for the other.
+/// What an option stands for whose value is one of some words, of these values in the order of the
+/// words.
 pub(crate) fn choice_of<T: Copy>(
     matches: &ArgMatches<'_>,
     option: ChoiceOption,
-    first: T,
-    second: T,
+    values: &[T],
 ) -> Option<T>
     ensures { result
-        ≡ choice_given (choice_rule option) (first ∷ second ∷ []) (rows_of (found_of matches.now)) }
+        ≡ choice_given (choice_rule option) values.now (rows_of (found_of matches.now)) }
 {
     let word = text_of(matches, option.name)?;
-    if word == option.first {
-        Some(first)
-    } else if word == option.second {
-        Some(second)
-    } else {
-        None
+    value_among(option.words, values, word)
+}
+
+/// The value that a word stands for among these words, which stand in the order of the values.
+fn value_among<T: Copy>(words: &[&str], values: &[T], word: &str) -> Option<T>
+    ensures { result ≡ value_by (map (λ w. w.now) words.now) values.now word.now }
+{
+    match (words.split_first(), values.split_first()) {
+        (Some((first, other_words)), Some((value, other_values))) => {
+            if word == *first {
+                Some(*value)
+            } else {
+                value_among(other_words, other_values, word)
+            }
+        }
+        (Some(_), None) | (None, Some(_)) | (None, None) => None,
     }
 }
 

@@ -9,7 +9,7 @@ use crate::command::Command;
 use crate::getters::{bytes_of, number_of};
 use crate::input::is_case;
 use crate::room::room_of;
-use crate::table::{PROCESSORS, SCHEDULE, SLOTS, TURNS};
+use crate::table::{PROCESSORS, ROOM, SCHEDULE, SLOTS, TURNS};
 use crate::takeover::takeover_of;
 use clap::ArgMatches;
 use ppm_cells::Takeover;
@@ -78,7 +78,7 @@ fn replay_options(matches: &ArgMatches<'_>) -> Option<ReplayOptions>
 {
     let processors = number_of(matches, PROCESSORS)?;
     let turns = number_of(matches, TURNS)?;
-    let room = room_of(matches, processors)?;
+    let room = room_of(matches, ROOM, processors)?;
     let slots = number_of(matches, SLOTS)?;
     let takeover = takeover_of(matches)?;
     Some(ReplayOptions {

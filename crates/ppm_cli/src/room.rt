@@ -1,21 +1,28 @@
 //! The words of a place's pool, as the words give them.
 ghost use Rattle.std.specs.Prelude.{◌≡◌, IfSome};
 ghost use Rattle.clap.specs.Words.{found_of, rows_of};
-ghost use Rattle.ppm_cli.specs.CommandLine.{room};
-ghost use Rattle.ppm_cli.specs.Words.{DoPoolsFit, IsOfForm, fitting_room, room_given};
+ghost use Rattle.ppm_cli.specs.Application.{number_rule};
+ghost use Rattle.ppm_cli.specs.Words.{DoPoolsFit, IsOfForm};
+ghost use Rattle.ppm_cli.specs.Values.{fitting_room, room_given};
 
 use crate::getters::number_of;
-use crate::table::ROOM;
+use crate::table::NumberOption;
 use clap::ArgMatches;
 use ppm_cells::pools_fit;
 
 /// How many words the pool of each of so many places has, if the matches name a number in its range
 /// and all these pools fit.
-pub(crate) fn room_of(matches: &ArgMatches<'_>, processors: u32) -> Option<u32>
-    ensures value { result ≡ room_given processors (rows_of (found_of matches.now)) }
-    ensures in_range { IfSome result (λ words. IsOfForm room.form words × DoPoolsFit processors words) }
+pub(crate) fn room_of(
+    matches: &ArgMatches<'_>,
+    option: NumberOption,
+    processors: u32,
+) -> Option<u32>
+    ensures value { result
+        ≡ room_given (number_rule option) processors (rows_of (found_of matches.now)) }
+    ensures in_range { IfSome result
+        (λ words. IsOfForm (number_rule option).form words × DoPoolsFit processors words) }
 {
-    let words = number_of(matches, ROOM)?;
+    let words = number_of(matches, option)?;
     fitting(processors, words)
 }
 

@@ -2,14 +2,15 @@
 ghost use Rattle.std.specs.Prelude.{◌≡◌, IfOk, IfSome};
 ghost use Rattle.clap.specs.Words.{found_of, rows_of};
 ghost use Rattle.ppm_cli.specs.declared.command.Command.TheVariants as commands;
-ghost use Rattle.ppm_cli.specs.Words.{AreRun, IsInRange, by_input, idle_given, run_in};
+ghost use Rattle.ppm_cli.specs.Words.{AreRun, IsInRange, by_input, run_in};
+ghost use Rattle.ppm_cli.specs.Values.{idle_given};
 ghost use Rattle.ppm_cli.specs.Words.{run_options as options_in};
 
 use crate::command::Command;
 use crate::getters::{bytes_of, choice_of, number_of};
 use crate::input::is_case;
 use crate::room::room_of;
-use crate::table::{FAULTS, IDLE, LOOKS, PROCESSORS, SEED, SLOTS, TURNS};
+use crate::table::{FAULTS, IDLE, LOOKS, PROCESSORS, ROOM, SEED, SLOTS, TURNS};
 use crate::takeover::takeover_of;
 use clap::ArgMatches;
 use ppm_cells::Takeover;
@@ -79,7 +80,7 @@ fn run_options(matches: &ArgMatches<'_>) -> Option<RunOptions>
 {
     let processors = number_of(matches, PROCESSORS)?;
     let turns = number_of(matches, TURNS)?;
-    let room = room_of(matches, processors)?;
+    let room = room_of(matches, ROOM, processors)?;
     let slots = number_of(matches, SLOTS)?;
     let looks = number_of(matches, LOOKS)?;
     let seed = number_of(matches, SEED)?;
@@ -101,5 +102,5 @@ fn run_options(matches: &ArgMatches<'_>) -> Option<RunOptions>
 fn idle_of(matches: &ArgMatches<'_>) -> Option<Idle>
     ensures { result ≡ idle_given (rows_of (found_of matches.now)) }
 {
-    choice_of(matches, IDLE, Idle::Leave, Idle::Park)
+    choice_of(matches, IDLE, &[Idle::Leave, Idle::Park])
 }

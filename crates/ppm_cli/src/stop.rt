@@ -1,13 +1,16 @@
 //! The command `stop`, as its words give it.
 ghost use Rattle.std.specs.Prelude.{◌≡◌, IfOk, IfSome};
 ghost use Rattle.clap.specs.Words.{found_of, rows_of};
-ghost use Rattle.ppm_cli.specs.Words.{AreStopped, IsInRange, stop_in};
+ghost use Rattle.ppm_cli.specs.declared.command.Command.TheVariants as commands;
+ghost use Rattle.ppm_cli.specs.Words.{AreStopped, IsInRange, by_input, stop_in};
 ghost use Rattle.ppm_cli.specs.Words.{stop_options as options_in};
 
 use crate::command::Command;
 use crate::getters::{bytes_of, number_of};
+use crate::input::is_case;
 use crate::table::{AFTER, FEW_PROCESSORS, FEW_SLOTS, SCHEDULE, SMALL_ROOM};
 use clap::ArgMatches;
+use ppm_words::Items;
 use std::alloc::{AllocError, Global};
 
 /// The options of `stop` but for its schedule.
@@ -34,10 +37,27 @@ pub(crate) fn stop_from(
 {
     match stop_options(matches) {
         Some(options) => match bytes_of(alloc, matches, SCHEDULE)? {
-            Some(schedule) => Ok(Some(Command::Stop(options, schedule))),
+            Some(schedule) => Ok(stop_of(matches, options, schedule)),
             None => Ok(None),
         },
         None => Ok(None),
+    }
+}
+
+/// The command with these options and this schedule: over a source or over a case, as the matches
+/// say.
+fn stop_of(matches: &ArgMatches<'_>, options: StopOptions, schedule: Items<u8>) -> Option<Command>
+    requires { AreStopped options }
+    ensures value { result
+        ≡ by_input (commands.Stop options schedule) (commands.StopCase options schedule)
+        (rows_of (found_of matches.now)) }
+    ensures in_range { IfSome result IsInRange }
+{
+    let of_case = is_case(matches)?;
+    if of_case {
+        Some(Command::StopCase(options, schedule))
+    } else {
+        Some(Command::Stop(options, schedule))
     }
 }
 

@@ -87,6 +87,16 @@ module _ (Of : CodeParts → List NamedArray → Answer → Type 0) where
     not_both : (text : List ℕ) (a : Answer) → HasCase text → OfFault text a → ⊥
     not_both text a c f = law.excludes text c.code c.input f.rule f.line c.is f.has
 
+    -- a text without a fault is of a case
+    pub has_case : (text : List ℕ) → ((r : InputRefusal) → ¬ HasInputFault text r) → ((r : ListingRefusal) → ¬ HasListingFault text r) → HasCase text
+    has_case text no_input no_listing = law.covers text by
+      where
+        by : (f : CaseFault) (line : ℕ) → HasFault text f line → ⊥
+        by (fault.OfInput rule) line h =
+            no_input (record { number = input_number rule; line = line }) (record { rule = rule; has = h; number = refl })
+        by (fault.OfListing rule) line h =
+            no_listing (record { number = fault_number rule; line = line }) (record { rule = rule; has = h; number = refl })
+
     -- two answers of a text are one, where those of a case are
     pub one : ((code : CodeParts) (input : List NamedArray) (a b : Answer) → Of code input a → Of code input b → a ≡ b) → AreOne (HasOfCase Of)
     one one_of text a b h k = go (by_parts text a h) (by_parts text b k)

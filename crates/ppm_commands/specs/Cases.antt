@@ -1,8 +1,13 @@
 -- What commands say of cases: the refusals of a text that is of none, what a case has, and where an instruction of it stands in the text.
-use Rattle.std.specs.Prelude.{◌≡◌, ℕ, ◌+◌, List, [], ◌∷◌, length, take, ⊤}
+use Rattle.std.specs.Prelude.{◌≡◌, ◌≤◌, ℕ, ◌+◌, ◌-◌, List, [], ◌∷◌, ◌++◌, length, take, slice_get, Some, ⊤}
 use Rattle.ppm_words.specs.declared.named_array.NamedArray.{NamedArray}
 use Rattle.ppm_code.specs.declared.code.Capsule.{Capsule}
 use Rattle.ppm_code.specs.declared.code.CodeParts.{CodeParts}
+use Rattle.ppm_code.specs.declared.instr.Instr.{Instr}
+use Rattle.ppm_code.specs.Strands.{instrs_of}
+use Rattle.ppm_pieces.specs.Pieces.{split}
+use Rattle.ppm_listing.specs.Listing.{instr_line}
+use Rattle.ppm_listing.specs.Tokens.{line_text}
 use Rattle.ppm_war.specs.declared.untidy_store.UntidyStore.{UntidyStore}
 use Rattle.ppm_war.specs.Untidy.{IsFirstUntidyOf}
 use Rattle.ppm_depth.specs.declared.depth.DepthRun.{DepthRun}
@@ -13,6 +18,7 @@ use Rattle.ppm_case.specs.declared.case_error.CaseError.TheVariants as error
 use Rattle.ppm_case.specs.declared.case_error.CaseFault.{CaseFault}
 use Rattle.ppm_case.specs.declared.case_error.CaseFault.TheVariants as fault
 use Rattle.ppm_case.specs.declared.case_error.InputFault.{InputFault}
+use Rattle.ppm_case.specs.Case.{IsCaseOf}
 use Rattle.ppm_case.specs.Correct.{HasCase}
 use Rattle.ppm_case.specs.Faults.{HasFault, input_number}
 use Rattle.ppm_answers.specs.declared.case.InputRefusal.{InputRefusal}
@@ -31,6 +37,18 @@ capsule_lines (c ∷ capsules) = 1 + length c.instrs + capsule_lines capsules
 -- come two lines of the listing's own, the procedures, the capsules in front of this one, its head, and its instructions.
 abbrev pub line_at : (arrays : ℕ) → CodeParts → (capsule at : ℕ) → ℕ
 line_at arrays code capsule at = arrays + 2 + length code.procedures + capsule_lines (take capsule code.capsules) + 1 + at + 1
+
+-- a text has a line at a number, counted from 1; a line feed ends the line
+pub record HasLine (text : List ℕ) (number : ℕ) (line : List ℕ) : Type 0 where
+  pub bytes : List ℕ
+  pub from_one : 1 ≤ number
+  pub there : slice_get (split 10 text) (number - 1) ≡ Some bytes
+  pub ended : line ≡ bytes ++ 10 ∷ []
+
+-- each instruction of a case's code stands in the line of the text that is told of it
+abbrev pub InstructionsHaveTheirLines : Type 0
+InstructionsHaveTheirLines = (text : List ℕ) (code : CodeParts) (input : List NamedArray) → IsCaseOf text code input → (capsule at : ℕ) (i : Instr)
+    → slice_get (instrs_of code capsule) at ≡ Some i → HasLine text (line_at (length input) code capsule at) (line_text (instr_line i))
 
 -- the counts of a run as an answer tells them
 abbrev pub counts_told : DepthRun → Counts

@@ -30,8 +30,8 @@ pub use code::code_command;
 pub use depth::depth_command;
 pub use laws::{
     case_texts_are_cases, case_texts_have_one_answer, cases_have_one_answer, codes_are_faithful,
-    codes_have_one_answer, depth_runs_have_one_answer, listings_have_one_answer,
-    outcomes_have_one_answer,
+    codes_have_one_answer, depth_runs_have_one_answer, instructions_have_their_lines,
+    listings_have_one_answer, outcomes_have_one_answer,
 };
 pub use races::races_command;
 pub use serial::serial_command;

@@ -12,7 +12,7 @@ pub(crate) fn print_options(rt: &impl Print, alloc: Global, command: CommandRow)
     if command.options.is_empty() {
         return Ok(());
     }
-    println!(rt; "  option         values             default")?;
+    println!(rt; "  option         values               default")?;
     for option in command.options {
         print_option(rt, alloc, command.name, *option)?;
     }
@@ -30,7 +30,7 @@ fn print_option(
     let values = values_of(alloc, option)?;
     let default = default_of(option);
     println!(rt;
-        "  --{name:<12} {values:<18} {default:<9} {}",
+        "  --{name:<12} {values:<20} {default:<9} {}",
         meaning_of(command, name)
     )
 }
@@ -50,9 +50,21 @@ fn name_of(option: OptionRow) -> &'static str
 fn values_of(alloc: Global, option: OptionRow) -> Result<String, AllocError> {
     match option {
         OptionRow::Number(number) => format!(in alloc; "{} to {}", number.low, number.high),
-        OptionRow::Choice(choice) => format!(in alloc; "{} or {}", choice.first, choice.second),
+        OptionRow::Choice(choice) => words_of(alloc, choice.words),
         OptionRow::Text(_) => String::from_str(alloc, "a text"),
     }
+}
+
+/// The words of a choice, with commas between them and `or` before the last.
+fn words_of(alloc: Global, words: &[&str]) -> Result<String, AllocError> {
+    let mut text = String::new(alloc);
+    for (i, word) in words.iter().enumerate() {
+        if i > 0 {
+            text.push_str(if i + 1 < words.len() { ", " } else { " or " })?;
+        }
+        text.push_str(word)?;
+    }
+    Ok(text)
 }
 
 /// The word that stands for the value where an option is not given.
@@ -61,7 +73,7 @@ fn default_of(option: OptionRow) -> &'static str
 {
     match option {
         OptionRow::Number(number) => number.default,
-        OptionRow::Choice(choice) => choice.first,
+        OptionRow::Choice(choice) => choice.default,
         OptionRow::Text(text) => text.default,
     }
 }

@@ -41,3 +41,13 @@ pub(crate) fn number_at(call: &Call, at: usize) -> Result<u32, Fault> {
     }
     Err(Fault::Line("a number is wanted among the words"))
 }
+
+/// The number of 64 bits that a word of a call gives; words count from 0.
+pub(crate) fn wide_at(call: &Call, at: usize) -> Result<u64, Fault> {
+    if let Some(word) = call.words.get(at) {
+        if let Ok(number) = word.parse::<u64>() {
+            return Ok(number);
+        }
+    }
+    Err(Fault::Line("a number is wanted among the words"))
+}

@@ -24,6 +24,7 @@ use Rattle.ppm_plan.specs.Forms.{plan_form, schedule_form}
 use Rattle.ppm_cli.specs.declared.example.SelfOptions.{SelfOptions}
 use Rattle.ppm_driver.specs.CaseReplays.{TextHas as ReplayCaseTextHas}
 use Rattle.ppm_driver.specs.CaseRuns.{TextHas as RunCaseTextHas}
+use Rattle.ppm_driver.specs.CaseStops.{TextReads as StopCaseTextReads}
 use Rattle.ppm_driver.specs.Examples.{ExampleMay, ExampleTells}
 use Rattle.ppm_driver.specs.Replays.{TextHas as ReplayTextHas}
 use Rattle.ppm_driver.specs.Resumes.{TextHas as ResumeTextHas}
@@ -55,6 +56,8 @@ memory_before (Some (commands.RunCase options plan)) o h =
     planned.memory_before plan_form plan options.processors (RunCaseTextHas options options.processors o.told_before o.told_now) case_limit o.source h
 memory_before (Some (commands.ReplayCase options schedule)) o h =
     planned.memory_before schedule_form schedule options.processors (ReplayCaseTextHas options) case_limit o.source h
+memory_before (Some (commands.StopCase options schedule)) o h =
+    planned.memory_before schedule_form schedule options.processors (StopCaseTextReads options) case_limit o.source h
 memory_before (Some (commands.Example options)) o h = (h, tt)
 
 -- an answer of the command that the words give answers the words
@@ -93,4 +96,5 @@ told_nothing (Some (commands.Resume options plan)) o answer lists = untold_sourc
 told_nothing (Some (commands.Stop options schedule)) o answer lists = refl
 told_nothing (Some (commands.RunCase options plan)) o answer lists = untold options.processors _ _ answer lists
 told_nothing (Some (commands.ReplayCase options schedule)) o answer lists = refl
+told_nothing (Some (commands.StopCase options schedule)) o answer lists = refl
 told_nothing (Some (commands.Example options)) o answer lists = untold options.processors _ _ answer lists

@@ -1,4 +1,5 @@
 pub mod CausesLemmas
 pub mod OfCases
+pub mod Refusing
 pub mod OfAll
 pub mod SoundCaseLemmas

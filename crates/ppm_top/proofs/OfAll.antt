@@ -1,4 +1,4 @@
--- The rows that all commands share, and those of words that give no command.
+-- The rows of the program: those of each command, and those that all commands share.
 use Rattle.std.proofs.Common.{◌≡◌, ◌⊎◌, ℕ, List, [], ◌∷◌, Option, Some, None}
 use Rattle.std.proofs.Common.{refl, sym, ◌∙◌, subst, inl, inr}
 use Rattle.ppm_ports.specs.Ports.{Fails, Holds}
@@ -38,6 +38,7 @@ use Rattle.ppm_loading.specs.Planned.{PlannedMay}
 use Rattle.ppm_loading.specs.MachineRows.{RefusesPlan}
 use Rattle.ppm_driver.specs.CaseReplays.{TextHas as ReplayCaseTextHas}
 use Rattle.ppm_driver.specs.CaseRuns.{TextHas as RunCaseTextHas}
+use Rattle.ppm_driver.specs.CaseStops.{TextReads as StopCaseTextReads}
 use Rattle.ppm_driver.specs.Replays.{TextHas as ReplayTextHas}
 use Rattle.ppm_driver.specs.Resumes.{TextHas as ResumeTextHas}
 use Rattle.ppm_driver.specs.ResumeRows.{RefusesPlan as RefusesResumed}
@@ -56,8 +57,9 @@ use Rattle.ppm_answers.proofs.Delivered.{of_answers}
 use Rattle.ppm_answers.specs.Rows.{IsOneOf}
 use Rattle.ppm_top.specs.Causes.{NoCommandMay, CommandMay, CommandTells, IsAnswered}
 use Rattle.ppm_top.specs.Laws.{ProgramLaws}
-use Rattle.ppm_top.specs.Rows.{HasRefusedPlan, OfRun, OfReplay, OfRunCase, OfReplayCase, OfStop, OfResume, RefusesWords, ReportsFaults, ProgramRows}
+use Rattle.ppm_top.specs.Rows.{ReportsFaults, ProgramRows}
 use Rattle.ppm_top.proofs.OfCases as of_cases
+use Rattle.ppm_top.proofs.Refusing.{refuses_words}
 use Rattle.ppm_answers.proofs.Delivered as delivered
 use Rattle.ppm_answers.proofs.Judged as judged
 
@@ -97,6 +99,8 @@ command_reports o (Some (commands.RunCase options plan)) =
     planned_reports plan_form plan options.processors (RunCaseTextHas options options.processors o.told_before o.told_now) case_limit o
 command_reports o (Some (commands.ReplayCase options schedule)) =
     planned_reports schedule_form schedule options.processors (ReplayCaseTextHas options) case_limit o
+command_reports o (Some (commands.StopCase options schedule)) =
+    planned_reports schedule_form schedule options.processors (StopCaseTextReads options) case_limit o
 command_reports o (Some (commands.Serial options)) = judging_reports text_limit (SerialHas options.turns) o
 command_reports o (Some commands.Code) = judging_reports text_limit CodeReads o
 command_reports o (Some commands.CodeCase) = judging_reports text_limit CaseReads o
@@ -144,102 +148,6 @@ faults : (words : List (List ℕ)) (o : Outside) (status : Status) → IsAnswere
 faults words o status a =
     reports_faults o (CommandMay (command_of words) o) status (command_reports o (command_of words)) (delivers words o status a)
 
--- an answer of status 3 comes without a command, or with one that names a plan or a schedule
-data IsPlanned (command : Option Command) : Type 0 where
-  IsRun : (options : RunOptions) (plan : List ℕ) → command ≡ Some (commands.Run options plan) → IsPlanned command
-  IsReplay : (options : ReplayOptions) (schedule : List ℕ) → command ≡ Some (commands.Replay options schedule) → IsPlanned command
-  IsResume : (options : ResumeOptions) (plan : List ℕ) → command ≡ Some (commands.Resume options plan) → IsPlanned command
-  IsRunCase : (options : RunOptions) (plan : List ℕ) → command ≡ Some (commands.RunCase options plan) → IsPlanned command
-  IsReplayCase : (options : ReplayOptions) (schedule : List ℕ) → command ≡ Some (commands.ReplayCase options schedule) → IsPlanned command
-  IsStop : (options : StopOptions) (schedule : List ℕ) → command ≡ Some (commands.Stop options schedule) → IsPlanned command
-
-no_command : (command : Option Command) (o : Outside) (answer : Answer) → CommandMay command o answer →
-    status_of answer ≡ statuses.WordsRefused → (command ≡ None) ⊎ IsPlanned command
-no_command None o answer h e = inl refl
-no_command (Some (commands.Run options plan)) o answer h e = inr (IsRun options plan refl)
-no_command (Some (commands.Replay options schedule)) o answer h e = inr (IsReplay options schedule refl)
-no_command (Some (commands.Resume options plan)) o answer h e = inr (IsResume options plan refl)
-no_command (Some (commands.RunCase options plan)) o answer h e = inr (IsRunCase options plan refl)
-no_command (Some (commands.ReplayCase options schedule)) o answer h e = inr (IsReplayCase options schedule refl)
-no_command (Some (commands.Stop options schedule)) o answer h e = inr (IsStop options schedule refl)
-no_command (Some (commands.Serial options)) o answers.WordsRefused h e = absurd h.2
-no_command (Some commands.Code) o answers.WordsRefused h e = absurd h.2
-no_command (Some commands.CodeCase) o answers.WordsRefused h e = absurd h.2
-no_command (Some commands.Check) o answers.WordsRefused h e = absurd h.2
-no_command (Some (commands.Depth limit)) o answers.WordsRefused h e = absurd h.2.1
-no_command (Some (commands.Races limit)) o answers.WordsRefused h e = absurd h.2.1
-no_command (Some (commands.Example options)) o answers.WordsRefused h e =
-    absurd (of_example.no_words_refused options o.told_before o.told_now h.1)
-no_command (Some (commands.Serial options)) o (answers.PlanRefused number) h e = absurd h.2
-no_command (Some commands.Code) o (answers.PlanRefused number) h e = absurd h.2
-no_command (Some commands.CodeCase) o (answers.PlanRefused number) h e = absurd h.2
-no_command (Some commands.Check) o (answers.PlanRefused number) h e = absurd h.2
-no_command (Some (commands.Depth limit)) o (answers.PlanRefused number) h e = absurd h.2.1
-no_command (Some (commands.Races limit)) o (answers.PlanRefused number) h e = absurd h.2.1
-no_command (Some (commands.Example options)) o (answers.PlanRefused number) h e =
-    absurd (of_example.no_plan_refused options o.told_before o.told_now number h.1)
-no_command command o answer h e = cc
-
--- without a command nothing is read, and the words are refused or memory is
-refusal : (o : Outside) (answer : Answer) → NoCommandMay o answer →
-    IsUnread o.source × ((status_of answer ≡ statuses.WordsRefused) ⊎ (status_of answer ≡ statuses.NoMemory))
-refusal o answers.WordsRefused h = (h, inl refl)
-refusal o answers.NoMemory h = (h, inr refl)
-refusal o answer h = absurd h
-
-refuses_words : ProgramLaws → (words : List (List ℕ)) (o : Outside) (status : Status) → IsAnswered words o status → RefusesWords words o status
-refuses_words laws words o status a = record {
-  only = only;
-  unread = λ e. (refusal o a.answer (cause e)).0;
-  always = λ e. always (refusal o a.answer (cause e)).1 (delivered.own_or_fault o.out o.err a.answer status a.delivered);
-} where
-  cause : command_of words ≡ None → NoCommandMay o a.answer
-  cause e = subst (λ c. CommandMay c o a.answer) e a.cause
-
-  only : status ≡ statuses.WordsRefused → (command_of words ≡ None) ⊎ HasRefusedPlan words o
-  only e =
-      let w = delivered.written o.out o.err a.answer status a.delivered (λ f. cc) in
-      by_words (no_command (command_of words) o a.answer a.cause (sym w.own ∙ e)) where
-        refuses : (options : ReplayOptions) (schedule : List ℕ) → command_of words ≡ Some (commands.Replay options schedule) →
-            RefusesPlan schedule_form schedule options.processors (ports_of o)
-        refuses options schedule c =
-            of_replay.schedule_refused laws.meant options (is_in_range words (commands.Replay options schedule) c) schedule (ports_of o) status
-            (subst (λ x. DeliversAnswer (CommandMay x o) (ports_of o) status) c (delivers words o status a)) e
-
-        refuses_stop : (options : StopOptions) (schedule : List ℕ) → command_of words ≡ Some (commands.Stop options schedule) →
-            RefusesPlan schedule_form schedule options.processors (ports_of o)
-        refuses_stop options schedule c =
-            of_stop.schedule_refused options schedule (ports_of o) status
-            (subst (λ x. DeliversAnswer (CommandMay x o) (ports_of o) status) c (delivers words o status a)) e
-
-        refuses_plan : (options : RunOptions) (plan : List ℕ) → command_of words ≡ Some (commands.Run options plan) →
-            RefusesPlan plan_form plan options.processors (ports_of o)
-        refuses_plan options plan c = of_run.plan_refused laws.meant options (is_in_range words (commands.Run options plan) c) options.processors plan o status
-            (subst (λ x. Answers (CommandMay x o) (CommandTells x o) o status) c a) laws.fronts e
-
-        refuses_resumed : (options : ResumeOptions) (plan : List ℕ) → command_of words ≡ Some (commands.Resume options plan) →
-            RefusesResumed options plan o
-        refuses_resumed options plan c = of_resume.plan_refused laws.resumes options plan o status
-            (subst (λ x. Answers (CommandMay x o) (CommandTells x o) o status) c a) e
-
-        by_words : (command_of words ≡ None) ⊎ IsPlanned (command_of words) → (command_of words ≡ None) ⊎ HasRefusedPlan words o
-        by_words (inl n) = inl n
-        by_words (inr (IsRun options plan c)) = inr (OfRun options plan c (refuses_plan options plan c))
-        by_words (inr (IsReplay options schedule c)) = inr (OfReplay options schedule c (refuses options schedule c))
-        by_words (inr (IsResume options plan c)) = inr (OfResume options plan c (refuses_resumed options plan c))
-        by_words (inr (IsRunCase options plan c)) =
-            inr (OfRunCase options plan c (of_cases.case_plan_refused laws words o status a options plan c e))
-        by_words (inr (IsReplayCase options schedule c)) =
-            inr (OfReplayCase options schedule c (of_cases.case_schedule_refused laws words o status a options schedule c e))
-        by_words (inr (IsStop options schedule c)) = inr (OfStop options schedule c (refuses_stop options schedule c))
-
-  always : (status_of a.answer ≡ statuses.WordsRefused) ⊎ (status_of a.answer ≡ statuses.NoMemory) →
-      (status ≡ statuses.WriteFault) ⊎ IsWritten o.out o.err a.answer status →
-      IsOneOf status (statuses.WordsRefused ∷ statuses.WriteFault ∷ statuses.NoMemory ∷ [])
-  always r (inl f) = inr (inl f)
-  always (inl r) (inr w) = inl (w.own ∙ r)
-  always (inr r) (inr w) = inr (inr (inl (w.own ∙ r)))
-
 -- all rows of the program
 pub program_rows : ProgramLaws → (words : List (List ℕ)) (o : Outside) (status : Status) → IsAnswered words o status → ProgramRows words o status
 program_rows laws words o status a = record {
@@ -279,6 +187,7 @@ program_rows laws words o status a = record {
           left = saved_left laws.leave options range schedule (ports_of o);
         },
       );
+  stop_case = of_cases.stops_case laws words o status a;
   example = λ options e.
       let range = is_in_range words (commands.Example options) e in
       let x = answered (Some (commands.Example options)) e in (

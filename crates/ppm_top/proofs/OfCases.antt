@@ -1,26 +1,36 @@
--- The rows of the commands that run a case, from an answer of the words that ask for them.
+-- The rows of the commands that run a case by a plan or a schedule, from an answer of the words that ask for them.
 use Rattle.std.proofs.Common.{◌≡◌, ℕ, List, Some, subst}
 use Rattle.ppm_ports.specs.Outside.{Outside, ports_of}
 use Rattle.ppm_answers.specs.declared.status.Status.{Status}
 use Rattle.ppm_answers.specs.declared.status.Status.TheVariants as statuses
 use Rattle.ppm_answers.specs.Reading.{DeliversAnswer, Answers}
 use Rattle.ppm_answers.proofs.Delivered.{of_answers}
+use Rattle.ppm_cli.specs.declared.command.Command.{Command}
 use Rattle.ppm_cli.specs.declared.command.Command.TheVariants as commands
 use Rattle.ppm_cli.specs.declared.replay.ReplayOptions.{ReplayOptions}
 use Rattle.ppm_cli.specs.declared.run.RunOptions.{RunOptions}
+use Rattle.ppm_cli.specs.declared.stop.StopOptions.{StopOptions}
 use Rattle.ppm_cli.specs.Words.{command_of}
 use Rattle.ppm_cli.proofs.RangeLemmas.{is_in_range}
 use Rattle.ppm_plan.specs.Forms.{plan_form, schedule_form}
 use Rattle.ppm_loading.specs.MachineRows.{RefusesPlan}
 use Rattle.ppm_driver.specs.CaseHeadline.{CaseHeadline}
 use Rattle.ppm_driver.specs.CaseReplayRows.{ReplayCaseSays}
+use Rattle.ppm_driver.specs.CaseStopRows.{StopCaseSays}
 use Rattle.ppm_driver.proofs.OfReplayCase.{replay_case_rows}
 use Rattle.ppm_driver.proofs.OfRunCase.{case_rows}
+use Rattle.ppm_driver.proofs.OfStopCase.{stop_case_rows}
 use Rattle.ppm_top.specs.Causes.{CommandMay, CommandTells, IsAnswered}
 use Rattle.ppm_top.specs.Laws.{ProgramLaws}
-use Rattle.ppm_top.specs.Rows.{RunsCaseByWords, ReplaysCaseByWords}
+use Rattle.ppm_top.specs.Rows.{RunsCaseByWords, ReplaysCaseByWords, StopsCaseByWords}
 
 module _ (laws : ProgramLaws) (words : List (List ℕ)) (o : Outside) (status : Status) (a : IsAnswered words o status) where
+  -- what was delivered of the command that the words give
+  delivered : (command : Command) → command_of words ≡ Some command → DeliversAnswer (CommandMay (Some command) o) (ports_of o) status
+  delivered command e =
+      subst (λ c. DeliversAnswer (CommandMay c o) (ports_of o) status) e
+      (of_answers (CommandMay (command_of words) o) (CommandTells (command_of words) o) o status a)
+
   -- of `run`
   pub runs_case : RunsCaseByWords words o status
   runs_case options plan e =
@@ -40,12 +50,18 @@ module _ (laws : ProgramLaws) (words : List (List ℕ)) (o : Outside) (status : 
   -- of `replay`
   pub replays_case : ReplaysCaseByWords words o status
   replays_case options schedule e =
-      let are = is_in_range words (commands.ReplayCase options schedule) e in
-      let delivered = of_answers (CommandMay (command_of words) o) (CommandTells (command_of words) o) o status a in (
+      let are = is_in_range words (commands.ReplayCase options schedule) e in (
         are,
         replay_case_rows laws.case_replays options are schedule (ports_of o) status
-            (subst (λ c. DeliversAnswer (CommandMay c o) (ports_of o) status) e delivered) laws.plans laws.replayed_cases,
+            (delivered (commands.ReplayCase options schedule) e) laws.plans laws.replayed_cases,
       )
+
+  -- of `stop`
+  pub stops_case : StopsCaseByWords words o status
+  stops_case options schedule e = (
+    is_in_range words (commands.StopCase options schedule) e,
+    stop_case_rows options schedule (ports_of o) status (delivered (commands.StopCase options schedule) e) laws.plans laws.stopped_cases,
+  )
 
   -- status 3 comes of the plan alone
   pub case_plan_refused : (options : RunOptions) (plan : List ℕ) → command_of words ≡ Some (commands.RunCase options plan)
@@ -59,3 +75,9 @@ module _ (laws : ProgramLaws) (words : List (List ℕ)) (o : Outside) (status : 
       → status ≡ statuses.WordsRefused → RefusesPlan schedule_form schedule options.processors (ports_of o)
   case_schedule_refused options schedule e refused =
       (subst (ReplayCaseSays options schedule (ports_of o)) refused (replays_case options schedule e).1.rows.rows.says).0
+
+  -- or of that of a stop
+  pub case_stop_refused : (options : StopOptions) (schedule : List ℕ) → command_of words ≡ Some (commands.StopCase options schedule)
+      → status ≡ statuses.WordsRefused → RefusesPlan schedule_form schedule options.processors (ports_of o)
+  case_stop_refused options schedule e refused =
+      (subst (StopCaseSays options schedule (ports_of o)) refused (stops_case options schedule e).1.rows.rows.says).0

@@ -16,6 +16,7 @@ use Rattle.ppm_commands.specs.Races.{RacesMay}
 use Rattle.ppm_commands.specs.Serial.{SerialMay}
 use Rattle.ppm_driver.specs.CaseReplays.{ReplayCaseMay}
 use Rattle.ppm_driver.specs.CaseRuns.{RunCaseMay, RunCaseTells}
+use Rattle.ppm_driver.specs.CaseStops.{StopCaseMay}
 use Rattle.ppm_driver.specs.Examples.{ExampleMay, ExampleTells}
 use Rattle.ppm_driver.specs.Replays.{ReplayMay}
 use Rattle.ppm_driver.specs.Resumes.{ResumeMay, ResumeTells}
@@ -43,6 +44,7 @@ CommandMay (Some (commands.Resume options plan)) o answer = ResumeMay options pl
 CommandMay (Some (commands.Stop options schedule)) o answer = StopMay options schedule o.source answer
 CommandMay (Some (commands.RunCase options plan)) o answer = RunCaseMay options options.processors plan o.told_before o.told_now o.source answer
 CommandMay (Some (commands.ReplayCase options schedule)) o answer = ReplayCaseMay options schedule o.source answer
+CommandMay (Some (commands.StopCase options schedule)) o answer = StopCaseMay options schedule o.source answer
 CommandMay (Some (commands.Example options)) o answer = IsUnread o.source × ExampleMay options o.told_before o.told_now answer
 
 -- What watchers are told with each answer of a command, or of none: a run tells them its turns. Where memory is wanting, what they were told is
@@ -61,6 +63,7 @@ CommandTells (Some (commands.Resume options plan)) o = ResumeTells options plan 
 CommandTells (Some (commands.Stop options schedule)) o = TellsNothing
 CommandTells (Some (commands.RunCase options plan)) o = RunCaseTells options options.processors plan o.source
 CommandTells (Some (commands.ReplayCase options schedule)) o = TellsNothing
+CommandTells (Some (commands.StopCase options schedule)) o = TellsNothing
 CommandTells (Some (commands.Example options)) o = ExampleTells options
 
 -- an answer of the command that the words give was delivered, and watchers were told what belongs to it

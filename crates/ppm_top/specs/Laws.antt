@@ -9,6 +9,7 @@ use Rattle.ppm_commands.specs.Races.{HaveOneAnswer as CasesHaveOneAnswer}
 use Rattle.ppm_commands.specs.Serial.{HaveOneAnswer as OutcomesHaveOneAnswer}
 use Rattle.ppm_driver.specs.CaseReplays.{HaveOneCaseAnswer}
 use Rattle.ppm_driver.specs.CaseRuns.{CaseAnswersAreOne, CaseFrontsDecide}
+use Rattle.ppm_driver.specs.CaseStops.{HaveOneStopAnswer}
 use Rattle.ppm_driver.specs.CodeReplays.{ReplaysAreAsCode}
 use Rattle.ppm_driver.specs.CodeRuns.{AnswersAreAsCode}
 use Rattle.ppm_driver.specs.Completeness.{RunsComplete}
@@ -46,3 +47,4 @@ pub record ProgramLaws : Type 0 where
   pub case_answers : CaseAnswersAreOne
   pub case_fronts : CaseFrontsDecide
   pub replayed_cases : HaveOneCaseAnswer
+  pub stopped_cases : HaveOneStopAnswer

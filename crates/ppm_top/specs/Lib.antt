@@ -1,4 +1,5 @@
 pub mod Causes
 pub mod Laws
+pub mod Orders
 pub mod Rows
 pub mod SoundCases

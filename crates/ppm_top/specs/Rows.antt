@@ -9,6 +9,7 @@ use Rattle.ppm_answers.specs.declared.status.Status.TheVariants as statuses
 use Rattle.ppm_answers.specs.Reading.{IsUnread}
 use Rattle.ppm_answers.specs.Rows.{IsOneOf}
 use Rattle.ppm_cli.specs.declared.capsules.CapsuleLimit.{CapsuleLimit}
+use Rattle.ppm_cli.specs.declared.command.Command.{Command}
 use Rattle.ppm_cli.specs.declared.command.Command.TheVariants as commands
 use Rattle.ppm_cli.specs.declared.example.SelfOptions.{SelfOptions}
 use Rattle.ppm_cli.specs.declared.serial.SerialOptions.{SerialOptions}
@@ -32,8 +33,10 @@ use Rattle.ppm_driver.specs.ResumeRows.{ResumeRows, RefusesPlan as RefusesResume
 use Rattle.ppm_driver.specs.Resumes.{IsTextLeftBy}
 use Rattle.ppm_driver.specs.Strikes.{scheduled_faults}
 use Rattle.ppm_driver.specs.RunRows.{RunRows}
+use Rattle.ppm_driver.specs.CaseStopRows.{StopCaseRows}
 use Rattle.ppm_driver.specs.StopRows.{HasRead, StopRows}
 use Rattle.ppm_plan.specs.Forms.{plan_form, schedule_form}
+use Rattle.ppm_top.specs.Orders.{Orders, plan_of, schedule_of}
 
 -- the rows of `run` hold where the words ask for a run, with these options, which are in their ranges, and this plan
 abbrev pub RunsByWords : List (List ℕ) → Outside → Status → Type 0
@@ -103,25 +106,24 @@ abbrev pub StopsByWords : List (List ℕ) → Outside → Status → Type 0
 StopsByWords words o status = (options : StopOptions) (schedule : List ℕ) → command_of words ≡ Some (commands.Stop options schedule) →
     AreStopped options × StopsLeaving options schedule (ports_of o) status
 
+-- those of `stop` of a case where they ask for that, with these options, which are in their ranges, and this schedule
+abbrev pub StopsCaseByWords : List (List ℕ) → Outside → Status → Type 0
+StopsCaseByWords words o status = (options : StopOptions) (schedule : List ℕ) → command_of words ≡ Some (commands.StopCase options schedule) →
+    AreStopped options × StopCaseRows options schedule (ports_of o) status
+
 -- where they ask for the program's own example, with options in their ranges, nothing is read, and its rows hold
 abbrev pub SumsByWords : List (List ℕ) → Outside → Status → Type 0
 SumsByWords words o status = (options : SelfOptions) → command_of words ≡ Some (commands.Example options)
     → AreSelf options × IsUnread o.source × ExampleRows options o status
 
--- the words ask for a run or to resume by a plan, or for a replay or a stop by a schedule, that is refused
+-- the words ask for a command whose plan or schedule is refused
 pub data HasRefusedPlan (words : List (List ℕ)) (o : Outside) : Type 0 where
-  OfRun : (options : RunOptions) (plan : List ℕ) → command_of words ≡ Some (commands.Run options plan)
-      → RefusesPlan plan_form plan options.processors (ports_of o) → HasRefusedPlan words o
-  OfReplay : (options : ReplayOptions) (schedule : List ℕ) → command_of words ≡ Some (commands.Replay options schedule)
-      → RefusesPlan schedule_form schedule options.processors (ports_of o) → HasRefusedPlan words o
+  OfPlan : (command : Command) (orders : Orders) → command_of words ≡ Some command → plan_of command ≡ Some orders
+      → RefusesPlan plan_form orders.bytes orders.processors (ports_of o) → HasRefusedPlan words o
+  OfSchedule : (command : Command) (orders : Orders) → command_of words ≡ Some command → schedule_of command ≡ Some orders
+      → RefusesPlan schedule_form orders.bytes orders.processors (ports_of o) → HasRefusedPlan words o
   OfResume : (options : ResumeOptions) (plan : List ℕ) → command_of words ≡ Some (commands.Resume options plan)
       → RefusesResumed options plan o → HasRefusedPlan words o
-  OfRunCase : (options : RunOptions) (plan : List ℕ) → command_of words ≡ Some (commands.RunCase options plan)
-      → RefusesPlan plan_form plan options.processors (ports_of o) → HasRefusedPlan words o
-  OfReplayCase : (options : ReplayOptions) (schedule : List ℕ) → command_of words ≡ Some (commands.ReplayCase options schedule)
-      → RefusesPlan schedule_form schedule options.processors (ports_of o) → HasRefusedPlan words o
-  OfStop : (options : StopOptions) (schedule : List ℕ) → command_of words ≡ Some (commands.Stop options schedule)
-      → RefusesPlan schedule_form schedule options.processors (ports_of o) → HasRefusedPlan words o
 
 -- Status 3 comes only where the words give no command, or name a plan or a schedule that is refused. Where they give no command,
 -- nothing is read, and the status is 3, or 8 or 9.
@@ -158,6 +160,7 @@ pub record ProgramRows (words : List (List ℕ)) (o : Outside) (status : Status)
   pub replay_case : ReplaysCaseByWords words o status
   pub resume : ResumesByWords words o status
   pub stop : StopsByWords words o status
+  pub stop_case : StopsCaseByWords words o status
   pub example : SumsByWords words o status
   pub words_refused : RefusesWords words o status
   pub faults : ReportsFaults o status

@@ -10,8 +10,9 @@ use ppm_commands::{
 };
 use ppm_driver::{
     answers_are_as_code, answers_are_one as runs_have_one_answer, case_answers_are_one,
-    case_replays_have_one_answer, examples_sum_up, replays_are_as_code, replays_have_one_answer,
-    resume_laws, runs_are_as_programs, runs_complete, stops_have_one_answer, stops_leave_states,
+    case_replays_have_one_answer, case_stops_have_one_answer, examples_sum_up, replays_are_as_code,
+    replays_have_one_answer, resume_laws, runs_are_as_programs, runs_complete,
+    stops_have_one_answer, stops_leave_states,
 };
 use ppm_plan::have_one_answer as plans_have_one_answer;
 
@@ -42,6 +43,7 @@ pub fn program_laws()
     faults_tell_cases();
     case_answers_are_one();
     case_replays_have_one_answer();
+    case_stops_have_one_answer();
 }
 
 /// A case that `races` calls sound comes to the result of `depth` in each `run`, with every plan,

@@ -15,7 +15,7 @@ use ppm_commands::{
 };
 use ppm_driver::{
     replay_case_command, replay_command, resume_command, run_case_command, run_command,
-    self_command, stop_command,
+    self_command, stop_case_command, stop_command,
 };
 use ppm_ports::{Sink, Source, Watch};
 use ppm_words::NoMemory;
@@ -134,6 +134,14 @@ fn answer_words<R: Threads + Wait + Sync, S: Source, K: Sink, E: Sink, W: Watch>
             alloc,
             options,
             acts.as_slice(),
+            source,
+            out,
+            err,
+        ),
+        Ok(Some(Command::StopCase(options, case_acts))) => stop_case_command(
+            alloc,
+            options,
+            case_acts.as_slice(),
             source,
             out,
             err,

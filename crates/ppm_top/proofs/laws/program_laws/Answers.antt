@@ -28,5 +28,6 @@ returns c = record {
     case_answers = c.case_answers_are_one.ensures.one;
     case_fronts = c.case_answers_are_one.ensures.front;
     replayed_cases = c.case_replays_have_one_answer.ensures.law;
+    stopped_cases = c.case_stops_have_one_answer.ensures.law;
   };
 }

@@ -79,6 +79,12 @@ returns-in-Ok-Some-Stop-clause-answers g c = by_ports (map string_bytes c.args.w
     (cc (c.in-Ok-Some-Stop.ensures.value, c.in-Ok-Some-Stop.field-0-is, c.in-Ok-Some-Stop.field-0-0-is)) refl refl
     c.stop_command.ensures.delivers
 
+-- the words ask for a stop of a case, which was answered
+pub returns-in-Ok-Some-StopCase-clause-answers : goal.returns-in-Ok-Some-StopCase-clause-answers
+returns-in-Ok-Some-StopCase-clause-answers g c = by_ports (map string_bytes c.args.words.now) _ _ (Some (commands.StopCase _ _))
+    (cc (c.in-Ok-Some-StopCase.ensures.value, c.in-Ok-Some-StopCase.field-0-is, c.in-Ok-Some-StopCase.field-0-0-is)) refl refl
+    c.stop_case_command.ensures.delivers
+
 -- the words ask for the program's own example, which was run, and nothing was read
 pub returns-in-Ok-Some-Example-clause-answers : goal.returns-in-Ok-Some-Example-clause-answers
 returns-in-Ok-Some-Example-clause-answers g c = by_command (map string_bytes c.args.words.now) _ _ (Some (commands.Example _))

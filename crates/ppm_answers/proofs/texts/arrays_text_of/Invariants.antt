@@ -1,7 +1,0 @@
-use Rattle.std.proofs.Common.{◌≡◌, take}
-use Rattle.std.specs.List.{flat_map}
-use Rattle.ppm_answers.specs.Texts.{array_text}
-use Rattle.ppm_answers.proofs.texts.arrays_text_of.Given as goal
-
-abbrev pub invariant-loop-array : goal.invariant-loop-array
-invariant-loop-array l = l.text.items ≡ flat_map array_text (take l.array-index l.arrays)
