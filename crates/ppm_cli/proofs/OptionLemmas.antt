@@ -11,7 +11,7 @@ use Rattle.clap.specs.ValueTests.{is_unsigned_in}
 use Rattle.clap.proofs.ValueTestLemmas.{accepts-Accepts, Accepts-accepts}
 use Rattle.clap.proofs.WalkLemmas.{one_text-rows, both}
 use Rattle.ppm_cli.specs.CommandLine.{Number}
-use Rattle.ppm_cli.specs.Words.{kept_in, number_in, value_of_digits}
+use Rattle.ppm_cli.specs.Values.{kept_in, number_in, value_of_digits}
 
 -- of a text
 text_read : (E : Type 0) (G : Text → Result ℕ E → Type 0) → ((u : Text) (x : Result ℕ E) → G u x → ParsesUnsigned 32 10 u x) →

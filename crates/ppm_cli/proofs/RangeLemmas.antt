@@ -13,11 +13,16 @@ use Rattle.ppm_cli.specs.Application.{ppm_application}
 use Rattle.ppm_cli.specs.CommandLine.{Number, OptionRule, processors, turns, room, slots, looks, seed, faults, schedule}
 use Rattle.ppm_cli.specs.CommandLine.{few_processors, after, small_room, few_slots, size, count, capsules, arrays}
 use Rattle.ppm_cli.specs.CommandLine.{copied_room, copied_slots, met, from, acts, runs}
-use Rattle.ppm_cli.specs.Words.{number_in, number_given, value_of_digits, run_options, serial_in, replay_options, resume_options, self_in, self_options, stop_options, text_given}
-use Rattle.ppm_cli.specs.Words.{takeover_given, idle_given, command_named, command_in, without_fault, command_of}
-use Rattle.ppm_cli.specs.Words.{fitting_room, room_given, with_text, AreReplayed, AreResumed, AreRun, AreSelf, AreStopped, DoPoolsFit, IsInRange, IsLimit, IsOfForm}
-use Rattle.ppm_cli.specs.Words.{swept_takeovers_given, sweep_options, AreSwept}
-use Rattle.ppm_cli.specs.Words.{by_input, choice_given, code_in, capsule_limit, is_case_given, with_input}
+use Rattle.ppm_cli.specs.Words.{run_options, serial_in, replay_options, resume_options, self_in, self_options, stop_options}
+use Rattle.ppm_cli.specs.Values.{number_in, number_given, value_of_digits, text_given}
+use Rattle.ppm_cli.specs.Words.{command_named, command_in, without_fault, command_of}
+use Rattle.ppm_cli.specs.Values.{takeover_given, idle_given}
+use Rattle.ppm_cli.specs.Words.{with_text, AreReplayed, AreResumed, AreRun, AreSelf, AreStopped, DoPoolsFit, IsInRange, IsLimit, IsOfForm}
+use Rattle.ppm_cli.specs.Values.{fitting_room, room_given}
+use Rattle.ppm_cli.specs.Words.{sweep_options, AreSwept}
+use Rattle.ppm_cli.specs.Values.{swept_takeovers_given}
+use Rattle.ppm_cli.specs.Words.{by_input, code_in, capsule_limit, with_input}
+use Rattle.ppm_cli.specs.Values.{choice_given, is_case_given}
 use Rattle.ppm_cli.specs.declared.capsules.CapsuleLimit.{CapsuleLimit}
 use Rattle.ppm_cli.specs.declared.command.Command.{Command}
 use Rattle.ppm_cli.specs.declared.command.Command.TheVariants as commands
@@ -245,6 +250,6 @@ named_are name rows =
 pub is_in_range : (words : List Text) (command : Command) → command_of words ≡ Some command → IsInRange command
 is_in_range words command e =
     subst (λ c. IfSome c IsInRange) e (go (fault_of ppm_application words) (subcommand_of ppm_application words)) where
-      go : (kinds : Kinds) (met : Option (Text × List Row)) → IfSome (without_fault kinds (command_in met)) IsInRange
-      go [] met = bound IsInRange met _ (λ m f. named_are m.0 m.1)
-      go (k ∷ kinds) met = tt
+      go : (kinds : Kinds) (named : Option (Text × List Row)) → IfSome (without_fault kinds (command_in named)) IsInRange
+      go [] named = bound IsInRange named _ (λ m f. named_are m.0 m.1)
+      go (k ∷ kinds) named = tt

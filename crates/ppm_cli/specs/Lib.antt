@@ -1,4 +1,5 @@
 pub mod Application
 pub mod CommandLine
 pub mod Sound
+pub mod Values
 pub mod Words

@@ -1,19 +1,14 @@
 -- The command that the words of the command line give, as clap reads them.
-use Rattle.std.specs.Prelude.{◌≤◌, ◌*◌, ℕ, Bool, true, false, List, [], ◌∷◌, Option, Some, None, codes, if◌then◌else◌, nat_le, ◌&&◌, option_and_then, option_map, ⊤}
+use Rattle.std.specs.Prelude.{◌≤◌, ◌*◌, ℕ, true, false, List, [], ◌∷◌, Option, Some, None, codes, if◌then◌else◌, option_and_then, option_map, ⊤}
 use Rattle.std.specs.Str.{bytes_eq}
-use Rattle.std.specs.Str.Parse.{digits_value, without_leading_plus}
-use Rattle.clap.specs.Words.{Kinds, Row, Text, fault_of, first_of, one_of, subcommand_of}
-use Rattle.clap.specs.ValueTests.{is_unsigned_in}
-use Rattle.ppm_words.specs.declared.idle.Idle.{Idle}
-use Rattle.ppm_words.specs.declared.idle.Idle.TheVariants.{Leave, Park}
+use Rattle.clap.specs.Words.{Kinds, Row, Text, fault_of, subcommand_of}
 use Rattle.ppm_cells.specs.Limits.{most_pool_words}
-use Rattle.ppm_cells.specs.declared.shape.Takeover.{Takeover}
-use Rattle.ppm_cells.specs.declared.shape.Takeover.TheVariants.{ByPlaces, ByEntries}
 use Rattle.ppm_cli.specs.Application.{ppm_application}
-use Rattle.ppm_cli.specs.CommandLine.{Form, Number, Choice, AnyText, OptionRule, is_free_text}
-use Rattle.ppm_cli.specs.CommandLine.{processors, turns, room, slots, looks, seed, faults, schedule, takeover, idle}
-use Rattle.ppm_cli.specs.CommandLine.{few_processors, after, small_room, few_slots, size, count, capsules, arrays, input}
-use Rattle.ppm_cli.specs.CommandLine.{copied_room, copied_slots, swept_takeovers, met, from, acts, runs}
+use Rattle.ppm_cli.specs.CommandLine.{Form, Number, OptionRule}
+use Rattle.ppm_cli.specs.CommandLine.{processors, turns, room, slots, looks, seed, faults, schedule}
+use Rattle.ppm_cli.specs.CommandLine.{few_processors, after, small_room, few_slots, size, count, capsules, arrays}
+use Rattle.ppm_cli.specs.CommandLine.{copied_room, copied_slots, met, from, acts, runs}
+use Rattle.ppm_cli.specs.Values.{and_then, choice_given, idle_given, is_case_given, number_given, room_given, swept_takeovers_given, takeover_given, text_given}
 use Rattle.ppm_cli.specs.declared.capsules.CapsuleLimit.{CapsuleLimit}
 use Rattle.ppm_cli.specs.declared.command.Command.{Command}
 use Rattle.ppm_cli.specs.declared.command.Command.TheVariants as commands
@@ -23,80 +18,10 @@ use Rattle.ppm_cli.specs.declared.resume.ResumeOptions.{ResumeOptions}
 use Rattle.ppm_cli.specs.declared.run.RunOptions.{RunOptions}
 use Rattle.ppm_cli.specs.declared.stop.StopOptions.{StopOptions}
 use Rattle.ppm_cli.specs.declared.sweep.SweepOptions.{SweepOptions}
-use Rattle.ppm_cli.specs.declared.takeover.SweptTakeovers.{SweptTakeovers}
-use Rattle.ppm_cli.specs.declared.takeover.SweptTakeovers.TheVariants as swept
-
--- the number that decimal digits write; a plus may stand in front
-abbrev pub value_of_digits : Text → ℕ
-value_of_digits text = digits_value 10 (without_leading_plus text)
-
--- the number that a text writes, if it writes one in the range of the form
-abbrev pub number_in : Form → Text → Option ℕ
-number_in (Number low high) text = if is_unsigned_in low high text then Some (value_of_digits text) else None
-number_in _ text = None
-
--- the number, if it is in the range
-abbrev pub kept_in : ℕ → ℕ → ℕ → Option ℕ
-kept_in low high n = if nat_le low n && nat_le n high then Some n else None
-
--- the number of an option in the matches of its command: clap puts the default there where the words do not give the option
-abbrev pub number_given : OptionRule → List Row → Option ℕ
-number_given o rows = option_and_then (number_in o.form) (one_of o.name rows)
-
--- the text, if the form takes it
-abbrev pub text_in : Form → Text → Option Text
-text_in AnyText text = if is_free_text text then Some text else None
-text_in _ text = None
-
--- the text of an option in the matches of its command, with the default there, too
-abbrev pub text_given : OptionRule → List Row → Option Text
-text_given o rows = option_and_then (text_in o.form) (first_of o.name rows)
-
--- the value that a word stands for among these words, which stand in the order of the values
-abbrev pub value_among : {T : Type 0} → List Text → List T → Text → Option T
-value_among (first ∷ words) (value ∷ values) word = if bytes_eq word first then Some value else value_among words values word
-value_among _ _ word = None
-
--- the value that a text stands for, if it is one of the words of the form
-abbrev pub choice_in : {T : Type 0} → Form → List T → Text → Option T
-choice_in (Choice words) values text = value_among words values text
-choice_in _ values text = None
-
--- the value of an option in the matches of its command, by the word that is chosen there
-abbrev pub choice_given : {T : Type 0} → OptionRule → List T → List Row → Option T
-choice_given o values rows = option_and_then (choice_in o.form values) (first_of o.name rows)
-
--- what is taken over of a dead processor
-abbrev pub takeover_given : List Row → Option Takeover
-takeover_given rows = choice_given takeover (ByPlaces ∷ ByEntries ∷ []) rows
-
--- under which takeovers a sweep has its runs
-abbrev pub swept_takeovers_given : List Row → Option SweptTakeovers
-swept_takeovers_given rows = choice_given swept_takeovers (swept.ByPlaces ∷ swept.ByEntries ∷ swept.Both ∷ []) rows
-
--- what a processor does that finds no work
-abbrev pub idle_given : List Row → Option Idle
-idle_given rows = choice_given idle (Leave ∷ Park ∷ []) rows
-
--- what comes of a value, if there is one: as Rust's `and_then`, the value first
-abbrev pub and_then : {A B : Type 0} → Option A → (A → Option B) → Option B
-and_then value f = option_and_then f value
-
--- the words, if so many processors may have pools of so many
-abbrev pub fitting_room : ℕ → ℕ → Option ℕ
-fitting_room processors words = if nat_le (processors * words) most_pool_words then Some words else None
-
--- the words of the pool of each of so many places
-abbrev pub room_given : OptionRule → ℕ → List Row → Option ℕ
-room_given o processors rows = and_then (number_given o rows) (fitting_room processors)
 
 -- a command that has options and a text, if each has a value of its form
 abbrev pub with_text : {O : Type 0} → (O → Text → Command) → OptionRule → Option O → List Row → Option Command
 with_text make text options rows = and_then options (λ o. option_map (make o) (text_given text rows))
-
--- whether the text that is read is a case, and not a source
-abbrev pub is_case_given : List Row → Option Bool
-is_case_given rows = choice_given input (false ∷ true ∷ []) rows
 
 -- of two commands that of a source, or that of a case
 abbrev pub by_input : (of_source of_case : Command) → List Row → Option Command

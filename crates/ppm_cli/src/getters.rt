@@ -3,8 +3,8 @@ ghost use Rattle.std.specs.Prelude.{◌≡◌, ◌≤◌, IfOk, IfSome, map, opt
 ghost use Rattle.clap.specs.Words.{first_of, found_of, rows_of};
 ghost use Rattle.ppm_cli.specs.Application.{choice_rule, number_rule, text_rule};
 ghost use Rattle.ppm_cli.specs.CommandLine.{AnyText};
-ghost use Rattle.ppm_cli.specs.Words.{choice_given, kept_in as kept, number_given, text_given};
-ghost use Rattle.ppm_cli.specs.Words.{text_in, value_among as value_by};
+ghost use Rattle.ppm_cli.specs.Values.{choice_given, kept_in as kept, number_given, text_given};
+ghost use Rattle.ppm_cli.specs.Values.{text_in, value_among as value_by};
 
 use crate::table::{ChoiceOption, NumberOption, TextOption};
 use clap::ArgMatches;

@@ -1,7 +1,7 @@
 //! Which text is read, as the words give it.
 ghost use Rattle.std.specs.Prelude.{◌≡◌};
 ghost use Rattle.clap.specs.Words.{found_of, rows_of};
-ghost use Rattle.ppm_cli.specs.Words.{is_case_given};
+ghost use Rattle.ppm_cli.specs.Values.{is_case_given};
 
 use crate::getters::choice_of;
 use crate::table::INPUT;

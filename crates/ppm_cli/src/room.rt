@@ -2,7 +2,8 @@
 ghost use Rattle.std.specs.Prelude.{◌≡◌, IfSome};
 ghost use Rattle.clap.specs.Words.{found_of, rows_of};
 ghost use Rattle.ppm_cli.specs.Application.{number_rule};
-ghost use Rattle.ppm_cli.specs.Words.{DoPoolsFit, IsOfForm, fitting_room, room_given};
+ghost use Rattle.ppm_cli.specs.Words.{DoPoolsFit, IsOfForm};
+ghost use Rattle.ppm_cli.specs.Values.{fitting_room, room_given};
 
 use crate::getters::number_of;
 use crate::table::NumberOption;

@@ -2,7 +2,8 @@
 ghost use Rattle.std.specs.Prelude.{◌≡◌, IfOk, IfSome};
 ghost use Rattle.clap.specs.Words.{found_of, rows_of};
 ghost use Rattle.ppm_cli.specs.declared.command.Command.TheVariants as commands;
-ghost use Rattle.ppm_cli.specs.Words.{AreRun, IsInRange, by_input, idle_given, run_in};
+ghost use Rattle.ppm_cli.specs.Words.{AreRun, IsInRange, by_input, run_in};
+ghost use Rattle.ppm_cli.specs.Values.{idle_given};
 ghost use Rattle.ppm_cli.specs.Words.{run_options as options_in};
 
 use crate::command::Command;

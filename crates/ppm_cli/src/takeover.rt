@@ -1,7 +1,7 @@
 //! What is taken over of a processor that stopped for ever, as the words give it.
 ghost use Rattle.std.specs.Prelude.{◌≡◌};
 ghost use Rattle.clap.specs.Words.{found_of, rows_of};
-ghost use Rattle.ppm_cli.specs.Words.{swept_takeovers_given, takeover_given};
+ghost use Rattle.ppm_cli.specs.Values.{swept_takeovers_given, takeover_given};
 
 use crate::getters::choice_of;
 use crate::table::{SWEPT_TAKEOVERS, TAKEOVER};

@@ -27,13 +27,15 @@ no_keyword (Some k) h = absurd (differ h)
     differ : false ≡ true → ⊥
     differ e = cc
 
+-- and is a name of the language
 named : (name : List ℕ) → is_array_name name ≡ true → IsArrayName name
 named name h = record { form = name_back name h; plain = no_keyword (keyword_of name) (and_parts (is_name name) (is_none (keyword_of name)) h).1 }
 
-named_all : (done : List NamedArray) (more : List Written) → AllFollow done more
+-- so is each of arrays that may stand after others
+named_all : (more : List Written) (done : List NamedArray) → AllFollow done more
     → AllByRecursion (λ (a : NamedLength). IsArrayName a.name) (names_of (map array_of more))
-named_all done [] h = tt
-named_all done (a ∷ more) h = (named a.name (form_parts a h.0.form).name, named_all _ more h.1)
+named_all [] done h = tt
+named_all (a ∷ more) done h = (named a.name (form_parts a h.0.form).name, named_all more (done ++ array_of a ∷ []) h.1)
 
 -- each array has the name of one
 abbrev AreNamed : List NamedArray → Type 0
@@ -78,7 +80,8 @@ names_are text code input is =
     record {
       most = subst (λ n. n ≤ array_limit) (sym (as_many input)) fits.arrays_bound;
       names = subst AreNamed (sym is.arrays)
-          (All-from_recursion (λ (a : NamedLength). IsArrayName a.name) (names_of (map array_of is.front.arrays)) (named_all [] is.front.arrays is.front.follow));
+          (All-from_recursion (λ (a : NamedLength). IsArrayName a.name) (names_of (map array_of is.front.arrays))
+          (named_all is.front.arrays [] is.front.follow));
       differ = subst AreDistinct (sym is.arrays) listed;
       words_most = subst (λ ls. sum ls ≤ word_limit) (sym (lengths_are input)) fits.values_bound;
     }

@@ -7,13 +7,15 @@
 -- last case.
 -- That a run is as its code is, run depth first, is shown of each sound code on each input (`AsCodeLemmas`), and over legs (`LegsOfCode`); what the
 -- program says more is added to it (`MeantLemmas`, `LegsMeant`). An answer of such a run says so (`CodeRows`), and with turns and room enough each
--- of them ends (`CompleteOfCode`, `CompleteLegsOfCode`). A resumed run is the latest leg of each run that left its state (`OfResume`), whose words
--- come back (`LeftLemmas`); so it is complete as a run is (`ResumeComplete`).
+-- of them ends (`CompleteOfCode`, `CompleteLegsOfCode`). A resumed run is the latest leg of each run that left its state (`ResumedOfCode`), whose words
+-- come back (`LeftLemmas`); so it is complete as a run is (`ResumeComplete`). That is shown of each sound code; of programs it is said by their codes
+-- (`OfResume`). What `stop` wrote is such a state's text (`StoppedLemmas`), of a sound case too (`CaseStoppedLemmas`).
 -- `run` of a case is shown as `run` of a program, with the code and the input of the case in their place (`RunCaseLemmas`, `OneCase`,
 -- `CaseHeadlineLemmas`, `OfRunCase`), and `replay` of a case likewise (`OneCase`, `OfReplayCase`).
--- The arrays that an admitted program starts with have names of their own, none of them a keyword (`NamesLemmas`), so `stop` may name them in a saved
--- text, and from that text the state is read back (`ReadBackLemmas`). After a run a program has one answer of `stop`, the text of the machine there
--- (`StopLemmas`), which makes its law (`OneStop`) and its rows (`OfStop`) by the lemmas of `ppm_loading` on texts and plans.
+-- The arrays that an admitted program starts with have names of their own, none of them a keyword (`NamesLemmas`), and so have those of a case
+-- (`CaseNamesLemmas`). So `stop` may name them in a saved text, and from that text the state is read back, if the code may be resumed
+-- (`ReadBackLemmas`). After a run a code has one answer of `stop`, the text of the machine there (`StopLemmas`), which makes its laws (`OneStop`,
+-- `OneStopCase`) and its rows (`OfStop`, `OfStopCase`) by the lemmas of `ppm_loading` on texts and plans.
 
 pub mod OrdersLemmas
 pub mod EndLemmas
@@ -50,11 +52,13 @@ pub mod CaseHeadlineLemmas
 pub mod OfRunCase
 pub mod OfReplayCase
 pub mod ResumeLemmas
-pub mod OfResume
 pub mod TellLemmas
 pub mod LeftLemmas
-pub mod StoppedLemmas
+pub mod ResumedOfCode
 pub mod ResumeComplete
+pub mod OfResume
+pub mod StoppedLemmas
+pub mod CaseStoppedLemmas
 pub mod NamesLemmas
 pub mod CaseNamesLemmas
 pub mod StopLemmas

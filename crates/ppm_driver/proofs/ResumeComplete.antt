@@ -1,4 +1,5 @@
--- Where turns and room are enough for a program that left a state, no other answer of its text is left but that the resumed run ended.
+-- Where turns and room are enough for a sound code that left a state, no other answer of its text is left but that the resumed run ended; and so for a
+-- program that left it.
 use Rattle.std.proofs.Common.{◌≡◌, ◌≤◌, ℕ, ◌*◌, ◌^◌, List, inl, inr, refl, sym, ap, ◌∙◌, subst, arith}
 use mathlib.Core.HLevel.{is_prop→PathP}
 use Rattle.std.specs.Coded.{le_prop}
@@ -22,19 +23,26 @@ use Rattle.ppm_answers.specs.declared.answer.Answer.{Answer}
 use Rattle.ppm_answers.specs.declared.answer.Answer.TheVariants as answers
 use Rattle.ppm_cli.specs.declared.resume.ResumeOptions.{ResumeOptions}
 use Rattle.ppm_cli.specs.Words.{AreResumed}
-use Rattle.ppm_driver.specs.Completeness.{IsEnough, IsEnd}
-use Rattle.ppm_driver.specs.Legs.{lost_in_all, worked_in_all, RunsInLegsAreAsPrograms}
-use Rattle.ppm_driver.specs.Meant.{NeedsMoreRoom}
-use Rattle.ppm_driver.specs.ResumeCompleteness.{faults_with, ResumesComplete}
-use Rattle.ppm_driver.specs.Resumes.{SavedState, IsTextOf, ResumedHas, ItemsHave, StateHas, TextHas, IsLeftBy, LeftWordsComeBack, legs_with}
-use Rattle.ppm_driver.proofs.CompleteLemmas.{not_few}
-use Rattle.ppm_driver.proofs.OfResume.{is_program, among, resumed_full, resumed_needs_turns, resumed_loses, resumed_breaks, left_stands}
+use Rattle.ppm_words.specs.declared.named_array.NamedArray.{NamedArray}
+use Rattle.ppm_code.specs.declared.code.CodeParts.{CodeParts}
+use Rattle.ppm_tree.specs.Program.{initial_arrays}
+use Rattle.ppm_cut_code.specs.Routines.{code_of}
+use Rattle.ppm_driver.specs.AsCode.{MayRun, CodeNeedsMoreRoom, CodeNeedsMoreTurns}
+use Rattle.ppm_driver.specs.CodeResumes.{CodeWordsComeBack, IsLeftByCode, ResumesOfCodeComplete, by_code, faults_of, legs_of}
+use Rattle.ppm_driver.specs.CompleteAsCode.{CodeIsEnough}
+use Rattle.ppm_driver.specs.Completeness.{IsEnd}
+use Rattle.ppm_driver.specs.Legs.{lost_in_all, worked_in_all}
+use Rattle.ppm_driver.specs.LegsAsCode.{RunsInLegsAreAsCode}
+use Rattle.ppm_driver.specs.ProgramsAsCode.{ProgramsAreAsCode}
+use Rattle.ppm_driver.specs.ResumeCompleteness.{ResumesComplete}
+use Rattle.ppm_driver.specs.Resumes.{SavedState, IsTextOf, ResumedHas, ItemsHave, StateHas, TextHas}
 use Rattle.ppm_driver.proofs.ResumeLemmas.{spent_has, has_kind}
+use Rattle.ppm_driver.proofs.ResumedOfCode.{left_stands, resumed_breaks, resumed_full, resumed_is, resumed_loses, resumed_needs_turns}
 
 -- what the crates below show of every text, every plan and every run in legs
 pub record Laws : Type 0 where
-  pub runs : RunsInLegsAreAsPrograms
-  pub comes : LeftWordsComeBack
+  pub runs : RunsInLegsAreAsCode
+  pub comes : CodeWordsComeBack
   pub plans : PlansHaveOneAnswer
   pub states : SavedTextsTellStates
   pub faults : FaultsTellSavedTexts
@@ -76,53 +84,60 @@ module _ (laws : Laws) where
   refused_none text z is (errors.BadCode line) h other = laws.faults.excludes text z.shape z.arrays z.code z.words fault.BadCode line is.saved h
   refused_none text z is (errors.WrongCount line) h other = laws.faults.excludes text z.shape z.arrays z.code z.words fault.WrongCount line is.saved h
 
-  module _ (options : ResumeOptions) (are : AreResumed options) (before now : ToldLists) (items : List PlanItem) (source : List ℕ) (z : SavedState) (left : IsLeftBy source z)
-      (enough : IsEnough left.tree (faults_with left items) options.turns z.shape.room) where
+  module _ (options : ResumeOptions) (are : AreResumed options) (before now : ToldLists) (items : List PlanItem) (code : CodeParts) (input : List NamedArray)
+      (may : MayRun code input) (z : SavedState) (left : IsLeftByCode code input z)
+      (enough : CodeIsEnough code input (faults_of left items) options.turns z.shape.room) where
     abbrev Resumed : Answer → Type 0
     Resumed a = ResumedHas options before now items z a
 
     module _ (a : Answer) (h : Resumed a) where
       -- no more rows are lost than turns are enough for
-      lost : lost_in_all left.start (legs_with left h.start.state.words) h.run.turns ≤ faults_with left items
-      lost = resumed_loses laws.runs laws.comes options before now items z a h source left
+      lost : lost_in_all left.start (legs_of left h.start.state.words) h.run.turns ≤ faults_of left items
+      lost = resumed_loses laws.runs laws.comes code input may z left options before now items a h
 
       -- all work turns are few
-      few_works : worked_in_all left.start (legs_with left h.start.state.words) h.run.turns ≤ 2 ^ 34
+      few_works : worked_in_all left.start (legs_of left h.start.state.words) h.run.turns ≤ 2 ^ 34
       few_works =
-          let all = among laws.runs laws.comes options before now items z a h in
-          let less = (is_program laws.runs laws.comes source z left h.start h.goes_on h.run.turns all).work enough.end enough.comes in
+          let less = (resumed_is laws.runs laws.comes code input may z left options before now items a h).work enough.end enough.comes in
           let some = enough.for_turns in
           let counted = lost in
           let most : options.turns ≤ 268435456 = are.0.1 in
           omega (arith, less, some, counted, most)
 
+      -- enough turns are not too few
+      not_few : CodeNeedsMoreTurns code input (lost_in_all left.start (legs_of left h.start.state.words) h.run.turns) options.turns → ⊥
+      not_few needs =
+          let few = needs enough.end enough.comes in let some = enough.for_turns in let counted = lost in omega (arith, few, some, counted)
+
     -- enough room is not too little
-    not_little : NeedsMoreRoom left.tree z.shape.room → ⊥
+    not_little : CodeNeedsMoreRoom code input z.shape.room → ⊥
     not_little needs =
-        let more = needs.depth_first enough.end enough.comes in let some = enough.for_room in omega (arith, more, some)
+        let more = needs enough.end enough.comes in let some = enough.for_room in omega (arith, more, some)
 
     items_end : (a : Answer) → ItemsHave options before now items z a → IsEnd a
     items_end (answers.Ended arrays) h = tt
     items_end (answers.Trapped trap line) h = tt
     items_end (answers.OutOfTurns c) h =
         let spent = spent_has options before now items z c h in
-        absurd (not_few left.tree (faults_with left items) (lost_in_all left.start (legs_with left h.start.state.words) h.run.turns) options.turns z.shape.room (lost (answers.OutOfTurns c) h) enough
-        (resumed_needs_turns laws.runs laws.comes options before now items z c h spent.1 source left))
-    items_end (answers.OutOfRoom place) h = absurd (not_little (resumed_full laws.runs laws.comes options before now items z place h source left).1)
-    items_end (answers.Broken place) (inl k) = absurd (left_stands laws.runs laws.comes options before now items z source left k.0.none)
+        absurd (not_few (answers.OutOfTurns c) h (resumed_needs_turns laws.runs laws.comes code input may z left options before now items c h spent.1))
+    items_end (answers.OutOfRoom place) h =
+        absurd (not_little (resumed_full laws.runs laws.comes code input may z left options before now items place h).1)
+    items_end (answers.Broken place) (inl k) = absurd (left_stands laws.runs laws.comes code input may z left k.0.none)
     items_end (answers.Broken place) (inr h) =
-        let much = resumed_breaks laws.runs laws.comes options before now items z place h source left in
+        let much = resumed_breaks laws.runs laws.comes code input may z left options before now items place h in
         let few = few_works (answers.Broken place) h in
         absurd (omega (arith, much, few))
     items_end a h = absurd (has_kind options before now items z a h)
 
-  module _ (options : ResumeOptions) (are : AreResumed options) (text : List ℕ) (z : SavedState) (is : IsTextOf text z) (plan : List ℕ) (items : List PlanItem) (accepted : IsAccepted plan_form plan z.shape.processors items)
-      (source : List ℕ) (left : IsLeftBy source z) (enough : IsEnough left.tree (faults_with left items) options.turns z.shape.room) (before now : ToldLists) where
+  module _ (options : ResumeOptions) (are : AreResumed options) (text : List ℕ) (z : SavedState) (is : IsTextOf text z) (plan : List ℕ)
+      (items : List PlanItem) (accepted : IsAccepted plan_form plan z.shape.processors items)
+      (code : CodeParts) (input : List NamedArray) (may : MayRun code input) (left : IsLeftByCode code input z)
+      (enough : CodeIsEnough code input (faults_of left items) options.turns z.shape.room) (before now : ToldLists) where
     -- the text's state is this one, and the plan's items are these
     state_ends : (a : Answer) → StateHas options plan before now z a → IsEnd a
     state_ends (answers.PlanRefused number) h = absurd (laws.plans.plans.apart plan z.shape.processors items h.error h.of_text accepted h.refused)
     state_ends a h =
-        items_end options are before now items source z left enough a
+        items_end options are before now items code input may z left enough a
         (subst (λ (l : List PlanItem). ItemsHave options before now l z a) (laws.plans.plans.items plan h.items items h.accepted.has accepted.has) h.has)
 
     text_ends : (a : Answer) → TextHas options plan before now text a → IsEnd a
@@ -130,6 +145,12 @@ module _ (laws : Laws) where
     text_ends a h = state_ends a (subst (λ (x : SavedState). StateHas options plan before now x a) (one_state text h.state z h.is is) h.has)
 
 -- so it is with all options and plans
-pub resumes_complete : Laws → ResumesComplete
-resumes_complete laws options are text z is plan items accepted source left enough before now a h =
-    text_ends laws options are text z is plan items accepted source left enough before now a h
+pub resumes_of_code_complete : Laws → ResumesOfCodeComplete
+resumes_of_code_complete laws options are text z is plan items accepted code input may left enough before now a h =
+    text_ends laws options are text z is plan items accepted code input may left enough before now a h
+
+-- and with each program
+pub resumes_complete : ProgramsAreAsCode → ResumesOfCodeComplete → ResumesComplete
+resumes_complete programs complete options are text z is plan items accepted source left enough before now a h =
+    complete options are text z is plan items accepted (code_of left.tree) (initial_arrays left.tree) (programs source left.tree left.has).may (by_code left)
+    (record { end = enough.end; comes = enough.comes; for_turns = enough.for_turns; for_room = enough.for_room }) before now a h

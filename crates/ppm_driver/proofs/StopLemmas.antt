@@ -108,8 +108,8 @@ module _ (options : StopOptions) (items : List ScheduleItem) where
         let coded : parts ≡ end.code = is_code ∙ ap (λ (x : Situation). x.code) ends in
         let worded : words ≡ end.state.words = is_words ∙ ap (λ (x : Situation). x.state.words) ends in
         let read = reads opened
-            (subst (λ (ws : List ℕ). StateFits (names_of input) end.code ws) worded
-            (subst (λ (c : CodeParts). StateFits (names_of input) c words) coded (subst (λ (ns : List NamedLength). StateFits ns parts words) named fits))) in
+        (subst (λ (ws : List ℕ). StateFits (names_of input) end.code ws) worded
+        (subst (λ (c : CodeParts). StateFits (names_of input) c words) coded (subst (λ (ns : List NamedLength). StateFits ns parts words) named fits))) in
         record {
           has = record {
             keeper = keeper;

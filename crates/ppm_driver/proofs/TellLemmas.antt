@@ -1,12 +1,15 @@
 -- The text of a state is never refused, and no other state is read from it.
 use Rattle.std.proofs.Common.{◌≡◌, ◌≢◌, ◌≤◌, ℕ, List, [], refl}
 use Rattle.ppm_words.specs.Limits.{turn_limit}
+use Rattle.ppm_words.specs.declared.named_array.NamedArray.{NamedArray}
+use Rattle.ppm_code.specs.declared.code.CodeParts.{CodeParts}
 use Rattle.ppm_saved_reader.specs.Correct.{FaultsTellSavedTexts, IsRefusal, IsSavedText}
 use Rattle.ppm_saved_reader.specs.declared.saved_error.Fault.TheVariants as fault
 use Rattle.ppm_saved_reader.specs.declared.saved_error.SavedError.{SavedError}
 use Rattle.ppm_saved_reader.specs.declared.saved_error.SavedError.TheVariants as errors
 use Rattle.ppm_driver.specs.Legs.{worked_in_all, struck_in_all}
-use Rattle.ppm_driver.specs.Resumes.{SavedState, IsTextOf, IsLeftBy, IsTextLeftBy}
+use Rattle.ppm_driver.specs.CodeResumes.{IsLeftByCode, IsTextLeftByCode}
+use Rattle.ppm_driver.specs.Resumes.{SavedState, IsTextOf}
 
 module _ (law : FaultsTellSavedTexts) (text : List ℕ) (z : SavedState) (is : IsSavedText text z.shape z.arrays z.code z.words) where
   never_refused : (e : SavedError) → e ≢ errors.NoMemory → IsRefusal text e → ⊥
@@ -22,9 +25,10 @@ module _ (law : FaultsTellSavedTexts) (text : List ℕ) (z : SavedState) (is : I
       let k = law.one_state text y.shape z.shape y.arrays z.arrays y.code z.code y.words z.words other.saved is in
       λ i. record { shape = k.0 i; arrays = k.1 i; code = k.2 i; words = k.3 i }
 
-  pub text_left : (source : List ℕ) (faults : ℕ) (left : IsLeftBy source z) → left.legs ≡ [] → worked_in_all left.start left.legs left.turns ≤ turn_limit
-      → struck_in_all left.start left.legs left.turns ≤ faults → z.shape.processors ≤ 16 → IsTextLeftBy source faults text
-  text_left source faults left alone work struck small = record {
+  pub text_left : (code : CodeParts) (input : List NamedArray) (faults : ℕ) (left : IsLeftByCode code input z) → left.legs ≡ []
+      → worked_in_all left.start left.legs left.turns ≤ turn_limit → struck_in_all left.start left.legs left.turns ≤ faults → z.shape.processors ≤ 16
+      → IsTextLeftByCode code input faults text
+  text_left code input faults left alone work struck small = record {
     state = z;
     is = record { short = law.short text z.shape z.arrays z.code z.words is; saved = is };
     accepted = λ r refused. never_refused refused.error refused.of_text refused.refused;

@@ -28,7 +28,12 @@ pub mod LegsAsCode
 pub mod CompleteLegsAsCode
 pub mod Resumes
 pub mod ResumeCompleteness
+pub mod ProgramsAsCode
+pub mod CodeResumes
+pub mod ResumeLaws
+pub mod CodeResumeRows
 pub mod ResumeRows
 pub mod Stopped
+pub mod CaseStopped
 pub mod Examples
 pub mod ExampleRows

@@ -25,6 +25,7 @@ use Rattle.ppm_saved_reader.specs.Rules.{saved_limit}
 use Rattle.ppm_step.specs.Laws.{IsFilledBehind}
 use Rattle.ppm_driver.specs.Meant.{NeedsMoreRoom, NeedsMoreTurns, struck_in}
 use Rattle.ppm_driver.specs.Strikes.{fault_count}
+use Rattle.ppm_driver.specs.CodeResumeRows.{ResumeCodeRows}
 use Rattle.ppm_driver.specs.Completeness.{IsEnough}
 use Rattle.ppm_driver.specs.Legs.{worked_in_all, lost_in_all, NoneIsTakenTwiceInAll, EndsAsProgramInAll, IsAsProgramInAll}
 use Rattle.ppm_driver.specs.ResumeCompleteness.{faults_with, lost_with}
@@ -158,8 +159,10 @@ module _ (options : ResumeOptions) (plan : List ℕ) (o : Outside) where
       → IsOneOf status (statuses.Ended ∷ statuses.Trapped ∷ [])
 
   -- The rows of `resume` with such options and such a plan: what each status says; and where all goes well, something is judged, and the
-  -- answer that the text has is written. What is in `meant` is a law of all such runs.
+  -- answer that the text has is written. What is in `meant` is a law of all such runs. In `codes` stands what is said of each sound code that left
+  -- the state.
   pub record ResumeRows (status : Status) : Type 0 where
     pub rows : TextRows saved_limit Has ResumeSays (ports_of o) status
     pub meant : AreAsPrograms
     pub completes : Completes status
+    pub codes : ResumeCodeRows options plan o status

@@ -1,15 +1,13 @@
 //! That runs in legs end as their codes and their programs do, shown by calls that do nothing.
+ghost use Rattle.ppm_driver.specs.CodeResumes.{CodeWordsComeBack, ResumesOfCodeLeaveStates, RunsOfCodeLeaveStates, StopsOfCodeLeaveStates};
 ghost use Rattle.ppm_driver.specs.Legs.{RunsInLegsAreAsPrograms, TagsMayRiseInLegs};
 ghost use Rattle.ppm_driver.specs.LegsAsCode.{RunsInLegsAreAsCode, TagsMayRiseInLegsOfCode};
 ghost use Rattle.ppm_driver.specs.Resumes.{LeftWordsComeBack, ResumesLeaveStates, RunsLeaveStates, StopsLeaveStates};
 ghost use Rattle.ppm_driver.specs.Strikes.{FaultsAreScheduled};
 
-use ppm_cut_code::keeps_the_rules;
-use ppm_cut_correct::{end_as_meant, ends_serially, name_arrays, start_with_input};
-use ppm_cut_sound::code_is_sound;
+use crate::meant::programs_are_as_code;
 use ppm_opening::images_begin_the_depth_first_run;
 use ppm_resumed::renewed_words_come_back;
-use ppm_rows::trees_are_within;
 use ppm_runs::{
     legs_come_to, nothing_breaks, nothing_breaks_over_legs, room_is_spent, room_over_legs,
     runs_end_so, tags_stay_low, work_is_bounded, work_over_legs,
@@ -56,50 +54,53 @@ pub fn runs_in_legs_are_as_programs()
     ensures tags { TagsMayRiseInLegs }
 {
     // The law rests on these; the calls do nothing.
-    trees_are_within();
-    keeps_the_rules();
-    code_is_sound();
-    start_with_input();
-    name_arrays();
-    ends_serially();
-    end_as_meant();
+    programs_are_as_code();
     runs_in_legs_are_as_code();
 }
 
-/// With takeover by places, whatever turns are made from the machine with which a run of a text's
-/// program begins: the state after them is left by that text, so what the rows of `resume` say of
-/// it holds of the program.
+/// With takeover by places, whatever turns are made from the machine with which a run of a code
+/// begins: the state after them is left by that code. Where it is that of a text's program, the
+/// state is left by that text, so what the rows of `resume` say of it holds of the program.
 pub fn runs_leave_states()
     ensures law { RunsLeaveStates }
+    ensures of_code { RunsOfCodeLeaveStates }
 {}
 
-/// What `stop` writes is the saved text of a state that is left by the text that it read. `resume`
-/// never refuses it, and reads that state from it, and no other. No more faults struck a row of
-/// work before it than the schedule has, since no more turns of a schedule's run are faults.
+/// What `stop` writes of a code that is tidy and has no conflict is the saved text of a state that
+/// is left by the code, and by the text that has this code's program. `resume` never refuses it,
+/// and reads that state from it, and no other. No more faults struck a row of work before it than
+/// the schedule has, since no more turns of a schedule's run are faults.
 pub fn stops_leave_states()
     ensures law { StopsLeaveStates }
     ensures faults { FaultsAreScheduled }
+    ensures of_code { StopsOfCodeLeaveStates }
 {
     // The law rests on this one; the call does nothing.
     faults_tell_saved_texts();
 }
 
-/// The words that fresh processors find, where a program's run left a state, are words that come
-/// back: no holder has the last tag, as words came back fewer than 2^50 times.
+/// The words that fresh processors find, where a run of a sound code left a state, or one of a
+/// program, are words that come back: no holder has the last tag, as words came back fewer than
+/// 2^50 times.
 pub fn left_words_come_back()
     ensures law { LeftWordsComeBack }
+    ensures of_code { CodeWordsComeBack }
 {
     // The law rests on these; the calls do nothing.
-    runs_in_legs_are_as_programs();
+    runs_in_legs_are_as_code();
+    programs_are_as_code();
     renewed_words_come_back();
 }
 
-/// The state after turns of fresh processors that went on from one that a program left is left by
-/// that program too, whatever the turns are, unless words came back 2^50 times.
+/// The state after turns of fresh processors that went on from one that a sound code left, or a
+/// program, is left by that code or program too, whatever the turns are, unless words came back
+/// 2^50 times.
 pub fn resumes_leave_states()
     ensures law { ResumesLeaveStates }
+    ensures of_code { ResumesOfCodeLeaveStates }
 {
     // The law rests on these; the calls do nothing.
-    runs_in_legs_are_as_programs();
+    runs_in_legs_are_as_code();
+    programs_are_as_code();
     left_words_come_back();
 }

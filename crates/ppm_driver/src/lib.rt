@@ -15,9 +15,10 @@
 //! room are enough, a run ends (`specs/Completeness`, `specs/ResumeCompleteness`). What is stopped
 //! and resumed ends as its program does (`specs/Stopped`). The laws of runs are of each sound code
 //! on an input, whoever wrote it (`specs/AsCode`, `specs/LegsAsCode`), and of a text's program as
-//! an instance. `run_case_command` and `replay_case_command` run the case that is read, sound or
-//! not (`specs/CaseRuns`, `specs/CaseReplays`); what follows: `specs/CaseHeadline`,
-//! `specs/CaseRows` and `specs/CaseReplayRows`.
+//! an instance. `run_case_command`, `replay_case_command` and `stop_case_command` run the case that
+//! is read, sound or not (`specs/CaseRuns`, `specs/CaseReplays`, `specs/CaseStops`); what follows:
+//! `specs/CaseHeadline`, `specs/CaseRows`, `specs/CaseReplayRows`, `specs/CaseStopRows`; and over
+//! stops `specs/CodeResumeRows` and `specs/CaseStopped`.
 //! Stands on `ppm_threads`, `ppm_following`, `ppm_loading`, `ppm_case`, `ppm_saved`,
 //! `ppm_saved_reader` and `ppm_answers`; `ppm_top` calls it. The schedules and limits and their
 //! rules are this project's. `stop` and `resume` come after the persistent memory of Blelloch et
@@ -48,14 +49,17 @@ mod stopped;
 mod sums;
 
 pub use complete::{runs_complete, runs_of_code_complete};
-pub use complete_resume::{resumes_complete, runs_of_code_complete_in_legs};
+pub use complete_resume::{resume_laws, resumes_complete, runs_of_code_complete_in_legs};
 pub use example::self_command;
 pub use fronts::fronts_decide_resumed;
 pub use legs::{
     left_words_come_back, resumes_leave_states, runs_in_legs_are_as_code,
     runs_in_legs_are_as_programs, runs_leave_states, stops_leave_states,
 };
-pub use meant::{answers_are_as_code, replays_are_as_code, runs_are_as_code, runs_are_as_programs};
+pub use meant::{
+    answers_are_as_code, programs_are_as_code, replays_are_as_code, runs_are_as_code,
+    runs_are_as_programs,
+};
 pub use one_case::{
     case_answers_are_one, case_replays_have_one_answer, case_stops_have_one_answer,
 };
@@ -69,5 +73,5 @@ pub use run::{WATCHERS, run_command};
 pub use run_case::run_case_command;
 pub use stop::stop_command;
 pub use stop_case::stop_case_command;
-pub use stopped::stopped_runs_go_on;
+pub use stopped::{stopped_cases_go_on, stopped_runs_go_on};
 pub use sums::examples_sum_up;

@@ -3,6 +3,7 @@ ghost use Rattle.ppm_driver.specs.AsCode.{RunsAreAsCode};
 ghost use Rattle.ppm_driver.specs.CodeReplays.{ReplaysAreAsCode};
 ghost use Rattle.ppm_driver.specs.CodeRuns.{AnswersAreAsCode};
 ghost use Rattle.ppm_driver.specs.Meant.{RunsAreAsPrograms};
+ghost use Rattle.ppm_driver.specs.ProgramsAsCode.{ProgramsAreAsCode};
 
 use ppm_cut_code::keeps_the_rules;
 use ppm_cut_correct::{end_as_meant, ends_serially, name_arrays, start_with_input};
@@ -61,6 +62,17 @@ pub fn runs_are_as_programs()
     ensures law { RunsAreAsPrograms }
 {
     // The law rests on these; the calls do nothing.
+    programs_are_as_code();
+    runs_are_as_code();
+}
+
+/// The code of each text's program is sound with the arrays that the program starts with, and may
+/// run on them. An outcome of it, run depth first, is the program's serial outcome; and where a
+/// pool is too small for it, the program, run whole, takes more words too, or has no end.
+pub fn programs_are_as_code()
+    ensures law { ProgramsAreAsCode }
+{
+    // The law rests on these; the calls do nothing.
     trees_are_within();
     keeps_the_rules();
     code_is_sound();
@@ -68,5 +80,4 @@ pub fn runs_are_as_programs()
     name_arrays();
     ends_serially();
     end_as_meant();
-    runs_are_as_code();
 }

@@ -11,8 +11,7 @@ ghost use Rattle.ppm_driver.specs.ResumeRows.{ResumeRows};
 ghost use Rattle.ppm_driver.specs.Runs.{RunTold};
 ghost use Rattle.ppm_driver.specs.Watchers.{OthersKeep, watcher_count};
 
-use crate::complete_resume::resumes_complete;
-use crate::legs::{left_words_come_back, runs_in_legs_are_as_programs};
+use crate::complete_resume::resume_laws;
 use crate::saying::resumed_answer;
 use ppm_answers::{Answer, SavedRefusal, Status, answer_of_read, deliver};
 use ppm_cells::UNKNOWN_PLACE;
@@ -63,10 +62,8 @@ pub fn resume_command<R: Threads + Wait + Sync, S: Source, K: Sink, E: Sink, W: 
 
     ensures watchers { length watch.new.items ≡ watcher_count }
 {
-    // The rows rest on these laws; the calls do nothing.
-    runs_in_legs_are_as_programs();
-    left_words_come_back();
-    resumes_complete();
+    // The rows rest on these laws; the call does nothing.
+    resume_laws();
     let answer = read_answer(rt, alloc, options, faults, source, watch);
     deliver(alloc, &answer, out, err)
 }

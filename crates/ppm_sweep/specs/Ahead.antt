@@ -54,3 +54,8 @@ pub record Passes (due : Due) (old new : Left) : Type 0 where
 abbrev pub IsComingAmong : (processors : ℕ) → Coming → Type 0
 IsComingAmong p (coming.Listed act) = IsActAmong p act
 IsComingAmong p (coming.InRound c) = c < p
+
+-- it is a step in a round
+abbrev pub IsStepInRound : Due → Type 0
+IsStepInRound (Listed act) = ⊥
+IsStepInRound (InRound c) = Unit {0}

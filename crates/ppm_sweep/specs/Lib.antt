@@ -4,3 +4,4 @@ pub mod Ahead
 pub mod Found
 pub mod Spots
 pub mod Visits
+pub mod Text

@@ -1,5 +1,5 @@
 -- Where a sweep stands in a run.
-use Rattle.std.specs.Prelude.{◌≡◌, ◌≢◌, ◌⊎◌, ◌<◌, ◌^◌, ℕ, ◌+◌, List, [], ◌∷◌, replicate}
+use Rattle.std.specs.Prelude.{◌≡◌, ◌≢◌, ◌⊎◌, ℕ, List, [], ◌∷◌, replicate}
 use Rattle.ppm_words.specs.declared.outcome.Outcome.{Outcome}
 use Rattle.ppm_core.specs.Machine.{seen}
 use Rattle.ppm_core.specs.Situation.{Situation, finish_in}
@@ -23,7 +23,6 @@ pub record IsSpot (wanted : Outcome) (spot : Spot) : Type 0 where
   pub ready : IsReady (seen spot.machine) spot.way
   pub processors : spot.ahead.processors ≡ (seen spot.machine).shape.processors
   pub arrays : HasArraysOf (seen spot.machine) wanted
-  pub number : spot.number + spot.way.left < 2 ^ 62
 
 -- a run of at most so many acts begins
 abbrev pub first_way : (turns : ℕ) → Way

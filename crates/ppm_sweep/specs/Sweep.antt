@@ -50,6 +50,11 @@ abbrev pub after_act : List ScheduleItem → List ScheduleItem
 after_act [] = []
 after_act (i ∷ items) = if nat_lt 1 i.times then record { act = i.act; times = i.times - 1 } ∷ items else items
 
+-- what is left of a list after what is due: that of the list is its first act
+abbrev pub left_after : List ScheduleItem → Due → List ScheduleItem
+left_after rest (Listed act) = after_act rest
+left_after rest (InRound c) = rest
+
 -- a place in a run: the run under way, the items of its schedule up to here, and those that are left of its list
 pub record Place : Type 0 where
   pub course : Course
@@ -74,11 +79,6 @@ module _ (s : Shape) (code : CodeParts) where
   abbrev pub written : Course → List ScheduleItem → Due → List ScheduleItem
   written w front (Listed act) = with_act front act
   written w front (InRound c) = if is_made s code w (InRound c) then with_act front (Step c None) else front
-
-  -- what is left of the list after it
-  abbrev pub left_after : List ScheduleItem → Due → List ScheduleItem
-  left_after rest (Listed act) = after_act rest
-  left_after rest (InRound c) = rest
 
   -- the place after what is due
   abbrev pub passed : Place → Due → Place

@@ -1,10 +1,11 @@
 //! What is ahead in a run.
 ghost use Rattle.std.specs.Prelude.{◌≡◌, IfOk, IfSome, option_map};
-ghost use Rattle.std.specs.List.{All};
+ghost use Rattle.std.specs.List.{All, AllByRecursion};
 ghost use Rattle.ppm_plan.specs.Schedules.{IsItemAmong};
 ghost use Rattle.ppm_choice.specs.Course.{act_of as act_due};
 ghost use Rattle.ppm_choice.specs.Schedules.{dues_of};
-ghost use Rattle.ppm_sweep.specs.Ahead.{dues_in, due_of, first_due, IsComingAmong, Passes};
+ghost use Rattle.ppm_sweep.specs.Ahead.{IsStepInRound, Passes};
+ghost use Rattle.ppm_sweep.specs.Ahead.{dues_in, due_of, first_due, once_less, IsComingAmong};
 
 use ppm_plan::{ScheduleItem, ScheduledAct};
 use ppm_words::NoMemory;
@@ -43,7 +44,7 @@ pub(crate) struct Ahead {
     at: usize,
     next: u32,
     processors: u32,
-    rounds: u64,
+    count: u64,
 }
 
 impl Model for Ahead {
@@ -59,7 +60,7 @@ impl Model for Ahead {
     ghost view = { λ a. record {
       processors = a.processors;
       rest = rest_of a.first (drop a.at a.items.items);
-      later = map InRound (range_with_len a.next (a.processors - a.next)) ++ rounds a.processors a.rounds;
+      later = map InRound (range_with_len a.next (a.processors - a.next)) ++ rounds a.processors a.count;
     } };
 
     ghost invariant = { λ a. (a.next ≤ a.processors) × All (IsItemAmong a.processors) (rest_of a.first (drop a.at a.items.items)) };
@@ -79,7 +80,7 @@ impl Ahead {
             at: 0,
             next: processors,
             processors,
-            rounds,
+            count: rounds,
         }
     }
 
@@ -87,6 +88,7 @@ impl Ahead {
     pub(crate) fn first(&self) -> Option<Coming>
         ensures value { option_map due_of result ≡ first_due self.now }
         ensures among { IfSome result (IsComingAmong self.now.processors) }
+        ensures later { AllByRecursion IsStepInRound self.now.later }
     {
         if let Some(item) = self.first {
             return Some(Coming::Listed(item.act));
@@ -97,7 +99,7 @@ impl Ahead {
         if self.next < self.processors {
             return Some(Coming::InRound(self.next));
         }
-        if self.rounds > 0 && self.processors > 0 {
+        if self.count > 0 && self.processors > 0 {
             return Some(Coming::InRound(0));
         }
         None
@@ -115,9 +117,9 @@ impl Ahead {
             self.at += 1;
         } else if self.next < self.processors {
             self.next += 1;
-        } else if self.rounds > 0 && self.processors > 0 {
+        } else if self.count > 0 && self.processors > 0 {
             self.next = 1;
-            self.rounds -= 1;
+            self.count -= 1;
         }
     }
 

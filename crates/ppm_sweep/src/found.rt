@@ -1,5 +1,5 @@
 //! What a sweep finds.
-ghost use Rattle.std.specs.Prelude.{◌≡◌, ◌+◌, IfOk, OnOk};
+ghost use Rattle.std.specs.Prelude.{◌≡◌, ◌+◌, IfErr, OnOk};
 ghost use Rattle.ppm_sweep.specs.declared.found.Stop.{Stop};
 ghost use Rattle.ppm_sweep.specs.declared.found.Stop.TheVariants as stops;
 

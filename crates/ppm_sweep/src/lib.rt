@@ -15,8 +15,10 @@ mod front;
 mod meeting;
 mod options;
 mod spot;
-mod sweep;
+mod sweeping;
+mod text;
 
 pub use found::{Differing, Stop, Tally};
 pub use options::{Sweeping, Window};
-pub use sweep::sweep;
+pub use sweeping::sweep;
+pub use text::{schedules_are_written, write_schedule};

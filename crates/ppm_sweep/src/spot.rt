@@ -1,6 +1,6 @@
 //! Places in the runs of a sweep: a machine under way, what is written of the schedule up to here,
 //! and what is ahead.
-ghost use Rattle.std.specs.Prelude.{◌≡◌, ◌<◌, ◌↔◌, ◌+◌, ◌^◌, IfOk, OnOk, IsTrue, false, true, Some};
+ghost use Rattle.std.specs.Prelude.{◌≡◌, ◌<◌, ◌↔◌, ◌+◌, IfOk, OnOk, IsTrue, false, true, Some};
 ghost use Rattle.ppm_core.specs.Acts.{is_done_at};
 ghost use Rattle.ppm_core.specs.Machine.{seen};
 ghost use Rattle.ppm_step.specs.State.{stand_of};
@@ -63,6 +63,16 @@ pub(crate) fn processor_of(coming: Coming) -> u32
     }
 }
 
+/// A count with one more; 2^62 of anything are as if memory were wanting.
+fn one_more(count: u64) -> Result<u64, NoMemory>
+    ensures { IfOk result (λ more. more ≡ count + 1) }
+{
+    if count >= 1 << 62 {
+        return Err(NoMemory);
+    }
+    Ok(count + 1)
+}
+
 /// The place after a fault that strikes here, with all of the rounds ahead.
 pub(crate) fn struck(
     alloc: Global,
@@ -75,12 +85,12 @@ pub(crate) fn struck(
     requires there { processor < (seen spot.now.machine).shape.processors }
     requires left { 0 < spot.now.way.left }
     requires lives { is_done_at (stand_of (seen spot.now.machine).state processor) ≡ false }
-    requires few { spot.now.faults + 1 < 2 ^ 64 }
     ensures place { IfOk result (λ s. place_of s ≡ struck_by (seen spot.now.machine).shape (seen spot.now.machine).code (place_of spot.now) processor fault) }
     ensures dues { IfOk result (λ s. dues_in s.ahead ≡ dues_of (seen spot.now.machine).shape.processors spot.now.ahead.rest turns) }
     ensures goes_on { IfOk result (GoesOn spot.now) }
     ensures counts { IfOk result (λ s. (s.faults ≡ spot.now.faults + 1) × (s.number ≡ 0)) }
 {
+    let faults = one_more(spot.faults)?;
     let rest = spot.ahead.rest(alloc)?;
     let mut machine = spot.machine.copy(alloc)?;
     let mut way = spot.way;
@@ -94,7 +104,7 @@ pub(crate) fn struck(
         way,
         front,
         ahead,
-        faults: spot.faults + 1,
+        faults,
         number: 0,
     })
 }
@@ -108,11 +118,12 @@ pub(crate) fn advance(spot: &mut Spot, coming: Coming) -> Result<(), NoMemory>
     requires lives { is_done_at (stand_of (seen spot.old.machine).state (processor_named (act_due (due_of coming)))) ≡ false }
     ensures { OnOk result (Advances (due_of coming) spot.old spot.new) }
 {
+    let number = one_more(spot.number)?;
     let act = coming.act();
     write_act(&mut spot.front, act)?;
     make(&mut spot.machine, &mut spot.way, act);
     spot.ahead.pass();
-    spot.number += 1;
+    spot.number = number;
     Ok(())
 }
 

@@ -177,7 +177,7 @@ program_rows laws words o status a = record {
   replay_case = of_cases.replays_case laws words o status a;
   resume = λ options plan e. (
     is_in_range words (commands.Resume options plan) e,
-    of_resume.resume_rows laws.legs laws.comes options plan o status (answered (Some (commands.Resume options plan)) e) laws.resumes,
+    of_resume.resume_rows laws.resumes options plan o status (answered (Some (commands.Resume options plan)) e),
   );
   stop = λ options schedule e.
       let range = is_in_range words (commands.Stop options schedule) e in (

@@ -122,7 +122,7 @@ module _ (laws : ProgramLaws) (words : List (List ℕ)) (o : Outside) (status : 
     by_words (inr (BySchedule command orders c is)) = inr (OfSchedule command orders c is (schedule_refused command orders c is))
     by_words (inr (IsResume options plan c)) =
         inr (OfResume options plan c
-        (of_resume.plan_refused laws.legs laws.comes options plan o status (answered (Some (commands.Resume options plan)) c) refused))
+        (of_resume.plan_refused laws.resumes options plan o status (answered (Some (commands.Resume options plan)) c) refused))
 
   -- status 3 comes only of words without a command, or of a plan or a schedule
   only : status ≡ statuses.WordsRefused → (command_of words ≡ None) ⊎ HasRefusedPlan words o

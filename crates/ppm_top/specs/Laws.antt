@@ -14,11 +14,10 @@ use Rattle.ppm_driver.specs.CodeReplays.{ReplaysAreAsCode}
 use Rattle.ppm_driver.specs.CodeRuns.{AnswersAreAsCode}
 use Rattle.ppm_driver.specs.Completeness.{RunsComplete}
 use Rattle.ppm_driver.specs.Examples.{ExamplesSumUp}
-use Rattle.ppm_driver.specs.Legs.{RunsInLegsAreAsPrograms}
 use Rattle.ppm_driver.specs.Meant.{RunsAreAsPrograms}
 use Rattle.ppm_driver.specs.Replays.{HaveOneAnswer as ReplaysHaveOneAnswer}
-use Rattle.ppm_driver.specs.ResumeCompleteness.{ResumesComplete}
-use Rattle.ppm_driver.specs.Resumes.{LeftWordsComeBack, StopsLeaveStates}
+use Rattle.ppm_driver.specs.ResumeLaws.{ResumeLaws}
+use Rattle.ppm_driver.specs.Resumes.{StopsLeaveStates}
 use Rattle.ppm_driver.specs.Runs.{AnswersAreOne, FrontsDecideAnswers}
 use Rattle.ppm_driver.specs.Stops.{HaveOneAnswer as StopsHaveOneAnswer}
 
@@ -29,9 +28,7 @@ pub record ProgramLaws : Type 0 where
   pub meant : RunsAreAsPrograms
   pub complete : RunsComplete
   pub sums : ExamplesSumUp
-  pub legs : RunsInLegsAreAsPrograms
-  pub comes : LeftWordsComeBack
-  pub resumes : ResumesComplete
+  pub resumes : ResumeLaws
   pub leave : StopsLeaveStates
   pub outcomes : OutcomesHaveOneAnswer
   pub codes : CodesHaveOneAnswer

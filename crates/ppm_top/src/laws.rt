@@ -10,10 +10,9 @@ use ppm_commands::{
 };
 use ppm_driver::{
     answers_are_as_code, answers_are_one as runs_have_one_answer, case_answers_are_one,
-    case_replays_have_one_answer, case_stops_have_one_answer, examples_sum_up,
-    left_words_come_back, replays_are_as_code, replays_have_one_answer, resumes_complete,
-    runs_are_as_programs, runs_complete, runs_in_legs_are_as_programs, stops_have_one_answer,
-    stops_leave_states,
+    case_replays_have_one_answer, case_stops_have_one_answer, examples_sum_up, replays_are_as_code,
+    replays_have_one_answer, resume_laws, runs_are_as_programs, runs_complete,
+    stops_have_one_answer, stops_leave_states,
 };
 use ppm_plan::have_one_answer as plans_have_one_answer;
 
@@ -26,9 +25,7 @@ pub fn program_laws()
     runs_are_as_programs();
     runs_complete();
     examples_sum_up();
-    runs_in_legs_are_as_programs();
-    left_words_come_back();
-    resumes_complete();
+    resume_laws();
     stops_leave_states();
     outcomes_have_one_answer();
     codes_have_one_answer();

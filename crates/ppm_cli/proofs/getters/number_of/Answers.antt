@@ -1,7 +1,7 @@
 use Rattle.std.proofs.Common.{arith, ap, ◌∙◌, sym, option_and_then}
 use Rattle.std.specs.Str.Parse.{ParsesUnsigned, ExplainsUnsignedError, HasUnsignedDigitsIfOk}
 use Rattle.clap.specs.Words.{found_of}
-use Rattle.ppm_cli.specs.Words.{kept_in}
+use Rattle.ppm_cli.specs.Values.{kept_in}
 use Rattle.ppm_cli.proofs.OptionLemmas.{number_read}
 use Rattle.ppm_cli.proofs.getters.number_of.Goals as goal
 

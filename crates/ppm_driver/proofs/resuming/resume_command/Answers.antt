@@ -8,7 +8,6 @@ returns-clause-answers g c = resume_delivered c.args.options c.args.faults.now _
 
 -- and the rows follow from it
 pub returns-clause-rows : goal.returns-clause-rows
-returns-clause-rows g c = resume_rows c.runs_in_legs_are_as_programs.ensures.law c.left_words_come_back.ensures.law c.args.options c.args.faults.now _ _
+returns-clause-rows g c = resume_rows c.resume_laws.ensures.law c.args.options c.args.faults.now _ _
     (resume_delivered c.args.options c.args.faults.now _ _ _ c.read_answer-answer.ensures.kept c.read_answer-answer.ensures.told
     c.read_answer-answer.ensures.may c.deliver.ensures)
-    c.resumes_complete.ensures.law

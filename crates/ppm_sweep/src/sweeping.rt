@@ -71,7 +71,6 @@ fn sweep_from(
     requires spot { IsSpot wanted.now spot }
     requires dues { dues_in spot.ahead ≡ dues_of (seen spot.machine).shape.processors spot.ahead.rest sweeping.turns }
     requires begins { spot.number ≡ 0 }
-    requires few { spot.faults + sweeping.faults < 2 ^ 33 }
     ensures { (m : Situation) → m.turns ≡ 0 → CameFrom m (first_way sweeping.turns) spot
         → Finds m sweeping.turns wanted.now (swept_from sweeping spot) tally.old tally.new result }
 {
@@ -93,7 +92,6 @@ fn walk(
 ) -> Result<(), Stop>
     requires spot { IsSpot wanted.now spot }
     requires more { 0 < sweeping.faults }
-    requires few { spot.faults + sweeping.faults < 2 ^ 33 }
     ensures { (m : Situation) → m.turns ≡ 0 → CameFrom m (first_way sweeping.turns) spot
         → Finds m sweeping.turns wanted.now (swept_ahead sweeping spot) tally.old tally.new result }
 {
@@ -118,7 +116,6 @@ fn visit(
 ) -> Result<bool, Stop>
     requires spot { IsSpot wanted.now spot.old }
     requires more { 0 < sweeping.faults }
-    requires few { spot.old.faults + sweeping.faults < 2 ^ 33 }
     ensures visits { (m : Situation) → m.turns ≡ 0 → CameFrom m (first_way sweeping.turns) spot.old
         → Visits m wanted.now sweeping spot.old spot.new tally.old tally.new result }
     ensures goes_on { IfOk result (λ more. PassesOn more spot.old spot.new) }
@@ -154,7 +151,6 @@ fn strikes(
 ) -> Result<(), Stop>
     requires spot { IsSpot wanted.now spot.now }
     requires more { 0 < sweeping.faults }
-    requires few { spot.now.faults + sweeping.faults < 2 ^ 33 }
     requires there { processor < (seen spot.now.machine).shape.processors }
     requires left { 0 < spot.now.way.left }
     requires lives { is_done_at (stand_of (seen spot.now.machine).state processor) ≡ false }
