@@ -3,7 +3,8 @@
 //! Model: the skeleton of a tree (`ppm_frames`); what always holds of it is `Advances`
 //! (`specs/Advance`).
 //! Contract: a tree that advances has something to do, and each turn of a state with kept words
-//! leaves it so (`specs/Turns`), if no left branch comes first beside a right one that isn't pushed.
+//! leaves it so (`specs/Turns`), if no left branch comes first beside a right one that no place has
+//! pushed.
 //! Stands on `ppm_kept`; `ppm_progress` shows that premise, and takes whole runs.
 //! After the scheduler of Blelloch et al., SPAA 2018; the invariant is this project's.
 #![tactic(auto)]
