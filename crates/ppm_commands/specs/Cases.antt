@@ -30,7 +30,7 @@ capsule_lines (c ∷ capsules) = 1 + length c.instrs + capsule_lines capsules
 abbrev pub line_at : (arrays : ℕ) → CodeParts → (capsule at : ℕ) → ℕ
 line_at arrays code capsule at = arrays + 2 + length code.procedures + capsule_lines (take capsule code.capsules) + 1 + at + 1
 
--- a text has a line at a number, counted from 1; a line feed ends the line
+-- a line, which ends with a line feed, stands in a text at a number, counted from 1: without the line feed it is that piece between line feeds
 pub record HasLine (text : List ℕ) (number : ℕ) (line : List ℕ) : Type 0 where
   pub bytes : List ℕ
   pub from_one : 1 ≤ number

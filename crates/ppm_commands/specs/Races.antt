@@ -137,8 +137,8 @@ RacesMayOf capsules = MayOf (RacesOf capsules)
 abbrev pub RacesHas : ℕ → List ℕ → Answer → Type 0
 RacesHas capsules = HasOfCase (RacesOf capsules)
 
--- Within each number of capsules two answers of a text are one, and what stands behind more bytes than a case may have changes none. Each text has
--- one: it is refused for a fault, a conflict or a store that is not tidy, or it is sound, has a race or takes more capsules.
+-- Within each number of capsules two answers of a text are one, and what stands after more bytes than a case may have changes none. A text that is
+-- not refused for a fault, a conflict or a store that is not tidy has one: it is sound, has a race, or takes more capsules.
 pub record HasOneAnswer (capsules : ℕ) : Type 0 where
   pub one : AreOne (RacesHas capsules)
   pub front : FrontsDecide case_limit (RacesHas capsules)

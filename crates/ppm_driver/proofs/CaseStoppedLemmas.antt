@@ -13,7 +13,7 @@ use Rattle.ppm_cli.specs.Words.{AreStopped, AreResumed}
 use Rattle.ppm_plan.specs.declared.plan_item.PlanItem.{PlanItem}
 use Rattle.ppm_plan.specs.Forms.{plan_form}
 use Rattle.ppm_plan.specs.Refusals.{IsAccepted}
-use Rattle.ppm_driver.specs.AsCode.{MayRun, CodeNeedsMoreRoom, CodeNeedsMoreTurns}
+use Rattle.ppm_driver.specs.AsCode.{MayRun, CodeEnds, CodeNeedsMoreRoom, CodeNeedsMoreTurns}
 use Rattle.ppm_driver.specs.CaseStopped.{ResumesStoppedCase, StoppedCasesGoOn}
 use Rattle.ppm_driver.specs.CaseStopRows.{HasRead, WritesSaved}
 use Rattle.ppm_driver.specs.CodeResumes.{IsLeftByCode, IsTextLeftByCode, StopsOfCodeLeaveStates, legs_of}
@@ -90,23 +90,29 @@ module _ (laws : ResumeLaws) (law : StopsOfCodeLeaveStates) (stop : StopOptions)
         b.read.2.state (subst (λ (t : List ℕ). IsTextOf t b.read.2.state) same b.read.2.is) b.read.2.has.items b.place b.read.2.has.has
 
     ended : (a : WritesArrays options plan o) → a.read.0 ≡ w.text
-        → (l : IsLeftByCode code input a.read.2.state)
-        × EndsAsCodeInAll l.start (legs_of l a.read.2.has.has.start.state.words) a.read.2.has.has.run.turns code input (outcome.Ended a.arrays)
-    ended a same =
-        let l = left a.read.0 a.read.2.state a.read.2.is same in (
-          l,
-          resumed_ends laws.legs laws.comes code input may a.read.2.state l options o.told_before o.told_now a.read.2.has.items a.arrays a.read.2.has.has,
-        )
+        → CodeEnds code input (outcome.Ended a.arrays)
+        × ((l : IsLeftByCode code input a.read.2.state)
+        → EndsAsCodeInAll l.start (legs_of l a.read.2.has.has.start.state.words) a.read.2.has.has.run.turns code input (outcome.Ended a.arrays))
+    ended a same = (so (left a.read.0 a.read.2.state a.read.2.is same)).depth_first, so
+      where
+        so : (l : IsLeftByCode code input a.read.2.state)
+            → EndsAsCodeInAll l.start (legs_of l a.read.2.has.has.start.state.words) a.read.2.has.has.run.turns code input (outcome.Ended a.arrays)
+        so l =
+            resumed_ends laws.legs laws.comes code input may a.read.2.state l options o.told_before o.told_now a.read.2.has.items a.arrays
+            a.read.2.has.has
 
     trapped : (k : WritesTrap options plan o) → k.read.0 ≡ w.text
-        → (l : IsLeftByCode code input k.read.2.state)
-        × EndsAsCodeInAll l.start (legs_of l k.read.2.has.has.start.state.words) k.read.2.has.has.run.turns code input (outcome.Trapped k.trap k.line)
-    trapped k same =
-        let l = left k.read.0 k.read.2.state k.read.2.is same in (
-          l,
-          resumed_traps laws.legs laws.comes code input may k.read.2.state l options o.told_before o.told_now k.read.2.has.items k.trap k.line
-              k.read.2.has.has,
-        )
+        → CodeEnds code input (outcome.Trapped k.trap k.line)
+        × ((l : IsLeftByCode code input k.read.2.state)
+        → EndsAsCodeInAll l.start (legs_of l k.read.2.has.has.start.state.words) k.read.2.has.has.run.turns code input (outcome.Trapped k.trap k.line))
+    trapped k same = (so (left k.read.0 k.read.2.state k.read.2.is same)).depth_first, so
+      where
+        so : (l : IsLeftByCode code input k.read.2.state)
+            → EndsAsCodeInAll l.start (legs_of l k.read.2.has.has.start.state.words) k.read.2.has.has.run.turns code input
+            (outcome.Trapped k.trap k.line)
+        so l =
+            resumed_traps laws.legs laws.comes code input may k.read.2.state l options o.told_before o.told_now k.read.2.has.items k.trap k.line
+            k.read.2.has.has
 
     -- turns that are spent are too few for all faults, and one of each processor
     spent : (k : WritesOutOfTurns options plan o) → k.read.0 ≡ w.text

@@ -12,7 +12,7 @@ use Rattle.ppm_answers.specs.declared.answer.Answer.{Answer}
 use Rattle.ppm_cli.specs.declared.resume.ResumeOptions.{ResumeOptions}
 use Rattle.ppm_cli.specs.declared.stop.StopOptions.{StopOptions}
 use Rattle.ppm_cli.specs.Words.{AreStopped, AreResumed}
-use Rattle.ppm_driver.specs.AsCode.{CodeNeedsMoreRoom, CodeNeedsMoreTurns}
+use Rattle.ppm_driver.specs.AsCode.{CodeEnds, CodeNeedsMoreRoom, CodeNeedsMoreTurns}
 use Rattle.ppm_driver.specs.CaseStopRows.{WritesSaved}
 use Rattle.ppm_driver.specs.CodeResumes.{IsLeftByCode, IsTextLeftByCode, legs_of}
 use Rattle.ppm_driver.specs.CompleteAsCode.{CodeIsEnough}
@@ -25,8 +25,8 @@ use Rattle.ppm_driver.specs.Strikes.{scheduled_faults}
 
 -- Where the text that `resume` read is the one that `stop` wrote of a sound case: it is that of a state which the code of the case left, so all that
 -- the rows of `resume` say of such codes is said of this one. It is never refused, and with options in their ranges broken words are never met. The
--- arrays that are written, or the trap, are the end of the code, run depth first; and over both runs each branch that was forked was taken exactly
--- once. That turns are spent, or a pool is full, says that they are too few for the code, the faults of the schedule and of the plan, and one of
+-- arrays that are written, or the trap, are the end of the code, run depth first; and over each run of the code that left the state, the stopped one
+-- among them, and the resumed run after it each branch that was forked was taken exactly once. That turns are spent, or a pool is full, says that they are too few for the code, the faults of the schedule and of the plan, and one of
 -- each processor, or the room is too little for it. Where both are enough, each answer of the text is that the resumed run ended.
 pub record ResumesStoppedCase {stop : StopOptions} {schedule : List ℕ} {p : Ports} (w : WritesSaved stop schedule p) (options : ResumeOptions)
     (plan : List ℕ) (o : Outside) : Type 0 where
@@ -34,13 +34,15 @@ pub record ResumesStoppedCase {stop : StopOptions} {schedule : List ℕ} {p : Po
   pub accepted : (fault : WritesFault options plan o) → fault.1.0 ≡ w.text → ⊥
   pub unbroken : AreResumed options → (b : WritesBroken options plan o) → b.read.0 ≡ w.text → ⊥
   pub ended : (a : WritesArrays options plan o) → a.read.0 ≡ w.text
-      → (left : IsLeftByCode w.read.2.has.code w.read.2.has.input a.read.2.state)
-      × EndsAsCodeInAll left.start (legs_of left a.read.2.has.has.start.state.words) a.read.2.has.has.run.turns w.read.2.has.code w.read.2.has.input
-      (outcome.Ended a.arrays)
+      → CodeEnds w.read.2.has.code w.read.2.has.input (outcome.Ended a.arrays)
+      × ((left : IsLeftByCode w.read.2.has.code w.read.2.has.input a.read.2.state)
+      → EndsAsCodeInAll left.start (legs_of left a.read.2.has.has.start.state.words) a.read.2.has.has.run.turns w.read.2.has.code w.read.2.has.input
+      (outcome.Ended a.arrays))
   pub trapped : (k : WritesTrap options plan o) → k.read.0 ≡ w.text
-      → (left : IsLeftByCode w.read.2.has.code w.read.2.has.input k.read.2.state)
-      × EndsAsCodeInAll left.start (legs_of left k.read.2.has.has.start.state.words) k.read.2.has.has.run.turns w.read.2.has.code w.read.2.has.input
-      (outcome.Trapped k.trap k.line)
+      → CodeEnds w.read.2.has.code w.read.2.has.input (outcome.Trapped k.trap k.line)
+      × ((left : IsLeftByCode w.read.2.has.code w.read.2.has.input k.read.2.state)
+      → EndsAsCodeInAll left.start (legs_of left k.read.2.has.has.start.state.words) k.read.2.has.has.run.turns w.read.2.has.code w.read.2.has.input
+      (outcome.Trapped k.trap k.line))
   pub spent : (k : WritesOutOfTurns options plan o) → k.read.0 ≡ w.text
       → CodeNeedsMoreTurns w.read.2.has.code w.read.2.has.input
       (lost_with (scheduled_faults w.read.2.items) stop.processors k.read.2.has.items) options.turns
