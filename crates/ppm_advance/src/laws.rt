@@ -2,8 +2,8 @@
 ghost use Rattle.ppm_advance.specs.Advance.{AdvancingAreReady, AllAdvance, AllAdvanceThere};
 ghost use Rattle.ppm_advance.specs.Turns.{TurnsAdvance};
 
-/// In a tree that advances a place has a strand, or a right branch waits to be taken; and the changes
-/// that a run makes of trees leave it so.
+/// In a tree that advances a place has a strand, or a right branch waits to be taken; and the
+/// changes that a run makes of trees leave it so.
 pub fn advancing_trees_are_ready()
     ensures law { AdvancingAreReady }
     ensures stay { AllAdvance }

@@ -1,5 +1,5 @@
 -- A text has one answer where its case is run depth first.
-use Rattle.std.proofs.Common.{◌≡◌, ◌⊎◌, ◌≤◌, ℕ, List, length, refl, sym, ◌∙◌, ap, ap₂, subst, inl, inr, arith}
+use Rattle.std.proofs.Common.{◌≡◌, ◌⊎◌, ℕ, List, length, refl, sym, ◌∙◌, ap, ap₂, subst, inl, inr, arith}
 use Rattle.ppm_strands.specs.Run.{End}
 use Rattle.ppm_strands.proofs.RunLemmas.{one_end}
 use Rattle.ppm_words.specs.declared.named_array.NamedArray.{NamedArray}
@@ -10,7 +10,7 @@ use Rattle.ppm_code.specs.Inputs.{words_in}
 use Rattle.ppm_code.specs.Strands.{Result, Gave, Trapped}
 use Rattle.ppm_code.specs.Tidy.{IsTidy}
 use Rattle.ppm_depth.specs.declared.depth.DepthRun.{DepthRun}
-use Rattle.ppm_depth.specs.Run.{strands_of, said_of, pool_words, ComesTo, IsWithin, IsNotWithin, IsDepthRun, RunsAreThere}
+use Rattle.ppm_depth.specs.Run.{strands_of, said_of, pool_words, ComesTo, IsWithin, IsDepthRun, RunsAreThere}
 use Rattle.ppm_depth.specs.Start.{words_of, root_strand}
 use Rattle.ppm_case.specs.Correct.{FaultsTellCases, HasCase}
 use Rattle.ppm_answers.specs.declared.case.UntidyStore.{UntidyStore}

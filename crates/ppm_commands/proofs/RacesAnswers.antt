@@ -1,13 +1,11 @@
 -- A text has one answer where races of its case are sought.
-use Rattle.std.proofs.Common.{◌≡◌, ◌⊎◌, ◌≤◌, ◌<◌, ℕ, ◌-◌, List, [], ◌∷◌, length, refl, sym, ◌∙◌, ap, ap₂, subst, inl, inr, arith}
+use Rattle.std.proofs.Common.{◌≡◌, ◌⊎◌, ◌<◌, ℕ, ◌-◌, List, [], ◌∷◌, length, refl, sym, ◌∙◌, ap, subst, inl, inr, arith}
 use Rattle.std.proofs.lemmas.Bool.{cases_lt}
 use Rattle.ppm_words.specs.Inputs.{value_count}
 use Rattle.ppm_words.specs.declared.named_array.NamedArray.{NamedArray}
 use Rattle.ppm_code.specs.declared.code.CodeParts.{CodeParts}
 use Rattle.ppm_war.specs.declared.checked.Conflict.{Conflict}
 use Rattle.ppm_war.specs.Conflicts.{IsFree, IsFirstConflictOf}
-use Rattle.ppm_depth.specs.declared.depth.DepthRun.{DepthRun}
-use Rattle.ppm_depth.specs.Sound.{IsSound}
 use Rattle.ppm_races.specs.declared.race.Race.{Race}
 use Rattle.ppm_races.specs.declared.judging.Verdict.{Verdict}
 use Rattle.ppm_races.specs.declared.judging.Verdict.TheVariants as verdict

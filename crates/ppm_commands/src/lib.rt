@@ -9,7 +9,8 @@
 //! memory was refused, and what follows from each status is a sentence of its table (`CheckSays`,
 //! `CodeSays`, `CaseSays`, `SerialSays`, `DepthSays`, `RacesSays`).
 //! Stands on `ppm_listing_reader` and `ppm_war`, on `ppm_program`, `ppm_cut` and `ppm_serial`, on
-//! `ppm_case`, `ppm_depth` and `ppm_races`, and on `ppm_answers`; `ppm_top` calls it.
+//! `ppm_case`, `ppm_depth` and `ppm_races`, on `ppm_loading` for the refusals of cases, and on
+//! `ppm_answers`; `ppm_top` calls it.
 //! After the write-after-read conflicts of Blelloch et al., SPAA 2018; the commands and their
 //! answers are this project's.
 #![tactic(auto)]

@@ -17,7 +17,6 @@ mod listings;
 mod plans;
 mod said;
 mod steps;
-mod sweep_answers;
 mod texts;
 mod trees;
 

@@ -204,7 +204,8 @@ module _ {A K E O : Type 0} (s : System A K E O) (me : ℕ) where
         }
 
     -- a change that changes it: the commit is here now
-    pub alters_early : ((x : A) → s.code.builds k x ≡ true → out x ≡ true) → (f : Memory A) (x : ℕ) (g : ℕ → ℕ) (rest : Capsule A E) → (g (now s t x) ≡ now s t x → ⊥) → AreSameOff out o f
+    pub alters_early : ((x : A) → s.code.builds k x ≡ true → out x ≡ true) → (f : Memory A) (x : ℕ) (g : ℕ → ℕ) (rest : Capsule A E)
+        → (g (now s t x) ≡ now s t x → ⊥) → AreSameOff out o f
         → Early out o t k (Changes x g rest) f → Beside (Changed me x (g (now s t x)) ∷ t) (UnderWay k rest f)
     alters_early built f x g rest ne hf e =
         let m = e.at in

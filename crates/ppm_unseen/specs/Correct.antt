@@ -1,23 +1,16 @@
 -- When faults are invisible, though strands race.
 use Rattle.std.specs.Prelude.{◌↔◌, ℕ, List}
-use Rattle.ppm_unseen.specs.Capsule.{Capsule, Loads, Keeps, Reads, Changes, Ends}
+use Rattle.ppm_unseen.specs.Capsule.{Ends}
 use Rattle.ppm_unseen.specs.Run.{System, Deed, State, NotYet, UnderWay, Waits, IsOver, Comes, IsHistory}
 use Rattle.ppm_unseen.specs.Conditions.{AreOrdered, AreFilled, Stands}
-
--- nothing is left of the capsule
-abbrev pub IsAtEnd : {A E : Type 0} → Capsule A E → Type 0
-IsAtEnd (Loads x go) = ⊥
-IsAtEnd (Keeps x v rest) = ⊥
-IsAtEnd (Reads x go) = ⊥
-IsAtEnd (Changes x g rest) = ⊥
-IsAtEnd (Ends e) = Unit {0}
 
 -- the strand is not in the middle of a capsule: it is at the end of one, or not under way
 abbrev pub IsBetween : {A K E : Type 0} → State A K E → Type 0
 IsBetween NotYet = Unit {0}
-IsBetween (UnderWay k rest o) = IsAtEnd rest
 IsBetween (Waits g n fs) = Unit {0}
 IsBetween IsOver = Unit {0}
+IsBetween (UnderWay k (Ends e) o) = Unit {0}
+IsBetween (UnderWay k rest o) = ⊥
 
 module _ {A K E O : Type 0} (s : System A K E O) where
   -- faults are invisible: the histories of runs with faults are those of runs without; and where a strand comes in a run with faults, if it is not in

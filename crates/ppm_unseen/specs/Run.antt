@@ -59,9 +59,8 @@ module _ {A K O : Type 0} where
   -- these branches, which have the numbers from i on, are over with these outcomes
   abbrev pub HaveFinished : ℕ → List (Frame A K) → List O → List (Deed A K O) → Type 0
   HaveFinished i [] [] t = Unit {0}
-  HaveFinished i [] (o ∷ os) t = ⊥
-  HaveFinished i (f ∷ fs) [] t = ⊥
   HaveFinished i (f ∷ fs) (o ∷ os) t = HasFinished i o t × HaveFinished (suc i) fs os t
+  HaveFinished i fs os t = ⊥
 
 module _ {A K E O : Type 0} (s : System A K E O) where
   -- a strand at the beginning of a capsule
@@ -96,9 +95,7 @@ module _ {A K E O : Type 0} (s : System A K E O) where
   -- where strand i is once another one has done something: as before, unless it is forked by that
   abbrev pub once_done : ℕ → List (Deed A K O) → Deed A K O → State A K E → State A K E
   once_done i t d NotYet = begun_if_any (forked_by t d i)
-  once_done i t d (UnderWay k rest o) = UnderWay k rest o
-  once_done i t d (Waits g n fs) = Waits g n fs
-  once_done i t d IsOver = IsOver
+  once_done i t d σ = σ
 
   -- how a strand goes on after the deeds t, unseen by others: it loads, keeps or reads a word; it asks for a change that leaves the word as it is; an
   -- end opens the next capsule; a frame goes on once its branches are over; by a fault the strand begins its capsule again, with its own words as

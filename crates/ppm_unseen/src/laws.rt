@@ -2,7 +2,8 @@
 ghost use Rattle.ppm_unseen.specs.Calm.{CalmWritesStand};
 ghost use Rattle.ppm_unseen.specs.Claims.{RacingClaims};
 ghost use Rattle.ppm_unseen.specs.Correct.{FaultsAreInvisibleSo};
-ghost use Rattle.ppm_unseen.specs.Needed.{FillingIsNeeded, OrderIsNeeded, StandingIsNeeded};
+ghost use Rattle.ppm_unseen.specs.Needed.{BlocksAreToBeFilled, FillingIsNeeded};
+ghost use Rattle.ppm_unseen.specs.Needed.{OrderIsNeeded, StandingIsNeeded};
 ghost use Rattle.ppm_unseen.specs.Run.{System};
 ghost use Rattle.ppm_unseen.specs.Together.{EachRunHasOneWithout, RunsAreHistories};
 
@@ -28,11 +29,12 @@ pub fn calm_writes_stand<A, K, E, O>()
     ensures { (s : System A K E O) → CalmWritesStand s }
 {}
 
-/// Each of the three conditions is needed: in a small system that meets the other two, a run with
-/// one fault has a history that no run without faults has.
+/// Each of the three conditions is needed, and both halves of the second one: in a small system that
+/// meets the others, a run with one fault has a history that no run without faults has.
 pub fn each_condition_is_needed()
     ensures order { OrderIsNeeded }
     ensures filling { FillingIsNeeded }
+    ensures blocks { BlocksAreToBeFilled }
     ensures standing { StandingIsNeeded }
 {}
 
