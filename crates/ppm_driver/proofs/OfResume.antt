@@ -1,6 +1,6 @@
 -- What rows say of `resume`: each status says its sentence; and of each sound code, and each program, that left the state the whole run, with the
 -- legs before, is as the code (`ResumedOfCode`), and as the program.
-use Rattle.std.proofs.Common.{◌≡◌, ◌≢◌, ◌⊎◌, ◌≤◌, ◌<◌, ◌+◌, ◌*◌, ◌^◌, ℕ, List, [], ◌∷◌, length, None, inl, inr, sym, ap, ◌∙◌, subst, arith}
+use Rattle.std.proofs.Common.{◌≡◌, ◌≢◌, ◌⊎◌, ◌<◌, ◌*◌, ◌^◌, ℕ, List, [], ◌∷◌, length, None, inl, inr, sym, ap, ◌∙◌, subst, arith}
 use Rattle.ppm_words.specs.declared.named_array.NamedArray.{NamedArray}
 use Rattle.ppm_words.specs.declared.outcome.Outcome.TheVariants as outcome
 use Rattle.ppm_words.specs.declared.trap.Trap.{Trap}
@@ -29,7 +29,7 @@ use Rattle.ppm_answers.proofs.Judged.{judging_told, text_rows}
 use Rattle.ppm_cli.specs.declared.resume.ResumeOptions.{ResumeOptions}
 use Rattle.ppm_driver.specs.AsCode.{MayRun, CodeNeedsMoreTurns}
 use Rattle.ppm_driver.specs.CodeResumeRows.{CompletesAsCode}
-use Rattle.ppm_driver.specs.CodeResumes.{IsLeftByCode, IsTextLeftByCode, CodeWordsComeBack, by_code, legs_of}
+use Rattle.ppm_driver.specs.CodeResumes.{IsTextLeftByCode, CodeWordsComeBack, by_code}
 use Rattle.ppm_driver.specs.Completeness.{IsEnd}
 use Rattle.ppm_driver.specs.Legs.{worked_in_all, lost_in_all, NoneIsTakenTwiceInAll, EndsAsProgramInAll, IsAsProgramInAll}
 use Rattle.ppm_driver.specs.LegsAsCode.{RunsInLegsAreAsCode}

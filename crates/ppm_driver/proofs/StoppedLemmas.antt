@@ -33,7 +33,6 @@ use Rattle.ppm_driver.specs.AsCode.{MayRun}
 use Rattle.ppm_driver.specs.CodeResumes.{CodeWordsComeBack, IsLeftByCode, IsTextLeftByCode, ResumesOfCodeComplete, faults_of}
 use Rattle.ppm_driver.specs.CompleteAsCode.{CodeIsEnough}
 use Rattle.ppm_driver.specs.Completeness.{IsEnough, IsEnd}
-use Rattle.ppm_driver.specs.Legs.{worked_in_all}
 use Rattle.ppm_driver.specs.LegsAsCode.{RunsInLegsAreAsCode}
 use Rattle.ppm_driver.specs.ResumeCompleteness.{lost_with}
 use Rattle.ppm_driver.specs.ResumeLaws.{ResumeLaws}

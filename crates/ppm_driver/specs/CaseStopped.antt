@@ -1,9 +1,7 @@
 -- What is stopped of a sound case and resumed ends as its code does: `resume` reads what `stop` wrote of a case.
 use Rattle.std.specs.Prelude.{◌≡◌, ℕ, List}
-use Rattle.ppm_words.specs.declared.named_array.NamedArray.{NamedArray}
 use Rattle.ppm_words.specs.declared.outcome.Outcome.TheVariants as outcome
 use Rattle.ppm_ports.specs.Outside.{Outside, Ports, ToldLists}
-use Rattle.ppm_code.specs.declared.code.CodeParts.{CodeParts}
 use Rattle.ppm_depth.specs.Sound.{IsSound}
 use Rattle.ppm_plan.specs.declared.plan_item.PlanItem.{PlanItem}
 use Rattle.ppm_plan.specs.Forms.{plan_form}
