@@ -7,7 +7,7 @@ use Rattle.ppm_words.specs.declared.named_array.NamedArray.{NamedArray}
 use Rattle.ppm_cells.specs.Cells.{IsCell}
 use Rattle.ppm_cells.specs.Memory.{read, write as store}
 use Rattle.ppm_cells.specs.declared.cell.Cell.{Cell}
-use Rattle.ppm_cells.specs.declared.cell.Cell.TheVariants.{CarryWord, DeadWord, RestartWord, HolderWord, EntryWord}
+use Rattle.ppm_cells.specs.declared.cell.Cell.TheVariants.{CarryWord, DeadWord, RestartWord, MessageWord, HolderWord, EntryWord}
 use Rattle.ppm_cells.specs.declared.holder.Holder.{Holder as AHold}
 use Rattle.ppm_cells.specs.declared.restart.RestartKind.{RestartKind}
 use Rattle.ppm_cells.specs.declared.restart.RestartKind.TheVariants.{Take}
@@ -32,7 +32,7 @@ use Rattle.ppm_tickets.specs.Words.{Word, Held, Number, Spot, Holder, Carry, Dea
 use Rattle.ppm_tickets.proofs.ViewLemmas.{shows, again, view_else, if_false}
 use Rattle.ppm_runs.specs.Sound.{RaisesHolder}
 use Rattle.ppm_progress.specs.Works.{IsNoHard}
-use Rattle.ppm_progress.proofs.WriteLemmas.{IsAside, Wrote, Nothing, Aside, Carries, Dies, Holds, Restarts, Changed}
+use Rattle.ppm_progress.proofs.WriteLemmas.{IsAside, Wrote, Nothing, Aside, Notes, Carries, Dies, Holds, Restarts, Changed}
 
 -- nobody is dead, and each place is held by its own processor
 pub record AreAtHome (m : Spot → Word) : Type 0 where
@@ -75,6 +75,7 @@ module _ (s : Shape) (code : CodeParts) (words : List ℕ) (act : Act) (x : Stan
   pub stays_home : Wrote s code words act x now → Stays
   stays_home (Nothing e) = subst (λ (l : List ℕ). AreAtHome (view s l)) (sym e) home
   stays_home (Aside cell n is aside e) = elsewhere cell n is (λ q z. subst IsAside (sym z) aside) (λ q z. subst IsAside (sym z) aside) e
+  stays_home (Notes p n is at e) = elsewhere (MessageWord p) n is (λ q z. cc) (λ q z. cc) e
   stays_home (Carries c p is e) = elsewhere (CarryWord c) p is (λ q z. cc) (λ q z. cc) e
   stays_home (Dies c is hard e) = absurd (not_hard act none hard)
   stays_home (Holds seat v old new is kind raises was e) = absurd (no_bid seat v old new is kind raises was)

@@ -6,7 +6,7 @@ use Rattle.ppm_cells.specs.Cells.{IsCell}
 use Rattle.ppm_cells.specs.Entry.{IsEntry}
 use Rattle.ppm_cells.specs.Memory.{read, write as store}
 use Rattle.ppm_cells.specs.declared.cell.Cell.{Cell}
-use Rattle.ppm_cells.specs.declared.cell.Cell.TheVariants.{CarryWord, DeadWord, RestartWord, HolderWord, EntryWord}
+use Rattle.ppm_cells.specs.declared.cell.Cell.TheVariants.{CarryWord, DeadWord, RestartWord, MessageWord, HolderWord, EntryWord}
 use Rattle.ppm_cells.specs.declared.entry.Entry.{Entry}
 use Rattle.ppm_cells.specs.declared.entry.Entry.TheVariants as entries
 use Rattle.ppm_cells.specs.declared.restart.Restart.{Restart}
@@ -35,7 +35,7 @@ use Rattle.ppm_tickets.proofs.ViewLemmas.{shows, again, view_else}
 use Rattle.ppm_kept.specs.Pushing.{kind_seat}
 use Rattle.ppm_runs.proofs.AgreeLemmas.{IsRunKind, push1_shape}
 use Rattle.ppm_progress.proofs.PopRows.{GoesIdleSo, InstallsSo, push2_so, pop1_so, pop2_so}
-use Rattle.ppm_progress.proofs.WriteLemmas.{IsAside, Wrote, Nothing, Aside, Carries, Dies, Holds, Restarts, Changed}
+use Rattle.ppm_progress.proofs.WriteLemmas.{IsAside, Wrote, Nothing, Aside, Notes, Carries, Dies, Holds, Restarts, Changed}
 
 abbrev entry_place : Cell → ℕ
 entry_place (EntryWord v i) = v
@@ -55,10 +55,13 @@ taken_changes how (entries.Job t x) n is law = is
 
 -- what is taken stays taken
 module _ (s : Shape) (code : CodeParts) (words : List ℕ) (act : Act) (x : Standing) (now : List ℕ) (v i : ℕ) (is : IsTaken (view s words (Slot v i))) where
+  abbrev Same : Type 0
+  Same = view s now (Slot v i) ≡ view s words (Slot v i)
+
   -- another word was written
-  unwritten : (cell : Cell) (n : ℕ) → IsCell s cell → EntryWord v i ≢ cell → now ≡ store s words cell n → IsTaken (view s now (Slot v i))
+  unwritten : (cell : Cell) (n : ℕ) → IsCell s cell → EntryWord v i ≢ cell → now ≡ store s words cell n → Same
   unwritten cell n there ne e =
-      subst (λ (l : List ℕ). IsTaken (view s l (Slot v i))) (sym e) (subst IsTaken (sym (view_else s words cell n (Slot v i) there (λ shown. ne))) is)
+      ap (λ (l : List ℕ). view s l (Slot v i)) e ∙ view_else s words cell n (Slot v i) there (λ shown. ne)
 
   -- the entry itself is not changed
   entry_kept : (old new : Entry) → IsCell s (EntryWord v i) → IsEntry old → Changes s.takeover old new
@@ -70,7 +73,7 @@ module _ (s : Shape) (code : CodeParts) (words : List ℕ) (act : Act) (x : Stan
       taken_changes s.takeover old new (subst IsTaken shown is) law
 
   changed_kept : (p j : ℕ) (old new : Entry) → IsCell s (EntryWord p j) → IsEntry old → Changes s.takeover old new
-      → read s words (EntryWord p j) ≡ word_of (AnEntry old) → now ≡ store s words (EntryWord p j) (word_of (AnEntry new)) → IsTaken (view s now (Slot v i))
+      → read s words (EntryWord p j) ≡ word_of (AnEntry old) → now ≡ store s words (EntryWord p j) (word_of (AnEntry new)) → Same
   changed_kept p j old new cell fits law was e = elim (cases_eq v p) [
     | inr ne ↦ unwritten (EntryWord p j) (word_of (AnEntry new)) cell (λ z. ne (ap entry_place z)) e
     | inl vp ↦ elim (cases_eq i j) [
@@ -81,14 +84,18 @@ module _ (s : Shape) (code : CodeParts) (words : List ℕ) (act : Act) (x : Stan
     ]
   ]
 
+  pub taken_same : Wrote s code words act x now → Same
+  taken_same (Nothing e) = ap (λ (l : List ℕ). view s l (Slot v i)) e
+  taken_same (Aside cell n there aside e) = unwritten cell n there (λ z. subst IsAside (sym z) aside) e
+  taken_same (Notes p n there at e) = unwritten (MessageWord p) n there (λ z. cc) e
+  taken_same (Carries c p there e) = unwritten (CarryWord c) p there (λ z. cc) e
+  taken_same (Dies c there hard e) = unwritten (DeadWord c) 1 there (λ z. cc) e
+  taken_same (Holds seat p old new there kind raises was e) = unwritten (HolderWord p) _ there (λ z. cc) e
+  taken_same (Restarts p re there here gives e) = unwritten (RestartWord p) _ there (λ z. cc) e
+  taken_same (Changed p j old new cell fits law was e) = changed_kept p j old new cell fits law was e
+
   pub taken_stays : Wrote s code words act x now → IsTaken (view s now (Slot v i))
-  taken_stays (Nothing e) = subst (λ (l : List ℕ). IsTaken (view s l (Slot v i))) (sym e) is
-  taken_stays (Aside cell n there aside e) = unwritten cell n there (λ z. subst IsAside (sym z) aside) e
-  taken_stays (Carries c p there e) = unwritten (CarryWord c) p there (λ z. cc) e
-  taken_stays (Dies c there hard e) = unwritten (DeadWord c) 1 there (λ z. cc) e
-  taken_stays (Holds seat p old new there kind raises was e) = unwritten (HolderWord p) _ there (λ z. cc) e
-  taken_stays (Restarts p re there here gives e) = unwritten (RestartWord p) _ there (λ z. cc) e
-  taken_stays (Changed p j old new cell fits law was e) = changed_kept p j old new cell fits law was e
+  taken_stays wrote = subst IsTaken (sym (taken_same wrote)) is
 
 -- a place that looks for work has one local entry, at its bottom
 pub idle_bottom : (k : RestartKind) (d w u : Word) → is_work k ≡ false → AtBottom k d w u → IsTicket d × IsLocal w × IsEmpty u

@@ -3,9 +3,11 @@
 -- tree that advances (`AdvanceRuns`), and each moment of a run by places has something to do (`ReadyLemmas`).
 -- A place begins to look for work where its row has found no job (`PopRows`), so it has none (`IdleLemmas`, `IdleTurns`, `IdleRuns`). Without
 -- hard faults nobody dies, and places stay home (`AliveLemmas`). So what is ready is at a place that works (`WorkLemmas`; turn by turn
--- `UnhurtRuns`, `WorkRuns`; over legs `LegRuns`), and its processor makes a work turn soon (`SoonLemmas`). That the other facts of a state are
--- not enough is `StuckLemmas`.
+-- `UnhurtRuns`, `WorkRuns`; over legs `LegRuns`), and its processor makes a work turn soon (`SoonLemmas`). A place that has won a job goes by
+-- rows that find it taken in its name (`ThiefRows`); each step lessens how many come before the work turn (`HeightLemmas`, `ThiefLemmas`). That the
+-- other facts of a state are not enough is `StuckLemmas`.
 
+pub mod NoteLemmas
 pub mod WriteLemmas
 pub mod RestartLemmas
 pub mod FreshLemmas
@@ -22,4 +24,7 @@ pub mod UnhurtRuns
 pub mod WorkRuns
 pub mod LegRuns
 pub mod SoonLemmas
+pub mod ThiefRows
+pub mod HeightLemmas
+pub mod ThiefLemmas
 pub mod StuckLemmas

@@ -6,7 +6,7 @@ use Rattle.ppm_cells.specs.Memory.{AreWordsOf, write as store}
 use Rattle.ppm_cells.specs.Restart.{restart_word}
 use Rattle.ppm_cells.proofs.CellLemmas.{few_words}
 use Rattle.ppm_cells.specs.declared.cell.Cell.{Cell}
-use Rattle.ppm_cells.specs.declared.cell.Cell.TheVariants.{CarryWord, DeadWord, RestartWord, HolderWord, EntryWord}
+use Rattle.ppm_cells.specs.declared.cell.Cell.TheVariants.{CarryWord, DeadWord, RestartWord, MessageWord, HolderWord, EntryWord}
 use Rattle.ppm_cells.specs.declared.restart.Restart.{Restart}
 use Rattle.ppm_cells.specs.declared.shape.Shape.{Shape}
 use Rattle.ppm_code.specs.declared.code.CodeParts.{CodeParts}
@@ -16,7 +16,7 @@ use Rattle.ppm_step.proofs.ThereLemmas.{restart_fits}
 use Rattle.ppm_step.specs.declared.turn.Act.{Act}
 use Rattle.ppm_tickets.specs.View.{restart_at}
 use Rattle.ppm_tickets.proofs.ViewLemmas.{restart_else, restart_here}
-use Rattle.ppm_progress.proofs.WriteLemmas.{IsAside, Gives, Wrote, Nothing, Aside, Carries, Dies, Holds, Restarts, Changed}
+use Rattle.ppm_progress.proofs.WriteLemmas.{IsAside, Gives, Wrote, Nothing, Aside, Notes, Carries, Dies, Holds, Restarts, Changed}
 
 -- the place of a restart word
 abbrev restart_place : Cell → ℕ
@@ -47,6 +47,7 @@ module _ (s : Shape) (code : CodeParts) (words : List ℕ) (fit : AreWordsOf s w
   pub restart_goes_on : (now : List ℕ) → Wrote s code words act x now → (w : ℕ) → GoesOn now w
   restart_goes_on now (Nothing e) w = inl (ap (λ (l : List ℕ). restart_at s l w) e)
   restart_goes_on now (Aside cell n is aside e) w = elsewhere now w cell n is (λ z. subst IsAside (sym z) aside) e
+  restart_goes_on now (Notes p n is at e) w = elsewhere now w (MessageWord p) n is (λ z. cc) e
   restart_goes_on now (Carries c p is e) w = elsewhere now w (CarryWord c) p is (λ z. cc) e
   restart_goes_on now (Dies c is hard e) w = elsewhere now w (DeadWord c) 1 is (λ z. cc) e
   restart_goes_on now (Holds seat v old new is kind raises was e) w = elsewhere now w (HolderWord v) _ is (λ z. cc) e

@@ -61,7 +61,7 @@ use Rattle.ppm_progress.proofs.UnhurtRuns.{IsUnhurt, step, all_unhurt, live_or, 
 use Rattle.ppm_progress.proofs.WriteLemmas.{Gives, turn_wrote}
 
 -- how many loads come before a row
-abbrev rank : Standing → ℕ
+abbrev pub rank : Standing → ℕ
 rank IsLost = 3
 rank (IsPlaced p) = 2
 rank (IsAt p re) = 1
@@ -121,7 +121,7 @@ module _ (s : Shape) (code : CodeParts) where
       by false = omega arith
 
 -- a step, by the turn's processor and act
-step_is : (act : Act) → is_step act ≡ true → (v : ℕ) × (act ≡ Step v)
+pub step_is : (act : Act) → is_step act ≡ true → (v : ℕ) × (act ≡ Step v)
 step_is (Step v) e = (v, refl)
 step_is Soft e = absurd (cc)
 step_is Hard e = absurd (cc)
@@ -142,27 +142,28 @@ has_own c l = by (c == c) (eq-eqb c c refl)
     by true e = refl
     by false e = absurd (cc)
 
-all_one : (first : List Turn) (turn : Turn) → AllByRecursion HurtsNone first → HurtsNone turn → AllByRecursion HurtsNone (first ++ turn ∷ [])
+pub all_one : (first : List Turn) (turn : Turn) → AllByRecursion HurtsNone first → HurtsNone turn → AllByRecursion HurtsNone (first ++ turn ∷ [])
 all_one [] turn all one = (one, tt)
 all_one (x ∷ first) turn all one = (all.0, all_one first turn all.1 one)
 
 module _ (s : Shape) (code : CodeParts) (fair : IsFair code) (root : Tree (Frame FrameWord Point) Result) (input : Words)
     (ws : List ℕ) (fit : AreWordsOf s ws) (c : ℕ) (there : c < s.processors) where
-  abbrev Outcome : RunState → List Turn → Type 0
+  abbrev pub Outcome : RunState → List Turn → Type 0
   Outcome state more = (has (along s code work_of state more) c ≡ true) ⊎ (finish_at s (after s code state more) ≢ 0)
 
-  next_is : (first : List Turn) (turn : Turn) (state : RunState) → state ≡ reached s code ws first
+  pub next_is : (first : List Turn) (turn : Turn) (state : RunState) → state ≡ reached s code ws first
       → happens s code state turn ≡ reached s code ws (first ++ turn ∷ [])
   next_is first turn state e = ap (λ (z : RunState). happens s code z turn) e ∙ sym (in_two s code (opening ws s.processors) first (turn ∷ []))
 
   -- once the finish word is set it stays so
-  set_stays : (first more : List Turn) (state : RunState) → state ≡ reached s code ws first → finish_at s state ≢ 0 → finish_at s (after s code state more) ≢ 0
+  pub set_stays : (first more : List Turn) (state : RunState) → state ≡ reached s code ws first → finish_at s state ≢ 0
+      → finish_at s (after s code state more) ≢ 0
   set_stays first [] state e set = set
   set_stays first (turn ∷ more) state e set =
       set_stays (first ++ turn ∷ []) more (happens s code state turn) (next_is first turn state e) (finish_still s code fair ws first state e turn set)
 
   -- c takes steps, or the finish word is set
-  live_at : (first : List Turn) (state : RunState) → state ≡ reached s code ws first → AllByRecursion HurtsNone first
+  pub live_at : (first : List Turn) (state : RunState) → state ≡ reached s code ws first → AllByRecursion HurtsNone first
       → (is_done_at (stand_of state c) ≡ false) ⊎ (finish_at s state ≢ 0)
   live_at first state e none =
       subst (λ (z : RunState). (is_done_at (stand_of z c) ≡ false) ⊎ (finish_at s z ≢ 0)) (sym e) (live_or s code fair ws fit first none c there)
@@ -172,12 +173,12 @@ module _ (s : Shape) (code : CodeParts) (fair : IsFair code) (root : Tree (Frame
     K = spots.kinds s state.words
 
     -- who carries a place carries its own
-    own_place : (d p : ℕ) → Carried s (spots.view s state.words) d p → d ≡ p
+    pub own_place : (d p : ℕ) → Carried s (spots.view s state.words) d p → d ≡ p
     own_place d p carried =
         let law = now.advancing.run.halves.lawful.1 in
         ap number_of (sym (carries_own s.takeover (spots.view s state.words) K now.home law.holding law.rooted d) ∙ carried.carry)
 
-    sees_at : (d : ℕ) (x : Standing) → stand_of state d ≡ x → Sees s (spots.view s state.words) K (spots.bottoms s state.words) d x
+    pub sees_at : (d : ℕ) (x : Standing) → stand_of state d ≡ x → Sees s (spots.view s state.words) K (spots.bottoms s state.words) d x
     sees_at d x e = subst (Sees s (spots.view s state.words) K (spots.bottoms s state.words) d) e (now.advancing.run.halves.lawful.1.sees d)
 
     row_is_work : (seat : Seat) (row : Row) → stand_of state c ≡ IsWithin seat row → is_work (K c) ≡ true → is_work seat.restart.kind ≡ true
@@ -185,7 +186,7 @@ module _ (s : Shape) (code : CodeParts) (fair : IsFair code) (root : Tree (Frame
         let sees = sees_at c (IsWithin seat row) e in
         ap is_work (sym sees.0.at.kind) ∙ ap (λ (q : ℕ). is_work (K q)) (sym (own_place c seat.place sees.0.carried)) ∙ work
 
-    sits_own : (d : ℕ) (seat : Seat) (row : Row) → stand_of state d ≡ IsWithin seat row → d ≡ seat.place
+    pub sits_own : (d : ℕ) (seat : Seat) (row : Row) → stand_of state d ≡ IsWithin seat row → d ≡ seat.place
     sits_own d seat row e = own_place d seat.place (sees_at d (IsWithin seat row) e).0.carried
 
     -- another processor gives c's place no restart
@@ -197,7 +198,7 @@ module _ (s : Shape) (code : CodeParts) (fair : IsFair code) (root : Tree (Frame
         own_place d seat.place (sees_at d (IsRunning seat (Installs kind)) e).0.carried ∙ gives.0
     gives_own d act _ re e gives = absurd gives
 
-    others_keep_kind : (turn : Turn) → turn.processor < s.processors → turn.processor ≢ c → spots.kinds s (happens s code state turn).words c ≡ K c
+    pub others_keep_kind : (turn : Turn) → turn.processor < s.processors → turn.processor ≢ c → spots.kinds s (happens s code state turn).words c ≡ K c
     others_keep_kind turn lt ne =
         let run = now.advancing.run in
         let wrote = turn_wrote s code fair root input state h f tk [] t run.halves run.joint.agrees turn lt in
@@ -212,7 +213,7 @@ module _ (s : Shape) (code : CodeParts) (fair : IsFair code) (root : Tree (Frame
         → rank (stand_of (happens s code state turn) c) < turns_of c more → Outcome (happens s code state turn) more)
         → rank (stand_of state c) < turns_of c (turn ∷ more) → Outcome state (turn ∷ more)
 
-    later : (turn : Turn) (more : List Turn) → Outcome (happens s code state turn) more → Outcome state (turn ∷ more)
+    pub later : (turn : Turn) (more : List Turn) → Outcome (happens s code state turn) more → Outcome state (turn ∷ more)
     later turn more (inl found) = inl (has_both c (work_of state turn) (along s code work_of (happens s code state turn) more) found)
     later turn more (inr set) = inr set
 
@@ -225,10 +226,10 @@ module _ (s : Shape) (code : CodeParts) (fair : IsFair code) (root : Tree (Frame
         later turn more (ih (ap is_work (others_keep_kind turn lt ne) ∙ work) (omega (arith, low, count, ranks)))
 
     module _ (v : ℕ) (more : List Turn) where
-      abbrev own_turn : Turn
+      abbrev pub own_turn : Turn
       own_turn = record { processor = c; act = Step v }
 
-      counts : turns_of c (own_turn ∷ more) ≡ 1 + turns_of c more
+      pub counts : turns_of c (own_turn ∷ more) ≡ 1 + turns_of c more
       counts = ap (λ (y : Bool). (if y then 1 else 0) + turns_of c more) (eq-eqb c c refl)
 
       -- a load before the row
@@ -245,14 +246,14 @@ module _ (s : Shape) (code : CodeParts) (fair : IsFair code) (root : Tree (Frame
           later own_turn more (ih kind (omega (arith, low, less, was, is, one)))
 
       -- a step of work
-      works : (x : Standing) → stand_of state c ≡ x → is_work_turn (Step v) x ≡ true → Outcome state (own_turn ∷ more)
+      pub works : (x : Standing) → stand_of state c ≡ x → is_work_turn (Step v) x ≡ true → Outcome state (own_turn ∷ more)
       works x e work =
           let told : work_of state own_turn ≡ c ∷ [] =
           ap (λ (z : Standing). if is_work_turn (Step v) z then c ∷ [] else []) e ∙ ap (λ (y : Bool). if y then c ∷ [] else []) work in
           inl (subst (λ (l : List ℕ). has (l ++ along s code work_of (happens s code state own_turn) more) c ≡ true) (sym told) (has_own c _))
 
       -- who has met broken words is done then, so the finish word is set
-      breaks : (first : List Turn) → state ≡ reached s code ws first → AllByRecursion HurtsNone first
+      pub breaks : (first : List Turn) → state ≡ reached s code ws first → AllByRecursion HurtsNone first
           → (p : ℕ) → stand_of state c ≡ IsBroken p → Outcome state (own_turn ∷ more)
       breaks first at none p e =
           let behind = next_is first own_turn state at in
@@ -289,7 +290,7 @@ module _ (s : Shape) (code : CodeParts) (fair : IsFair code) (root : Tree (Frame
     ]
 
   -- the steps of c, by how many loads come before its row
-  soon : (more first : List Turn) (state : RunState) → state ≡ reached s code ws first → AllByRecursion HurtsNone first
+  pub soon : (more first : List Turn) (state : RunState) → state ≡ reached s code ws first → AllByRecursion HurtsNone first
       → (h : ℕ → Home) (f tk : List ℕ) (t : Skeleton) → IsUnhurt s code root input state h f tk t → is_work (spots.kinds s state.words c) ≡ true
       → AllByRecursion (IsTurnAmong s.processors) more → AllByRecursion HurtsNone more → AllByRecursion (StepsOnly c) more
       → rank (stand_of state c) < turns_of c more → Outcome state more
@@ -301,7 +302,7 @@ module _ (s : Shape) (code : CodeParts) (fair : IsFair code) (root : Tree (Frame
       (by_act s state.words turn.act (stand_of state turn.processor) h) (forks_of state turn ++ f) (takes_of state turn ++ tk) next.0 next.1 kind
       among.1 hurts.1 steps.1 low) lt
 
-rank_few : (x : Standing) → rank x ≤ 3
+pub rank_few : (x : Standing) → rank x ≤ 3
 rank_few IsLost = omega arith
 rank_few (IsPlaced p) = omega arith
 rank_few (IsAt p re) = omega arith

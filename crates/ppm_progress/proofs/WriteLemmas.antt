@@ -1,5 +1,5 @@
--- What a turn writes: nothing, or one word. It is a word of no deque, place or processor; or the carried place, the dead word, a holder word by
--- a bid, a restart word by its place's own processor, or an entry by a lawful change.
+-- What a turn writes: nothing, or one word. It is a word of no deque, place or processor; or the message of the own place, the carried place, the
+-- dead word, a holder word by a bid, a restart word by its place's own processor, or an entry by a lawful change.
 use Rattle.std.proofs.Common.{◌≡◌, ◌<◌, ℕ, ◌==◌, if◌then◌else◌, Bool, true, false, List, refl, sym, subst}
 use Rattle.std.proofs.lemmas.Bool.{eqb-true}
 use Rattle.std.specs.Prelude.{slice_index}
@@ -54,12 +54,14 @@ use Rattle.ppm_runs.proofs.AgreeLemmas.{stores_no_restart, stores_no_carry, stor
 use Rattle.ppm_runs.proofs.BidLemmas.{Bids, Leaves, row_bids}
 use Rattle.ppm_runs.proofs.OrderlyLemmas.{pooled}
 use Rattle.ppm_runs.proofs.ShownLemmas.{Within, within, runs}
+use Rattle.ppm_progress.proofs.NoteLemmas.{OwnNote, NoNote, row_notes}
 
--- a cell that says nothing of deques' entries, places and processors
+-- a cell that says nothing of deques' entries, messages, places and processors
 abbrev pub IsAside : Cell → Type 0
 IsAside (CarryWord c) = ⊥
 IsAside (DeadWord c) = ⊥
 IsAside (RestartWord p) = ⊥
+IsAside (MessageWord p) = ⊥
 IsAside (HolderWord p) = ⊥
 IsAside (EntryWord v i) = ⊥
 IsAside _ = Unit {0}
@@ -68,6 +70,7 @@ quiet_aside : (cell : Cell) → IsQuietCell cell → IsAside cell
 quiet_aside (CarryWord c) q = absurd q
 quiet_aside (DeadWord c) q = absurd q
 quiet_aside (RestartWord p) q = absurd q
+quiet_aside (MessageWord p) q = absurd q
 quiet_aside (HolderWord p) q = absurd q
 quiet_aside (EntryWord v i) q = absurd q
 quiet_aside _ q = tt
@@ -80,11 +83,17 @@ Gives (Step v) (IsWithin seat (Now (Begin r f b))) p x = (seat.place ≡ p) × (
 Gives (Step v) (IsRunning seat (Installs kind)) p x = (seat.place ≡ p) × (record { kind = kind; bottom = seat.restart.bottom } ≡ x)
 Gives act standing p x = ⊥
 
+-- who stands so stores in a row of this place
+abbrev pub StoresAt : Standing → (place : ℕ) → Type 0
+StoresAt (IsWithin seat (Store cell content next)) p = seat.place ≡ p
+StoresAt standing p = ⊥
+
 module _ (s : Shape) (code : CodeParts) (words : List ℕ) where
   -- the words after an act of a processor that stood so
   pub data Wrote (act : Act) (x : Standing) (now : List ℕ) : Type 0 where
     Nothing : now ≡ words → Wrote act x now
     Aside : (cell : Cell) (w : ℕ) → IsCell s cell → IsAside cell → now ≡ store s words cell w → Wrote act x now
+    Notes : (p n : ℕ) → p < s.processors → StoresAt x p → now ≡ store s words (MessageWord p) n → Wrote act x now
     Carries : (c p : ℕ) → c < s.processors → now ≡ store s words (CarryWord c) p → Wrote act x now
     Dies : (c : ℕ) → c < s.processors → act ≡ Hard → now ≡ store s words (DeadWord c) 1 → Wrote act x now
     Holds : (seat : Seat) (v : ℕ) (old new : Content) → v < s.processors → spots.kinds s words seat.place ≡ seat.restart.kind
@@ -121,19 +130,22 @@ module _ (s : Shape) (code : CodeParts) (fair : IsFair code) (root : Tree (Frame
     is_cell cell row e = subst (IsPooledAt s) e (pooled s code fair root input state h forked taken l t run agrees c)
 
     -- a cell that a row stores
-    stored : (x : Standing) (cell : Cell) (w : ℕ) → IsCell s cell → IsNoRestart cell → IsNoCarry cell → IsNoEntry cell → Leaves s code m seat cell
-        → W (Step v) x (store s ws cell w)
-    stored x (RestartWord p) w is none a b d = absurd none
-    stored x (CarryWord p) w is none a b d = absurd a
-    stored x (EntryWord p i) w is none a b d = absurd b
-    stored x (HolderWord p) w is none a b d = absurd d
-    stored x (DeadWord p) w is none a b d = absurd d
-    stored x FinishWord w is none a b d = Aside FinishWord w is tt refl
-    stored x (MessageWord p) w is none a b d = Aside (MessageWord p) w is tt refl
-    stored x (Top p) w is none a b d = Aside (Top p) w is tt refl
-    stored x (RoomCounter p) w is none a b d = Aside (RoomCounter p) w is tt refl
-    stored x (BlockWord i) w is none a b d = Aside (BlockWord i) w is tt refl
-    stored x (ArrayWord i) w is none a b d = Aside (ArrayWord i) w is tt refl
+    abbrev Stored : Cell → Content → Then → Type 0
+    Stored cell content next = W (Step v) (IsWithin seat (Store cell content next)) (store s ws cell (word_of content))
+
+    stored : (cell : Cell) (x : Content) (next : Then) → IsCell s cell → IsNoRestart cell → IsNoCarry cell → IsNoEntry cell → Leaves s code m seat cell
+        → OwnNote seat.place cell x → Stored cell x next
+    stored (RestartWord p) x next is none a b d n = absurd none
+    stored (CarryWord p) x next is none a b d n = absurd a
+    stored (EntryWord p i) x next is none a b d n = absurd b
+    stored (HolderWord p) x next is none a b d n = absurd d
+    stored (DeadWord p) x next is none a b d n = absurd d
+    stored (MessageWord p) x next is none a b d n = Notes p (word_of x) is n refl
+    stored FinishWord x next is none a b d n = Aside FinishWord (word_of x) is tt refl
+    stored (Top p) x next is none a b d n = Aside (Top p) (word_of x) is tt refl
+    stored (RoomCounter p) x next is none a b d n = Aside (RoomCounter p) (word_of x) is tt refl
+    stored (BlockWord i) x next is none a b d n = Aside (BlockWord i) (word_of x) is tt refl
+    stored (ArrayWord i) x next is none a b d n = Aside (ArrayWord i) (word_of x) is tt refl
 
     -- an entry that is changed
     changed : (x : Standing) (p i : ℕ) (old new : Content) → IsCell s (EntryWord p i) → MayChange s.takeover (EntryWord p i) old new
@@ -144,18 +156,18 @@ module _ (s : Shape) (code : CodeParts) (fair : IsFair code) (root : Tree (Frame
     -- a cell that a row exchanges
     exchanged : (x : Standing) (cell : Cell) (old new : Content) → IsCell s cell → spots.kinds s ws seat.place ≡ seat.restart.kind
         → MayChange s.takeover cell old new → IsNoRestart cell → IsNoCarry cell → Bids s code m seat cell old new
-        → read s ws cell ≡ word_of old → W (Step v) x (store s ws cell (word_of new))
-    exchanged x (EntryWord p i) old new is kind may none a d e = changed x p i old new is may e
-    exchanged x (HolderWord p) old new is kind may none a d e = Holds seat p old new is kind d e refl
-    exchanged x (RestartWord p) old new is kind may none a d e = absurd none
-    exchanged x (CarryWord p) old new is kind may none a d e = absurd a
-    exchanged x (DeadWord p) old new is kind may none a d e = absurd d
-    exchanged x FinishWord old new is kind may none a d e = Aside FinishWord (word_of new) is tt refl
-    exchanged x (MessageWord p) old new is kind may none a d e = Aside (MessageWord p) (word_of new) is tt refl
-    exchanged x (Top p) old new is kind may none a d e = Aside (Top p) (word_of new) is tt refl
-    exchanged x (RoomCounter p) old new is kind may none a d e = Aside (RoomCounter p) (word_of new) is tt refl
-    exchanged x (BlockWord i) old new is kind may none a d e = Aside (BlockWord i) (word_of new) is tt refl
-    exchanged x (ArrayWord i) old new is kind may none a d e = Aside (ArrayWord i) (word_of new) is tt refl
+        → NoNote cell old new → read s ws cell ≡ word_of old → W (Step v) x (store s ws cell (word_of new))
+    exchanged x (EntryWord p i) old new is kind may none a d n e = changed x p i old new is may e
+    exchanged x (HolderWord p) old new is kind may none a d n e = Holds seat p old new is kind d e refl
+    exchanged x (RestartWord p) old new is kind may none a d n e = absurd none
+    exchanged x (CarryWord p) old new is kind may none a d n e = absurd a
+    exchanged x (DeadWord p) old new is kind may none a d n e = absurd d
+    exchanged x FinishWord old new is kind may none a d n e = Aside FinishWord (word_of new) is tt refl
+    exchanged x (MessageWord p) old new is kind may none a d n e = absurd n
+    exchanged x (Top p) old new is kind may none a d n e = Aside (Top p) (word_of new) is tt refl
+    exchanged x (RoomCounter p) old new is kind may none a d n e = Aside (RoomCounter p) (word_of new) is tt refl
+    exchanged x (BlockWord i) old new is kind may none a d n e = Aside (BlockWord i) (word_of new) is tt refl
+    exchanged x (ArrayWord i) old new is kind may none a d n e = Aside (ArrayWord i) (word_of new) is tt refl
 
     -- so it is where the word that it expects is there
     tried : (x : Standing) (cell : Cell) (old new : Content) (next : Then) → stand_of state c ≡ IsWithin seat (Exchange cell old new next)
@@ -167,7 +179,8 @@ module _ (s : Shape) (code : CodeParts) (fair : IsFair code) (root : Tree (Frame
         exchanged x cell old new (cell_there s code cell w.here (is_cell cell (Exchange cell old new next) e)) w.sits.at.kind
         (changes s code root input state h forked taken l t run c seat cell old new next w)
         (exchanges_no_restart s code root input state h forked taken l t run c seat cell old new next w)
-        (exchanges_no_carry s code root input state h forked taken l t run c seat cell old new next w) bids (eqb-true (read s ws cell) (word_of old) q)
+        (exchanges_no_carry s code root input state h forked taken l t run c seat cell old new next w) bids
+        (row_notes s seat w.place w.sits.there _ (Exchange cell old new next) w.seen) (eqb-true (read s ws cell) (word_of old) q)
 
     row_wrote : (row : Row) → stand_of state c ≡ IsWithin seat row → In row → W (Step v) (IsWithin seat row) (words_after ws (wanted_row s seat v row))
     row_wrote (Now (Load x)) e w = Nothing refl
@@ -179,11 +192,12 @@ module _ (s : Shape) (code : CodeParts) (fair : IsFair code) (root : Tree (Frame
     row_wrote (Now (Begin r f b)) e w = Restarts seat.place (begun f b) w.place w.here (refl, refl) refl
     row_wrote (Now (Move p)) e w = Carries seat.own p (subst (λ (n : ℕ). n < s.processors) (sym w.sits.own) w.sits.carried.lives.there) refl
     row_wrote (Store cell content next) e w =
-        stored (IsWithin seat (Store cell content next)) cell (word_of content) (cell_there s code cell w.here (is_cell cell (Store cell content next) e))
+        stored cell content next (cell_there s code cell w.here (is_cell cell (Store cell content next) e))
         (stores_no_restart s code root input state h forked taken l t run c seat cell content next w)
         (stores_no_carry s code root input state h forked taken l t run c seat cell content next w)
         (stores_no_entry s code root input state h forked taken l t run c seat cell content next w)
         (row_bids s code m (spots.kinds s ws) (spots.bottoms s ws) seat w.sits.there (Store cell content next) w.seen)
+        (row_notes s seat w.place w.sits.there _ (Store cell content next) w.seen)
     row_wrote (Exchange cell old new next) e w =
         tried (IsWithin seat (Exchange cell old new next)) cell old new next e w (read s ws cell == word_of old) refl
 

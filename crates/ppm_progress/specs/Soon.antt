@@ -6,6 +6,7 @@ use Rattle.ppm_words.specs.declared.named_array.NamedArray.{NamedArray}
 use Rattle.ppm_cells.specs.Memory.{read}
 use Rattle.ppm_cells.specs.declared.cell.Cell.TheVariants.{FinishWord}
 use Rattle.ppm_cells.specs.declared.shape.Shape.{Shape}
+use Rattle.ppm_cells.specs.declared.shape.Takeover.TheVariants.{ByPlaces}
 use Rattle.ppm_code.specs.declared.code.CodeParts.{CodeParts}
 use Rattle.ppm_layout.specs.Correct.{Opens}
 use Rattle.ppm_layout.specs.Root.{root_strand}
@@ -14,12 +15,12 @@ use Rattle.ppm_step.specs.Among.{IsTurnAmong}
 use Rattle.ppm_step.specs.Laws.{reached}
 use Rattle.ppm_step.specs.State.{along, work_of, is_step, is_work}
 use Rattle.ppm_step.specs.declared.turn.Turn.{Turn}
-use Rattle.ppm_tickets.specs.View.{kinds}
+use Rattle.ppm_tickets.specs.View.{view as spots, kinds}
 use Rattle.ppm_tickets.specs.Words.{has}
 use Rattle.ppm_frames.specs.Views.{view}
 use Rattle.ppm_frames.specs.Seen.{arrays_at}
 use Rattle.ppm_kept.specs.Running.{IsFair, strands}
-use Rattle.ppm_progress.specs.Works.{HurtsNone}
+use Rattle.ppm_progress.specs.Works.{IsAtWork, HurtsNone}
 
 -- how many of the turns are processor c's
 abbrev pub turns_of : (c : ℕ) → List Turn → ℕ
@@ -40,5 +41,19 @@ WorksSoon = (code : CodeParts) (input : List NamedArray) (s : Shape) (keeper : �
     → AllByRecursion HurtsNone first → AllByRecursion HurtsNone more
     → (c : ℕ) → c < s.processors → is_work (kinds s (reached s code image.words first).words c) ≡ true
     → AllByRecursion (StepsOnly c) more → 4 ≤ turns_of c more
+    → (has (along s code work_of (reached s code image.words first) more) c ≡ true)
+    ⊎ (read s (reached s code image.words (first ++ more)).words FinishWord ≢ 0)
+
+-- By places: if the own place of processor c is at work, also where it has won a job that it has still to begin, and then c makes thirteen steps, no
+-- fault among them, one of these is a work turn, or the finish word isn't 0 after all.
+abbrev pub WorksWithin13 : Type 0
+WorksWithin13 = (code : CodeParts) (input : List NamedArray) (s : Shape) (keeper : ℕ) (image : Image)
+    → s.takeover ≡ ByPlaces → IsFair code → Opens code input s keeper image
+    → Calm (strands s code) (root_strand code input) (arrays_at (view s image.words))
+    → (first more : List Turn) → AllByRecursion (IsTurnAmong s.processors) first → AllByRecursion (IsTurnAmong s.processors) more
+    → AllByRecursion HurtsNone first → AllByRecursion HurtsNone more
+    → (c : ℕ) → c < s.processors
+    → IsAtWork (spots s (reached s code image.words first).words) c (kinds s (reached s code image.words first).words c)
+    → AllByRecursion (StepsOnly c) more → 13 ≤ turns_of c more
     → (has (along s code work_of (reached s code image.words first) more) c ≡ true)
     ⊎ (read s (reached s code image.words (first ++ more)).words FinishWord ≢ 0)

@@ -3,7 +3,7 @@ ghost use Rattle.ppm_progress.specs.Fresh.{FreshStay, LeftComesLater};
 ghost use Rattle.ppm_progress.specs.Idle.{IdleAreEmptyInRuns, IdleStayEmpty};
 ghost use Rattle.ppm_progress.specs.Legs.{SomePlaceIsAtWorkOverLegs, SomebodyWorksOverLegs};
 ghost use Rattle.ppm_progress.specs.Ready.{SomethingIsReady};
-ghost use Rattle.ppm_progress.specs.Soon.{WorksSoon};
+ghost use Rattle.ppm_progress.specs.Soon.{WorksSoon, WorksWithin13};
 ghost use Rattle.ppm_progress.specs.Stuck.{DequesAllowIdleJobs, HoldersAllowALeftPlace};
 ghost use Rattle.ppm_progress.specs.Stuck.{OrdersAllowBothToCome};
 ghost use Rattle.ppm_progress.specs.Works.{AllIdleIsOver, SomePlaceIsAtWork, SomebodyWorks};
@@ -43,11 +43,12 @@ pub fn somebody_works()
     ensures legs { SomebodyWorksOverLegs }
 {}
 
-/// With either takeover, without hard faults: a processor whose own place is at a kind of work
-/// makes a work turn within four of its own steps, whatever others do, or the finish word is set
-/// meanwhile.
+/// With either takeover, without hard faults: a processor whose own place is at a kind of work makes
+/// a work turn within four of its own steps, whatever others do, or the finish word is set
+/// meanwhile. By places it does so within thirteen where the place has won a job.
 pub fn work_turns_come_soon()
     ensures law { WorksSoon }
+    ensures thieves { WorksWithin13 }
 {}
 
 /// The other facts of a run's state allow states in which nobody ever works again: order words a

@@ -1,5 +1,6 @@
 use Rattle.ppm_progress.proofs.SoonLemmas.{works_soon}
+use Rattle.ppm_progress.proofs.ThiefLemmas.{works_within_13}
 use Rattle.ppm_progress.proofs.laws.work_turns_come_soon.Goals as goal
 
 pub returns : goal.returns
-returns c = record { law = works_soon }
+returns c = record { law = works_soon; thieves = works_within_13 }
