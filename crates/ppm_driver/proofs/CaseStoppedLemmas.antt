@@ -93,7 +93,7 @@ module _ (laws : ResumeLaws) (law : StopsOfCodeLeaveStates) (stop : StopOptions)
         → CodeEnds code input (outcome.Ended a.arrays)
         × ((l : IsLeftByCode code input a.read.2.state)
         → EndsAsCodeInAll l.start (legs_of l a.read.2.has.has.start.state.words) a.read.2.has.has.run.turns code input (outcome.Ended a.arrays))
-    ended a same = (so (left a.read.0 a.read.2.state a.read.2.is same)).depth_first, so
+    ended a same = ((so (left a.read.0 a.read.2.state a.read.2.is same)).depth_first, so)
       where
         so : (l : IsLeftByCode code input a.read.2.state)
             → EndsAsCodeInAll l.start (legs_of l a.read.2.has.has.start.state.words) a.read.2.has.has.run.turns code input (outcome.Ended a.arrays)
@@ -105,7 +105,7 @@ module _ (laws : ResumeLaws) (law : StopsOfCodeLeaveStates) (stop : StopOptions)
         → CodeEnds code input (outcome.Trapped k.trap k.line)
         × ((l : IsLeftByCode code input k.read.2.state)
         → EndsAsCodeInAll l.start (legs_of l k.read.2.has.has.start.state.words) k.read.2.has.has.run.turns code input (outcome.Trapped k.trap k.line))
-    trapped k same = (so (left k.read.0 k.read.2.state k.read.2.is same)).depth_first, so
+    trapped k same = ((so (left k.read.0 k.read.2.state k.read.2.is same)).depth_first, so)
       where
         so : (l : IsLeftByCode code input k.read.2.state)
             → EndsAsCodeInAll l.start (legs_of l k.read.2.has.has.start.state.words) k.read.2.has.has.run.turns code input
