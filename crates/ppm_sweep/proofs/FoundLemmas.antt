@@ -12,7 +12,7 @@ use Rattle.ppm_sweep.specs.Found.{faults_in, acts_in, Comes, AllCome, FirstDiffe
 use Rattle.ppm_sweep.specs.Sweep.{Swept}
 
 faults_both : (first more : List Swept) → faults_in (first ++ more) ≡ faults_in first + faults_in more
-faults_both [] more = refl
+faults_both [] more = omega arith
 faults_both (v ∷ first) more = omega (arith, faults_both first more)
 
 -- nothing stands after them
@@ -22,7 +22,7 @@ no_more (v ∷ swept) = ap (λ l. v ∷ l) (no_more swept)
 
 module _ (m : Situation) (turns : ℕ) (wanted : Outcome) where
   acts_both : (first more : List Swept) → acts_in m turns wanted (first ++ more) ≡ acts_in m turns wanted first + acts_in m turns wanted more
-  acts_both [] more = refl
+  acts_both [] more = omega arith
   acts_both (v ∷ first) more = omega (arith, acts_both first more)
 
   come_both : (first more : List Swept) → AllByRecursion (Comes m turns wanted) first → AllByRecursion (Comes m turns wanted) more

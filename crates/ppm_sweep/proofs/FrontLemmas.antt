@@ -23,8 +23,8 @@ with_last (x ∷ y ∷ items) i act = ap (λ l. x ∷ l) (with_last (y ∷ items
 
 victims_are : (u v : Option ℕ) → same_victim u v ≡ true → u ≡ v
 victims_are None None e = refl
-victims_are None (Some v) e = absurd (both_ways true refl (sym e))
-victims_are (Some u) None e = absurd (both_ways true refl (sym e))
+victims_are None (Some v) e = absurd (both_ways false refl e)
+victims_are (Some u) None e = absurd (both_ways false refl e)
 victims_are (Some u) (Some v) e = ap Some (eqb-true u v e)
 
 -- steps that are the same are one act
@@ -32,13 +32,15 @@ steps_are : (a b : ScheduledAct) → same_step a b ≡ true → a ≡ b
 steps_are (Step c u) (Step d v) e =
     let k = both_parts (c == d) (same_victim u v) e in
     λ i. Step (eqb-true c d k.0 i) (victims_are u v k.1 i)
-steps_are (Step c u) (Fails d fault) e = absurd (both_ways true refl (sym e))
-steps_are (Fails c fault) b e = absurd (both_ways true refl (sym e))
+steps_are (Step c u) (Fails d fault) e = absurd (both_ways false refl e)
+steps_are (Fails c fault) b e = absurd (both_ways false refl e)
 
 -- so often, and once more
 replicate_more : {A : Type 0} (n : ℕ) (a : A) → replicate (n + 1) a ≡ replicate n a ++ a ∷ []
 replicate_more zero a = refl
-replicate_more (suc n) a = ap (λ l. a ∷ l) (replicate_more n a)
+replicate_more (suc n) a =
+    let one : suc n + 1 ≡ suc (n + 1) = omega arith in
+    ap (λ m. replicate m a) one ∙ ap (λ l. a ∷ l) (replicate_more n a)
 
 acts_joined_by : (i : ScheduleItem) (act : ScheduledAct) (same few : Bool) → same_step i.act act ≡ same
     → acts_of (if same && few then record { act = i.act; times = i.times + 1 } ∷ [] else i ∷ record { act = act; times = 1 } ∷ [])

@@ -35,7 +35,7 @@ pub code_stays : {dues : List Due} {m m' : Situation} {way way' : Way} → Does 
 code_stays d = ap (λ k. k.code) d.machine
 
 arrays_are : (m n : Situation) (o : Outcome) → n.array_lengths ≡ m.array_lengths → HasArraysOf m o → HasArraysOf n o
-arrays_are m n (outcome.Ended arrays) e h = omega (arith, h, ap length e)
+arrays_are m n (outcome.Ended arrays) e h = (omega (arith, h.0, ap length e), h.1)
 arrays_are m n (outcome.Trapped trap line) e h = tt
 arrays_are m n outcome.NotWithin e h = tt
 

@@ -10,6 +10,7 @@
 #![tactic(auto)]
 
 mod ahead;
+mod copies;
 mod found;
 mod front;
 mod meeting;

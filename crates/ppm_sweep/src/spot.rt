@@ -12,6 +12,7 @@ ghost use Rattle.ppm_sweep.specs.Sweep.{struck as struck_by};
 ghost use Rattle.ppm_words.specs.declared.outcome.Outcome.{Outcome};
 
 use crate::ahead::{Ahead, Coming};
+use crate::copies::machine_copy;
 use crate::front::write_act;
 use ppm_core::Machine;
 use ppm_following::{Way, make};
@@ -92,9 +93,10 @@ pub(crate) fn struck(
 {
     let faults = one_more(spot.faults)?;
     let rest = spot.ahead.rest(alloc)?;
-    let mut machine = spot.machine.copy(alloc)?;
+    let mut machine = machine_copy(alloc, &spot.machine)?;
     let mut way = spot.way;
-    let mut front = Vec::from_slice(alloc, &spot.front)?;
+    let written = spot.front.as_slice();
+    let mut front = Vec::from_slice(alloc, written)?;
     let act = ScheduledAct::Fails { processor, fault };
     write_act(&mut front, act)?;
     make(&mut machine, &mut way, act);
@@ -134,9 +136,15 @@ pub(crate) fn skip(spot: &mut Spot, coming: Coming) -> Result<(), NoMemory>
     requires done { is_done_at (stand_of (seen spot.old.machine).state (processor_named (act_due (due_of coming)))) ≡ true }
     ensures { OnOk result (Advances (due_of coming) spot.old spot.new) }
 {
-    if let Coming::Listed(act) = coming {
-        write_act(&mut spot.front, act)?;
+    match coming {
+        Coming::Listed(act) => {
+            write_act(&mut spot.front, act)?;
+            spot.ahead.pass();
+            Ok(())
+        }
+        Coming::InRound(_) => {
+            spot.ahead.pass();
+            Ok(())
+        }
     }
-    spot.ahead.pass();
-    Ok(())
 }
