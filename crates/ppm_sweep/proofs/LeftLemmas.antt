@@ -31,10 +31,10 @@ no_more_than (suc zero) e h = refl
 no_more_than (suc (suc n)) e h = absurd (both_ways (nat_lt 1 (suc (suc n))) e (lt-ltb 1 (suc (suc n)) (omega arith)))
 
 -- the same item, once less
-abbrev less : ScheduleItem → ScheduleItem
+abbrev pub less : ScheduleItem → ScheduleItem
 less i = record { act = i.act; times = i.times - 1 }
 
-listed_by : (i : ScheduleItem) (tail : List ScheduleItem) → 1 ≤ i.times → (b : Bool) → nat_lt 1 i.times ≡ b
+pub listed_by : (i : ScheduleItem) (tail : List ScheduleItem) → 1 ≤ i.times → (b : Bool) → nat_lt 1 i.times ≡ b
     → listed (i ∷ tail) ≡ Listed i.act ∷ listed (rest_of (if b then Some (less i) else None) tail)
 listed_by i tail some true e =
     let two = more_than i.times e in
@@ -44,7 +44,7 @@ listed_by i tail some true e =
 listed_by i tail some false e =
     listed_front i tail ∙ ap (λ n. replicate n (Listed i.act) ++ listed tail) (no_more_than i.times e some)
 
-rest_by : (i : ScheduleItem) (tail : List ScheduleItem) (b : Bool) → rest_of (if b then Some (less i) else None) tail ≡ (if b then less i ∷ tail else tail)
+pub rest_by : (i : ScheduleItem) (tail : List ScheduleItem) (b : Bool) → rest_of (if b then Some (less i) else None) tail ≡ (if b then less i ∷ tail else tail)
 rest_by i tail true = refl
 rest_by i tail false = refl
 
@@ -56,7 +56,7 @@ list_passes p i tail later some = record {
   rest = rest_by i tail (nat_lt 1 i.times);
 }
 
-done_less : (act : ScheduledAct) (n : ℕ) → MayBeDone act n → nat_lt 1 n ≡ true → MayBeDone act (n - 1)
+pub done_less : (act : ScheduledAct) (n : ℕ) → MayBeDone act n → nat_lt 1 n ≡ true → MayBeDone act (n - 1)
 done_less (Step c v) n k e = (omega (arith, more_than n e), omega (arith, k.1))
 done_less (Fails c f) n k e = absurd (omega (arith, k, more_than n e))
 
@@ -79,7 +79,9 @@ among_after p i tail all = go (nat_lt 1 i.times) refl
 pub found_at : (items : List ScheduleItem) (at : ℕ) (i : ScheduleItem) → slice_get items at ≡ Some i → drop at items ≡ i ∷ drop (at + 1) items
 found_at [] at i e = cc
 found_at (x ∷ items) zero i e = let same : x ≡ i = cc in ap (λ y. y ∷ items) same
-found_at (x ∷ items) (suc at) i e = found_at items at i e
+found_at (x ∷ items) (suc at) i e =
+    let one : suc at + 1 ≡ suc (at + 1) = omega arith in
+    found_at items at i e ∙ ap (λ n. i ∷ drop n (x ∷ items)) (sym one)
 
 pub none_at : (items : List ScheduleItem) (at : ℕ) → slice_get items at ≡ None → drop at items ≡ []
 none_at [] zero e = refl
@@ -219,5 +221,44 @@ module _ (p : ℕ) (items : List ScheduleItem) (at next count : ℕ) where
   pub pass_none : (first : Option ScheduleItem) → first ≡ None → slice_get items at ≡ None → steps_from next p count ≡ []
       → AllPass (left p first items at next count) (left p first items at next count)
   pass_none first e f h =
-      let l = record { processors = p; rest = rest_of first (drop at items); later = steps_from next p count } in
+      let l : Left = left p first items at next count in
       subst (λ o. IfSome o (λ due. Passes due l l)) (sym (ap (λ r. first_in r (steps_from next p count)) (rest_none first e f) ∙ ap first_of h)) tt
+
+  -- of what is seen as these parts
+  pub pass_next_of : (old : Left) (first less : Option ScheduleItem) (i : ScheduleItem) → left p first items at next count ≡ old → first ≡ None
+      → slice_get items at ≡ Some i → less ≡ once_less i → All (IsItemAmong p) (rest_of first (drop at items))
+      → AllPass old (left p less items (at + 1) next count)
+  pass_next_of old first less i is e g f all =
+      subst (λ (l : Left). AllPass l (left p less items (at + 1) next count)) is (pass_next first less i e g f all)
+
+  pub pass_step_of : (old : Left) (first : Option ScheduleItem) → left p first items at next count ≡ old → first ≡ None → slice_get items at ≡ None → next < p
+      → AllPass old (left p first items at (next + 1) count)
+  pass_step_of old first is e f h = subst (λ (l : Left). AllPass l (left p first items at (next + 1) count)) is (pass_step first e f h)
+
+  pub pass_round_of : (old : Left) (first : Option ScheduleItem) → left p first items at next count ≡ old → first ≡ None → slice_get items at ≡ None
+      → p ≤ next → 0 < count → 0 < p → AllPass old (left p first items at 1 (count - 1))
+  pass_round_of old first is e f h some there =
+      subst (λ (l : Left). AllPass l (left p first items at 1 (count - 1))) is (pass_round first e f h some there)
+
+-- what is due begins with the first act of the list
+pub due_first : (l : Left) (i : ScheduleItem) → Some i ≡ slice_get l.rest 0 → IsItemAmong l.processors i
+    → (more : List Due) × (dues_in l ≡ Listed i.act ∷ more)
+due_first l i e h = go l.rest e
+  where
+    go : (rest : List ScheduleItem) → Some i ≡ slice_get rest 0 → (more : List Due) × (listed rest ++ l.later ≡ Listed i.act ∷ more)
+    go [] f = cc
+    go (x ∷ rest) f =
+        let same : x ≡ i = cc in
+        subst (λ y. (more : List Due) × (listed (y ∷ rest) ++ l.later ≡ Listed i.act ∷ more)) (sym same)
+        (listed (rest_of (if nat_lt 1 i.times then Some (less i) else None) rest) ++ l.later,
+        ap (λ d. d ++ l.later) (listed_by i rest (some_times l.processors i h) (nat_lt 1 i.times) refl))
+
+-- or with a step in a round
+pub due_later : (l : Left) (c : ℕ) → None ≡ slice_get l.rest 0 → Some (InRound c) ≡ first_of l.later → (more : List Due) × (dues_in l ≡ InRound c ∷ more)
+due_later l c e f = go l.rest l.later e f
+  where
+    go : (rest : List ScheduleItem) (later : List Due) → None ≡ slice_get rest 0 → Some (InRound c) ≡ first_of later
+        → (more : List Due) × (listed rest ++ later ≡ InRound c ∷ more)
+    go [] [] g h = cc
+    go [] (due ∷ later) g h = let same : due ≡ InRound c = cc in (later, ap (λ d. d ∷ later) same)
+    go (x ∷ rest) later g h = cc

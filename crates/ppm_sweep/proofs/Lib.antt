@@ -14,3 +14,4 @@ pub mod TextLemmas
 pub mod PlaceLemmas
 pub mod AloneLemmas
 pub mod WalkLemmas
+pub mod FairLemmas

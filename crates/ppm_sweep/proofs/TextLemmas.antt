@@ -25,13 +25,14 @@ items_are i [] = nothing_more (item_text i)
 items_are i (j ∷ items) = ap (λ l. item_text i ++ 44 ∷ l) (items_are j items)
 
 -- the first item is written, and those after it are left
-pub first_text : (items : List ScheduleItem) (d : ScheduleItem) (text : List ℕ) → 1 ≤ length items → text ≡ [] ++ item_text (get_or items 0 d)
+pub first_text : (items : List ScheduleItem) (d : ScheduleItem) (none text : List ℕ) → 1 ≤ length items → none ≡ []
+    → text ≡ none ++ item_text (get_or items 0 d)
     → text ++ more_text (take (length items - 1) (drop 1 items)) ≡ schedule_text items
-first_text [] d text some e = absurd (omega (arith, some))
-first_text (i ∷ items) d text some e =
+first_text [] d none text some empty e = absurd (omega (arith, some))
+first_text (i ∷ items) d none text some empty e =
     let one : length (i ∷ items) - 1 ≡ length items = omega arith in
     let rest : take (length (i ∷ items) - 1) items ≡ items = ap (λ k. take k items) one ∙ take_all (length items) items (le_refl (length items)) in
-    ap (λ t. t ++ more_text (take (length (i ∷ items) - 1) items)) e ∙ ap (λ l. item_text i ++ more_text l) rest ∙ items_are i items
+    ap (λ t. t ++ more_text (take (length (i ∷ items) - 1) items)) (e ∙ ap (λ t. t ++ item_text i) empty) ∙ ap (λ l. item_text i ++ more_text l) rest ∙ items_are i items
 
 module _ (p : ℕ) (few : p ≤ 4294967296) where
   fits_victim : (v : Option ℕ) → IsVictimAmong p v → FitsVictim v

@@ -1,8 +1,8 @@
 //! What is ahead in a run.
-ghost use Rattle.std.specs.Prelude.{◌≡◌, ◌<◌, IfOk, IfSome, option_map, slice_get};
+ghost use Rattle.std.specs.Prelude.{◌≡◌, ◌<◌, ◌∷◌, List, IfOk, IfSome, option_map, slice_get};
 ghost use Rattle.std.specs.List.{All, AllByRecursion};
 ghost use Rattle.ppm_plan.specs.Schedules.{IsItemAmong};
-ghost use Rattle.ppm_choice.specs.Course.{act_of as act_due, InRound};
+ghost use Rattle.ppm_choice.specs.Course.{act_of as act_due, Due, InRound};
 ghost use Rattle.ppm_choice.specs.Schedules.{dues_of};
 ghost use Rattle.ppm_sweep.specs.Ahead.{first_of, IsStepInRound, Passes};
 ghost use Rattle.ppm_sweep.specs.Ahead.{dues_in, due_of, first_due, once_less, IsComingAmong};
@@ -114,6 +114,7 @@ impl Ahead {
     /// What comes next; `None` where nothing is left.
     pub(crate) fn first(&self) -> Option<Coming>
         ensures value { option_map due_of result ≡ first_due self.now }
+        ensures dues { IfSome result (λ c. (more : List Due) × (dues_in self.now ≡ due_of c ∷ more)) }
         ensures among { IfSome result (IsComingAmong self.now.processors) }
         ensures later { AllByRecursion IsStepInRound self.now.later }
     {

@@ -13,6 +13,7 @@ mod ahead;
 mod copies;
 mod found;
 mod front;
+mod laws;
 mod meeting;
 mod options;
 mod spot;
@@ -20,6 +21,7 @@ mod sweeping;
 mod text;
 
 pub use found::{Differing, Stop, Tally};
+pub use laws::sweeps_are_fair;
 pub use options::{Sweeping, Window};
 pub use sweeping::sweep;
 pub use text::{schedules_are_written, write_schedule};

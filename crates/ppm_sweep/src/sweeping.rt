@@ -173,6 +173,7 @@ fn strikes(
 /// Goes through the schedules of a sweep over a base schedule, from a machine before its first act,
 /// until the run of one of them comes to something else than the outcome that is wanted. The runs
 /// have at most 2^40 acts each.
+#[tactic(none)]
 pub fn sweep(
     alloc: Global,
     machine: Machine,
@@ -190,11 +191,14 @@ pub fn sweep(
     let mut tally = Tally::zero();
     let processors = machine.processors();
     let items = Vec::from_slice(alloc, schedule.items())?;
+    let way = Way::first(sweeping.turns);
+    let front = Vec::new(alloc);
+    let ahead = Ahead::new(items, processors, sweeping.turns);
     let spot = Spot {
         machine,
-        way: Way::first(sweeping.turns),
-        front: Vec::new(alloc),
-        ahead: Ahead::new(items, processors, sweeping.turns),
+        way,
+        front,
+        ahead,
         faults: 0,
         number: 0,
     };

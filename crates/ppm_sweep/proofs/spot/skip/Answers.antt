@@ -4,8 +4,8 @@ use Rattle.ppm_sweep.proofs.PlaceLemmas.{Skips, left_out}
 use Rattle.ppm_sweep.proofs.spot.skip.Goals as goal
 
 -- an act of the list is written
-pub returns-in-Listed : goal.returns-in-Listed
-returns-in-Listed c =
+pub returns-in_ok-write_act-in-Listed : goal.returns-in_ok-write_act-in-Listed
+returns-in_ok-write_act-in-Listed c =
     let old = c.args.spot.now in
     left_out old _ c.args.coming c.requires.done
     (subst (λ k. Skips k old.front.items c.write_act.new.items.items) (sym c.in-Listed.is) c.in_ok-write_act.ensures) refl refl

@@ -14,6 +14,6 @@ returns-clause-goes_on c =
     let act = Fails c.args.processor c.args.fault in
     let does = subst (λ k. Does (Listed act ∷ []) (seen k) c.args.spot.now.way (seen c.make.new.machine) c.make.new.way) c.in_ok-machine.ensures
     c.make.ensures.does in
-    let front = c.in_ok-write_act.ensures ∙ ap (λ l. with_act l act) (c.in_ok-front.ensures.items ∙ c.as_slice-written.ensures) in
+    let front = c.in_ok-write_act.ensures ∙ ap (λ l. with_act l act) (c.in_ok-front.ensures.items ∙ c.as_slice-written.ensures.value) in
     goes_on act c.args.spot.now _ (front, does, c.make.ensures.ready)
     (c.new-ahead.ensures.processors ∙ c.processors.ensures.value ∙ ap (λ s. s.processors) (shape_stays does) ∙ sym c.requires.spot.1.processors)

@@ -1,6 +1,6 @@
 use Rattle.std.proofs.Common.{◌≡◌, ◌∙◌, sym, ap, subst, slice_get, arith}
 use Rattle.ppm_sweep.specs.Ahead.{Left}
-use Rattle.ppm_sweep.proofs.LeftLemmas.{AllPass, none_of, among_first, among_next, pass_next, pass_step, pass_round, pass_none, no_processors}
+use Rattle.ppm_sweep.proofs.LeftLemmas.{AllPass, none_of, among_first, among_next, pass_next_of, pass_step_of, pass_round_of, pass_none, no_processors}
 use Rattle.ppm_sweep.proofs.ahead.Ahead.pass.Goals as goal
 
 -- the item that is begun is of so many processors, once less
@@ -25,26 +25,24 @@ pub returns-in-Some-item_at-clause-passes : goal.returns-in-Some-item_at-clause-
 returns-in-Some-item_at-clause-passes c =
     let i = c.self.inside in
     let found = ap (λ l. slice_get l i.at) (sym c.deref.ensures.value) ∙ sym c.item_at.ensures ∙ c.in-Some-item_at.is in
-    subst (λ (l : Left). AllPass l _) c.self.view_is
-    (pass_next i.processors i.items.items i.at i.next i.count i.first _ c.in-Some-item_at.item (none_of i.first c.in_default.not-Some) found
-    c.less_one-self-inside-in-Some-item_at.ensures c.self.invariant.1)
+    pass_next_of i.processors i.items.items i.at i.next i.count c.args.self.now i.first _ c.in-Some-item_at.item c.self.view_is
+    (none_of i.first c.in_default.not-Some) found c.less_one-self-inside-in-Some-item_at.ensures c.self.invariant.1
 
 -- a step of the round
 pub returns-then-self-clause-passes : goal.returns-then-self-clause-passes
 returns-then-self-clause-passes c =
     let i = c.self.inside in
     let none = ap (λ l. slice_get l i.at) (sym c.deref.ensures.value) ∙ sym c.item_at.ensures ∙ none_of c.item_at.result c.in_default-item_at.not-Some in
-    subst (λ (l : Left). AllPass l _) c.self.view_is
-    (pass_step i.processors i.items.items i.at i.next i.count i.first (none_of i.first c.in_default.not-Some) none c.if-self.true)
+    pass_step_of i.processors i.items.items i.at i.next i.count c.args.self.now i.first c.self.view_is (none_of i.first c.in_default.not-Some) none
+    c.if-self.true
 
 -- a new round
 pub returns-then-self-gt0-2-clause-passes : goal.returns-then-self-gt0-2-clause-passes
 returns-then-self-gt0-2-clause-passes c =
     let i = c.self.inside in
     let none = ap (λ l. slice_get l i.at) (sym c.deref.ensures.value) ∙ sym c.item_at.ensures ∙ none_of c.item_at.result c.in_default-item_at.not-Some in
-    subst (λ (l : Left). AllPass l _) c.self.view_is
-    (pass_round i.processors i.items.items i.at i.next i.count i.first (none_of i.first c.in_default.not-Some) none
-    (omega (arith, c.if-self.false)) (omega (arith, c.if-self-gt0.true)) (omega (arith, c.if-self-gt0-2.true)))
+    pass_round_of i.processors i.items.items i.at i.next i.count c.args.self.now i.first c.self.view_is (none_of i.first c.in_default.not-Some) none
+    (omega (arith, c.if-self.false)) (omega (arith, c.if-self-gt0.true)) (omega (arith, c.if-self-gt0-2.true))
 
 -- nothing is left
 pub returns-else-self-gt0-2-clause-passes : goal.returns-else-self-gt0-2-clause-passes
