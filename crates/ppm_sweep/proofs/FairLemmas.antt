@@ -28,7 +28,7 @@ use Rattle.ppm_sweep.proofs.LeftLemmas.{some_times, listed_by, rest_by, done_les
 abbrev kills : ℕ → List ScheduleItem → Bool
 kills c items = is_killed schedule_form c items
 
-or_assoc : (a b c : Bool) → (a || b || c) ≡ ((a || b) || c)
+or_assoc : (a b c : Bool) → (a || (b || c)) ≡ ((a || b) || c)
 or_assoc true b c = refl
 or_assoc false b c = refl
 
@@ -36,7 +36,7 @@ or_false : (a : Bool) → (a || false) ≡ a
 or_false true = refl
 or_false false = refl
 
-or_twice : (a b : Bool) → (a || a || b) ≡ (a || b)
+or_twice : (a b : Bool) → (a || (a || b)) ≡ (a || b)
 or_twice true b = refl
 or_twice false b = refl
 
@@ -85,7 +85,7 @@ kills_put c front rest act =
     kills_both c (with_act front act) rest ∙ ap (λ b. b || kills c rest) (kills_with c front act)
     ∙ swap (kills c front) (act_kills c act) (kills c rest) ∙ ap (λ b. act_kills c act || b) (sym (kills_both c front rest))
   where
-    swap : (a b d : Bool) → ((a || b) || d) ≡ (b || a || d)
+    swap : (a b d : Bool) → ((a || b) || d) ≡ (b || (a || d))
     swap true true d = refl
     swap true false d = refl
     swap false true d = refl
@@ -139,8 +139,8 @@ module _ (p : ℕ) where
       → IsItemAmong p i → IsActAmong p act
       → Amongs (if same && few then record { act = i.act; times = i.times + 1 } ∷ [] else i ∷ record { act = act; times = 1 } ∷ [])
   joined_among i act true true e f a h = (record { act = a.act; times = more_done i.act act i.times e f a.times }, tt)
-  joined_among i act true false e f a h = (a, once_among act h, tt)
-  joined_among i act false few e f a h = (a, once_among act h, tt)
+  joined_among i act true false e f a h = (a, (once_among act h, tt))
+  joined_among i act false few e f a h = (a, (once_among act h, tt))
 
   with_among : (items : List ScheduleItem) (act : ScheduledAct) → Amongs items → IsActAmong p act → Amongs (with_act items act)
   with_among [] act a h = (once_among act h, tt)
@@ -177,7 +177,7 @@ module _ (s : Shape) (code : CodeParts) (keeper : ℕ) where
     below : AllByRecursion (Below s.processors) steps
 
   record Next (p : Place) (due : Due) (dues : List Due) : Type 0 where
-    dues : Dues (passed s code p due) dues
+    left : Dues (passed s code p due) dues
     at : At (passed s code p due)
     there : processor_of (act_of due) < s.processors
 
@@ -205,7 +205,7 @@ module _ (s : Shape) (code : CodeParts) (keeper : ℕ) where
       let same : due ≡ InRound c = cc in
       let rest : dues ≡ steps = cc in
       subst (λ d. Next p d dues) (sym same) (record {
-        dues = record { steps = steps; dues_are = rest ∙ ap (λ l. listed l ++ steps) (sym none); below = below.1 };
+        left = record { steps = steps; dues_are = rest ∙ ap (λ l. listed l ++ steps) (sym none); below = below.1 };
         at = round_at p c below.0 at (is_made s code p.course (InRound c));
         there = below.0;
       })
@@ -220,7 +220,7 @@ module _ (s : Shape) (code : CodeParts) (keeper : ℕ) where
       let same : due ≡ Listed i.act = cc in
       let rest : dues ≡ listed (after_act (i ∷ tail)) ++ steps = cc in
       subst (λ d. Next p d dues) (sym same) (record {
-        dues = record { steps = steps; dues_are = rest ∙ ap (λ l. listed (after_act l) ++ steps) (sym is); below = below };
+        left = record { steps = steps; dues_are = rest ∙ ap (λ l. listed (after_act l) ++ steps) (sym is); below = below };
         at = subst (λ l. Both (with_act p.front i.act ++ after_act l)) (sym is) (
           both_among s.processors (with_act p.front i.act) (after_act (i ∷ tail))
               (with_among s.processors p.front i.act (front_among s.processors p.front (i ∷ tail) at_i.0) amongs.0.act)
@@ -274,7 +274,7 @@ module _ (s : Shape) (code : CodeParts) (keeper : ℕ) where
         all_fair (before_due s code keeper sweep window number p due)
         (along s code keeper sweep window (number_after s code number p due) (passed s code p due) dues)
         (before_fair number p due n.there at)
-        (along_fair (number_after s code number p due) (passed s code p due) dues n.dues n.at)
+        (along_fair (number_after s code number p due) (passed s code p due) dues n.left n.at)
 
   alone_fair : (faults : ℕ) (p : Place) → At p → AllFair (alone faults p)
   alone_fair faults p at = go (nat_le (length p.front + length p.rest) item_limit) refl

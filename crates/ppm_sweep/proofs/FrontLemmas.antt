@@ -28,7 +28,7 @@ victims_are (Some u) None e = absurd (both_ways false refl e)
 victims_are (Some u) (Some v) e = ap Some (eqb-true u v e)
 
 -- steps that are the same are one act
-steps_are : (a b : ScheduledAct) → same_step a b ≡ true → a ≡ b
+pub steps_are : (a b : ScheduledAct) → same_step a b ≡ true → a ≡ b
 steps_are (Step c u) (Step d v) e =
     let k = both_parts (c == d) (same_victim u v) e in
     λ i. Step (eqb-true c d k.0 i) (victims_are u v k.1 i)

@@ -15,3 +15,4 @@ pub mod PlaceLemmas
 pub mod AloneLemmas
 pub mod WalkLemmas
 pub mod FairLemmas
+pub mod BeginLemmas

@@ -173,7 +173,6 @@ fn strikes(
 /// Goes through the schedules of a sweep over a base schedule, from a machine before its first act,
 /// until the run of one of them comes to something else than the outcome that is wanted. The runs
 /// have at most 2^40 acts each.
-#[tactic(none)]
 pub fn sweep(
     alloc: Global,
     machine: Machine,

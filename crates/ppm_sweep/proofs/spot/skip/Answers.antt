@@ -8,7 +8,7 @@ pub returns-in_ok-write_act-in-Listed : goal.returns-in_ok-write_act-in-Listed
 returns-in_ok-write_act-in-Listed c =
     let old = c.args.spot.now in
     left_out old _ c.args.coming c.requires.done
-    (subst (λ k. Skips k old.front.items c.write_act.new.items.items) (sym c.in-Listed.is) c.in_ok-write_act.ensures) refl refl
+    (subst (λ k. Skips k old.front.items c.write_act.new.items.items) (sym c.in-Listed.is) c.in_ok-write_act-in-Listed.ensures) refl refl
     (subst (λ o. IfSome o (λ due. Passes due old.ahead c.pass.new.self)) c.requires.first c.pass.ensures.passes)
     c.pass.ensures.processors refl refl
 

@@ -15,7 +15,7 @@ use Rattle.ppm_sweep.proofs.sweeping.+sweeps.Goals as goal
 
 -- a run after the soft fault differs
 pub strikes-returns-in_err-sweep_from : goal.strikes-returns-in_err-sweep_from
-strikes-returns-in_err-sweep_from c =
+strikes-returns-in_err-sweep_from t c =
     let s = c.in_ok-soft.ensures in
     soft_stops c.args.wanted.now c.args.sweeping c.args.spot.now c.args.processor c.deeper-deeper.result c.in_ok-soft.soft c.args.tally.now _ _ _
     c.deeper-deeper.ensures (record { goes_on = s.goes_on; place = s.place; faults = s.counts.0 }) c.in_err-sweep_from.ensures
@@ -23,14 +23,14 @@ strikes-returns-in_err-sweep_from c =
 
 -- the keeper meets no hard one
 pub strikes-returns-then-processor-sweeping : goal.strikes-returns-then-processor-sweeping
-strikes-returns-then-processor-sweeping c =
+strikes-returns-then-processor-sweeping t c =
     let s = c.in_ok-soft.ensures in
     soft_alone c.args.wanted.now c.args.sweeping c.args.spot.now c.args.processor c.deeper-deeper.result c.in_ok-soft.soft c.args.tally.now _
     c.deeper-deeper.ensures (record { goes_on = s.goes_on; place = s.place; faults = s.counts.0 }) c.in_ok-sweep_from.ensures c.if-processor-sweeping.true
 
 -- both
 pub strikes-returns : goal.strikes-returns
-strikes-returns c =
+strikes-returns t c =
     let s = c.in_ok-soft.ensures in
     let h = c.in_ok-hard.ensures in
     hard_too c.args.wanted.now c.args.sweeping c.args.spot.now c.args.processor c.deeper-deeper.result c.in_ok-soft.soft c.in_ok-hard.hard c.args.tally.now
@@ -39,7 +39,7 @@ strikes-returns c =
 
 -- the run without a further fault differs
 pub sweep_from-returns-in_err-alone : goal.sweep_from-returns-in_err-alone
-sweep_from-returns-in_err-alone c = λ m fresh came.
+sweep_from-returns-in_err-alone t c = λ m fresh came.
     let o = c.args.sweeping in
     let spot = c.args.spot in
     exit_finds m o.turns c.args.wanted.now _ c.args.tally.now c.alone.new.tally c.in_err-alone.field-0 c.from_residual.result c.from_residual.ensures.1
@@ -49,7 +49,7 @@ sweep_from-returns-in_err-alone c = λ m fresh came.
 
 -- it agrees, and then those with a fault more
 pub sweep_from-returns : goal.sweep_from-returns
-sweep_from-returns c = λ m fresh came.
+sweep_from-returns t c = λ m fresh came.
     let o = c.args.sweeping in
     let spot = c.args.spot in
     let some : o.faults ≡ suc (o.faults - 1) = omega (arith, c.if-sweeping-eq0.false) in
@@ -60,7 +60,7 @@ sweep_from-returns c = λ m fresh came.
 
 -- nothing more is made
 pub visit-returns-then-is_over-clause-visits : goal.visit-returns-then-is_over-clause-visits
-visit-returns-then-is_over-clause-visits c = λ m fresh came.
+visit-returns-then-is_over-clause-visits t c = λ m fresh came.
     let o = c.args.sweeping in
     let spot = c.args.spot.now in
     let n = seen spot.machine in
@@ -73,7 +73,7 @@ visit-returns-then-is_over-clause-visits c = λ m fresh came.
 
 -- a run with a fault before it differs
 pub visit-returns-in_err-strikes-clause-visits : goal.visit-returns-in_err-strikes-clause-visits
-visit-returns-in_err-strikes-clause-visits c = λ m fresh came.
+visit-returns-in_err-strikes-clause-visits t c = λ m fresh came.
     let o = c.args.sweeping in
     let spot = c.args.spot.now in
     let n = seen spot.machine in
@@ -89,20 +89,20 @@ visit-returns-in_err-strikes-clause-visits c = λ m fresh came.
 
 -- a visit stops
 pub walk-returns-in_err-more : goal.walk-returns-in_err-more
-walk-returns-in_err-more c =
+walk-returns-in_err-more t c =
     walk_stops c.args.wanted.now c.args.sweeping c.args.spot c.acts.spot c.args.tally.now c.acts.tally c.visit.new.tally c.in_err-more.field-0
     c.from_residual.result c.acts.invariant.0 c.in_err-more.ensures.visits c.from_residual.ensures.1
 
 -- nothing is left
 pub walk-returns-then-not-more : goal.walk-returns-then-not-more
-walk-returns-then-not-more c =
+walk-returns-then-not-more t c =
     visits_end c.args.wanted.now c.args.sweeping c.args.spot c.acts.spot c.visit.new.spot c.args.tally.now c.acts.tally c.visit.new.tally c.acts.invariant.0
     (λ m fresh came. subst (λ b. Visits m c.args.wanted.now c.args.sweeping c.acts.spot c.visit.new.spot c.acts.tally c.visit.new.tally (Ok b))
     c.if-not-more.true (c.in_ok-more.ensures.visits m fresh came))
 
 -- one visit more
 pub walk-acts-preserved : goal.walk-acts-preserved
-walk-acts-preserved c =
+walk-acts-preserved t c =
     let p = subst (λ b. PassesOn b c.acts.spot c.visit.new.spot) c.if-not-more.false c.in_ok-more.ensures.goes_on in
     (
       one_visit c.args.wanted.now c.args.sweeping c.args.spot c.acts.spot c.visit.new.spot c.args.tally.now c.acts.tally c.visit.new.tally
