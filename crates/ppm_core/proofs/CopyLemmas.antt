@@ -11,5 +11,5 @@ pub copied : (code parts : CodeParts) (arrays : List ℕ) (procedures : List Pro
     → IsCode (record { root = parts.root; arrays = arrays; procedures = procedures; capsules = capsules })
 copied code parts arrays procedures capsules same a p k is =
     let parts_are : record { root = parts.root; arrays = arrays; procedures = procedures; capsules = capsules } ≡ parts
-        = λ i. record { root = parts.root; arrays = a i; procedures = p i; capsules = k i } in
+    = λ i. record { root = parts.root; arrays = a i; procedures = p i; capsules = k i } in
     subst IsCode (sym (parts_are ∙ same)) is

@@ -1,10 +1,11 @@
 use Rattle.std.proofs.Common.{◌≡◌, ◌∙◌, refl, sym, ap, subst, arith, true, false, suc, ◌-◌, Ok}
 use Rattle.std.proofs.lemmas.Bool.{both_ways}
 use Rattle.ppm_core.specs.Machine.{seen}
-use Rattle.ppm_choice.specs.Course.{act_of}
+use Rattle.ppm_step.specs.State.{stand_of, is_done_at}
+use Rattle.ppm_choice.specs.Course.{act_of, processor_of}
 use Rattle.ppm_sweep.specs.Ahead.{due_of}
 use Rattle.ppm_sweep.specs.Found.{Finds, Stops}
-use Rattle.ppm_sweep.specs.Spots.{place_of, first_way}
+use Rattle.ppm_sweep.specs.Spots.{place_of, first_way, IsLast}
 use Rattle.ppm_sweep.specs.Sweep.{alone}
 use Rattle.ppm_sweep.specs.Visits.{PassesOn, Visits, swept_ahead, swept_deeper, swept_struck}
 use Rattle.ppm_sweep.proofs.AlongLemmas.{last_of, none_made}
@@ -42,9 +43,9 @@ pub sweep_from-returns-in_err-alone : goal.sweep_from-returns-in_err-alone
 sweep_from-returns-in_err-alone t c = λ m fresh came.
     let o = c.args.sweeping in
     let spot = c.args.spot in
-    exit_finds m o.turns c.args.wanted.now _ c.args.tally.now c.alone.new.tally c.in_err-alone.field-0 c.from_residual.result c.from_residual.ensures.1
-    (subst (λ l. Stops m o.turns c.args.wanted.now l c.in_err-alone.field-0) (sym (from_is o spot o.faults refl c.requires.begins c.requires.dues))
-    (stops_in m o.turns c.args.wanted.now (alone spot.faults (place_of spot)) (later o spot o.faults) c.in_err-alone.field-0
+    exit_finds m o.turns c.args.wanted.now _ c.args.tally.now c.alone.new.tally c.in_err-alone.field-0.0 c.from_residual.result c.from_residual.ensures.1
+    (subst (λ l. Stops m o.turns c.args.wanted.now l c.in_err-alone.field-0.0) (sym (from_is o spot o.faults refl c.requires.begins c.requires.dues))
+    (stops_in m o.turns c.args.wanted.now (alone spot.faults (place_of spot)) (later o spot o.faults) c.in_err-alone.field-0.0
     (c.in_err-alone.ensures m fresh came)))
 
 -- it agrees, and then those with a fault more
@@ -77,20 +78,23 @@ visit-returns-in_err-strikes-clause-visits t c = λ m fresh came.
     let o = c.args.sweeping in
     let spot = c.args.spot.now in
     let n = seen spot.machine in
-    let more = λ over. both_ways c.is_over.result c.if-is_over.false (c.is_over.ensures.1 over) in
-    let lives = sym c.is_done.ensures ∙ c.if-is_done.false in
+    let more : ¬ IsLast n spot.way c.in-Some.coming = λ over. both_ways c.is_over.result c.if-is_over.false (c.is_over.ensures.1 over) in
+    let processor = processor_of (act_of (due_of c.in-Some.coming)) in
+    let lives = subst (λ k. is_done_at (stand_of n.state k) ≡ false) c.processor_of-processor.ensures (sym c.is_done.ensures ∙ c.if-is_done.false) in
     let first = c.in-Some.ensures.dues in
     let is = made n spot.way c.in-Some.coming more lives in
     let before = before_is o spot (due_of c.in-Some.coming) first.0 first.1 is (sym c.has.ensures ∙ c.if-has.true) in
-    exit_visits m c.args.wanted.now o spot _ c.args.tally.now c.strikes.new.tally c.in_err-strikes.field-0 c.from_residual-in_err-strikes.result
+    exit_visits m c.args.wanted.now o spot _ c.args.tally.now c.strikes.new.tally c.in_err-strikes.field-0.0 c.from_residual-in_err-strikes.result
     c.from_residual-in_err-strikes.ensures.1
-    (subst (λ l. Stops m o.turns c.args.wanted.now l c.in_err-strikes.field-0) (sym before.1)
-    (stops_in m o.turns c.args.wanted.now (swept_struck o spot _) before.0 c.in_err-strikes.field-0 (c.in_err-strikes.ensures m fresh came)))
+    (subst (λ l. Stops m o.turns c.args.wanted.now l c.in_err-strikes.field-0.0) (sym before.1)
+    (stops_in m o.turns c.args.wanted.now (swept_struck o spot processor) before.0 c.in_err-strikes.field-0.0
+    (subst (λ k. Stops m o.turns c.args.wanted.now (swept_struck o spot k) c.in_err-strikes.field-0.0) c.processor_of-processor.ensures
+    (c.in_err-strikes.ensures m fresh came))))
 
 -- a visit stops
 pub walk-returns-in_err-more : goal.walk-returns-in_err-more
 walk-returns-in_err-more t c =
-    walk_stops c.args.wanted.now c.args.sweeping c.args.spot c.acts.spot c.args.tally.now c.acts.tally c.visit.new.tally c.in_err-more.field-0
+    walk_stops c.args.wanted.now c.args.sweeping c.args.spot c.acts.spot c.args.tally.now c.acts.tally c.visit.new.tally c.in_err-more.field-0.0
     c.from_residual.result c.acts.invariant.0 c.in_err-more.ensures.visits c.from_residual.ensures.1
 
 -- nothing is left

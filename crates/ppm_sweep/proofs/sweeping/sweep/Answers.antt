@@ -44,10 +44,10 @@ pub returns-in_err-sweep_from-clause-differs : goal.returns-in_err-sweep_from-cl
 returns-in_err-sweep_from-clause-differs c =
     let spot : Spot = record { machine = c.args.machine; way = c.first-way.result; front = c.new-front.result; ahead = c.new-ahead.result; faults = 0; number = 0 } in
     exit_stops (seen c.args.machine) c.args.sweeping.turns c.args.wanted.now (swept_by (seen c.args.machine) c.args.schedule.now.items c.args.sweeping)
-    c.in_err-sweep_from.field-0 c.from_residual-in_err-sweep_from.result c.from_residual-in_err-sweep_from.ensures.1
+    c.in_err-sweep_from.field-0.0 c.from_residual-in_err-sweep_from.result c.from_residual-in_err-sweep_from.ensures.1
     (sweep_finds c.args.sweeping spot c.args.schedule.now.items
     (record { way = c.first-way.ensures; front = c.new-front.ensures.items; rest = c.new-ahead.ensures.rest ∙ c.in_ok-items.ensures.items ∙ c.items.ensures.items; faults = refl })
-    c.args.wanted.now c.zero-tally.result c.sweep_from.new.tally (Err c.in_err-sweep_from.field-0) c.zero-tally.ensures c.requires.fresh
+    c.args.wanted.now c.zero-tally.result c.sweep_from.new.tally (Err c.in_err-sweep_from.field-0.0) c.zero-tally.ensures c.requires.fresh
     c.in_err-sweep_from.ensures)
 
 -- all come to the outcome
