@@ -1,5 +1,5 @@
 -- One schedule of a sweep.
-use Rattle.std.proofs.Common.{◌≡◌, ◌∙◌, refl, sym, ap, subst, arith, ℕ, ◌+◌, nat_le, Bool, true, false, if◌then◌else◌, List, [], ◌∷◌, ◌++◌, length, Result, Ok, Err, OnOk, IfErr}
+use Rattle.std.proofs.Common.{◌≡◌, sym, ap, subst, arith, ℕ, ◌+◌, nat_le, true, false, if◌then◌else◌, List, [], ◌∷◌, ◌++◌, length, Result, Ok, Err, OnOk, IfErr}
 use Rattle.ppm_words.specs.declared.outcome.Outcome.{Outcome}
 use Rattle.ppm_plan.specs.Refusals.{item_limit}
 use Rattle.ppm_core.specs.Machine.{seen}
@@ -10,7 +10,7 @@ use Rattle.ppm_sweep.specs.declared.found.Differing.{Differing}
 use Rattle.ppm_sweep.specs.declared.found.Stop.{Stop}
 use Rattle.ppm_sweep.specs.declared.found.Stop.TheVariants.{Differs, NoMemory}
 use Rattle.ppm_sweep.specs.declared.found.Tally.{Tally}
-use Rattle.ppm_sweep.specs.Found.{AllCome, FirstDiffers, Stops, Finds}
+use Rattle.ppm_sweep.specs.Found.{AllCome, Stops, Finds}
 use Rattle.ppm_sweep.specs.Meets.{Meets}
 use Rattle.ppm_sweep.specs.Sweep.{Place, Swept, alone}
 use Rattle.ppm_sweep.proofs.FoundLemmas.{none_come}

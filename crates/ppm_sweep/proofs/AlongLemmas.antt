@@ -1,10 +1,10 @@
 -- The schedules along what is due.
-use Rattle.std.proofs.Common.{◌≡◌, ◌≢◌, ◌∙◌, ◌⊎◌, inl, inr, refl, sym, ap, subst, arith, ℕ, zero, suc, ◌+◌, ◌-◌, ◌<◌, ◌==◌, ◌&&◌, Bool, true, false, if◌then◌else◌, List, [], ◌∷◌, ◌++◌, Option, Some, None}
+use Rattle.std.proofs.Common.{◌≡◌, ◌∙◌, inl, inr, refl, sym, ap, subst, ℕ, ◌&&◌, false, if◌then◌else◌, List, [], ◌∷◌, ◌++◌, Some, None}
 use Rattle.std.specs.List.{AllByRecursion}
 use Rattle.ppm_cells.specs.declared.shape.Shape.{Shape}
 use Rattle.ppm_code.specs.declared.code.CodeParts.{CodeParts}
 use Rattle.ppm_core.specs.Situation.{Situation, finish_in}
-use Rattle.ppm_choice.specs.Course.{Due, Listed, InRound, Course, act_of, processor_of, is_made, behind_act, behind}
+use Rattle.ppm_choice.specs.Course.{Due, Listed, InRound, act_of, processor_of, is_made, behind_act}
 use Rattle.ppm_choice.specs.Schedules.{listed}
 use Rattle.ppm_choice.proofs.IdleLemmas.{none_left, not_open, is_shut}
 use Rattle.ppm_following.specs.declared.following.Way.{Way}
@@ -12,7 +12,7 @@ use Rattle.ppm_following.specs.Following.{course}
 use Rattle.ppm_sweep.specs.declared.ahead.Coming.{Coming}
 use Rattle.ppm_sweep.specs.declared.ahead.Coming.TheVariants as coming
 use Rattle.ppm_sweep.specs.declared.options.Window.{Window}
-use Rattle.ppm_sweep.specs.Ahead.{Left, IsStepInRound, dues_in, due_of, first_due, first_in, first_of}
+use Rattle.ppm_sweep.specs.Ahead.{Left, IsStepInRound, dues_in, due_of, first_due, first_in}
 use Rattle.ppm_sweep.specs.Spots.{IsLast}
 use Rattle.ppm_sweep.specs.Sweep.{Place, Swept, along, before_due, is_in, number_after, passed, strikes}
 

@@ -1,6 +1,5 @@
 -- Where a sweep begins.
-use Rattle.std.proofs.Common.{◌≡◌, ◌∙◌, refl, sym, ap, subst, arith, ℕ, ◌≤◌, List, [], ◌∷◌, Result, Ok, Err, IfErr, IfOk}
-use Rattle.std.specs.List.{All}
+use Rattle.std.proofs.Common.{◌≡◌, sym, subst, arith, ℕ, ◌≤◌, List, [], Result, Ok, Err, IfErr, IfOk}
 use Rattle.std.specs.Result.{IsErrAnd}
 use Rattle.ppm_words.specs.declared.outcome.Outcome.{Outcome}
 use Rattle.ppm_plan.specs.declared.schedule_item.ScheduleItem.{ScheduleItem}
@@ -14,7 +13,7 @@ use Rattle.ppm_sweep.specs.declared.found.Stop.{Stop}
 use Rattle.ppm_sweep.specs.declared.found.Tally.{Tally}
 use Rattle.ppm_sweep.specs.declared.options.Sweeping.{Sweeping}
 use Rattle.ppm_sweep.specs.declared.spot.Spot.{Spot}
-use Rattle.ppm_sweep.specs.Found.{AllCome, Finds, Stops, swept_by, zero_tally}
+use Rattle.ppm_sweep.specs.Found.{Finds, Stops, swept_by, zero_tally}
 use Rattle.ppm_sweep.specs.Meets.{HasArraysOf}
 use Rattle.ppm_sweep.specs.Spots.{first_way, CameFrom, IsSpot}
 use Rattle.ppm_sweep.specs.Sweep.{Swept, sweep_from}

@@ -1,12 +1,11 @@
 -- The schedules of a sweep may be obeyed as the base schedule may.
-use Rattle.std.proofs.Common.{◌≡◌, ◌∙◌, refl, sym, ap, subst, arith, ℕ, zero, suc, ◌+◌, ◌-◌, ◌<◌, ◌≤◌, ◌==◌, ◌&&◌, ◌||◌, nat_lt, nat_le, Bool, true, false, if◌then◌else◌, List, [], ◌∷◌, ◌++◌, length, None, cond, leb-true, length-append, ltb-true}
-use Rattle.std.specs.List.{All, AllByRecursion, list_any}
+use Rattle.std.proofs.Common.{◌≡◌, ◌∙◌, refl, sym, ap, subst, arith, ℕ, zero, suc, ◌+◌, ◌-◌, ◌<◌, ◌≤◌, ◌==◌, ◌&&◌, ◌||◌, nat_lt, nat_le, Bool, true, false, if◌then◌else◌, List, [], ◌∷◌, ◌++◌, length, None, leb-true, length-append, ltb-true}
+use Rattle.std.specs.List.{AllByRecursion}
 use Rattle.std.proofs.lemmas.Bool.{both_ways}
 use Rattle.std.proofs.lemmas.List.Elements.{All-from_recursion, recursion_from_All}
 use Rattle.ppm_choice.proofs.DueLemmas.{all_due}
 use Rattle.ppm_cells.specs.declared.shape.Shape.{Shape}
 use Rattle.ppm_code.specs.declared.code.CodeParts.{CodeParts}
-use Rattle.ppm_plan.specs.declared.fault.Fault.{Fault}
 use Rattle.ppm_plan.specs.declared.fault.Fault.TheVariants.{Soft, Hard}
 use Rattle.ppm_plan.specs.declared.schedule_item.ScheduledAct.{ScheduledAct}
 use Rattle.ppm_plan.specs.declared.schedule_item.ScheduledAct.TheVariants.{Step, Fails}
@@ -15,12 +14,11 @@ use Rattle.ppm_plan.specs.Forms.{act_kills, schedule_form}
 use Rattle.ppm_plan.specs.Items.{most_times}
 use Rattle.ppm_plan.specs.Refusals.{item_limit, is_killed, IsKeeper}
 use Rattle.ppm_plan.specs.Schedules.{IsActAmong, IsItemAmong, MayBeDone}
-use Rattle.ppm_step.specs.State.{State}
-use Rattle.ppm_choice.specs.Course.{Due, Listed, InRound, Course, act_of, processor_of, is_made}
+use Rattle.ppm_choice.specs.Course.{Due, Listed, InRound, act_of, processor_of, is_made}
 use Rattle.ppm_choice.specs.Schedules.{listed, rounds, dues_of}
 use Rattle.ppm_sweep.specs.declared.options.Window.{Window}
-use Rattle.ppm_sweep.specs.Fair.{AreFair, IsFair, SweepsAreFair}
-use Rattle.ppm_sweep.specs.Sweep.{Place, Swept, same_step, joined, with_act, after_act, alone, along, before_due, passed, number_after, strikes, struck, sweep_from, all_acts, is_in, first_place}
+use Rattle.ppm_sweep.specs.Fair.{IsFair, SweepsAreFair}
+use Rattle.ppm_sweep.specs.Sweep.{Place, Swept, same_step, with_act, after_act, alone, along, before_due, passed, number_after, strikes, struck, sweep_from, all_acts, is_in, first_place}
 use Rattle.ppm_sweep.proofs.FrontLemmas.{steps_are}
 use Rattle.ppm_sweep.proofs.LeftLemmas.{some_times, listed_by, rest_by, done_less}
 
@@ -216,7 +214,7 @@ module _ (s : Shape) (code : CodeParts) (keeper : ℕ) where
       let at_i : Both (p.front ++ (i ∷ tail)) = subst (λ r. Both (p.front ++ r)) is at in
       let amongs = rest_among s.processors p.front (i ∷ tail) at_i.0 in
       let whole : due ∷ dues ≡ Listed i.act ∷ (listed (after_act (i ∷ tail)) ++ steps)
-          = e ∙ ap (λ l. l ++ steps) (listed_after i tail (some_times s.processors i amongs.0)) in
+      = e ∙ ap (λ l. l ++ steps) (listed_after i tail (some_times s.processors i amongs.0)) in
       let same : due ≡ Listed i.act = cc in
       let rest : dues ≡ listed (after_act (i ∷ tail)) ++ steps = cc in
       subst (λ d. Next p d dues) (sym same) (record {

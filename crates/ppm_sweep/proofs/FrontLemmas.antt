@@ -1,19 +1,16 @@
 -- The items of a schedule, written act by act.
-use Rattle.std.proofs.Common.{◌≡◌, ◌∙◌, refl, sym, ap, subst, arith, ℕ, zero, suc, ◌+◌, ◌-◌, ◌<◌, ◌==◌, ◌&&◌, nat_lt, Bool, true, false, cond, if◌then◌else◌, List, [], ◌∷◌, ◌++◌, Option, Some, None, map, replicate, append_assoc, eqb-true, ltb-true}
+use Rattle.std.proofs.Common.{◌≡◌, ◌∙◌, refl, sym, ap, arith, ℕ, zero, suc, ◌+◌, ◌==◌, ◌&&◌, nat_lt, Bool, true, false, if◌then◌else◌, List, [], ◌∷◌, ◌++◌, Option, Some, None, map, replicate, append_assoc, eqb-true}
 use Rattle.std.proofs.lemmas.Bool.{both_ways}
 use Rattle.std.proofs.lemmas.List.{map-append}
-use Rattle.std.specs.List.{list_any}
-use Rattle.std.specs.Prelude.{option_to_list}
 use Rattle.ppm_pieces.proofs.NumberLemmas.{both_parts}
-use Rattle.ppm_plan.specs.declared.fault.Fault.{Fault}
 use Rattle.ppm_plan.specs.declared.schedule_item.ScheduledAct.{ScheduledAct}
 use Rattle.ppm_plan.specs.declared.schedule_item.ScheduledAct.TheVariants.{Step, Fails}
 use Rattle.ppm_plan.specs.declared.schedule_item.ScheduleItem.{ScheduleItem}
 use Rattle.ppm_plan.specs.Faults.{acts_of}
 use Rattle.ppm_plan.specs.Items.{most_times}
-use Rattle.ppm_choice.specs.Course.{Due, Listed}
+use Rattle.ppm_choice.specs.Course.{Listed}
 use Rattle.ppm_choice.specs.Schedules.{listed}
-use Rattle.ppm_sweep.specs.Sweep.{same_victim, same_step, joined, with_act, after_act}
+use Rattle.ppm_sweep.specs.Sweep.{same_victim, same_step, joined, with_act}
 
 -- the last item is the one that an act joins
 pub with_last : (items : List ScheduleItem) (i : ScheduleItem) (act : ScheduledAct) → with_act (items ++ (i ∷ [])) act ≡ items ++ joined i act

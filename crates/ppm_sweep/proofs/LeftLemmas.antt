@@ -1,18 +1,15 @@
 -- What is ahead in a run, one act after another.
-use Rattle.std.proofs.Common.{◌≡◌, ◌∙◌, refl, sym, ap, subst, arith, ℕ, zero, suc, ◌+◌, ◌-◌, ◌<◌, ◌≤◌, nat_lt, Bool, true, false, if◌then◌else◌, List, [], ◌∷◌, ◌++◌, Option, Some, None, IfSome, map, replicate, length, drop, get_or, slice_get, ltb-true, option_map}
+use Rattle.std.proofs.Common.{◌≡◌, ◌∙◌, refl, sym, ap, subst, arith, ℕ, zero, suc, ◌+◌, ◌-◌, ◌<◌, ◌≤◌, nat_lt, Bool, true, false, if◌then◌else◌, List, [], ◌∷◌, ◌++◌, Option, Some, None, IfSome, map, replicate, drop, slice_get, ltb-true}
 use Rattle.std.proofs.lemmas.Bool.{both_ways, lt-ltb}
 use Rattle.std.specs.List.{All, AllByRecursion, range_with_len}
-use Rattle.ppm_plan.specs.declared.fault.Fault.{Fault}
 use Rattle.ppm_plan.specs.declared.schedule_item.ScheduledAct.{ScheduledAct}
 use Rattle.ppm_plan.specs.declared.schedule_item.ScheduledAct.TheVariants.{Step, Fails}
 use Rattle.ppm_plan.specs.declared.schedule_item.ScheduleItem.{ScheduleItem}
-use Rattle.ppm_plan.specs.Items.{most_times}
 use Rattle.ppm_plan.specs.Schedules.{IsItemAmong, MayBeDone}
 use Rattle.ppm_choice.specs.Course.{Due, Listed, InRound}
 use Rattle.ppm_choice.specs.Schedules.{listed, round, rounds}
 use Rattle.ppm_choice.proofs.DueLemmas.{listed_front}
 use Rattle.ppm_sweep.specs.Ahead.{Left, Passes, IsStepInRound, rest_of, once_less, first_of, first_in, first_due, dues_in}
-use Rattle.ppm_sweep.specs.Sweep.{after_act}
 
 -- at least once
 pub some_times : (p : ℕ) (i : ScheduleItem) → IsItemAmong p i → 1 ≤ i.times
@@ -249,9 +246,10 @@ due_first l i e h = go l.rest e
     go [] f = cc
     go (x ∷ rest) f =
         let same : x ≡ i = cc in
-        subst (λ y. (more : List Due) × (listed (y ∷ rest) ++ l.later ≡ Listed i.act ∷ more)) (sym same)
-        (listed (rest_of (if nat_lt 1 i.times then Some (less i) else None) rest) ++ l.later,
-        ap (λ d. d ++ l.later) (listed_by i rest (some_times l.processors i h) (nat_lt 1 i.times) refl))
+        subst (λ y. (more : List Due) × (listed (y ∷ rest) ++ l.later ≡ Listed i.act ∷ more)) (sym same) (
+          listed (rest_of (if nat_lt 1 i.times then Some (less i) else None) rest) ++ l.later,
+          ap (λ d. d ++ l.later) (listed_by i rest (some_times l.processors i h) (nat_lt 1 i.times) refl),
+        )
 
 -- or with a step in a round
 pub due_later : (l : Left) (c : ℕ) → None ≡ slice_get l.rest 0 → Some (InRound c) ≡ first_of l.later → (more : List Due) × (dues_in l ≡ InRound c ∷ more)

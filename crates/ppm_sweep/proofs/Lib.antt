@@ -9,7 +9,6 @@ pub mod LeftLemmas
 pub mod FoundLemmas
 pub mod SpotLemmas
 pub mod AlongLemmas
-
 pub mod TextLemmas
 pub mod PlaceLemmas
 pub mod AloneLemmas

@@ -1,6 +1,5 @@
 -- The place after an act, after one that is left out, and after a fault.
-use Rattle.std.proofs.Common.{◌≡◌, ◌∙◌, refl, sym, ap, subst, ℕ, ◌+◌, ◌<◌, Bool, true, false, if◌then◌else◌, List, [], ◌∷◌, ◌++◌, None}
-use Rattle.ppm_words.specs.declared.outcome.Outcome.{Outcome}
+use Rattle.std.proofs.Common.{◌≡◌, ◌∙◌, refl, sym, ap, subst, ℕ, ◌+◌, true, false, if◌then◌else◌, List, [], ◌∷◌, ◌++◌, None}
 use Rattle.ppm_plan.specs.declared.fault.Fault.{Fault}
 use Rattle.ppm_plan.specs.declared.schedule_item.ScheduledAct.{ScheduledAct}
 use Rattle.ppm_plan.specs.declared.schedule_item.ScheduledAct.TheVariants.{Step, Fails}
@@ -10,7 +9,7 @@ use Rattle.ppm_core.specs.Machine.{seen}
 use Rattle.ppm_core.specs.Situation.{Situation}
 use Rattle.ppm_cells.specs.declared.shape.Shape.{Shape}
 use Rattle.ppm_code.specs.declared.code.CodeParts.{CodeParts}
-use Rattle.ppm_choice.specs.Course.{Due, Listed, InRound, Course, act_of, processor_of, is_made, behind_act, behind}
+use Rattle.ppm_choice.specs.Course.{Listed, Course, act_of, processor_of, is_made, behind_act}
 use Rattle.ppm_choice.specs.Schedules.{listed, dues_of}
 use Rattle.ppm_core.specs.Machine.{Holding}
 use Rattle.ppm_following.specs.Followed.{followed}
@@ -20,10 +19,10 @@ use Rattle.ppm_following.proofs.DoesLemmas.{shape_stays}
 use Rattle.ppm_sweep.specs.declared.ahead.Coming.{Coming}
 use Rattle.ppm_sweep.specs.declared.ahead.Coming.TheVariants as coming
 use Rattle.ppm_sweep.specs.declared.spot.Spot.{Spot}
-use Rattle.ppm_sweep.specs.Ahead.{Left, Passes, due_of}
+use Rattle.ppm_sweep.specs.Ahead.{Passes, due_of}
 use Rattle.ppm_sweep.specs.Meets.{HasArraysOf}
-use Rattle.ppm_sweep.specs.Spots.{place_of, IsSpot, GoesOn, Advances, IsLast, CameFrom, first_way}
-use Rattle.ppm_sweep.specs.Sweep.{Place, with_act, written, passed, number_after, struck}
+use Rattle.ppm_sweep.specs.Spots.{place_of, GoesOn, Advances, IsLast, CameFrom, first_way}
+use Rattle.ppm_sweep.specs.Sweep.{with_act, written, struck}
 use Rattle.ppm_sweep.proofs.SpotLemmas.{written_on, code_stays, arrays_stay, left_of, made, made_listed, same_behind, skipped, not_done, whole_run}
 
 -- an act more was made and written

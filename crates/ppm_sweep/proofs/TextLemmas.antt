@@ -1,13 +1,12 @@
 -- The text of a schedule, item by item.
-use Rattle.std.proofs.Common.{◌≡◌, ◌∙◌, refl, sym, ap, subst, arith, ℕ, zero, suc, ◌≤◌, ◌<◌, ◌-◌, ◌==◌, Bool, true, false, if◌then◌else◌, List, [], ◌∷◌, ◌++◌, Option, Some, None, length, decimal, append_assoc, eqb-true, get_or, take, drop, take_all, le_refl}
+use Rattle.std.proofs.Common.{◌≡◌, ◌∙◌, refl, sym, ap, subst, arith, ℕ, suc, ◌≤◌, ◌-◌, ◌==◌, Bool, true, false, if◌then◌else◌, List, [], ◌∷◌, ◌++◌, Option, Some, None, length, decimal, eqb-true, get_or, take, drop, take_all, le_refl}
 use Rattle.std.specs.List.{All}
-use Rattle.ppm_plan.specs.declared.fault.Fault.{Fault}
 use Rattle.ppm_plan.specs.declared.schedule_item.ScheduledAct.{ScheduledAct}
 use Rattle.ppm_plan.specs.declared.schedule_item.ScheduledAct.TheVariants.{Step, Fails}
 use Rattle.ppm_plan.specs.declared.schedule_item.ScheduleItem.{ScheduleItem}
-use Rattle.ppm_plan.specs.Items.{act_text, most_times, FitsAct, FitsVictim, WritesScheduleItem, Once, Times}
+use Rattle.ppm_plan.specs.Items.{act_text, FitsAct, FitsVictim, WritesScheduleItem, Once, Times}
 use Rattle.ppm_plan.specs.Schedules.{IsActAmong, IsVictimAmong, IsItemAmong, MayBeDone}
-use Rattle.ppm_plan.specs.Spellings.{WritesAll, WritesInTurn, Last, More}
+use Rattle.ppm_plan.specs.Spellings.{WritesInTurn, Last, More}
 use Rattle.ppm_sweep.specs.Text.{item_text, items_text, schedule_text, SchedulesAreWritten}
 
 -- each of some items after a comma

@@ -4,7 +4,6 @@ use Rattle.std.specs.Result.{IsErrAnd}
 use Rattle.ppm_words.specs.declared.outcome.Outcome.{Outcome}
 use Rattle.ppm_plan.specs.declared.fault.Fault.{Fault}
 use Rattle.ppm_plan.specs.declared.fault.Fault.TheVariants.{Soft, Hard}
-use Rattle.ppm_plan.specs.declared.schedule_item.ScheduleItem.{ScheduleItem}
 use Rattle.ppm_core.specs.Machine.{seen}
 use Rattle.ppm_core.specs.Situation.{Situation}
 use Rattle.ppm_choice.specs.Course.{Due, act_of, processor_of, is_made}
@@ -15,10 +14,10 @@ use Rattle.ppm_sweep.specs.declared.options.Sweeping.{Sweeping}
 use Rattle.ppm_sweep.specs.declared.spot.Spot.{Spot}
 use Rattle.ppm_sweep.specs.Ahead.{dues_in}
 use Rattle.ppm_sweep.specs.Found.{AllCome, Stops, Finds}
-use Rattle.ppm_sweep.specs.Spots.{place_of, first_way, CameFrom, IsSpot, GoesOn, Advances}
-use Rattle.ppm_sweep.specs.Sweep.{Swept, all_acts, alone, along, is_in, passed, number_after, strikes, sweep_from, struck}
-use Rattle.ppm_sweep.specs.Visits.{one_less, swept_from, swept_deeper, swept_before, swept_ahead, swept_struck, Visited, Ended, Visits, PassesOn}
-use Rattle.ppm_sweep.proofs.FoundLemmas.{none_come, finds_after, no_more, stops_in, stops_after, all_both}
+use Rattle.ppm_sweep.specs.Spots.{place_of, first_way, CameFrom, GoesOn, Advances}
+use Rattle.ppm_sweep.specs.Sweep.{Swept, all_acts, alone, along, is_in, passed, number_after, sweep_from, struck}
+use Rattle.ppm_sweep.specs.Visits.{one_less, swept_from, swept_deeper, swept_before, swept_ahead, swept_struck, Visits, PassesOn}
+use Rattle.ppm_sweep.proofs.FoundLemmas.{none_come, finds_after, no_more, stops_in}
 
 pub stays : (spot : Spot) → GoesOn spot spot
 stays spot = record { shape = refl; code = refl; is_spot = λ wanted h. h; came = λ m first h. h }
@@ -181,8 +180,9 @@ pub before_is : (o : Sweeping) (old : Spot) (due : Due) (more : List Due) → du
 before_is o old due more e made chosen =
     let s = (seen old.machine).shape in
     let code = (seen old.machine).code in
-    let rest = along s code o.keeper (swept_deeper o old) o.window (number_after s code old.number (place_of old) due) (passed s code (place_of old) due) more in
-    (rest,
-    ap (λ dues. along s code o.keeper (swept_deeper o old) o.window old.number (place_of old) dues) e
-    ∙ ap (λ b. (if b && is_in o.window old.number then swept_struck o old (processor_of (act_of due)) else []) ++ rest) made
-    ∙ ap (λ b. (if b then swept_struck o old (processor_of (act_of due)) else []) ++ rest) chosen)
+    let rest = along s code o.keeper (swept_deeper o old) o.window (number_after s code old.number (place_of old) due) (passed s code (place_of old) due) more in (
+      rest,
+      ap (λ dues. along s code o.keeper (swept_deeper o old) o.window old.number (place_of old) dues) e
+          ∙ ap (λ b. (if b && is_in o.window old.number then swept_struck o old (processor_of (act_of due)) else []) ++ rest) made
+          ∙ ap (λ b. (if b then swept_struck o old (processor_of (act_of due)) else []) ++ rest) chosen,
+    )

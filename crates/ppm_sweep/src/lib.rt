@@ -10,7 +10,6 @@
 #![tactic(auto)]
 
 mod ahead;
-mod copies;
 mod found;
 mod front;
 mod laws;

@@ -12,7 +12,6 @@ ghost use Rattle.ppm_sweep.specs.Sweep.{struck as struck_by};
 ghost use Rattle.ppm_words.specs.declared.outcome.Outcome.{Outcome};
 
 use crate::ahead::{Ahead, Coming};
-use crate::copies::machine_copy;
 use crate::front::write_act;
 use ppm_core::Machine;
 use ppm_following::{Way, make};
@@ -93,7 +92,7 @@ pub(crate) fn struck(
 {
     let faults = one_more(spot.faults)?;
     let rest = spot.ahead.rest(alloc)?;
-    let mut machine = machine_copy(alloc, &spot.machine)?;
+    let mut machine = spot.machine.copy(alloc)?;
     let mut way = spot.way;
     let written = spot.front.as_slice();
     let mut front = Vec::from_slice(alloc, written)?;

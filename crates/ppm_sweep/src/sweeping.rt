@@ -15,7 +15,6 @@ ghost use Rattle.ppm_sweep.specs.Visits.{swept_ahead, swept_from, swept_struck};
 ghost use Rattle.ppm_sweep.specs.Visits.{PassesOn, Visits};
 
 use crate::ahead::Ahead;
-use crate::copies::machine_copy;
 use crate::found::{Differing, Stop, Tally};
 use crate::front::both;
 use crate::meeting::meets;
@@ -52,7 +51,7 @@ fn alone(
     if !are_few(front, left) {
         return Ok(());
     }
-    let mut machine = machine_copy(alloc, &spot.machine)?;
+    let mut machine = spot.machine.copy(alloc)?;
     let mut way = spot.way;
     follow_on(&mut machine, &mut way, left, turns);
     if !meets(&machine, wanted) {

@@ -1,4 +1,4 @@
-use Rattle.std.proofs.Common.{◌≡◌, length, arith}
+use Rattle.std.proofs.Common.{arith}
 use Rattle.ppm_sweep.proofs.meeting.has_values.Goals as goal
 
 -- there are fewer than 2^32 arrays

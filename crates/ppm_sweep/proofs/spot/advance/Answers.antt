@@ -1,4 +1,4 @@
-use Rattle.std.proofs.Common.{◌≡◌, ◌∙◌, refl, sym, ap, subst, [], ◌∷◌, IfSome}
+use Rattle.std.proofs.Common.{◌∙◌, refl, ap, subst, [], ◌∷◌, IfSome}
 use Rattle.ppm_core.specs.Machine.{seen}
 use Rattle.ppm_choice.specs.Course.{Listed}
 use Rattle.ppm_following.specs.Following.{Does}
@@ -11,8 +11,7 @@ use Rattle.ppm_sweep.proofs.spot.advance.Goals as goal
 pub returns : goal.returns
 returns c =
     let old = c.args.spot.now in
-    advanced old _ c.args.coming c.requires.more c.requires.lives
-    (
+    advanced old _ c.args.coming c.requires.more c.requires.lives (
       c.in_ok-write_act.ensures ∙ ap (with_act old.front.items) c.act-act.ensures,
       subst (λ a. Does (Listed a ∷ []) (seen old.machine) old.way (seen c.make.new.machine) c.make.new.way) c.act-act.ensures c.make.ensures.does,
       c.make.ensures.ready,

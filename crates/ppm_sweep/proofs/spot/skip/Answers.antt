@@ -1,4 +1,4 @@
-use Rattle.std.proofs.Common.{◌≡◌, ◌∙◌, refl, sym, ap, subst, IfSome}
+use Rattle.std.proofs.Common.{refl, sym, subst, IfSome}
 use Rattle.ppm_sweep.specs.Ahead.{Passes}
 use Rattle.ppm_sweep.proofs.PlaceLemmas.{Skips, left_out}
 use Rattle.ppm_sweep.proofs.spot.skip.Goals as goal

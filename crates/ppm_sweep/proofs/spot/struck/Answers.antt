@@ -1,4 +1,4 @@
-use Rattle.std.proofs.Common.{◌≡◌, ◌∙◌, sym, ap, subst, [], ◌∷◌}
+use Rattle.std.proofs.Common.{◌∙◌, sym, ap, subst, [], ◌∷◌}
 use Rattle.ppm_plan.specs.declared.schedule_item.ScheduledAct.TheVariants.{Fails}
 use Rattle.ppm_core.specs.Machine.{seen}
 use Rattle.ppm_choice.specs.Course.{Listed}

@@ -1,17 +1,17 @@
-use Rattle.std.proofs.Common.{◌≡◌, ◌∙◌, refl, sym, ap, subst, arith, true, false, suc, ◌-◌, Ok}
+use Rattle.std.proofs.Common.{◌≡◌, ◌∙◌, refl, sym, subst, arith, false, suc, ◌-◌, Ok}
 use Rattle.std.proofs.lemmas.Bool.{both_ways}
 use Rattle.ppm_core.specs.Machine.{seen}
 use Rattle.ppm_step.specs.State.{stand_of, is_done_at}
 use Rattle.ppm_choice.specs.Course.{act_of, processor_of}
 use Rattle.ppm_sweep.specs.Ahead.{due_of}
 use Rattle.ppm_sweep.specs.Found.{Finds, Stops}
-use Rattle.ppm_sweep.specs.Spots.{place_of, first_way, IsLast}
+use Rattle.ppm_sweep.specs.Spots.{place_of, IsLast}
 use Rattle.ppm_sweep.specs.Sweep.{alone}
 use Rattle.ppm_sweep.specs.Visits.{PassesOn, Visits, swept_ahead, swept_deeper, swept_struck}
 use Rattle.ppm_sweep.proofs.AlongLemmas.{last_of, none_made}
 use Rattle.ppm_sweep.proofs.FoundLemmas.{finds_after, stops_in}
 use Rattle.ppm_sweep.proofs.SpotLemmas.{made}
-use Rattle.ppm_sweep.proofs.WalkLemmas.{IsStruck, before_is, exit_finds, exit_visits, from_is, later, hard_too, one_visit, soft_alone, soft_stops, visits_end, walk_stops}
+use Rattle.ppm_sweep.proofs.WalkLemmas.{before_is, exit_finds, exit_visits, from_is, later, hard_too, one_visit, soft_alone, soft_stops, visits_end, walk_stops}
 use Rattle.ppm_sweep.proofs.sweeping.+sweeps.Goals as goal
 
 -- a run after the soft fault differs
@@ -107,8 +107,7 @@ walk-returns-then-not-more t c =
 -- one visit more
 pub walk-acts-preserved : goal.walk-acts-preserved
 walk-acts-preserved t c =
-    let p = subst (λ b. PassesOn b c.acts.spot c.visit.new.spot) c.if-not-more.false c.in_ok-more.ensures.goes_on in
-    (
+    let p = subst (λ b. PassesOn b c.acts.spot c.visit.new.spot) c.if-not-more.false c.in_ok-more.ensures.goes_on in (
       one_visit c.args.wanted.now c.args.sweeping c.args.spot c.acts.spot c.visit.new.spot c.args.tally.now c.acts.tally c.visit.new.tally
           c.acts.invariant.0 p
           (λ m fresh came. subst (λ b. Visits m c.args.wanted.now c.args.sweeping c.acts.spot c.visit.new.spot c.acts.tally c.visit.new.tally (Ok b))

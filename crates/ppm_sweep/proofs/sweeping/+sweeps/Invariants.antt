@@ -1,4 +1,4 @@
-use Rattle.std.proofs.Common.{◌≡◌, ◌+◌, ◌*◌, ◌<◌, length}
+use Rattle.std.proofs.Common.{◌+◌, ◌*◌, length}
 use Rattle.ppm_sweep.specs.Ahead.{dues_in}
 use Rattle.ppm_sweep.specs.Spots.{IsSpot}
 use Rattle.ppm_sweep.proofs.WalkLemmas.{Walked}

@@ -1,4 +1,4 @@
-use Rattle.std.proofs.Common.{◌≡◌, ◌∙◌, refl, sym, ap, subst, ◌+◌, ◌++◌, nat_le, length, OnOk}
+use Rattle.std.proofs.Common.{◌≡◌, ◌∙◌, sym, subst, ◌+◌, ◌++◌, nat_le, length, OnOk}
 use Rattle.std.proofs.lemmas.Bool.{both_ways}
 use Rattle.ppm_plan.specs.Refusals.{item_limit}
 use Rattle.ppm_core.specs.Machine.{seen}

@@ -1,4 +1,4 @@
-use Rattle.std.proofs.Common.{◌≡◌, ◌∙◌, refl, sym, ap, subst, ℕ, Ok, Err}
+use Rattle.std.proofs.Common.{◌∙◌, refl, sym, subst, ℕ, Ok, Err}
 use Rattle.std.specs.List.{All}
 use Rattle.ppm_plan.specs.Schedules.{IsItemAmong}
 use Rattle.ppm_core.specs.Machine.{seen}
@@ -6,7 +6,7 @@ use Rattle.ppm_choice.specs.Schedules.{dues_of}
 use Rattle.ppm_sweep.specs.declared.found.Stop.TheVariants.{NoMemory}
 use Rattle.ppm_sweep.specs.declared.spot.Spot.{Spot}
 use Rattle.ppm_sweep.specs.Found.{swept_by}
-use Rattle.ppm_sweep.proofs.BeginLemmas.{IsBeginning, begins_well, exit_all, exit_stops, sweep_finds}
+use Rattle.ppm_sweep.proofs.BeginLemmas.{begins_well, exit_all, exit_stops, sweep_finds}
 use Rattle.ppm_sweep.proofs.sweeping.sweep.Goals as goal
 
 -- memory was wanting before it

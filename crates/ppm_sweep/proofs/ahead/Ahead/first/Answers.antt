@@ -1,4 +1,4 @@
-use Rattle.std.proofs.Common.{◌≡◌, subst}
+use Rattle.std.proofs.Common.{subst}
 use Rattle.std.specs.List.{AllByRecursion}
 use Rattle.ppm_sweep.specs.Ahead.{Left, IsStepInRound}
 use Rattle.ppm_sweep.proofs.LeftLemmas.{all_steps, due_first, due_later}

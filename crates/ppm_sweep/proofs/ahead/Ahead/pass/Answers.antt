@@ -1,4 +1,4 @@
-use Rattle.std.proofs.Common.{◌≡◌, ◌∙◌, sym, ap, subst, slice_get, arith}
+use Rattle.std.proofs.Common.{◌∙◌, sym, ap, subst, slice_get, arith}
 use Rattle.ppm_sweep.specs.Ahead.{Left}
 use Rattle.ppm_sweep.proofs.LeftLemmas.{AllPass, none_of, among_first, among_next, pass_next_of, pass_step_of, pass_round_of, pass_none, no_processors}
 use Rattle.ppm_sweep.proofs.ahead.Ahead.pass.Goals as goal
@@ -13,8 +13,7 @@ invariant_of-self c =
 pub invariant_of-self-in-Some-item_at : goal.invariant_of-self-in-Some-item_at
 invariant_of-self-in-Some-item_at c =
     let i = c.self.inside in
-    let found = ap (λ l. slice_get l i.at) (sym c.deref.ensures.value) ∙ sym c.item_at.ensures ∙ c.in-Some-item_at.is in
-    (
+    let found = ap (λ l. slice_get l i.at) (sym c.deref.ensures.value) ∙ sym c.item_at.ensures ∙ c.in-Some-item_at.is in (
       c.self.invariant.0,
       among_next i.processors i.items.items i.at i.next i.count i.first _ c.in-Some-item_at.item (none_of i.first c.in_default.not-Some) found
           c.less_one-self-inside-in-Some-item_at.ensures c.self.invariant.1,

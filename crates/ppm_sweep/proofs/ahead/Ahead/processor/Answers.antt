@@ -1,4 +1,4 @@
-use Rattle.std.proofs.Common.{◌≡◌, ◌∙◌, sym, ap, Some, None, arith}
+use Rattle.std.proofs.Common.{◌∙◌, sym, ap, arith}
 use Rattle.ppm_sweep.specs.Ahead.{Left, first_of}
 use Rattle.ppm_sweep.proofs.LeftLemmas.{new_round, no_processors}
 use Rattle.ppm_sweep.proofs.ahead.Ahead.processor.Goals as goal
