@@ -1,10 +1,10 @@
 -- The schedules along what is due.
-use Rattle.std.proofs.Common.{◌≡◌, ◌≢◌, ◌∙◌, ◌⊎◌, inl, inr, refl, sym, ap, subst, arith, ℕ, zero, suc, ◌+◌, ◌-◌, ◌<◌, ◌==◌, ◌&&◌, Bool, true, false, if◌then◌else◌, List, [], ◌∷◌, ◌++◌, Option, Some, None}
+use Rattle.std.proofs.Common.{◌≡◌, ◌∙◌, inl, inr, refl, sym, ap, subst, ℕ, ◌&&◌, false, if◌then◌else◌, List, [], ◌∷◌, ◌++◌, Some, None}
 use Rattle.std.specs.List.{AllByRecursion}
 use Rattle.ppm_cells.specs.declared.shape.Shape.{Shape}
 use Rattle.ppm_code.specs.declared.code.CodeParts.{CodeParts}
 use Rattle.ppm_core.specs.Situation.{Situation, finish_in}
-use Rattle.ppm_choice.specs.Course.{Due, Listed, InRound, Course, act_of, is_made, behind_act, behind}
+use Rattle.ppm_choice.specs.Course.{Due, Listed, InRound, act_of, processor_of, is_made, behind_act}
 use Rattle.ppm_choice.specs.Schedules.{listed}
 use Rattle.ppm_choice.proofs.IdleLemmas.{none_left, not_open, is_shut}
 use Rattle.ppm_following.specs.declared.following.Way.{Way}
@@ -12,7 +12,7 @@ use Rattle.ppm_following.specs.Following.{course}
 use Rattle.ppm_sweep.specs.declared.ahead.Coming.{Coming}
 use Rattle.ppm_sweep.specs.declared.ahead.Coming.TheVariants as coming
 use Rattle.ppm_sweep.specs.declared.options.Window.{Window}
-use Rattle.ppm_sweep.specs.Ahead.{Left, IsStepInRound, dues_in, due_of, first_due, first_in, first_of}
+use Rattle.ppm_sweep.specs.Ahead.{Left, IsStepInRound, dues_in, due_of, first_due, first_in}
 use Rattle.ppm_sweep.specs.Spots.{IsLast}
 use Rattle.ppm_sweep.specs.Sweep.{Place, Swept, along, before_due, is_in, number_after, passed, strikes}
 
@@ -20,7 +20,7 @@ module _ (s : Shape) (code : CodeParts) (keeper : ℕ) (sweep : Place → List S
   -- before what isn't made no fault is put
   nothing_before : (number : ℕ) (p : Place) (due : Due) → is_made s code p.course due ≡ false
       → before_due s code keeper sweep window number p due ≡ []
-  nothing_before number p due e = ap (λ b. if b && is_in window number then _ else []) e
+  nothing_before number p due e = ap (λ b. if b && is_in window number then strikes s code keeper sweep p (processor_of (act_of due)) else []) e
 
   -- where nothing of what is due is made, there is no further schedule
   pub none_made : (number : ℕ) (p : Place) (dues : List Due) → AllByRecursion (λ due. is_made s code p.course due ≡ false) dues

@@ -1,18 +1,17 @@
 -- What is found of some schedules, and then of more.
-use Rattle.std.proofs.Common.{◌≡◌, ◌∙◌, refl, sym, ap, subst, arith, ℕ, ◌+◌, List, [], ◌∷◌, ◌++◌, length, Result, Ok, Err, append_assoc}
+use Rattle.std.proofs.Common.{◌≡◌, ◌∙◌, refl, sym, ap, arith, ℕ, ◌+◌, List, [], ◌∷◌, ◌++◌, Result, Ok, Err, append_assoc}
 use Rattle.std.proofs.lemmas.List.{length-append}
 use Rattle.std.specs.List.{AllByRecursion}
 use Rattle.ppm_words.specs.declared.outcome.Outcome.{Outcome}
 use Rattle.ppm_core.specs.Situation.{Situation}
-use Rattle.ppm_sweep.specs.declared.found.Differing.{Differing}
 use Rattle.ppm_sweep.specs.declared.found.Stop.{Stop}
 use Rattle.ppm_sweep.specs.declared.found.Stop.TheVariants.{Differs, NoMemory}
 use Rattle.ppm_sweep.specs.declared.found.Tally.{Tally}
-use Rattle.ppm_sweep.specs.Found.{faults_in, acts_in, Comes, AllCome, FirstDiffers, Stops, Finds}
+use Rattle.ppm_sweep.specs.Found.{faults_in, acts_in, Comes, AllCome, Stops, Finds}
 use Rattle.ppm_sweep.specs.Sweep.{Swept}
 
 faults_both : (first more : List Swept) → faults_in (first ++ more) ≡ faults_in first + faults_in more
-faults_both [] more = refl
+faults_both [] more = omega arith
 faults_both (v ∷ first) more = omega (arith, faults_both first more)
 
 -- nothing stands after them
@@ -22,7 +21,7 @@ no_more (v ∷ swept) = ap (λ l. v ∷ l) (no_more swept)
 
 module _ (m : Situation) (turns : ℕ) (wanted : Outcome) where
   acts_both : (first more : List Swept) → acts_in m turns wanted (first ++ more) ≡ acts_in m turns wanted first + acts_in m turns wanted more
-  acts_both [] more = refl
+  acts_both [] more = omega arith
   acts_both (v ∷ first) more = omega (arith, acts_both first more)
 
   come_both : (first more : List Swept) → AllByRecursion (Comes m turns wanted) first → AllByRecursion (Comes m turns wanted) more

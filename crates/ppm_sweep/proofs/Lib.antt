@@ -5,8 +5,13 @@
 -- whole schedule (`SpotLemmas`).
 
 pub mod FrontLemmas
+pub mod LeftLemmas
 pub mod FoundLemmas
 pub mod SpotLemmas
 pub mod AlongLemmas
-pub mod WalkLemmas
 pub mod TextLemmas
+pub mod PlaceLemmas
+pub mod AloneLemmas
+pub mod WalkLemmas
+pub mod FairLemmas
+pub mod BeginLemmas

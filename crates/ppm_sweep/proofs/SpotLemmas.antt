@@ -1,5 +1,5 @@
 -- Places in a run, one after another.
-use Rattle.std.proofs.Common.{◌≡◌, ◌≢◌, ◌∙◌, ◌⊎◌, inl, inr, refl, sym, ap, subst, arith, ℕ, zero, suc, ◌+◌, ◌-◌, ◌<◌, ◌≤◌, ◌==◌, ◌&&◌, nat_lt, not, Bool, true, false, if◌then◌else◌, List, [], ◌∷◌, ◌++◌, None, length, append_assoc, replicate}
+use Rattle.std.proofs.Common.{◌≡◌, ◌∙◌, inl, inr, refl, sym, ap, subst, arith, ℕ, zero, suc, ◌<◌, ◌==◌, ◌&&◌, nat_lt, not, Bool, true, false, if◌then◌else◌, List, [], ◌∷◌, ◌++◌, length, append_assoc, replicate}
 use Rattle.std.proofs.lemmas.Bool.{lt-ltb}
 use Rattle.ppm_words.specs.declared.outcome.Outcome.{Outcome}
 use Rattle.ppm_words.specs.declared.outcome.Outcome.TheVariants as outcome
@@ -8,11 +8,11 @@ use Rattle.ppm_code.specs.declared.code.CodeParts.{CodeParts}
 use Rattle.ppm_plan.specs.declared.schedule_item.ScheduledAct.{ScheduledAct}
 use Rattle.ppm_plan.specs.declared.schedule_item.ScheduleItem.{ScheduleItem}
 use Rattle.ppm_step.specs.State.{stand_of, is_done_at}
-use Rattle.ppm_core.specs.Situation.{Situation, finish_in, run_on}
-use Rattle.ppm_choice.specs.Course.{Due, Listed, InRound, Course, act_of, processor_of, is_open, is_made, behind_act, behind, behind_all, turns_of}
+use Rattle.ppm_core.specs.Situation.{Situation, finish_in}
+use Rattle.ppm_choice.specs.Course.{Due, Listed, Course, act_of, processor_of, is_open, is_made, behind_act, behind}
 use Rattle.ppm_choice.specs.Schedules.{listed, rounds, dues_of, schedule_turns}
 use Rattle.ppm_choice.proofs.DueLemmas.{listed_front}
-use Rattle.ppm_choice.proofs.IdleLemmas.{none_left, not_open, is_over, is_shut, no_dues, one_more}
+use Rattle.ppm_choice.proofs.IdleLemmas.{is_over, no_dues, one_more}
 use Rattle.ppm_following.specs.declared.following.Way.{Way}
 use Rattle.ppm_following.specs.Followed.{followed}
 use Rattle.ppm_following.specs.Following.{course, Does}
@@ -35,7 +35,7 @@ pub code_stays : {dues : List Due} {m m' : Situation} {way way' : Way} → Does 
 code_stays d = ap (λ k. k.code) d.machine
 
 arrays_are : (m n : Situation) (o : Outcome) → n.array_lengths ≡ m.array_lengths → HasArraysOf m o → HasArraysOf n o
-arrays_are m n (outcome.Ended arrays) e h = omega (arith, h, ap length e)
+arrays_are m n (outcome.Ended arrays) e h = (omega (arith, h.0, ap length e), h.1)
 arrays_are m n (outcome.Trapped trap line) e h = tt
 arrays_are m n outcome.NotWithin e h = tt
 
@@ -55,8 +55,8 @@ pub whole_run : (front rest : List ScheduleItem) (turns : ℕ) {m n o : Situatio
 whole_run front rest turns {m} {n} {o} {v} {u} d e =
     let way = first_way turns in
     let same : listed front ++ dues_of m.shape.processors rest turns ≡ dues_of m.shape.processors (front ++ rest) turns
-        = sym (append_assoc (listed front) (listed rest) (rounds m.shape.processors turns))
-            ∙ ap (λ l. l ++ rounds m.shape.processors turns) (sym (listed_both front rest)) in
+    = sym (append_assoc (listed front) (listed rest) (rounds m.shape.processors turns))
+    ∙ ap (λ l. l ++ rounds m.shape.processors turns) (sym (listed_both front rest)) in
     let more = subst (λ (s : Shape). Does (dues_of s.processors rest turns) n v o u) (shape_stays d) e in
     (subst (λ dues. Does dues m way o u) same (both (listed front) (dues_of m.shape.processors rest turns) d more)).machine
 

@@ -1,13 +1,12 @@
 -- The text of a schedule, item by item.
-use Rattle.std.proofs.Common.{◌≡◌, ◌∙◌, refl, sym, ap, subst, arith, ℕ, zero, suc, ◌≤◌, ◌<◌, ◌==◌, Bool, true, false, if◌then◌else◌, List, [], ◌∷◌, ◌++◌, Option, Some, None, length, decimal, append_assoc, eqb-true}
+use Rattle.std.proofs.Common.{◌≡◌, ◌∙◌, refl, sym, ap, subst, arith, ℕ, suc, ◌≤◌, ◌-◌, ◌==◌, Bool, true, false, if◌then◌else◌, List, [], ◌∷◌, ◌++◌, Option, Some, None, length, decimal, eqb-true, get_or, take, drop, take_all, le_refl}
 use Rattle.std.specs.List.{All}
-use Rattle.ppm_plan.specs.declared.fault.Fault.{Fault}
 use Rattle.ppm_plan.specs.declared.schedule_item.ScheduledAct.{ScheduledAct}
 use Rattle.ppm_plan.specs.declared.schedule_item.ScheduledAct.TheVariants.{Step, Fails}
 use Rattle.ppm_plan.specs.declared.schedule_item.ScheduleItem.{ScheduleItem}
-use Rattle.ppm_plan.specs.Items.{act_text, most_times, FitsAct, FitsVictim, WritesScheduleItem, Once, Times}
+use Rattle.ppm_plan.specs.Items.{act_text, FitsAct, FitsVictim, WritesScheduleItem, Once, Times}
 use Rattle.ppm_plan.specs.Schedules.{IsActAmong, IsVictimAmong, IsItemAmong, MayBeDone}
-use Rattle.ppm_plan.specs.Spellings.{WritesAll, WritesInTurn, Last, More}
+use Rattle.ppm_plan.specs.Spellings.{WritesInTurn, Last, More}
 use Rattle.ppm_sweep.specs.Text.{item_text, items_text, schedule_text, SchedulesAreWritten}
 
 -- each of some items after a comma
@@ -23,6 +22,16 @@ items_are i [] = nothing_more (item_text i)
     nothing_more [] = refl
     nothing_more (x ∷ l) = ap (λ m. x ∷ m) (nothing_more l)
 items_are i (j ∷ items) = ap (λ l. item_text i ++ 44 ∷ l) (items_are j items)
+
+-- the first item is written, and those after it are left
+pub first_text : (items : List ScheduleItem) (d : ScheduleItem) (none text : List ℕ) → 1 ≤ length items → none ≡ []
+    → text ≡ none ++ item_text (get_or items 0 d)
+    → text ++ more_text (take (length items - 1) (drop 1 items)) ≡ schedule_text items
+first_text [] d none text some empty e = absurd (omega (arith, some))
+first_text (i ∷ items) d none text some empty e =
+    let one : length (i ∷ items) - 1 ≡ length items = omega arith in
+    let rest : take (length (i ∷ items) - 1) items ≡ items = ap (λ k. take k items) one ∙ take_all (length items) items (le_refl (length items)) in
+    ap (λ t. t ++ more_text (take (length (i ∷ items) - 1) items)) (e ∙ ap (λ t. t ++ item_text i) empty) ∙ ap (λ l. item_text i ++ more_text l) rest ∙ items_are i items
 
 module _ (p : ℕ) (few : p ≤ 4294967296) where
   fits_victim : (v : Option ℕ) → IsVictimAmong p v → FitsVictim v

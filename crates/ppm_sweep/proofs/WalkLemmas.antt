@@ -1,10 +1,12 @@
 -- A sweep goes along a run.
-use Rattle.std.proofs.Common.{◌≡◌, ◌∙◌, refl, sym, ap, subst, arith, ℕ, zero, suc, ◌+◌, ◌-◌, Bool, true, false, List, [], ◌∷◌, ◌++◌, Result, Ok, Err}
+use Rattle.std.proofs.Common.{◌≡◌, ◌∙◌, refl, sym, ap, subst, arith, ℕ, zero, suc, ◌+◌, ◌-◌, ◌==◌, ◌&&◌, if◌then◌else◌, Bool, true, false, List, [], ◌∷◌, ◌++◌, Result, Ok, Err, eq-eqb, ne_eqb}
+use Rattle.std.specs.Result.{IsErrAnd}
 use Rattle.ppm_words.specs.declared.outcome.Outcome.{Outcome}
 use Rattle.ppm_plan.specs.declared.fault.Fault.{Fault}
+use Rattle.ppm_plan.specs.declared.fault.Fault.TheVariants.{Soft, Hard}
 use Rattle.ppm_core.specs.Machine.{seen}
 use Rattle.ppm_core.specs.Situation.{Situation}
-use Rattle.ppm_choice.specs.Course.{Due}
+use Rattle.ppm_choice.specs.Course.{Due, act_of, processor_of, is_made}
 use Rattle.ppm_choice.specs.Schedules.{dues_of}
 use Rattle.ppm_sweep.specs.declared.found.Stop.{Stop}
 use Rattle.ppm_sweep.specs.declared.found.Tally.{Tally}
@@ -12,10 +14,10 @@ use Rattle.ppm_sweep.specs.declared.options.Sweeping.{Sweeping}
 use Rattle.ppm_sweep.specs.declared.spot.Spot.{Spot}
 use Rattle.ppm_sweep.specs.Ahead.{dues_in}
 use Rattle.ppm_sweep.specs.Found.{AllCome, Stops, Finds}
-use Rattle.ppm_sweep.specs.Spots.{place_of, first_way, CameFrom, IsSpot, GoesOn, Advances}
-use Rattle.ppm_sweep.specs.Sweep.{Swept, all_acts, alone, along, passed, number_after, sweep_from, struck}
-use Rattle.ppm_sweep.specs.Visits.{one_less, swept_from, swept_deeper, swept_before, swept_ahead, swept_struck, Visited, Ended, Visits, PassesOn}
-use Rattle.ppm_sweep.proofs.FoundLemmas.{none_come, finds_after, no_more}
+use Rattle.ppm_sweep.specs.Spots.{place_of, first_way, CameFrom, GoesOn, Advances}
+use Rattle.ppm_sweep.specs.Sweep.{Swept, all_acts, alone, along, is_in, passed, number_after, sweep_from, struck}
+use Rattle.ppm_sweep.specs.Visits.{one_less, swept_from, swept_deeper, swept_before, swept_ahead, swept_struck, Visits, PassesOn}
+use Rattle.ppm_sweep.proofs.FoundLemmas.{none_come, finds_after, no_more, stops_in}
 
 pub stays : (spot : Spot) → GoesOn spot spot
 stays spot = record { shape = refl; code = refl; is_spot = λ wanted h. h; came = λ m first h. h }
@@ -67,6 +69,17 @@ from_is o spot (suc n) e begins dues =
     (λ i. along m.shape m.code o.keeper (sweep_from m.shape m.code o.keeper o.turns (sym one i) (all_acts o.turns) (spot.faults + 1))
     o.window (sym begins i) (place_of spot) (sym dues i))
 
+-- what the exit of a `?` returns
+pub exit_finds : (m : Situation) (turns : ℕ) (wanted : Outcome) (swept : List Swept) (t u : Tally) (stop : Stop) (found : Result Unit Stop)
+    → IsErrAnd found (λ e. e ≡ stop) → Stops m turns wanted swept stop → Finds m turns wanted swept t u found
+exit_finds m turns wanted swept t u stop (Ok x) is h = absurd is
+exit_finds m turns wanted swept t u stop (Err e) is h = subst (Stops m turns wanted swept) (sym is) h
+
+pub exit_visits : (m : Situation) (wanted : Outcome) (o : Sweeping) (old new : Spot) (t u : Tally) (stop : Stop) (found : Result Bool Stop)
+    → IsErrAnd found (λ e. e ≡ stop) → Stops m o.turns wanted (swept_ahead o old) stop → Visits m wanted o old new t u found
+exit_visits m wanted o old new t u stop (Ok x) is h = absurd is
+exit_visits m wanted o old new t u stop (Err e) is h = subst (Stops m o.turns wanted (swept_ahead o old)) (sym is) h
+
 -- of the schedules that are ahead of one place, those were gone through that are not ahead of a later one
 pub record Walked (wanted : Outcome) (o : Sweeping) (old now : Spot) (t u : Tally) : Type 0 where
   pub goes_on : GoesOn old now
@@ -104,3 +117,72 @@ module _ (wanted : Outcome) (o : Sweeping) where
       → (m : Situation) → m.turns ≡ 0 → CameFrom m (first_way o.turns) old → Finds m o.turns wanted (swept_ahead o old) t v (Err stop)
   visit_stops old now new t u v stop w each m fresh came =
       w.rest m fresh came v (Err stop) (each m fresh (w.goes_on.came m (first_way o.turns) came))
+
+  -- a walk stops where a visit does
+  pub walk_stops : (old now : Spot) (t u v : Tally) (stop : Stop) (found : Result Unit Stop) → Walked wanted o old now t u
+      → ((m : Situation) → m.turns ≡ 0 → CameFrom m (first_way o.turns) now → Stops m o.turns wanted (swept_ahead o now) stop)
+      → IsErrAnd found (λ e. e ≡ stop)
+      → (m : Situation) → m.turns ≡ 0 → CameFrom m (first_way o.turns) old → Finds m o.turns wanted (swept_ahead o old) t v found
+  walk_stops old now t u v stop found w each is m fresh came =
+      w.rest m fresh came v found
+      (exit_finds m o.turns wanted (swept_ahead o now) u v stop found is (each m fresh (w.goes_on.came m (first_way o.turns) came)))
+
+-- a place after a fault
+pub record IsStruck (old new : Spot) (c : ℕ) (fault : Fault) : Type 0 where
+  pub goes_on : GoesOn old new
+  pub place : place_of new ≡ struck (seen old.machine).shape (seen old.machine).code (place_of old) c fault
+  pub faults : new.faults ≡ old.faults + 1
+
+module _ (wanted : Outcome) (o : Sweeping) (old : Spot) (c : ℕ) where
+  abbrev at_fault : Fault → List Swept
+  at_fault fault = swept_deeper o old (struck (seen old.machine).shape (seen old.machine).code (place_of old) c fault)
+
+  -- what a sweep from there finds
+  abbrev pub Deeper : (d : Sweeping) (new : Spot) → (t u : Tally) → Result Unit Stop → Type 0
+  Deeper d new t u found = (m : Situation) → m.turns ≡ 0 → CameFrom m (first_way d.turns) new → Finds m d.turns wanted (swept_from d new) t u found
+
+  deeper_finds : (d : Sweeping) (new : Spot) (fault : Fault) (t u : Tally) (found : Result Unit Stop) → d ≡ one_less o → IsStruck old new c fault
+      → Deeper d new t u found → (m : Situation) → m.turns ≡ 0 → CameFrom m (first_way o.turns) old → Finds m o.turns wanted (at_fault fault) t u found
+  deeper_finds d new fault t u found e s each m fresh came =
+      subst (λ l. Finds m o.turns wanted l t u found) (deeper_is o old new c fault s.goes_on s.place s.faults)
+      (subst (λ (k : Sweeping). Deeper k new t u found) e each m fresh (s.goes_on.came m (first_way o.turns) came))
+
+  -- it stops after the soft fault
+  pub soft_stops : (d : Sweeping) (soft : Spot) (t u : Tally) (stop : Stop) (found : Result Unit Stop) → d ≡ one_less o → IsStruck old soft c Soft
+      → Deeper d soft t u (Err stop) → IsErrAnd found (λ e. e ≡ stop)
+      → (m : Situation) → m.turns ≡ 0 → CameFrom m (first_way o.turns) old → Finds m o.turns wanted (swept_struck o old c) t u found
+  soft_stops d soft t u stop found e s each is m fresh came =
+      exit_finds m o.turns wanted (swept_struck o old c) t u stop found is
+      (stops_in m o.turns wanted (at_fault Soft) (if c == o.keeper then [] else at_fault Hard) stop
+      (deeper_finds d soft Soft t u (Err stop) e s each m fresh came))
+
+  -- the keeper meets no hard one
+  pub soft_alone : (d : Sweeping) (soft : Spot) (t u : Tally) → d ≡ one_less o → IsStruck old soft c Soft → Deeper d soft t u (Ok tt) → c ≡ o.keeper
+      → (m : Situation) → m.turns ≡ 0 → CameFrom m (first_way o.turns) old → AllCome m o.turns wanted (swept_struck o old c) t u
+  soft_alone d soft t u e s each k m fresh came =
+      subst (λ l. AllCome m o.turns wanted l t u)
+      (sym (ap (λ b. at_fault Soft ++ (if b then [] else at_fault Hard)) (eq-eqb c o.keeper k) ∙ no_more (at_fault Soft)))
+      (deeper_finds d soft Soft t u (Ok tt) e s each m fresh came)
+
+  -- after the soft fault the hard one
+  pub hard_too : (d : Sweeping) (soft hard : Spot) (t u v : Tally) (found : Result Unit Stop) → d ≡ one_less o → IsStruck old soft c Soft → IsStruck old hard c Hard
+      → Deeper d soft t u (Ok tt) → Deeper d hard u v found → (c ≡ o.keeper → ⊥)
+      → (m : Situation) → m.turns ≡ 0 → CameFrom m (first_way o.turns) old → Finds m o.turns wanted (swept_struck o old c) t v found
+  hard_too d soft hard t u v found e s h first more k m fresh came =
+      subst (λ l. Finds m o.turns wanted l t v found) (sym (ap (λ b. at_fault Soft ++ (if b then [] else at_fault Hard)) (ne_eqb c o.keeper k)))
+      (finds_after m o.turns wanted (at_fault Soft) (at_fault Hard) t u v found
+      (deeper_finds d soft Soft t u (Ok tt) e s first m fresh came) (deeper_finds d hard Hard u v found e h more m fresh came))
+
+-- before an act that is made and is to have a fault
+pub before_is : (o : Sweeping) (old : Spot) (due : Due) (more : List Due) → dues_in old.ahead ≡ due ∷ more
+    → is_made (seen old.machine).shape (seen old.machine).code (place_of old).course due ≡ true → is_in o.window old.number ≡ true
+    → (later : List Swept) × (swept_ahead o old ≡ swept_struck o old (processor_of (act_of due)) ++ later)
+before_is o old due more e made chosen =
+    let s = (seen old.machine).shape in
+    let code = (seen old.machine).code in
+    let rest = along s code o.keeper (swept_deeper o old) o.window (number_after s code old.number (place_of old) due) (passed s code (place_of old) due) more in (
+      rest,
+      ap (λ dues. along s code o.keeper (swept_deeper o old) o.window old.number (place_of old) dues) e
+          ∙ ap (λ b. (if b && is_in o.window old.number then swept_struck o old (processor_of (act_of due)) else []) ++ rest) made
+          ∙ ap (λ b. (if b then swept_struck o old (processor_of (act_of due)) else []) ++ rest) chosen,
+    )

@@ -5,3 +5,4 @@ pub mod Found
 pub mod Spots
 pub mod Visits
 pub mod Text
+pub mod Fair

@@ -1,5 +1,5 @@
 -- Whether a run came to an outcome.
-use Rattle.std.specs.Prelude.{◌≡◌, ◌≤◌, ℕ, ◌+◌, List, [], ◌∷◌, length, map}
+use Rattle.std.specs.Prelude.{◌≡◌, ◌≤◌, ◌<◌, ◌^◌, ℕ, ◌+◌, List, [], ◌∷◌, length, map}
 use Rattle.ppm_words.specs.TwosComplement.{value_of}
 use Rattle.ppm_words.specs.declared.named_array.NamedArray.{NamedArray}
 use Rattle.ppm_words.specs.declared.outcome.Outcome.{Outcome}
@@ -32,8 +32,8 @@ MeetsEnding Unknown o m = ⊥
 abbrev pub Meets : Outcome → Situation → Type 0
 Meets o m = MeetsEnding (ending_of (finish_in m)) o m
 
--- a machine has the arrays of an outcome
+-- a machine has the arrays of an outcome, which are fewer than 2^32
 abbrev pub HasArraysOf : Situation → Outcome → Type 0
-HasArraysOf m (outcome.Ended arrays) = length arrays ≤ length m.array_lengths
+HasArraysOf m (outcome.Ended arrays) = (length arrays ≤ length m.array_lengths) × (length arrays < 2 ^ 32)
 HasArraysOf m (outcome.Trapped trap line) = Unit {0}
 HasArraysOf m outcome.NotWithin = Unit {0}

@@ -1,5 +1,5 @@
 -- Where a sweep stands in a run.
-use Rattle.std.specs.Prelude.{◌≡◌, ◌≢◌, ◌⊎◌, ℕ, List, [], ◌∷◌, replicate}
+use Rattle.std.specs.Prelude.{◌≡◌, ◌≢◌, ◌⊎◌, ℕ, ◌∷◌, replicate}
 use Rattle.ppm_words.specs.declared.outcome.Outcome.{Outcome}
 use Rattle.ppm_core.specs.Machine.{seen}
 use Rattle.ppm_core.specs.Situation.{Situation, finish_in}

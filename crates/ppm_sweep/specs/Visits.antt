@@ -4,7 +4,6 @@ use Rattle.ppm_words.specs.declared.outcome.Outcome.{Outcome}
 use Rattle.ppm_core.specs.Machine.{seen}
 use Rattle.ppm_core.specs.Situation.{Situation}
 use Rattle.ppm_choice.specs.Course.{Due}
-use Rattle.ppm_following.specs.declared.following.Way.{Way}
 use Rattle.ppm_sweep.specs.declared.found.Stop.{Stop}
 use Rattle.ppm_sweep.specs.declared.found.Tally.{Tally}
 use Rattle.ppm_sweep.specs.declared.options.Sweeping.{Sweeping}

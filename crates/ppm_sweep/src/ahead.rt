@@ -1,10 +1,10 @@
 //! What is ahead in a run.
-ghost use Rattle.std.specs.Prelude.{◌≡◌, IfOk, IfSome, option_map};
+ghost use Rattle.std.specs.Prelude.{◌≡◌, ◌<◌, ◌∷◌, List, IfOk, IfSome, option_map, slice_get};
 ghost use Rattle.std.specs.List.{All, AllByRecursion};
 ghost use Rattle.ppm_plan.specs.Schedules.{IsItemAmong};
-ghost use Rattle.ppm_choice.specs.Course.{act_of as act_due};
+ghost use Rattle.ppm_choice.specs.Course.{act_of as act_due, Due, InRound};
 ghost use Rattle.ppm_choice.specs.Schedules.{dues_of};
-ghost use Rattle.ppm_sweep.specs.Ahead.{IsStepInRound, Passes};
+ghost use Rattle.ppm_sweep.specs.Ahead.{first_of, IsStepInRound, Passes};
 ghost use Rattle.ppm_sweep.specs.Ahead.{dues_in, due_of, first_due, once_less, IsComingAmong};
 
 use ppm_plan::{ScheduleItem, ScheduledAct};
@@ -84,25 +84,48 @@ impl Ahead {
         }
     }
 
+    /// The first item that is left of the list.
+    fn item(&self) -> Option<ScheduleItem>
+        ensures value { result ≡ slice_get self.now.rest 0 }
+        ensures among { IfSome result (IsItemAmong self.now.processors) }
+    {
+        if let Some(item) = self.first {
+            return Some(item);
+        }
+        item_at(&self.items, self.at)
+    }
+
+    /// The processor whose step comes next after the list.
+    fn processor(&self) -> Option<u32>
+        ensures value { option_map InRound result ≡ first_of self.now.later }
+        ensures among { IfSome result (λ c. c < self.now.processors) }
+    {
+        if self.next < self.processors {
+            return Some(self.next);
+        }
+        if self.count > 0 {
+            if self.processors > 0 {
+                return Some(0);
+            }
+        }
+        None
+    }
+
     /// What comes next; `None` where nothing is left.
     pub(crate) fn first(&self) -> Option<Coming>
         ensures value { option_map due_of result ≡ first_due self.now }
+        ensures dues { IfSome result (λ c. (more : List Due) × (dues_in self.now ≡ due_of c ∷ more)) }
         ensures among { IfSome result (IsComingAmong self.now.processors) }
         ensures later { AllByRecursion IsStepInRound self.now.later }
     {
-        if let Some(item) = self.first {
-            return Some(Coming::Listed(item.act));
+        let _ = (self.next, self.processors, self.count);
+        match self.item() {
+            Some(item) => Some(Coming::Listed(item.act)),
+            None => match self.processor() {
+                Some(processor) => Some(Coming::InRound(processor)),
+                None => None,
+            },
         }
-        if let Some(item) = self.items.get(self.at) {
-            return Some(Coming::Listed(item.act));
-        }
-        if self.next < self.processors {
-            return Some(Coming::InRound(self.next));
-        }
-        if self.count > 0 && self.processors > 0 {
-            return Some(Coming::InRound(0));
-        }
-        None
     }
 
     /// Passes what comes next.
@@ -112,14 +135,22 @@ impl Ahead {
     {
         if let Some(item) = self.first {
             self.first = less_one(item);
-        } else if let Some(item) = self.items.get(self.at).copied() {
+            return;
+        }
+        if let Some(item) = item_at(&self.items, self.at) {
             self.first = less_one(item);
             self.at += 1;
-        } else if self.next < self.processors {
+            return;
+        }
+        if self.next < self.processors {
             self.next += 1;
-        } else if self.count > 0 && self.processors > 0 {
-            self.next = 1;
-            self.count -= 1;
+            return;
+        }
+        if self.count > 0 {
+            if self.processors > 0 {
+                self.next = 1;
+                self.count -= 1;
+            }
         }
     }
 
@@ -137,6 +168,13 @@ impl Ahead {
         }
         Ok(rest)
     }
+}
+
+/// The item at a place.
+fn item_at(items: &[ScheduleItem], at: usize) -> Option<ScheduleItem>
+    ensures { result ≡ slice_get items.now at }
+{
+    items.get(at).copied()
 }
 
 /// An item done once less, if that leaves any of it.

@@ -67,10 +67,7 @@ fn join(
 }
 
 /// Writes an act more: steps in a row are one item, and each fault is one.
-pub(crate) fn write_act(
-    items: &mut Vec<ScheduleItem>,
-    act: ScheduledAct,
-) -> Result<(), NoMemory>
+pub(crate) fn write_act(items: &mut Vec<ScheduleItem>, act: ScheduledAct) -> Result<(), NoMemory>
     ensures { OnOk result (items.new.items ≡ with_act items.old.items act) }
 {
     match items.pop() {

@@ -12,6 +12,7 @@
 mod ahead;
 mod found;
 mod front;
+mod laws;
 mod meeting;
 mod options;
 mod spot;
@@ -19,6 +20,7 @@ mod sweeping;
 mod text;
 
 pub use found::{Differing, Stop, Tally};
+pub use laws::sweeps_are_fair;
 pub use options::{Sweeping, Window};
 pub use sweeping::sweep;
 pub use text::{schedules_are_written, write_schedule};

@@ -1,5 +1,5 @@
 //! Whether a run came to an outcome.
-ghost use Rattle.std.specs.Prelude.{◌≡◌, ◌≤◌, ◌↔◌, ◌+◌, IsTrue, length, map};
+ghost use Rattle.std.specs.Prelude.{◌≡◌, ◌≤◌, ◌<◌, ◌^◌, ◌↔◌, IsTrue, length, map};
 ghost use Rattle.ppm_words.specs.TwosComplement.{value_of as value_in};
 ghost use Rattle.ppm_core.specs.Machine.{seen};
 ghost use Rattle.ppm_sweep.specs.Meets.{HasArraysOf, HasValues, Meets, MeetsFinish};
@@ -30,6 +30,7 @@ fn are_values(words: &[u64], values: &[i64]) -> bool
 /// Whether the arrays of a machine have the values of these.
 fn has_values(machine: &Machine, arrays: &[NamedArray]) -> bool
     requires there { length arrays.now ≤ length (seen machine.now).array_lengths }
+    requires few { length arrays.now < 2 ^ 32 }
     ensures { IsTrue result ↔ HasValues (seen machine.now) 0 arrays.now }
 {
     let mut number = 0;

@@ -94,7 +94,8 @@ pub(crate) fn struck(
     let rest = spot.ahead.rest(alloc)?;
     let mut machine = spot.machine.copy(alloc)?;
     let mut way = spot.way;
-    let mut front = Vec::from_slice(alloc, &spot.front)?;
+    let written = spot.front.as_slice();
+    let mut front = Vec::from_slice(alloc, written)?;
     let act = ScheduledAct::Fails { processor, fault };
     write_act(&mut front, act)?;
     make(&mut machine, &mut way, act);
@@ -134,9 +135,15 @@ pub(crate) fn skip(spot: &mut Spot, coming: Coming) -> Result<(), NoMemory>
     requires done { is_done_at (stand_of (seen spot.old.machine).state (processor_named (act_due (due_of coming)))) ≡ true }
     ensures { OnOk result (Advances (due_of coming) spot.old spot.new) }
 {
-    if let Coming::Listed(act) = coming {
-        write_act(&mut spot.front, act)?;
+    match coming {
+        Coming::Listed(act) => {
+            write_act(&mut spot.front, act)?;
+            spot.ahead.pass();
+            Ok(())
+        }
+        Coming::InRound(_) => {
+            spot.ahead.pass();
+            Ok(())
+        }
     }
-    spot.ahead.pass();
-    Ok(())
 }

@@ -1,5 +1,5 @@
 //! Goes through the schedules of a sweep, in order.
-ghost use Rattle.std.specs.Prelude.{◌≡◌, ◌<◌, ◌≤◌, ◌+◌, ◌^◌, nat_le, IfOk, IfErr, false};
+ghost use Rattle.std.specs.Prelude.{◌≡◌, ◌<◌, ◌≤◌, ◌+◌, ◌^◌, nat_le, length, IfOk, IfErr, false};
 ghost use Rattle.ppm_plan.specs.Refusals.{item_limit};
 ghost use Rattle.ppm_core.specs.Acts.{is_done_at};
 ghost use Rattle.ppm_core.specs.Machine.{seen};
@@ -22,15 +22,15 @@ use crate::options::Sweeping;
 use crate::spot::{Spot, advance, is_over, processor_of, skip, struck};
 use ppm_core::Machine;
 use ppm_following::{Way, follow_on};
-use ppm_plan::{Fault, ITEM_LIMIT, Schedule};
+use ppm_plan::{Fault, ITEM_LIMIT, Schedule, ScheduleItem};
 use ppm_words::Outcome;
 use std::alloc::Global;
 
 /// Whether two lists together have no more items than a schedule may.
-fn are_few(front: usize, rest: usize) -> bool
-    ensures { result ≡ nat_le (front + rest) item_limit }
+fn are_few(front: &[ScheduleItem], rest: &[ScheduleItem]) -> bool
+    ensures { result ≡ nat_le (length front.now + length rest.now) item_limit }
 {
-    front <= ITEM_LIMIT && rest <= ITEM_LIMIT - front
+    front.len() <= ITEM_LIMIT && rest.len() <= ITEM_LIMIT - front.len()
 }
 
 /// Goes on from a place to the end of its run, if its schedule has no more items than it may.
@@ -46,14 +46,16 @@ fn alone(
         → Finds m turns wanted.now (alone_at spot.now.faults (place_of spot.now)) tally.old tally.new result }
 {
     let rest = spot.ahead.rest(alloc)?;
-    if !are_few(spot.front.len(), rest.len()) {
+    let front = spot.front.as_slice();
+    let left = rest.as_slice();
+    if !are_few(front, left) {
         return Ok(());
     }
     let mut machine = spot.machine.copy(alloc)?;
     let mut way = spot.way;
-    follow_on(&mut machine, &mut way, &rest, turns);
+    follow_on(&mut machine, &mut way, left, turns);
     if !meets(&machine, wanted) {
-        let items = both(alloc, &spot.front, &rest)?;
+        let items = both(alloc, front, left)?;
         return Err(Stop::Differs(Differing { items, machine }));
     }
     tally.count(spot.faults, machine.turns())
@@ -187,11 +189,14 @@ pub fn sweep(
     let mut tally = Tally::zero();
     let processors = machine.processors();
     let items = Vec::from_slice(alloc, schedule.items())?;
+    let way = Way::first(sweeping.turns);
+    let front = Vec::new(alloc);
+    let ahead = Ahead::new(items, processors, sweeping.turns);
     let spot = Spot {
         machine,
-        way: Way::first(sweeping.turns),
-        front: Vec::new(alloc),
-        ahead: Ahead::new(items, processors, sweeping.turns),
+        way,
+        front,
+        ahead,
         faults: 0,
         number: 0,
     };

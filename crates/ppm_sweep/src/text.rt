@@ -20,11 +20,7 @@ fn letter_of(fault: Fault) -> u8
 }
 
 /// Appends a victim after its sign, where one is stated.
-fn push_victim(
-    alloc: Global,
-    text: &mut Vec<u8>,
-    victim: Option<u32>,
-) -> Result<(), NoMemory>
+fn push_victim(alloc: Global, text: &mut Vec<u8>, victim: Option<u32>) -> Result<(), NoMemory>
     ensures { OnOk result (text.new.items ≡ text.old.items ++ victim_text victim) }
 {
     if let Some(victim) = victim {

@@ -1,4 +1,5 @@
-use Rattle.std.proofs.Common.{◌≡◌, ◌+◌, ◌*◌, ◌<◌}
+use Rattle.std.proofs.Common.{◌+◌, ◌*◌, length}
+use Rattle.ppm_sweep.specs.Ahead.{dues_in}
 use Rattle.ppm_sweep.specs.Spots.{IsSpot}
 use Rattle.ppm_sweep.proofs.WalkLemmas.{Walked}
 use Rattle.ppm_sweep.proofs.sweeping.+sweeps.Given as goal
@@ -15,3 +16,12 @@ decreases-visit l = 4 * l.sweeping.faults + 1
 
 abbrev pub decreases-strikes : goal.decreases-strikes
 decreases-strikes l = 4 * l.sweeping.faults
+
+-- the schedules up to here were gone through
+abbrev pub invariant-walk-acts : goal.invariant-walk-acts
+invariant-walk-acts l =
+    Walked l.wanted l.sweeping l.initial.spot l.spot l.initial.tally l.tally × IsSpot l.wanted l.spot
+
+-- what is ahead becomes shorter
+abbrev pub decreases-walk-acts : goal.decreases-walk-acts
+decreases-walk-acts l = length (dues_in l.spot.ahead)
