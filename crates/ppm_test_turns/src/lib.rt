@@ -2,7 +2,8 @@
 //! its words, looked at after each act.
 //! Model: none; all of it is tests, by what was worked out by hand and by the theorem's definitions.
 //! Contract: none.
-//! Stands on `ppm_core`, and on `ppm_listing_reader`, on which the machine itself does not stand.
+//! Stands on `ppm_core` and `ppm_sweep`, and on `ppm_listing_reader`, on which the machine itself does
+//! not stand.
 //! After the rules of turns, and the invariant of `ppm_tickets` and `ppm_kept`.
 #![tactic(auto)]
 
@@ -23,6 +24,8 @@ mod listings;
 mod machines;
 #[cfg(test)]
 mod refusals;
+#[cfg(test)]
+mod struck;
 #[cfg(test)]
 mod sweeps;
 #[cfg(test)]
