@@ -22,6 +22,7 @@ mod room;
 mod run;
 mod serial;
 mod stop;
+mod sweep;
 mod table;
 mod takeover;
 
@@ -35,4 +36,6 @@ pub use resume::ResumeOptions;
 pub use run::RunOptions;
 pub use serial::SerialOptions;
 pub use stop::StopOptions;
+pub use sweep::SweepOptions;
 pub use table::{COMMANDS, ChoiceOption, CommandRow, NumberOption, OptionRow, TextOption};
+pub use takeover::SweptTakeovers;
