@@ -17,4 +17,5 @@ pub mod CoverLemmas
 pub mod PlaceLemmas
 pub mod LawLemmas
 pub mod TextLemmas
+pub mod ShortLemmas
 pub mod WrittenLemmas

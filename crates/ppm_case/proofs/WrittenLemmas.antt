@@ -1,8 +1,8 @@
 -- What is written of a case is of it.
-use Rattle.std.proofs.Common.{◌≡◌, ◌∙◌, ℕ, ◌+◌, ◌^◌, ◌<◌, ◌≤◌, true, false, nat_le, nat_lt, List, [], ◌∷◌, ◌++◌, length, map, decimal, refl, sym, ap, subst, arith, length-append, append_assoc}
+use Rattle.std.proofs.Common.{◌≡◌, ◌∙◌, ℕ, ◌+◌, ◌≤◌, true, false, nat_le, nat_lt, List, [], ◌∷◌, ◌++◌, length, map, decimal, refl, sym, ap, subst, arith, length-append, append_assoc}
 use Rattle.std.specs.Prelude.{ℤ, FitsSigned}
 use Rattle.std.specs.Int.{w64}
-use Rattle.std.specs.List.{flat_map, AllByRecursion, All, IsDistinct, sum, sum_by}
+use Rattle.std.specs.List.{flat_map, AllByRecursion, All, IsDistinct}
 use Rattle.std.specs.Str.{bytes_eq}
 use Rattle.std.specs.Cmp.Derive.{both_true}
 use Rattle.std.proofs.lemmas.Bool.{or_from, lt-leb, le-leb, le-ltb}
@@ -11,16 +11,15 @@ use Rattle.std.proofs.lemmas.List.Sums.{sum-map, sum_by-append, sum_by-cons}
 use Rattle.ppm_words.specs.Limits.{array_limit, word_limit}
 use Rattle.ppm_words.specs.Inputs.{value_count, IsInput}
 use Rattle.ppm_words.specs.declared.named_array.NamedArray.{NamedArray}
-use Rattle.ppm_code.specs.declared.code.CodeParts.{CodeParts}
-use Rattle.ppm_pieces.specs.Numbers.{is_numeral, value}
+use Rattle.ppm_pieces.specs.Numbers.{value}
 use Rattle.ppm_pieces.proofs.NumberLemmas.{numeral-decimal, value-decimal}
 use Rattle.ppm_listing.specs.Listing.{listing_of}
-use Rattle.ppm_case.specs.Spelling.{Written, array_line, array_of, values_in, filled, is_array_name}
+use Rattle.ppm_case.specs.Spelling.{array_line, array_of, values_in, filled, is_array_name}
 use Rattle.ppm_case.specs.Rules.{values_fit, is_named, is_past, Follows, AllFollow}
-use Rattle.ppm_case.specs.Case.{IsCaseOf}
-use Rattle.ppm_case.specs.Text.{rows_of, row_text, written, case_text}
-use Rattle.ppm_case.specs.Correct.{CanBeRead, WrittenCasesAreRead}
+use Rattle.ppm_case.specs.Text.{rows_of, row_text, written}
+use Rattle.ppm_case.specs.Correct.{WrittenCasesAreRead}
 use Rattle.ppm_case.proofs.FormLemmas.{form_from}
+use Rattle.ppm_case.proofs.ShortLemmas.{IsShortArray, case_short}
 use Rattle.ppm_case.proofs.TextLemmas.{rows_form, rows_values, rows_within, rows_back, rows_length, rows_fit}
 
 -- an array that can be written and read again, but for the others
@@ -120,13 +119,19 @@ each_written [] h k = tt
 each_written (x ∷ xs) h k =
     (record { name = k.0; values = recursion_from_All (FitsSigned w64) x.values h.0 }, each_written xs h.1 k.1)
 
+-- and short enough
+each_short : (xs : List NamedArray) → AllByRecursion CanBeWritten xs → AllByRecursion (λ (a : NamedArray). length a.values ≤ word_limit) xs
+    → AllByRecursion IsShortArray xs
+each_short [] h few = tt
+each_short (x ∷ xs) h few = (record { name = h.0.name; few = few.0; values = h.0.values }, each_short xs h.1 few.1)
+
 pub written_is_read : WrittenCasesAreRead
 written_is_read code input h =
     let each = each_written input (recursion_from_All (λ (a : NamedArray). All (FitsSigned w64) a.values) input h.values)
     (recursion_from_All (λ (a : NamedArray). is_array_name a.name ≡ true) input h.names) in
     record {
       front = record {
-        short = h.short;
+        short = case_short code input h.code_is h.numbers h.input_is (each_short input each (each_few input h.input_is.values_bound));
         arrays = map written input;
         follow = all_follow [] input each h.differ h.input_is;
         rest = listing_of code;

@@ -16,7 +16,7 @@ use Rattle.ppm_case.specs.Case.{IsCaseOf}
 use Rattle.ppm_case.specs.Faults.{HasFault}
 use Rattle.ppm_case.specs.Text.{case_text}
 
--- a case that can be written and read again: its numbers fit 64 bits, its arrays have names of their own, and its text is not too long
+-- a case that can be written and read again: its numbers fit 64 bits, and its arrays have names of their own
 pub record CanBeRead (code : CodeParts) (input : List NamedArray) : Type 0 where
   pub code_is : IsCode code
   pub numbers : NumbersFit code
@@ -25,7 +25,6 @@ pub record CanBeRead (code : CodeParts) (input : List NamedArray) : Type 0 where
   pub names : All (λ a. is_array_name a.name ≡ true) input
   pub differ : IsDistinct bytes_eq (map (λ a. a.name) input)
   pub named : NamesArrays code input
-  pub short : length (case_text code input) ≤ case_limit
 
 -- the code and the input of a text
 pub record HasCase (text : List ℕ) : Type 0 where
@@ -44,6 +43,6 @@ pub record FaultsTellCases : Type 0 where
   pub one_case : (text : List ℕ) (c d : CodeParts) (xs ys : List NamedArray) → IsCaseOf text c xs → IsCaseOf text d ys → (c ≡ d) × (xs ≡ ys)
   pub one_fault : (text : List ℕ) (f g : CaseFault) (line later : ℕ) → HasFault text f line → HasFault text g later → (f ≡ g) × (line ≡ later)
 
--- what is written of a case is of it
+-- what is written of a case is of it: it is never too long
 abbrev pub WrittenCasesAreRead : Type 0
 WrittenCasesAreRead = (code : CodeParts) (input : List NamedArray) → CanBeRead code input → IsCaseOf (case_text code input) code input

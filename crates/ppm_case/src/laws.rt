@@ -12,8 +12,8 @@ pub fn faults_tell_cases()
     faults_tell_listings();
 }
 
-/// What is written of a case is of it, if its text is not too long and each array has a name of its
-/// own, which is no keyword.
+/// What is written of a case is of it, if each array has a name of its own, which is no keyword. No
+/// such text is too long.
 pub fn written_cases_are_read()
     ensures law { WrittenCasesAreRead }
 {}

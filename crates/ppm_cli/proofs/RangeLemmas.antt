@@ -12,7 +12,7 @@ use Rattle.ppm_cells.specs.Limits.{most_pool_words}
 use Rattle.ppm_cli.specs.Application.{ppm_application}
 use Rattle.ppm_cli.specs.CommandLine.{Number, OptionRule, processors, turns, room, slots, looks, seed, faults, schedule}
 use Rattle.ppm_cli.specs.CommandLine.{few_processors, after, small_room, few_slots, size, count, capsules, arrays}
-use Rattle.ppm_cli.specs.CommandLine.{copied_room, copied_slots, met, from, acts, runs}
+use Rattle.ppm_cli.specs.CommandLine.{copied_room, copied_slots, met, from, acts}
 use Rattle.ppm_cli.specs.Words.{run_options, serial_in, replay_options, resume_options, self_in, self_options, stop_options}
 use Rattle.ppm_cli.specs.Values.{number_in, number_given, value_of_digits, text_given}
 use Rattle.ppm_cli.specs.Words.{command_named, command_in, without_fault, command_of}
@@ -171,8 +171,6 @@ sweep_are rows =
     bound AreSwept (number_given met rows) _ (λ m h.
     bound AreSwept (number_given from rows) _ (λ f i.
     bound AreSwept (number_given acts rows) _ (λ x j.
-    bound AreSwept (number_given runs rows) _ (λ r k.
-    bound AreSwept (number_given seed rows) _ (λ s l.
     bound AreSwept (number_given capsules rows) _ (λ y o.
     let z = room_fits copied_room _ _ p w rows refl c in (
       given processors _ _ p rows refl a,
@@ -182,11 +180,9 @@ sweep_are rows =
       given met _ _ m rows refl h,
       given from _ _ f rows refl i,
       given acts _ _ x rows refl j,
-      given runs _ _ r rows refl k,
-      given seed _ _ s rows refl l,
       given capsules _ _ y rows refl o,
       z.1,
-    ))))))))))))
+    ))))))))))
 
 self_are : (rows : List Row) → IfSome (self_options rows) AreSelf
 self_are rows =

@@ -128,10 +128,6 @@ from = number "from" 0 268435455 0
 abbrev pub acts : OptionRule
 acts = number "acts" 1 turn_limit 268435456
 
--- the runs that are drawn; where there are none, faults are put at every place
-abbrev pub runs : OptionRule
-runs = number "runs" 0 1048576 0
-
 -- the plan of faults
 abbrev pub faults : OptionRule
 faults = text "faults" "none"
@@ -177,7 +173,7 @@ command_line =
     ∷ command "stop" (few_processors ∷ after ∷ small_room ∷ few_slots ∷ schedule ∷ input ∷ [])
     ∷ command "resume" (turns ∷ looks ∷ seed ∷ faults ∷ [])
     ∷ command "sweep"
-    (processors ∷ turns ∷ copied_room ∷ copied_slots ∷ swept_takeovers ∷ schedule ∷ met ∷ from ∷ acts ∷ runs ∷ seed ∷ capsules ∷ input ∷ [])
+    (processors ∷ turns ∷ copied_room ∷ copied_slots ∷ swept_takeovers ∷ schedule ∷ met ∷ from ∷ acts ∷ capsules ∷ input ∷ [])
     ∷ later_command "ram" (processors ∷ turns ∷ room ∷ slots ∷ looks ∷ seed ∷ faults ∷ takeover ∷ idle ∷ [])
     ∷ []
 

@@ -7,7 +7,7 @@ use Rattle.ppm_cli.specs.Application.{ppm_application}
 use Rattle.ppm_cli.specs.CommandLine.{Form, Number, OptionRule}
 use Rattle.ppm_cli.specs.CommandLine.{processors, turns, room, slots, looks, seed, faults, schedule}
 use Rattle.ppm_cli.specs.CommandLine.{few_processors, after, small_room, few_slots, size, count, capsules, arrays}
-use Rattle.ppm_cli.specs.CommandLine.{copied_room, copied_slots, met, from, acts, runs}
+use Rattle.ppm_cli.specs.CommandLine.{copied_room, copied_slots, met, from, acts}
 use Rattle.ppm_cli.specs.Values.{and_then, choice_given, idle_given, is_case_given, number_given, room_given, swept_takeovers_given, takeover_given, text_given}
 use Rattle.ppm_cli.specs.declared.capsules.CapsuleLimit.{CapsuleLimit}
 use Rattle.ppm_cli.specs.declared.command.Command.{Command}
@@ -103,8 +103,6 @@ sweep_options rows =
     and_then (number_given met rows) (λ m.
     and_then (number_given from rows) (λ f.
     and_then (number_given acts rows) (λ a.
-    and_then (number_given runs rows) (λ r.
-    and_then (number_given seed rows) (λ s.
     and_then (number_given capsules rows) (λ c.
     Some (record {
       processors = p;
@@ -115,10 +113,8 @@ sweep_options rows =
       faults = m;
       from = f;
       acts = a;
-      runs = r;
-      seed = s;
       capsules = c;
-    }))))))))))))
+    }))))))))))
 
 -- the command `sweep` with its options and its schedule, over a source or over a case
 abbrev pub sweep_in : List Row → Option Command
@@ -226,8 +222,7 @@ abbrev pub AreSwept : SweepOptions → Type 0
 AreSwept options =
     IsOfForm processors.form options.processors × IsOfForm turns.form options.turns × IsOfForm copied_room.form options.room
     × IsOfForm copied_slots.form options.slots × IsOfForm met.form options.faults × IsOfForm from.form options.from
-    × IsOfForm acts.form options.acts × IsOfForm runs.form options.runs × IsOfForm seed.form options.seed
-    × IsOfForm capsules.form options.capsules × DoPoolsFit options.processors options.room
+    × IsOfForm acts.form options.acts × IsOfForm capsules.form options.capsules × DoPoolsFit options.processors options.room
 
 -- the limit of a depth-first run is in its range
 abbrev pub IsLimit : CapsuleLimit → Type 0

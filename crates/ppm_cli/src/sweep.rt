@@ -10,7 +10,7 @@ use crate::getters::{bytes_of, number_of};
 use crate::input::is_case;
 use crate::room::room_of;
 use crate::table::{
-    ACTS, CAPSULES, COPIED_ROOM, COPIED_SLOTS, FROM, MET, PROCESSORS, RUNS, SCHEDULE, SEED, TURNS,
+    ACTS, CAPSULES, COPIED_ROOM, COPIED_SLOTS, FROM, MET, PROCESSORS, SCHEDULE, TURNS,
 };
 use crate::takeover::{SweptTakeovers, swept_takeovers_of};
 use clap::ArgMatches;
@@ -40,11 +40,6 @@ pub struct SweepOptions {
     /// Before how many acts of the base run, from that one on: from 1 to 268435456, and 268435456
     /// by default.
     pub acts: u64,
-    /// How many runs are drawn: from 1 to 1048576. With 0, the default, none is drawn, and faults
-    /// are put at every place.
-    pub runs: u64,
-    /// Where the drawn runs begin: from 0 to 4294967295, and 1 by default.
-    pub seed: u32,
     /// How many capsules the depth-first run may have with which ends are compared: from 1 to
     /// 4294967295, and 16777216 by default.
     pub capsules: u64,
@@ -97,8 +92,6 @@ fn sweep_options(matches: &ArgMatches<'_>) -> Option<SweepOptions>
     let faults = number_of(matches, MET)?;
     let from = number_of(matches, FROM)?;
     let acts = number_of(matches, ACTS)?;
-    let runs = number_of(matches, RUNS)?;
-    let seed = number_of(matches, SEED)?;
     let capsules = number_of(matches, CAPSULES)?;
     Some(SweepOptions {
         processors,
@@ -109,8 +102,6 @@ fn sweep_options(matches: &ArgMatches<'_>) -> Option<SweepOptions>
         faults,
         from: u64::from(from),
         acts: u64::from(acts),
-        runs: u64::from(runs),
-        seed,
         capsules: u64::from(capsules),
     })
 }

@@ -17,9 +17,6 @@ const MOST_WRITTEN_ENTRIES: u32 = 4_096;
 /// The most looks for work in a row.
 const MOST_LOOKS: u32 = 1_048_576;
 
-/// The most runs that are drawn.
-const MOST_DRAWN_RUNS: u32 = 1_048_576;
-
 /// A command: its name and its options.
 #[derive(Clone, Copy, Debug)]
 pub struct CommandRow {
@@ -217,14 +214,6 @@ pub(crate) const ACTS: NumberOption = NumberOption {
     default: "268435456",
 };
 
-/// How many runs are drawn.
-pub(crate) const RUNS: NumberOption = NumberOption {
-    name: "runs",
-    low: 0,
-    high: MOST_DRAWN_RUNS,
-    default: "0",
-};
-
 /// The plan of faults.
 pub(crate) const FAULTS: TextOption = TextOption {
     name: "faults",
@@ -362,8 +351,6 @@ pub const COMMANDS: [CommandRow; 11] = [
             OptionRow::Number(MET),
             OptionRow::Number(FROM),
             OptionRow::Number(ACTS),
-            OptionRow::Number(RUNS),
-            OptionRow::Number(SEED),
             OptionRow::Number(CAPSULES),
             OptionRow::Choice(INPUT),
         ],

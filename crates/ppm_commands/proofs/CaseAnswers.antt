@@ -1,14 +1,12 @@
 -- A text has one fault or one case, so its answer is that of its fault or one of its case.
-use Rattle.std.proofs.Common.{◌≡◌, ◌⊎◌, ◌<◌, ℕ, List, ◌++◌, length, refl, sym, ◌∙◌, ap, ap₂, subst, inl, inr, arith}
+use Rattle.std.proofs.Common.{◌≡◌, ◌⊎◌, ℕ, List, refl, sym, ◌∙◌, ap, ap₂, subst, inl, inr, arith}
 use Rattle.ppm_words.specs.declared.named_array.NamedArray.{NamedArray}
 use Rattle.ppm_code.specs.declared.code.CodeParts.{CodeParts}
-use Rattle.ppm_case.specs.declared.case_error.CaseError.{CaseError}
-use Rattle.ppm_case.specs.declared.case_error.CaseError.TheVariants as error
 use Rattle.ppm_case.specs.declared.case_error.CaseFault.{CaseFault}
 use Rattle.ppm_case.specs.declared.case_error.CaseFault.TheVariants as fault
 use Rattle.ppm_case.specs.Case.{IsCaseOf}
 use Rattle.ppm_case.specs.Correct.{HasCase, FaultsTellCases}
-use Rattle.ppm_case.specs.Faults.{HasFault, IsRefusal, input_number}
+use Rattle.ppm_case.specs.Faults.{HasFault, input_number}
 use Rattle.ppm_case.specs.Rules.{case_limit}
 use Rattle.ppm_listing_reader.specs.ErrorNumbers.{fault_number}
 use Rattle.ppm_answers.specs.declared.case.InputRefusal.{InputRefusal}
@@ -16,7 +14,8 @@ use Rattle.ppm_answers.specs.declared.conflict.ListingRefusal.{ListingRefusal}
 use Rattle.ppm_answers.specs.declared.answer.Answer.{Answer}
 use Rattle.ppm_answers.specs.declared.answer.Answer.TheVariants as answers
 use Rattle.ppm_answers.specs.Reading.{AreOne, FrontsDecide, TextMay}
-use Rattle.ppm_commands.specs.Cases.{HasInputFault, HasListingFault, HasOfCase, MayOf, fault_answer, error_answer}
+use Rattle.ppm_loading.specs.Cases.{RefusedHas, RefusesInput, RefusesListing, refusal_of}
+use Rattle.ppm_commands.specs.Cases.{HasOfCase, MayOf}
 
 -- refusals by their parts
 input_path : (q r : InputRefusal) → q.number ≡ r.number → q.line ≡ r.line → q ≡ r
@@ -30,23 +29,23 @@ record OfFault (text : List ℕ) (a : Answer) : Type 0 where
   pub rule : CaseFault
   pub line : ℕ
   pub has : HasFault text rule line
-  pub is : a ≡ fault_answer rule line
+  pub is : a ≡ refusal_of rule line
 
 -- that of a fault of its arrays, and of its listing
-of_input : (text : List ℕ) (r : InputRefusal) → HasInputFault text r → OfFault text (answers.InputRefused r)
+of_input : (text : List ℕ) (r : InputRefusal) → RefusesInput text r → OfFault text (answers.InputRefused r)
 of_input text r h = record {
-  rule = fault.OfInput h.rule;
+  rule = fault.OfInput h.fault;
   line = r.line;
-  has = h.has;
-  is = ap (λ x. answers.InputRefused x) (input_path r (record { number = input_number h.rule; line = r.line }) h.number refl);
+  has = h.there;
+  is = ap (λ x. answers.InputRefused x) (input_path r (record { number = input_number h.fault; line = r.line }) h.number_is refl);
 }
 
-of_listing : (text : List ℕ) (r : ListingRefusal) → HasListingFault text r → OfFault text (answers.ListingRefused r)
+of_listing : (text : List ℕ) (r : ListingRefusal) → RefusesListing text r → OfFault text (answers.ListingRefused r)
 of_listing text r h = record {
-  rule = fault.OfListing h.rule;
+  rule = fault.OfListing h.fault;
   line = r.line;
-  has = h.has;
-  is = ap (λ x. answers.ListingRefused x) (listing_path r (record { number = fault_number h.rule; line = r.line }) h.number refl);
+  has = h.there;
+  is = ap (λ x. answers.ListingRefused x) (listing_path r (record { number = fault_number h.fault; line = r.line }) h.number_is refl);
 }
 
 module _ (Of : CodeParts → List NamedArray → Answer → Type 0) where
@@ -60,11 +59,12 @@ module _ (Of : CodeParts → List NamedArray → Answer → Type 0) where
   by_parts text (answers.ListingRefused r) h = inl (of_listing text r h)
   by_parts text a h = inr h
 
-  -- the answer of a fault
-  pub error_has : (text : List ℕ) (e : CaseError) → IsRefusal text e → TextMay (HasOfCase Of) text (error_answer e)
-  error_has text (error.Refused (fault.OfInput rule) line) h = record { rule = rule; has = h; number = refl }
-  error_has text (error.Refused (fault.OfListing rule) line) h = record { rule = rule; has = h; number = refl }
-  error_has text error.NoMemory h = tt
+  -- what is answered of a text that is of no case
+  pub refused_has : (text : List ℕ) (a : Answer) → TextMay RefusedHas text a → TextMay (HasOfCase Of) text a
+  refused_has text answers.NoMemory h = h
+  refused_has text (answers.InputRefused r) h = h
+  refused_has text (answers.ListingRefused r) h = h
+  refused_has text a h = absurd h.has
 
   -- the answer of a case
   pub case_has : ((code : CodeParts) (input : List NamedArray) (r : InputRefusal) → ¬ Of code input (answers.InputRefused r))
@@ -81,11 +81,21 @@ module _ (Of : CodeParts → List NamedArray → Answer → Type 0) where
     one_fault : (text : List ℕ) (a b : Answer) → OfFault text a → OfFault text b → a ≡ b
     one_fault text a b f g =
         let same = law.one_fault text f.rule g.rule f.line g.line f.has g.has in
-        f.is ∙ ap₂ fault_answer same.0 same.1 ∙ sym g.is
+        f.is ∙ ap₂ refusal_of same.0 same.1 ∙ sym g.is
 
     -- a text of a case has none
     not_both : (text : List ℕ) (a : Answer) → HasCase text → OfFault text a → ⊥
     not_both text a c f = law.excludes text c.code c.input f.rule f.line c.is f.has
+
+    -- a text without a fault is of a case
+    pub has_case : (text : List ℕ) → ((r : InputRefusal) → ¬ RefusesInput text r) → ((r : ListingRefusal) → ¬ RefusesListing text r) → HasCase text
+    has_case text no_input no_listing = law.covers text by
+      where
+        by : (f : CaseFault) (line : ℕ) → HasFault text f line → ⊥
+        by (fault.OfInput rule) line h =
+            no_input (record { number = input_number rule; line = line }) (record { fault = rule; there = h; number_is = refl })
+        by (fault.OfListing rule) line h =
+            no_listing (record { number = fault_number rule; line = line }) (record { fault = rule; there = h; number_is = refl })
 
     -- two answers of a text are one, where those of a case are
     pub one : ((code : CodeParts) (input : List NamedArray) (a b : Answer) → Of code input a → Of code input b → a ≡ b) → AreOne (HasOfCase Of)
@@ -103,7 +113,7 @@ module _ (Of : CodeParts → List NamedArray → Answer → Type 0) where
     -- a text that is too long is of no case, so its answer is that of a fault, which its front has as well
     pub front : FrontsDecide case_limit (HasOfCase Of)
     front text rest (answers.InputRefused r) long h =
-        record { rule = h.rule; has = law.front text rest (fault.OfInput h.rule) r.line long h.has; number = h.number }
+        record { fault = h.fault; there = law.front text rest (fault.OfInput h.fault) r.line long h.there; number_is = h.number_is }
     front text rest (answers.ListingRefused r) long h =
-        record { rule = h.rule; has = law.front text rest (fault.OfListing h.rule) r.line long h.has; number = h.number }
+        record { fault = h.fault; there = law.front text rest (fault.OfListing h.fault) r.line long h.there; number_is = h.number_is }
     front text rest a long h = absurd (omega (arith, long, law.short text h.0.code h.0.input h.0.is))

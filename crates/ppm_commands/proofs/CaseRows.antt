@@ -16,7 +16,6 @@ use Rattle.ppm_answers.proofs.Judged.{are_causes}
 use Rattle.ppm_answers.proofs.RowsLemmas.{shown}
 use Rattle.ppm_answers.proofs.RowsLemmas as rows_lemmas
 use Rattle.ppm_case.specs.Case.{IsCaseOf}
-use Rattle.ppm_case.specs.Rules.{case_limit}
 use Rattle.ppm_program.specs.Programs.{HasProgram}
 use Rattle.ppm_tree.specs.Program.{initial_arrays}
 use Rattle.ppm_tree.specs.Tree.{ProgramTree}
@@ -30,7 +29,7 @@ no_fault text h = h
 -- what is said of its program is said of a text
 pub program_reads : (text : List ℕ) (t : ProgramTree) (a : Answer) → HasProgram text t → ProgramMay t a → TextMay CaseReads text a
 program_reads text t (answers.Listed written) p h =
-    record { writes = record { tree = t; program = p; written_is = h.0 }; fits = h.1; short = h.2 }
+    record { writes = record { tree = t; program = p; written_is = h.0 }; fits = h.1 }
 program_reads text t answers.NoMemory p h = tt
 program_reads text t a p h = absurd h
 
@@ -46,13 +45,12 @@ module _ (law : HaveOneAnswer) (are : AreCases) (faithful : CodesAreFaithful) (o
   written w h g =
       let t : ProgramTree = h.2.writes.tree in
       let code : IsFaithful t = faithful h.0 t h.2.writes.program in
-      let short = subst (λ (l : List ℕ). length l ≤ case_limit) h.2.writes.written_is h.2.short in
       record {
         written = w;
         read = h;
         gets = g;
         case = subst (λ (l : List ℕ). IsCaseOf l (code_of t) (initial_arrays t)) (sym h.2.writes.written_is)
-            (are.cases h.0 t h.2.writes.program h.2.fits short);
+            (are.cases h.0 t h.2.writes.program h.2.fits);
         input = are.inputs h.0 t h.2.writes.program;
         sound = code.sound (initial_arrays t) (are.inputs h.0 t h.2.writes.program);
         faithful = code;

@@ -1,5 +1,5 @@
 -- A text has one answer where its case is run depth first.
-use Rattle.std.proofs.Common.{◌≡◌, ◌⊎◌, ◌≤◌, ℕ, List, refl, sym, ◌∙◌, ap, ap₂, subst, inl, inr, arith}
+use Rattle.std.proofs.Common.{◌≡◌, ◌⊎◌, ℕ, List, length, refl, sym, ◌∙◌, ap, ap₂, subst, inl, inr, arith}
 use Rattle.ppm_strands.specs.Run.{End}
 use Rattle.ppm_strands.proofs.RunLemmas.{one_end}
 use Rattle.ppm_words.specs.declared.named_array.NamedArray.{NamedArray}
@@ -10,17 +10,18 @@ use Rattle.ppm_code.specs.Inputs.{words_in}
 use Rattle.ppm_code.specs.Strands.{Result, Gave, Trapped}
 use Rattle.ppm_code.specs.Tidy.{IsTidy}
 use Rattle.ppm_depth.specs.declared.depth.DepthRun.{DepthRun}
-use Rattle.ppm_depth.specs.Run.{strands_of, said_of, pool_words, ComesTo, IsWithin, IsNotWithin, IsDepthRun}
+use Rattle.ppm_depth.specs.Run.{strands_of, said_of, pool_words, ComesTo, IsWithin, IsDepthRun, RunsAreThere}
 use Rattle.ppm_depth.specs.Start.{words_of, root_strand}
-use Rattle.ppm_case.specs.Correct.{FaultsTellCases}
+use Rattle.ppm_case.specs.Correct.{FaultsTellCases, HasCase}
 use Rattle.ppm_answers.specs.declared.case.UntidyStore.{UntidyStore}
 use Rattle.ppm_answers.specs.declared.counts.Counts.{Counts}
 use Rattle.ppm_answers.specs.declared.answer.Answer.{Answer}
 use Rattle.ppm_answers.specs.declared.answer.Answer.TheVariants as answers
-use Rattle.ppm_commands.specs.Cases.{IsUntidy, counts_told}
-use Rattle.ppm_commands.specs.Depth.{EndsWithin, GoesOn, DepthOf, DepthMayOf, HaveOneAnswer, answer_by, run_answer}
+use Rattle.ppm_commands.specs.Cases.{IsUntidy, counts_told, store_told}
+use Rattle.ppm_commands.specs.Depth.{EndsWithin, GoesOn, DepthOf, DepthMayOf, DepthHas, HaveOneAnswer, answer_by, run_answer}
 use Rattle.ppm_commands.proofs.CaseAnswers as case_answers
 use Rattle.ppm_commands.proofs.FirstStore.{one_told, none_told}
+use Rattle.ppm_commands.proofs.TidyLemmas.{all_are}
 
 module _ (code : CodeParts) (input : List NamedArray) where
   -- the depth-first run has one end
@@ -103,9 +104,32 @@ module _ (code : CodeParts) (input : List NamedArray) where
     run_may r tidy (inr n) = subst (λ o. DepthMayOf capsules code input (answer_by capsules o (counts_told r))) (sym n.outcome)
         (refl, record { tidy = tidy; run = r; more = n })
 
+module _ (capsules : ℕ) (text : List ℕ) (case : HasCase text) where
+  -- the answer of a tidy case, by its run
+  run_has : (r : DepthRun) → IsTidy case.code → IsDepthRun case.code case.input capsules r → (a : Answer) × DepthHas capsules text a
+  run_has r tidy (inl w) = by r.outcome refl
+    where
+      by : (o : Outcome) → r.outcome ≡ o → (a : Answer) × DepthHas capsules text a
+      by (outcome.Ended arrays) e =
+          (answers.Counted arrays (counts_told r), (case, record { tidy = tidy; run = r; within = w; outcome = e; counts = refl }))
+      by (outcome.Trapped t line) e =
+          (answers.TrappedAfter t line (counts_told r), (case, record { tidy = tidy; run = r; within = w; outcome = e; counts = refl }))
+      by outcome.NotWithin e = absurd (never_open case.code case.input capsules w.end (sym w.outcome ∙ e))
+  run_has r tidy (inr n) = (answers.NotWithinCapsules capsules, (case, (refl, record { tidy = tidy; run = r; more = n })))
+
+  -- a case without an untidy store is tidy, and has a run
+  case_has_one : RunsAreThere → ((u : UntidyStore) → ¬ DepthHas capsules text (answers.Untidy u)) → (a : Answer) × DepthHas capsules text a
+  case_has_one there no_store =
+      let tidy = all_are case.code
+      (λ s f. no_store (store_told (length case.input) case.code s) (case, record { store = s; first = f; tells = refl })) in
+      let it = there case.code case.input capsules in
+      run_has it.run tidy it.is
+
 -- so it is with all numbers of capsules
-pub have_one_answer : FaultsTellCases → HaveOneAnswer
-have_one_answer law capsules = record {
+pub have_one_answer : FaultsTellCases → RunsAreThere → HaveOneAnswer
+have_one_answer law there capsules = record {
   one = case_answers.one (DepthOf capsules) law (λ code input. one_of code input capsules);
   front = case_answers.front (DepthOf capsules) law;
+  some = λ text no_input no_listing no_store.
+      case_has_one capsules text (case_answers.has_case (DepthOf capsules) law text no_input no_listing) there no_store;
 }

@@ -12,13 +12,15 @@ pub mod SerialAnswers
 pub mod SerialRows
 pub mod CaseAnswers
 pub mod FirstStore
+pub mod TidyLemmas
 pub mod DepthAnswers
 pub mod DepthRows
 pub mod WordLemmas
+pub mod TouchLemmas
 pub mod RacesAnswers
 pub mod RacesRows
 pub mod LineLemmas
-pub mod TouchLemmas
+pub mod PlaceLemmas
 pub mod CaseTextAnswers
 pub mod NameLemmas
 pub mod WrittenLemmas

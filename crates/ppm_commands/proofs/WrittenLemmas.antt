@@ -15,7 +15,6 @@ use Rattle.ppm_cut_code.specs.Routines.{code_of}
 use Rattle.ppm_cut_correct.specs.Beginning.{StartWithInput, NameArrays}
 use Rattle.ppm_program.proofs.WithinLemmas.{tree_within}
 use Rattle.ppm_case.specs.Correct.{CanBeRead, WrittenCasesAreRead}
-use Rattle.ppm_case.specs.Rules.{case_limit}
 use Rattle.ppm_listing.specs.Correct.{NumbersFit}
 use Rattle.ppm_program.specs.Programs.{HasProgram}
 use Rattle.ppm_commands.specs.Case.{AreCases, text_of}
@@ -42,8 +41,8 @@ module _ (laws : Laws) (text : List ℕ) (t : ProgramTree) (program : HasProgram
   starts = laws.starts t within program.admitted.admitted
 
   -- the code and the arrays of a program can be read
-  can_be_read : NumbersFit (code_of t) → length (text_of t) ≤ case_limit → CanBeRead (code_of t) (initial_arrays t)
-  can_be_read fits short = record {
+  can_be_read : NumbersFit (code_of t) → CanBeRead (code_of t) (initial_arrays t)
+  can_be_read fits = record {
     code_is = laws.rules t within program.admitted.admitted program.bounded;
     numbers = fits;
     input_is = input_fits t within program.admitted.admitted;
@@ -51,11 +50,10 @@ module _ (laws : Laws) (text : List ℕ) (t : ProgramTree) (program : HasProgram
     names = names_fit t within;
     differ = names_differ t program.admitted.admitted;
     named = laws.names t program.admitted.admitted (initial_arrays t) starts;
-    short = short;
   }
 
 pub are_cases : Laws → AreCases
 are_cases laws = record {
-  cases = λ text t program fits short. laws.written (code_of t) (initial_arrays t) (can_be_read laws text t program fits short);
+  cases = λ text t program fits. laws.written (code_of t) (initial_arrays t) (can_be_read laws text t program fits);
   inputs = λ text t program. starts laws text t program;
 }

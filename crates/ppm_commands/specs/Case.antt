@@ -1,5 +1,5 @@
 -- The command `code` with arrays: what it says of a text, when it may give each answer, and what follows from each status.
-use Rattle.std.specs.Prelude.{◌≡◌, ◌≤◌, ℕ, List, length, ⊤}
+use Rattle.std.specs.Prelude.{◌≡◌, ℕ, List, ⊤}
 use Rattle.ppm_ports.specs.Ports.{Port, Gets}
 use Rattle.ppm_ports.specs.Outside.{Ports}
 use Rattle.ppm_text.specs.Limits.{text_limit}
@@ -11,7 +11,6 @@ use Rattle.ppm_cut_code.specs.Inputs.{IsInputOf}
 use Rattle.ppm_cut_code.specs.Routines.{code_of}
 use Rattle.ppm_program.specs.Programs.{HasProgram}
 use Rattle.ppm_program.specs.Refusals.{IsRefusal}
-use Rattle.ppm_case.specs.Rules.{case_limit}
 use Rattle.ppm_case.specs.Case.{IsCaseOf}
 use Rattle.ppm_case.specs.Text.{case_text}
 use Rattle.ppm_answers.specs.declared.refusal.Refusal.{Refusal}
@@ -40,13 +39,12 @@ CaseHas text (answers.Listed written) = HasCaseText text written
 CaseHas text (answers.SourceRefused r) = IsRefusal text r
 CaseHas text _ = ⊥
 
--- it is so, the numbers of this code fit 64 bits, and the text is not too long for a case
+-- it is so, and the numbers of this code fit 64 bits
 pub record WritesCase (text written : List ℕ) : Type 0 where
   pub writes : HasCaseText text written
   pub fits : NumbersFit (code_of writes.tree)
-  pub short : length written ≤ case_limit
 
--- the answer of the text that was read: of a code in memory it is known that its numbers fit, and what is too long for a case is not written
+-- the answer of the text that was read: of a code in memory it is known that its numbers fit
 abbrev pub CaseReads : List ℕ → Answer → Type 0
 CaseReads text (answers.Listed written) = WritesCase text written
 CaseReads text (answers.SourceRefused r) = IsRefusal text r
@@ -54,7 +52,7 @@ CaseReads text _ = ⊥
 
 -- the answers of a program whose code is written with its arrays; and memory can always be refused
 abbrev pub ProgramMay : ProgramTree → Answer → Type 0
-ProgramMay t (answers.Listed written) = (written ≡ text_of t) × NumbersFit (code_of t) × (length written ≤ case_limit)
+ProgramMay t (answers.Listed written) = (written ≡ text_of t) × NumbersFit (code_of t)
 ProgramMay t answers.NoMemory = ⊤
 ProgramMay t _ = ⊥
 
@@ -65,11 +63,10 @@ pub record HaveOneAnswer : Type 0 where
   pub front : FrontsDecide text_limit CaseHas
   pub some : (text : List ℕ) → ((r : Refusal) → ¬ IsRefusal text r) → (a : Answer) × CaseHas text a
 
--- What is written of a program whose code's numbers fit 64 bits is of its code and its arrays, if it is not too long for a case; and these are an
--- input for the program's arrays.
+-- What is written of a program whose code's numbers fit 64 bits is of its code and its arrays, and never too long; and these are an input for the
+-- program's arrays.
 pub record AreCases : Type 0 where
-  pub cases : (text : List ℕ) (t : ProgramTree) → HasProgram text t → NumbersFit (code_of t) → length (text_of t) ≤ case_limit
-      → IsCaseOf (text_of t) (code_of t) (initial_arrays t)
+  pub cases : (text : List ℕ) (t : ProgramTree) → HasProgram text t → NumbersFit (code_of t) → IsCaseOf (text_of t) (code_of t) (initial_arrays t)
   pub inputs : (text : List ℕ) (t : ProgramTree) → HasProgram text t → IsInputOf t (initial_arrays t)
 
 -- the answers of `code` with arrays

@@ -63,10 +63,14 @@ DepthMayOf capsules = MayOf (DepthOf capsules)
 abbrev pub DepthHas : ℕ → List ℕ → Answer → Type 0
 DepthHas capsules = HasOfCase (DepthOf capsules)
 
--- Within each number of capsules two answers of a text are one, and what stands behind more bytes than a case may have changes none.
+-- Within each number of capsules two answers of a text are one, and what stands behind more bytes than a case may have changes none. Each text has
+-- one: it is refused for a fault or a store that is not tidy, or its run comes to an end or takes more capsules.
 pub record HasOneAnswer (capsules : ℕ) : Type 0 where
   pub one : AreOne (DepthHas capsules)
   pub front : FrontsDecide case_limit (DepthHas capsules)
+  pub some : (text : List ℕ) → ((r : InputRefusal) → ¬ DepthHas capsules text (answers.InputRefused r))
+      → ((r : ListingRefusal) → ¬ DepthHas capsules text (answers.ListingRefused r))
+      → ((u : UntidyStore) → ¬ DepthHas capsules text (answers.Untidy u)) → (a : Answer) × DepthHas capsules text a
 
 -- so it is with all numbers of capsules
 abbrev pub HaveOneAnswer : Type 0

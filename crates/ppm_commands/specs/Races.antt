@@ -137,10 +137,15 @@ RacesMayOf capsules = MayOf (RacesOf capsules)
 abbrev pub RacesHas : ℕ → List ℕ → Answer → Type 0
 RacesHas capsules = HasOfCase (RacesOf capsules)
 
--- Within each number of capsules two answers of a text are one, and what stands behind more bytes than a case may have changes none.
+-- Within each number of capsules two answers of a text are one, and what stands behind more bytes than a case may have changes none. Each text has
+-- one: it is refused for a fault, a conflict or a store that is not tidy, or it is sound, has a race or takes more capsules.
 pub record HasOneAnswer (capsules : ℕ) : Type 0 where
   pub one : AreOne (RacesHas capsules)
   pub front : FrontsDecide case_limit (RacesHas capsules)
+  pub some : (text : List ℕ) → ((r : InputRefusal) → ¬ RacesHas capsules text (answers.InputRefused r))
+      → ((r : ListingRefusal) → ¬ RacesHas capsules text (answers.ListingRefused r))
+      → ((c : ToldConflict) (read write : ℕ) → ¬ RacesHas capsules text (answers.ConflictingAt c read write))
+      → ((u : UntidyStore) → ¬ RacesHas capsules text (answers.Untidy u)) → (a : Answer) × RacesHas capsules text a
 
 -- so it is with all numbers of capsules
 abbrev pub HaveOneAnswer : Type 0

@@ -1,5 +1,5 @@
 //! The command `code` with arrays.
-ghost use Rattle.std.specs.Prelude.{◌≡◌, ◌≤◌, IfOk, OnOk, length};
+ghost use Rattle.std.specs.Prelude.{◌≡◌, IfOk, OnOk};
 ghost use Rattle.ppm_ports.specs.Ports.{port};
 ghost use Rattle.ppm_ports.specs.Outside.{ports};
 ghost use Rattle.ppm_tree.specs.Tree.{tree_of};
@@ -7,12 +7,11 @@ ghost use Rattle.ppm_cut_bounds.specs.Bounds.{IsWithinBounds};
 ghost use Rattle.ppm_answers.specs.Reading.{TextMay};
 ghost use Rattle.ppm_listing.specs.Correct.{NumbersFit};
 ghost use Rattle.ppm_cut_code.specs.Routines.{code_of};
-ghost use Rattle.ppm_case.specs.Rules.{case_limit};
 ghost use Rattle.ppm_commands.specs.Case.{CaseReads, ProgramMay, CaseMay, IsWrittenAsCase, text_of};
 
 use crate::laws::{case_texts_are_cases, case_texts_have_one_answer, codes_are_faithful};
 use ppm_answers::{Answer, Status, answer_of_read, deliver};
-use ppm_case::{CASE_LIMIT, write_case};
+use ppm_case::write_case;
 use ppm_cut::cut;
 use ppm_ports::{Sink, Source, read_whole};
 use ppm_program::{JudgeError, program_of};
@@ -74,23 +73,8 @@ fn program_answer(alloc: Global, program: &Admitted) -> Answer
     }
 }
 
-/// The text of a program's code with its arrays. A text that is too long for a case is given back
-/// as if memory were wanting.
+/// The text of a program's code with its arrays.
 fn case_of(alloc: Global, program: &Admitted) -> Result<Vec<u8>, NoMemory>
-    requires bounded { IsWithinBounds (tree_of program.now) }
-    ensures value { IfOk result (λ text. text.items ≡ text_of (tree_of program.now)) }
-    ensures fits { OnOk result (NumbersFit (code_of (tree_of program.now))) }
-    ensures short { IfOk result (λ text. length text.items ≤ case_limit) }
-{
-    let text = any_case_of(alloc, program)?;
-    if text.len() > CASE_LIMIT {
-        return Err(NoMemory);
-    }
-    Ok(text)
-}
-
-/// The text of a program's code with its arrays, however long it is.
-fn any_case_of(alloc: Global, program: &Admitted) -> Result<Vec<u8>, NoMemory>
     requires bounded { IsWithinBounds (tree_of program.now) }
     ensures value { IfOk result (λ text. text.items ≡ text_of (tree_of program.now)) }
     ensures fits { OnOk result (NumbersFit (code_of (tree_of program.now))) }

@@ -1,12 +1,10 @@
-//! What commands tell of cases: where an instruction stands in the text, counts, stores, faults.
+//! What commands tell of cases: where an instruction stands in the text, counts, stores.
 ghost use Rattle.std.specs.Prelude.{◌≡◌, ◌≤◌, ◌^◌, length};
 ghost use Rattle.ppm_words.specs.Limits.{array_limit};
 ghost use Rattle.ppm_commands.specs.Cases.{capsule_lines, counts_told as told_counts};
-ghost use Rattle.ppm_commands.specs.Cases.{error_answer as answer_of, fault_answer as answer_of_fault};
 ghost use Rattle.ppm_commands.specs.Cases.{line_at as line_in, store_told as told_store};
 
-use ppm_answers::{Answer, Counts, InputRefusal, ListingRefusal};
-use ppm_case::{CaseError, CaseFault};
+use ppm_answers::Counts;
 use ppm_code::{Capsule, Code};
 use ppm_depth::DepthRun;
 use ppm_war::UntidyStore;
@@ -65,31 +63,5 @@ pub(crate) fn store_told(code: &Code, arrays: usize, store: UntidyStore) -> ppm_
         capsule: store.capsule,
         store: store.at,
         line: line_at(code, arrays, store.capsule, store.at),
-    }
-}
-
-/// The answer of a text that is of no case, for a fault at a line.
-fn fault_answer(fault: CaseFault, line: u32) -> Answer
-    ensures { result ≡ answer_of_fault fault line }
-{
-    match fault {
-        CaseFault::OfInput(rule) => Answer::InputRefused(InputRefusal {
-            number: rule.number(),
-            line,
-        }),
-        CaseFault::OfListing(rule) => Answer::ListingRefused(ListingRefusal {
-            number: rule.number(),
-            line,
-        }),
-    }
-}
-
-/// The answer of a text that was not read as a case.
-pub(crate) fn error_answer(error: CaseError) -> Answer
-    ensures { result ≡ answer_of error }
-{
-    match error {
-        CaseError::Refused(fault, line) => fault_answer(fault, line),
-        CaseError::NoMemory => Answer::NoMemory,
     }
 }

@@ -9,12 +9,13 @@ ghost use Rattle.ppm_answers.specs.Reading.{TextMay};
 ghost use Rattle.ppm_commands.specs.Depth.{DepthHas, DepthMay, DepthMayOf};
 ghost use Rattle.ppm_commands.specs.Depth.{IsRunDepthFirst, run_answer as answer_of};
 
-use crate::cases::{array_count, counts_told, error_answer, store_told};
+use crate::cases::{array_count, counts_told, store_told};
 use crate::laws::depth_runs_have_one_answer;
 use ppm_answers::{Answer, Status, answer_of_read, deliver};
-use ppm_case::{CASE_LIMIT, read_case};
+use ppm_case::CASE_LIMIT;
 use ppm_code::Code;
 use ppm_depth::{DepthRun, depth_first};
+use ppm_loading::text_case;
 use ppm_ports::{Sink, Source, read_whole};
 use ppm_war::untidy;
 use ppm_words::{Input, NoMemory, Outcome};
@@ -56,9 +57,9 @@ fn text_answer(alloc: Global, capsules: u64, text: &[u8]) -> Answer
     requires few { capsules ≤ 2 ^ 40 }
     ensures { TextMay (DepthHas capsules) text.now result }
 {
-    match read_case(alloc, text) {
+    match text_case(alloc, text) {
         Ok(case) => case_answer(alloc, capsules, &case.code, &case.input),
-        Err(error) => error_answer(error),
+        Err(answer) => answer,
     }
 }
 

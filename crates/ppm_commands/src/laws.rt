@@ -1,5 +1,6 @@
 //! That a text has one answer by each command, shown by calls that do nothing.
 ghost use Rattle.ppm_commands.specs.Case.{AreCases, HaveOneAnswer as CaseTextsHaveOneAnswer};
+ghost use Rattle.ppm_commands.specs.Cases.{InstructionsHaveTheirLines};
 ghost use Rattle.ppm_commands.specs.Check.{HaveOneAnswer as ListingsHaveOneAnswer};
 ghost use Rattle.ppm_commands.specs.Code.{CodesAreFaithful, HaveOneAnswer as CodesHaveOneAnswer};
 ghost use Rattle.ppm_commands.specs.Depth.{HaveOneAnswer as DepthRunsHaveOneAnswer};
@@ -10,9 +11,10 @@ use ppm_case::{faults_tell_cases, written_cases_are_read};
 use ppm_cut_code::keeps_the_rules;
 use ppm_cut_correct::{end_as_meant, name_arrays, start_with_input};
 use ppm_cut_sound::{code_is_sound, may_be_stopped, store_tidily};
+use ppm_depth::runs_are_there;
 use ppm_listing_reader::faults_tell_listings;
 use ppm_program::have_one_answer as have_one_program;
-use ppm_races::verdicts_are_one;
+use ppm_races::{verdicts_are_one, verdicts_are_there};
 use ppm_rows::trees_are_within;
 use ppm_tree::{have_one_end, none_is_stuck, spend_their_turns};
 
@@ -89,8 +91,9 @@ pub fn case_texts_are_cases()
 pub fn depth_runs_have_one_answer()
     ensures law { DepthRunsHaveOneAnswer }
 {
-    // The law rests on this; the call does nothing.
+    // The law rests on these; the calls do nothing.
     faults_tell_cases();
+    runs_are_there();
 }
 
 /// Within each number of capsules a text has one answer where races of its case are sought: it is
@@ -102,4 +105,10 @@ pub fn cases_have_one_answer()
     // The law rests on these; the calls do nothing.
     faults_tell_cases();
     verdicts_are_one();
+    verdicts_are_there();
 }
+
+/// The line that is told of an instruction of a case is the line of the text in which it stands.
+pub fn instructions_have_their_lines()
+    ensures law { InstructionsHaveTheirLines }
+{}

@@ -9,7 +9,8 @@
 //! memory was refused, and what follows from each status is a sentence of its table (`CheckSays`,
 //! `CodeSays`, `CaseSays`, `SerialSays`, `DepthSays`, `RacesSays`).
 //! Stands on `ppm_listing_reader` and `ppm_war`, on `ppm_program`, `ppm_cut` and `ppm_serial`, on
-//! `ppm_case`, `ppm_depth` and `ppm_races`, and on `ppm_answers`; `ppm_top` calls it.
+//! `ppm_case`, `ppm_depth` and `ppm_races`, on `ppm_loading` for the refusals of cases, and on
+//! `ppm_answers`; `ppm_top` calls it.
 //! After the write-after-read conflicts of Blelloch et al., SPAA 2018; the commands and their
 //! answers are this project's.
 #![tactic(auto)]
@@ -30,8 +31,8 @@ pub use code::code_command;
 pub use depth::depth_command;
 pub use laws::{
     case_texts_are_cases, case_texts_have_one_answer, cases_have_one_answer, codes_are_faithful,
-    codes_have_one_answer, depth_runs_have_one_answer, listings_have_one_answer,
-    outcomes_have_one_answer,
+    codes_have_one_answer, depth_runs_have_one_answer, instructions_have_their_lines,
+    listings_have_one_answer, outcomes_have_one_answer,
 };
 pub use races::races_command;
 pub use serial::serial_command;

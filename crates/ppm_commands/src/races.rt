@@ -12,13 +12,14 @@ ghost use Rattle.ppm_answers.specs.Reading.{TextMay};
 ghost use Rattle.ppm_commands.specs.Races.{RacesHas, RacesMay, RacesMayOf, AreSought};
 ghost use Rattle.ppm_commands.specs.Races.{conflict_answer as answer_of_conflict};
 
-use crate::cases::{array_count, counts_told, error_answer, line_at, store_told};
+use crate::cases::{array_count, counts_told, line_at, store_told};
 use crate::check::conflict_told;
 use crate::laws::cases_have_one_answer;
 use crate::race::race_told;
 use ppm_answers::{Answer, Status, answer_of_read, deliver};
-use ppm_case::{CASE_LIMIT, read_case};
+use ppm_case::CASE_LIMIT;
 use ppm_code::Code;
+use ppm_loading::text_case;
 use ppm_ports::{Sink, Source, read_whole};
 use ppm_races::{Race, Verdict, races};
 use ppm_war::{Conflict, check, untidy};
@@ -62,9 +63,9 @@ fn text_answer(alloc: Global, capsules: u64, text: &[u8]) -> Answer
     requires few { capsules ≤ 2 ^ 40 }
     ensures { TextMay (RacesHas capsules) text.now result }
 {
-    match read_case(alloc, text) {
+    match text_case(alloc, text) {
         Ok(case) => case_answer(alloc, capsules, &case.code, &case.input),
-        Err(error) => error_answer(error),
+        Err(answer) => answer,
     }
 }
 

@@ -7,6 +7,7 @@
 -- (`CapsuleLemmas`); it enters a capsule as from 0 in all registers, where those hold 0 that it reads
 -- (`WidthLemmas`), and where it halts a `Local` is built that stands there (`WaitingLemmas`).
 
+pub mod CopyLemmas
 pub mod ListLemmas
 pub mod LocalLemmas
 pub mod RunLemmas

@@ -10,6 +10,7 @@
 
 mod acts;
 mod capsule;
+mod copies;
 mod frames;
 mod laws;
 mod machine;

@@ -14,6 +14,7 @@ ghost use Rattle.ppm_step.specs.State.{stand_of, next_of, seeks_holder};
 ghost use Rattle.ppm_step.specs.Told.{told_of};
 
 use crate::acts::{act_on, count_of, forks_by, is_done, is_work_by, seeks_holder, takes_by};
+use crate::copies::{code_copy, locals_copy};
 use crate::steps::step_along;
 use ppm_cells::{Cell, Ending, Shape};
 use ppm_code::{Code, End, Step};
@@ -110,6 +111,30 @@ impl Machine {
             takes: 0,
             work: 0,
             turns: 0,
+        })
+    }
+
+    /// A copy, which goes on as this machine does, whatever becomes of this one. `Err` only where
+    /// memory is refused.
+    pub fn copy(&self, alloc: Global) -> Result<Machine, NoMemory>
+        ensures { IfOk result (λ machine. machine ≡ self.now) }
+    {
+        let code = code_copy(alloc, &self.code)?;
+        let array_lengths = Vec::from_slice(alloc, self.array_lengths.as_slice())?;
+        let widths = Vec::from_slice(alloc, self.widths.as_slice())?;
+        let words = Vec::from_slice(alloc, self.words.as_slice())?;
+        let locals = locals_copy(alloc, &self.locals)?;
+        Ok(Machine {
+            shape: self.shape,
+            code,
+            array_lengths,
+            widths: Items::from_vec(widths),
+            words,
+            locals,
+            forks: self.forks,
+            takes: self.takes,
+            work: self.work,
+            turns: self.turns,
         })
     }
 

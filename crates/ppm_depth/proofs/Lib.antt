@@ -16,5 +16,6 @@ pub mod OrderLemmas
 pub mod RestLemmas
 pub mod ResumeLemmas
 pub mod StackLemmas
+pub mod ThereLemmas
 pub mod TurnLemmas
 pub mod WholeLemmas

@@ -79,3 +79,12 @@ module _ (code : CodeParts) (input : List NamedArray) where
   -- the answer of a run that may take so many capsules
   abbrev pub IsDepthRun : (limit : ℕ) → DepthRun → Type 0
   IsDepthRun limit r = IsWithin limit r ⊎ IsNotWithin limit r
+
+-- a code and an input have a run within so many capsules
+pub record HasRunWithin (code : CodeParts) (input : List NamedArray) (limit : ℕ) : Type 0 where
+  pub run : DepthRun
+  pub is : IsDepthRun code input limit run
+
+-- each code has one with each input and each number
+abbrev pub RunsAreThere : Type 0
+RunsAreThere = (code : CodeParts) (input : List NamedArray) (limit : ℕ) → HasRunWithin code input limit

@@ -20,6 +20,6 @@ pub use capsule::{Done, block_words, instrs_of};
 pub use depth::{DepthRun, depth_first, depth_run};
 pub use frame::{Finish, For, Frame, Now, Waiting};
 pub use image::root_store;
-pub use laws::orders_come_to_one_end;
+pub use laws::{orders_come_to_one_end, runs_are_there};
 pub use store::{Place, Store};
 pub use strand::{Counts, Strand, counted, entry};

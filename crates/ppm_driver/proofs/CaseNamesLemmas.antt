@@ -80,7 +80,8 @@ names_are text code input is =
     record {
       most = subst (λ n. n ≤ array_limit) (sym (as_many input)) fits.arrays_bound;
       names = subst AreNamed (sym is.arrays)
-          (All-from_recursion (λ (a : NamedLength). IsArrayName a.name) (names_of (map array_of is.front.arrays)) (named_all is.front.arrays [] is.front.follow));
+          (All-from_recursion (λ (a : NamedLength). IsArrayName a.name) (names_of (map array_of is.front.arrays))
+          (named_all is.front.arrays [] is.front.follow));
       differ = subst AreDistinct (sym is.arrays) listed;
       words_most = subst (λ ls. sum ls ≤ word_limit) (sym (lengths_are input)) fits.values_bound;
     }

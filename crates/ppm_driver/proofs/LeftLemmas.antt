@@ -58,7 +58,8 @@ module _ (code : CodeParts) (input : List NamedArray) (sizes : Sizes) (places : 
     shape_is = refl;
     code_is = refl;
     arrays_are = refl;
-    words_are = subst (λ (x : Situation). words_behind x turns ≡ (after x.shape x.code (opening x.state.words x.shape.processors) turns).words) (sym b.loads) refl;
+    words_are = subst (λ (x : Situation). words_behind x turns ≡ (after x.shape x.code (opening x.state.words x.shape.processors) turns).words)
+        (sym b.loads) refl;
     few = omega arith;
   }
 
@@ -133,7 +134,8 @@ module _ (tell : FaultsTellSavedTexts) (options : StopOptions) (are : AreStopped
   worked : (keeper : ℕ) (m : Situation) → OpensRun (sizes_of options) code input keeper m → worked_in_all m [] (made m) ≤ options.after
   worked keeper m b =
       let some : length (along m.shape m.code work_of (opening m.state.words m.shape.processors) (made m)) ≤ options.after =
-      subst (λ (x : Situation). length (along x.shape x.code work_of (opening x.state.words x.shape.processors) (schedule_turns x.shape x.code x.state items options.after)) ≤ options.after)
+      subst (λ (x : Situation). length (along x.shape x.code work_of (opening x.state.words x.shape.processors)
+      (schedule_turns x.shape x.code x.state items options.after)) ≤ options.after)
       (sym b.loads) (scheduled_work b.shape code (opening b.image.words b.shape.processors) items options.after) in
       omega (arith, some)
 
@@ -141,7 +143,8 @@ module _ (tell : FaultsTellSavedTexts) (options : StopOptions) (are : AreStopped
   struck : (keeper : ℕ) (m : Situation) → OpensRun (sizes_of options) code input keeper m → struck_in_all m [] (made m) ≤ scheduled_faults items
   struck keeper m b =
       let some : length (along m.shape m.code strikes_of (opening m.state.words m.shape.processors) (made m)) ≤ scheduled_faults items =
-      subst (λ (x : Situation). length (along x.shape x.code strikes_of (opening x.state.words x.shape.processors) (schedule_turns x.shape x.code x.state items options.after)) ≤ scheduled_faults items)
+      subst (λ (x : Situation). length (along x.shape x.code strikes_of (opening x.state.words x.shape.processors)
+      (schedule_turns x.shape x.code x.state items options.after)) ≤ scheduled_faults items)
       (sym b.loads)
       (few b.shape (opening b.image.words b.shape.processors)) in
       omega (arith, some)
@@ -169,7 +172,8 @@ module _ (tell : FaultsTellSavedTexts) (options : StopOptions) (are : AreStopped
       let struck_most = struck h.keeper m h.opens in (
         saved,
         h.saves,
-        text_left tell saved z back code input (scheduled_faults items) from_it refl (omega (arith, most, after_most)) struck_most (omega (arith, few_most, count)),
+        text_left tell saved z back code input (scheduled_faults items) from_it refl (omega (arith, most, after_most)) struck_most
+            (omega (arith, few_most, count)),
       )
 
 pub stops_of_code_leave_states : FaultsTellSavedTexts → StopsOfCodeLeaveStates

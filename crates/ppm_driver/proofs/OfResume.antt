@@ -38,12 +38,14 @@ use Rattle.ppm_driver.specs.ProgramsAsCode.{IsAsItsCode, ProgramsAreAsCode}
 use Rattle.ppm_driver.specs.ResumeCompleteness.{lost_with, ResumesComplete}
 use Rattle.ppm_driver.specs.ResumeLaws.{ResumeLaws}
 use Rattle.ppm_driver.specs.ResumeRows.{Has, RefusesPlan, ResumeSays, ComesLate, Completes, ResumeRows}
-use Rattle.ppm_driver.specs.Resumes.{SavedState, limits_of, plan_of, saved_finish, ResumedHas, ItemsHave, ResumeMay, ResumeTells, TextHas, IsLeftBy, IsTextOf, IsTextLeftBy, ResumesLeaveStates, legs_with}
+use Rattle.ppm_driver.specs.Resumes.{SavedState, limits_of, plan_of, saved_finish, ResumedHas, ItemsHave, ResumeMay, ResumeTells, TextHas}
+use Rattle.ppm_driver.specs.Resumes.{IsLeftBy, IsTextOf, ResumesLeaveStates, legs_with}
 use Rattle.ppm_driver.proofs.LeftLemmas.{by_source, text_by_code}
 use Rattle.ppm_driver.proofs.LegsMeant.{as_program, ends_as_program}
 use Rattle.ppm_driver.proofs.ResumeComplete.{resumes_complete}
 use Rattle.ppm_driver.proofs.ResumeLemmas.{spent_has, filled_has, has_kind, fronts_decide, wants}
-use Rattle.ppm_driver.proofs.ResumedOfCode.{left_stands, left_again, left_words_stand, resumed_breaks, resumed_ends, resumed_full, resumed_is, resumed_loses, resumed_needs_turns, resumed_traps, resumes_are_as_code}
+use Rattle.ppm_driver.proofs.ResumedOfCode.{left_stands, left_again, left_words_stand, resumed_breaks, resumed_ends, resumed_full, resumed_is}
+use Rattle.ppm_driver.proofs.ResumedOfCode.{resumed_loses, resumed_needs_turns, resumed_traps, resumes_are_as_code}
 use Rattle.ppm_driver.proofs.StrikeLemmas.{strikes_are_planned}
 
 -- A run from a state that a source left is with the legs before as its program: it is as the program's code.
@@ -152,7 +154,8 @@ module _ (laws : ResumeLaws) (options : ResumeOptions) (plan : List ℕ) (o : Ou
   }
 
   -- that words are broken comes late
-  late : (items : List PlanItem) (z : SavedState) (place : ℕ) → ItemsHave options o.told_before o.told_now items z (answers.Broken place) → ComesLate options plan o items z place
+  late : (items : List PlanItem) (z : SavedState) (place : ℕ) → ItemsHave options o.told_before o.told_now items z (answers.Broken place)
+      → ComesLate options plan o items z place
   late items z place (inl k) source left =
       absurd (program_stands laws options o.told_before o.told_now items z source left k.0.none)
   late items z place (inr run) source left = (run, program_breaks laws options o.told_before o.told_now items z source left place run)

@@ -85,7 +85,8 @@ module _ (laws : Laws) where
   refused_none text z is (errors.WrongCount line) h other = laws.faults.excludes text z.shape z.arrays z.code z.words fault.WrongCount line is.saved h
 
   module _ (options : ResumeOptions) (are : AreResumed options) (before now : ToldLists) (items : List PlanItem) (code : CodeParts) (input : List NamedArray)
-      (may : MayRun code input) (z : SavedState) (left : IsLeftByCode code input z) (enough : CodeIsEnough code input (faults_of left items) options.turns z.shape.room) where
+      (may : MayRun code input) (z : SavedState) (left : IsLeftByCode code input z)
+      (enough : CodeIsEnough code input (faults_of left items) options.turns z.shape.room) where
     abbrev Resumed : Answer → Type 0
     Resumed a = ResumedHas options before now items z a
 
@@ -128,7 +129,8 @@ module _ (laws : Laws) where
         absurd (omega (arith, much, few))
     items_end a h = absurd (has_kind options before now items z a h)
 
-  module _ (options : ResumeOptions) (are : AreResumed options) (text : List ℕ) (z : SavedState) (is : IsTextOf text z) (plan : List ℕ) (items : List PlanItem) (accepted : IsAccepted plan_form plan z.shape.processors items)
+  module _ (options : ResumeOptions) (are : AreResumed options) (text : List ℕ) (z : SavedState) (is : IsTextOf text z) (plan : List ℕ)
+      (items : List PlanItem) (accepted : IsAccepted plan_form plan z.shape.processors items)
       (code : CodeParts) (input : List NamedArray) (may : MayRun code input) (left : IsLeftByCode code input z)
       (enough : CodeIsEnough code input (faults_of left items) options.turns z.shape.room) (before now : ToldLists) where
     -- the text's state is this one, and the plan's items are these

@@ -29,7 +29,8 @@ use Rattle.ppm_loading.specs.Says.{array_words, arrays_from, IsOfFinish}
 use Rattle.ppm_loading.proofs.LoadingLemmas.{opens_lengths}
 use Rattle.ppm_loading.proofs.SayLemmas.{said_of_word}
 use Rattle.ppm_driver.specs.AsCode.{MayRun, CodeNeedsMoreRoom, CodeNeedsMoreTurns}
-use Rattle.ppm_driver.specs.CodeResumes.{CodeWordsComeBack, IsLeftByCode, IsAsResumed, LeftWordsStand, ResumesAreAsCode, ResumesOfCodeLeaveStates, SaysAsResumed, faults_of, legs_of}
+use Rattle.ppm_driver.specs.CodeResumes.{CodeWordsComeBack, IsLeftByCode, IsAsResumed, LeftWordsStand, ResumesAreAsCode, SaysAsResumed}
+use Rattle.ppm_driver.specs.CodeResumes.{ResumesOfCodeLeaveStates, faults_of, legs_of}
 use Rattle.ppm_driver.specs.Legs.{words_at_last, finish_at_last, worked_in_all, lost_in_all}
 use Rattle.ppm_driver.specs.LegsAsCode.{EndsAsCodeInAll, IsAsCodeInAll, RunsInLegsAreAsCode}
 use Rattle.ppm_driver.specs.Meant.{struck_in}
@@ -122,7 +123,8 @@ module _ (law : RunsInLegsAreAsCode) (comes : CodeWordsComeBack) (code : CodePar
     -- the work of all is that of the legs before and of these turns
     pub work_split : worked_in_all m legs turns ≡ worked_in_all m left.legs left.turns + length (along start.shape start.code work_of start.state turns)
     work_split =
-        let same : length (along start.shape start.code work_of start.state turns) ≡ length (along m.shape m.code work_of (opening back m.shape.processors) turns) =
+        let same : length (along start.shape start.code work_of start.state turns)
+        ≡ length (along m.shape m.code work_of (opening back m.shape.processors) turns) =
         ap (λ (x : State). length (along start.shape start.code work_of x turns)) state_is
         ∙ (λ i. length (along (shape_is i) (code_is i) work_of (opening back (shape_is i).processors) turns)) in
         omega (arith, same)

@@ -38,7 +38,8 @@ use Rattle.ppm_driver.specs.LegsAsCode.{RunsInLegsAreAsCode}
 use Rattle.ppm_driver.specs.ResumeCompleteness.{lost_with}
 use Rattle.ppm_driver.specs.ResumeLaws.{ResumeLaws}
 use Rattle.ppm_driver.specs.ResumeRows.{WritesArrays, WritesTrap, WritesBroken}
-use Rattle.ppm_driver.specs.Resumes.{SavedState, IsTextOf, IsNoText, ItemsHave, TextHas, IsLeftBy, IsTextLeftBy, StopsLeaveStates, state_behind, plan_of, limits_of}
+use Rattle.ppm_driver.specs.Resumes.{SavedState, IsTextOf, IsNoText, ItemsHave, TextHas, IsLeftBy, IsTextLeftBy, StopsLeaveStates}
+use Rattle.ppm_driver.specs.Resumes.{state_behind, plan_of, limits_of}
 use Rattle.ppm_driver.specs.StopRows.{HasRead, WritesSaved}
 use Rattle.ppm_driver.specs.Stopped.{IsOutcomeOf, ResumesStopped, StoppedRunsGoOn}
 use Rattle.ppm_driver.specs.Stops.{CodeHas, IsReadBack, sizes_of, text_of}
@@ -62,6 +63,7 @@ module _ (stop : StopOptions) (items : List ScheduleItem) (code : CodeParts) (in
   abbrev pub saved_state : SavedState
   saved_state = state_behind h.start input (schedule_turns h.start.shape h.start.code h.start.state items stop.after)
 
+  -- a text of that is one of it
   pub is_state : (text : List ℕ) → text ≡ text_of (followed h.start items stop.after) input → length text ≤ saved_limit
       → IsReadBack (followed h.start items stop.after) input → IsTextOf text saved_state
   is_state text saves short back = record {
@@ -160,10 +162,14 @@ module _ (laws : ResumeLaws) (law : StopsLeaveStates) (texts : TextsHaveOneProgr
       (is_state stop items (code_of w.read.2.has.0) (initial_arrays w.read.2.has.0) (answers.Saved w.text) has w.text w.saves text_left.is.short w.read_back)
 
   count : text_left.state.shape.processors ≡ stop.processors
-  count = count_is stop w.read.2.items (code_of w.read.2.has.0) (initial_arrays w.read.2.has.0) (answers.Saved w.text) w.read.2.has.2.has text_left.state saved_is
+  count =
+      count_is stop w.read.2.items (code_of w.read.2.has.0) (initial_arrays w.read.2.has.0) (answers.Saved w.text) w.read.2.has.2.has text_left.state
+      saved_is
 
   room : text_left.state.shape.room ≡ stop.room
-  room = room_is stop w.read.2.items (code_of w.read.2.has.0) (initial_arrays w.read.2.has.0) (answers.Saved w.text) w.read.2.has.2.has text_left.state saved_is
+  room =
+      room_is stop w.read.2.items (code_of w.read.2.has.0) (initial_arrays w.read.2.has.0) (answers.Saved w.text) w.read.2.has.2.has text_left.state
+      saved_is
 
   module _ (options : ResumeOptions) (plan : List ℕ) (o : Outside) where
     -- the state that was read is left by the source

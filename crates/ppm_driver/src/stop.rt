@@ -110,18 +110,13 @@ pub(crate) fn stopped_code(
 {
     // No other state has the text, by this law; the call does nothing.
     saved_texts_tell_states();
+    // What the type of the code keeps is known once its parts were seen.
+    let _ = code.parts();
     let names = names_of(alloc, input.arrays())?;
     let mut machine = load_code(alloc, sizes_of(options), code, input, schedule.keeper())?;
-    // What the type of its code keeps is known once its parts were seen.
-    let _ = machine.code().parts();
     follow(&mut machine, schedule, options.after);
-    let text = write_saved(
-        alloc,
-        machine.code(),
-        machine.shape(),
-        &names,
-        machine.words(),
-    )?;
+    let capsules = machine.code();
+    let text = write_saved(alloc, capsules, machine.shape(), &names, machine.words())?;
     Ok(text)
 }
 

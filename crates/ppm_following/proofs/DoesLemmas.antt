@@ -5,7 +5,7 @@ use Rattle.ppm_core.proofs.RunLemmas.{run_none}
 use Rattle.ppm_following.specs.declared.following.Way.{Way}
 use Rattle.ppm_choice.specs.Course.{Due, behind_all, turns_of}
 use Rattle.ppm_plan.specs.declared.schedule_item.ScheduleItem.{ScheduleItem}
-use Rattle.ppm_choice.specs.Schedules.{listed, rounds}
+use Rattle.ppm_choice.specs.Schedules.{dues_of, listed, rounds}
 use Rattle.ppm_following.specs.Followed.{followed}
 use Rattle.ppm_following.specs.Following.{course, Does, LeadsTo}
 use Rattle.ppm_choice.proofs.CourseLemmas.{behind_both, turns_of_both}
@@ -77,11 +77,17 @@ pub ends_by : (dues rest : List Due) {m n : Situation} {way v : Way} → rest �
 ends_by dues rest {m} {n} {way} {v} is l = subst (λ all. LeadsTo dues all m way n v) is l n v nothing
 
 -- the list, and then the rounds
-pub whole_run : {m n o : Situation} {v u : Way} (given items : List ScheduleItem) (turns : ℕ) → given ≡ items
-    → Does (listed given) m (record { loads = replicate 64 0; left = turns }) n v → Does (rounds n.shape.processors turns) n v o u
+pub list_and_rounds : {m n o : Situation} {way v u : Way} (given : List ScheduleItem) (rounds_made : ℕ)
+    → Does (listed given) m way n v → Does (rounds n.shape.processors rounds_made) n v o u
+    → Does (dues_of m.shape.processors given rounds_made) m way o u
+list_and_rounds {m} {n} {o} {way} {v} {u} given rounds_made first more =
+    both (listed given) (rounds m.shape.processors rounds_made) first
+    (subst (λ s. Does (rounds s.processors rounds_made) n v o u) (shape_stays first) more)
+
+-- from the beginning they are the run of a schedule
+pub whole_run : {m o : Situation} {way u : Way} (given items : List ScheduleItem) (turns : ℕ) → given ≡ items
+    → way ≡ record { loads = replicate 64 0; left = turns } → Does (dues_of m.shape.processors given turns) m way o u
     → o ≡ followed m items turns
-whole_run {m} {n} {o} {v} {u} given items turns same first more =
-    let way : Way = record { loads = replicate 64 0; left = turns } in
-    let list = subst (λ is. Does (listed is) m way n v) same first in
-    let rest = subst (λ s. Does (rounds s.processors turns) n v o u) (shape_stays first) more in
-    (both (listed items) (rounds m.shape.processors turns) list rest).machine
+whole_run {m} {o} {way} {u} given items turns same first does =
+    (subst (λ v. Does (dues_of m.shape.processors items turns) m v o u) first
+    (subst (λ is. Does (dues_of m.shape.processors is turns) m way o u) same does)).machine

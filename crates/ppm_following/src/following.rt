@@ -9,7 +9,7 @@ ghost use Rattle.ppm_step.specs.State.{stand_of};
 ghost use Rattle.ppm_choice.specs.Course.{Due, Listed, InRound};
 ghost use Rattle.ppm_choice.specs.Course.{processor_of, victim_at, victim_of, turn_of};
 ghost use Rattle.ppm_choice.specs.Course.{loads_behind, is_open, is_made};
-ghost use Rattle.ppm_choice.specs.Schedules.{listed, round, rounds};
+ghost use Rattle.ppm_choice.specs.Schedules.{dues_of, listed, round, rounds};
 ghost use Rattle.ppm_following.specs.Followed.{followed};
 ghost use Rattle.ppm_following.specs.Following.{course, IsReady, IsStepOf, Does};
 
@@ -22,8 +22,22 @@ use ppm_step::{Act, Turn};
 /// and how many acts are left.
 #[derive(Clone, Copy, Debug, PartialEq, Eq)]
 pub struct Way {
-    loads: [u64; 64],
-    left: u64,
+    pub loads: [u64; 64],
+    pub left: u64,
+}
+
+impl Way {
+    ghost use Rattle.std.specs.Prelude.{◌≡◌, replicate};
+
+    /// That of a run before its first act, which may have so many.
+    pub fn first(turns: u64) -> Way
+        ensures { result ≡ record { loads = replicate 64 0; left = turns } }
+    {
+        Way {
+            loads: [0; 64],
+            left: turns,
+        }
+    }
 }
 
 /// The processor of an act.
@@ -82,7 +96,7 @@ fn turn_of(machine: &Machine, way: &mut Way, act: ScheduledAct) -> Turn
 
 /// Makes an act, where one is left and its processor isn't done.
 #[inline(always)]
-fn make(machine: &mut Machine, way: &mut Way, act: ScheduledAct)
+pub fn make(machine: &mut Machine, way: &mut Way, act: ScheduledAct)
     requires among { IsActAmong (seen machine.old).shape.processors act }
     requires ready { IsReady (seen machine.old) way.old }
     requires left { 0 < way.old.left }
@@ -247,6 +261,19 @@ fn go_on(machine: &mut Machine, way: &mut Way, count: u64)
     }
 }
 
+/// Goes on with a run under way: the acts of a list, and after these those of all processors in
+/// turn, in at most so many rounds, until no act is left or the finish word says how the run ended.
+/// An act of a processor that is done isn't made, and isn't counted.
+pub fn follow_on(machine: &mut Machine, way: &mut Way, items: &[ScheduleItem], rounds: u64)
+    requires among { All (IsItemAmong (seen machine.old).shape.processors) items.now }
+    requires ready { IsReady (seen machine.old) way.old }
+    ensures does { Does (dues_of (seen machine.old).shape.processors items.now rounds) (seen machine.old) way.old (seen machine.new) way.new }
+    ensures ready { IsReady (seen machine.new) way.new }
+{
+    list(machine, way, items);
+    go_on(machine, way, rounds);
+}
+
 /// Makes the run of a schedule, of at most so many acts, 2^40 at most: the acts of its list, and
 /// behind these those of all processors in turn, until the finish word says how the run ended. An
 /// act of a processor that is done isn't made, and isn't counted.
@@ -256,10 +283,6 @@ pub fn follow(machine: &mut Machine, schedule: &Schedule, turns: u64)
     requires few { (seen machine.old).turns ≤ 2 ^ 61 }
     ensures { seen machine.new ≡ followed (seen machine.old) schedule.now.items turns }
 {
-    let mut way = Way {
-        loads: [0; 64],
-        left: turns,
-    };
-    list(machine, &mut way, schedule.items());
-    go_on(machine, &mut way, turns);
+    let mut way = Way::first(turns);
+    follow_on(machine, &mut way, schedule.items(), turns);
 }

@@ -51,7 +51,7 @@ pub(crate) fn example_of(command: &str) -> &'static str {
         "self" => "--size 1000 --seed 7 --count 50",
         "stop" => "--processors 3 --after 300 < examples/sum.ppm > sum.saved",
         "resume" => "--faults 0@5s,1@9h < sum.saved",
-        "sweep" => "--processors 2 --faults 2 --runs 1000 < examples/sum.ppm",
+        "sweep" => "--processors 2 --faults 2 --acts 5 < examples/sum.ppm",
         _ => NO_WORDS,
     }
 }
@@ -73,7 +73,6 @@ pub(crate) fn meaning_of(command: &str, option: &str) -> &'static str {
         "faults" => faults_of(command),
         "from" => "the first act before which a fault is put",
         "acts" => "acts from there on before which one is put",
-        "runs" => "runs that are drawn; with 0 every place is tried",
         "schedule" => "as 0*9,1>0,1!h: acts, a victim, a hard fault",
         "takeover" => takeover_of(command),
         "idle" => "one that rests makes no more acts, or sleeps",
@@ -121,7 +120,6 @@ fn takeover_of(command: &str) -> &'static str {
 fn seed_of(command: &str) -> &'static str {
     match command {
         "self" => "where values, random victims and drawn faults begin",
-        "sweep" => "where the drawn runs begin",
         _ => "where the random victims begin",
     }
 }

@@ -75,17 +75,8 @@ fn stop_line(alloc: Global, name: &str, it: &StopOptions) -> Result<String, Faul
 fn sweep_line(alloc: Global, name: &str, it: &SweepOptions) -> Result<String, Fault> {
     let takeover = swept_word(it.takeover);
     let line = format!(in alloc;
-        "{name} processors {} turns {} room {} slots {} takeover {takeover} faults {} from {} acts {} runs {} seed {} capsules {}",
-        it.processors,
-        it.turns,
-        it.room,
-        it.slots,
-        it.faults,
-        it.from,
-        it.acts,
-        it.runs,
-        it.seed,
-        it.capsules
+        "{name} processors {} turns {} room {} slots {} takeover {takeover} faults {} from {} acts {} capsules {}",
+        it.processors, it.turns, it.room, it.slots, it.faults, it.from, it.acts, it.capsules
     )?;
     Ok(line)
 }

@@ -20,9 +20,9 @@ mod SmallLemmas
 mod ReadingLemmas
 mod FaultLemmas
 mod LawLemmas
-mod WrittenLemmas
+pub mod WrittenLemmas
 mod PartsLemmas
-mod NoFaultLemmas
+pub mod NoFaultLemmas
 mod OutlineLemmas
 mod AgreeLemmas
 mod FrontLemmas

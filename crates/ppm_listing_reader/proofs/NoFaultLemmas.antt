@@ -1,6 +1,7 @@
 -- How long the listing of a code may be, and that it has no fault.
 use Rattle.std.proofs.Common.{◌≡◌, ◌∙◌, ℕ, suc, ◌+◌, ◌*◌, ◌^◌, ◌<◌, ◌≤◌, List, [], ◌∷◌, ◌++◌, map, length, Some, None, refl, sym, ap, subst, arith}
 use Rattle.std.proofs.Common.{length-append}
+use Rattle.std.specs.Prelude.{slice_get}
 use Rattle.std.specs.List.{flat_map, All, AllByRecursion}
 use Rattle.std.proofs.lemmas.Fmt.{length-decimal-le, length_signed_le}
 use Rattle.ppm_code.specs.declared.register.Register.{Register as TheRegister}
@@ -11,7 +12,7 @@ use Rattle.ppm_code.specs.declared.code.CodeParts.{CodeParts}
 use Rattle.ppm_code.specs.declared.instr.Instr.{Instr}
 use Rattle.ppm_code.specs.declared.instr.Instr.TheVariants.{Const, Move, Add, Sub, Mul, Div, Rem, Equal, NotEqual, Less, AtMost, Len, CutLeft, CutRight}
 use Rattle.ppm_code.specs.declared.instr.Instr.TheVariants.{LoadSlot, StoreCur, Give, Get, Put, BranchZero, BranchNonZero, Room, StoreNew, Ends}
-use Rattle.ppm_code.specs.Code.{IsCapsule, IsCode}
+use Rattle.ppm_code.specs.Code.{Fits, IsCapsule, IsCode}
 use Rattle.ppm_listing.specs.declared.keyword.Keyword.{Keyword}
 use Rattle.ppm_listing.specs.declared.keyword.Keyword.TheVariants as keyword
 use Rattle.ppm_listing.specs.declared.token.Token.{Token as Written}
@@ -23,7 +24,6 @@ use Rattle.ppm_listing_reader.specs.declared.listing_error.Fault.{Fault}
 use Rattle.ppm_listing_reader.specs.declared.part.Part.{Part}
 use Rattle.ppm_listing_reader.specs.declared.part.Part.TheVariants as part
 use Rattle.ppm_listing_reader.specs.declared.place.Place.TheVariants.{AtVersion}
-use Rattle.ppm_listing_reader.specs.Limits.{listing_limit}
 use Rattle.ppm_listing_reader.specs.Forms.{lines_of as lines_of_text}
 use Rattle.ppm_listing_reader.specs.Places.{standing_from, code_in}
 use Rattle.ppm_listing_reader.specs.Faults.{KeepsRules}
@@ -103,7 +103,7 @@ line_short k ws n h few =
       length-append (keyword_text k ++ flat_map operand_text ws) (10 ∷ []),
     )
 
-constant_short : (r : TheRegister) (w : Written) → length (token_text w) ≤ 20 → length (line_text (line keyword.Const (written.Register r ∷ w ∷ []))) ≤ 49
+constant_short : (r : TheRegister) (w : Written) → length (token_text w) ≤ 20 → length (line_text (line keyword.Const (written.Register r ∷ w ∷ []))) ≤ 41
 constant_short r w h =
     omega (
       arith,
@@ -116,121 +116,179 @@ constant_short r w h =
       length-append (operand_text w) [],
     )
 
-instr_short : (i : Instr) → LineFits (instr_line i) → IsLineBelow short_limit (instr_line i) → length (line_text (instr_line i)) ≤ 49
-instr_short (Const d z) fits small = constant_short d (written.Number z) (length_signed_le 19 z (omega (arith, fits.1.0.sfits)) (fits.1.0.sfits))
-instr_short (Move d a) fits small = line_short keyword.Move (instr_line (Move d a)).operands 5 (register_short d, (register_short a, tt)) (omega arith)
-instr_short (Add d a b l) fits small = line_short keyword.Add (instr_line (Add d a b l)).operands 5
+-- a line with five operands
+five_short : (k : Keyword) (a b d e f : Written)
+    → length (keyword_text k) + length (token_text a) + length (token_text b) + length (token_text d) + length (token_text e) + length (token_text f) ≤ 35
+    → length (line_text (line k (a ∷ b ∷ d ∷ e ∷ f ∷ []))) ≤ 41
+five_short k a b d e f few =
+    omega (
+      arith,
+      few,
+      length-append (keyword_text k) (flat_map operand_text (a ∷ b ∷ d ∷ e ∷ f ∷ [])),
+      length-append (keyword_text k ++ flat_map operand_text (a ∷ b ∷ d ∷ e ∷ f ∷ [])) (10 ∷ []),
+      length-append (operand_text a) (flat_map operand_text (b ∷ d ∷ e ∷ f ∷ [])),
+      length-append (operand_text b) (flat_map operand_text (d ∷ e ∷ f ∷ [])),
+      length-append (operand_text d) (flat_map operand_text (e ∷ f ∷ [])),
+      length-append (operand_text e) (flat_map operand_text (f ∷ [])),
+      length-append (operand_text f) [],
+    )
+
+-- a fork names procedures and a capsule by numbers of five digits
+abbrev IsFewFork : Instr → Type 0
+IsFewFork (Ends (Fork q p k left_to to)) = (q < 10 ^ 5) × (p < 10 ^ 5) × (k < 10 ^ 5)
+IsFewFork _ = Unit {0}
+
+number_few : (n : ℕ) → n < 10 ^ 5 → length (token_text (number n)) ≤ 5
+number_few n h = length-decimal-le 5 n (omega arith) (omega (arith, h)) (omega (arith, h))
+
+instr_short : (i : Instr) → LineFits (instr_line i) → IsLineBelow short_limit (instr_line i) → IsFewFork i → length (line_text (instr_line i)) ≤ 41
+instr_short (Const d z) fits small few = constant_short d (written.Number z) (length_signed_le 19 z (omega (arith, fits.1.0.sfits)) (fits.1.0.sfits))
+instr_short (Move d a) fits small few = line_short keyword.Move (instr_line (Move d a)).operands 4 (register_short d, (register_short a, tt)) (omega arith)
+instr_short (Add d a b l) fits small few = line_short keyword.Add (instr_line (Add d a b l)).operands 4
     (register_short d, (register_short a, (register_short b, (number_short l (small.1.1.1.0), tt)))) (omega arith)
-instr_short (Sub d a b l) fits small = line_short keyword.Sub (instr_line (Sub d a b l)).operands 5
+instr_short (Sub d a b l) fits small few = line_short keyword.Sub (instr_line (Sub d a b l)).operands 4
     (register_short d, (register_short a, (register_short b, (number_short l (small.1.1.1.0), tt)))) (omega arith)
-instr_short (Mul d a b l) fits small = line_short keyword.Mul (instr_line (Mul d a b l)).operands 5
+instr_short (Mul d a b l) fits small few = line_short keyword.Mul (instr_line (Mul d a b l)).operands 4
     (register_short d, (register_short a, (register_short b, (number_short l (small.1.1.1.0), tt)))) (omega arith)
-instr_short (Div d a b l) fits small = line_short keyword.Div (instr_line (Div d a b l)).operands 5
+instr_short (Div d a b l) fits small few = line_short keyword.Div (instr_line (Div d a b l)).operands 4
     (register_short d, (register_short a, (register_short b, (number_short l (small.1.1.1.0), tt)))) (omega arith)
-instr_short (Rem d a b l) fits small = line_short keyword.Rem (instr_line (Rem d a b l)).operands 5
+instr_short (Rem d a b l) fits small few = line_short keyword.Rem (instr_line (Rem d a b l)).operands 4
     (register_short d, (register_short a, (register_short b, (number_short l (small.1.1.1.0), tt)))) (omega arith)
-instr_short (Equal d a b) fits small = line_short keyword.Equal (instr_line (Equal d a b)).operands 5
+instr_short (Equal d a b) fits small few = line_short keyword.Equal (instr_line (Equal d a b)).operands 4
     (register_short d, (register_short a, (register_short b, tt))) (omega arith)
-instr_short (NotEqual d a b) fits small = line_short keyword.NotEqual (instr_line (NotEqual d a b)).operands 5
+instr_short (NotEqual d a b) fits small few = line_short keyword.NotEqual (instr_line (NotEqual d a b)).operands 4
     (register_short d, (register_short a, (register_short b, tt))) (omega arith)
-instr_short (Less d a b) fits small = line_short keyword.Less (instr_line (Less d a b)).operands 5
+instr_short (Less d a b) fits small few = line_short keyword.Less (instr_line (Less d a b)).operands 4
     (register_short d, (register_short a, (register_short b, tt))) (omega arith)
-instr_short (AtMost d a b) fits small = line_short keyword.AtMost (instr_line (AtMost d a b)).operands 5
+instr_short (AtMost d a b) fits small few = line_short keyword.AtMost (instr_line (AtMost d a b)).operands 4
     (register_short d, (register_short a, (register_short b, tt))) (omega arith)
-instr_short (Len d a) fits small = line_short keyword.Len (instr_line (Len d a)).operands 5 (register_short d, (register_short a, tt)) (omega arith)
-instr_short (CutLeft d a b l) fits small = line_short keyword.CutLeft (instr_line (CutLeft d a b l)).operands 5
+instr_short (Len d a) fits small few = line_short keyword.Len (instr_line (Len d a)).operands 4 (register_short d, (register_short a, tt)) (omega arith)
+instr_short (CutLeft d a b l) fits small few = line_short keyword.CutLeft (instr_line (CutLeft d a b l)).operands 4
     (register_short d, (register_short a, (register_short b, (number_short l (small.1.1.1.0), tt)))) (omega arith)
-instr_short (CutRight d a b l) fits small = line_short keyword.CutRight (instr_line (CutRight d a b l)).operands 5
+instr_short (CutRight d a b l) fits small few = line_short keyword.CutRight (instr_line (CutRight d a b l)).operands 4
     (register_short d, (register_short a, (register_short b, (number_short l (small.1.1.1.0), tt)))) (omega arith)
-instr_short (LoadSlot d s) fits small = line_short keyword.LoadSlot (instr_line (LoadSlot d s)).operands 5
+instr_short (LoadSlot d s) fits small few = line_short keyword.LoadSlot (instr_line (LoadSlot d s)).operands 4
     (register_short d, (number_short s (small.1.0), tt)) (omega arith)
-instr_short (StoreCur s a) fits small = line_short keyword.StoreCur (instr_line (StoreCur s a)).operands 5
+instr_short (StoreCur s a) fits small few = line_short keyword.StoreCur (instr_line (StoreCur s a)).operands 4
     (number_short s (small.0), (register_short a, tt)) (omega arith)
-instr_short (Give a) fits small = line_short keyword.Give (instr_line (Give a)).operands 5 (register_short a, tt) (omega arith)
-instr_short (Get d a b l) fits small = line_short keyword.Get (instr_line (Get d a b l)).operands 5
+instr_short (Give a) fits small few = line_short keyword.Give (instr_line (Give a)).operands 4 (register_short a, tt) (omega arith)
+instr_short (Get d a b l) fits small few = line_short keyword.Get (instr_line (Get d a b l)).operands 4
     (register_short d, (register_short a, (register_short b, (number_short l (small.1.1.1.0), tt)))) (omega arith)
-instr_short (Put a b s l) fits small = line_short keyword.Put (instr_line (Put a b s l)).operands 5
+instr_short (Put a b s l) fits small few = line_short keyword.Put (instr_line (Put a b s l)).operands 4
     (register_short a, (register_short b, (register_short s, (number_short l (small.1.1.1.0), tt)))) (omega arith)
-instr_short (BranchZero a t) fits small = line_short keyword.BranchZero (instr_line (BranchZero a t)).operands 5
+instr_short (BranchZero a t) fits small few = line_short keyword.BranchZero (instr_line (BranchZero a t)).operands 4
     (register_short a, (number_short t (small.1.0), tt)) (omega arith)
-instr_short (BranchNonZero a t) fits small = line_short keyword.BranchNonZero (instr_line (BranchNonZero a t)).operands 5
+instr_short (BranchNonZero a t) fits small few = line_short keyword.BranchNonZero (instr_line (BranchNonZero a t)).operands 4
     (register_short a, (number_short t (small.1.0), tt)) (omega arith)
-instr_short (Room n) fits small = line_short keyword.Room (instr_line (Room n)).operands 5 (number_short n (small.0), tt) (omega arith)
-instr_short (StoreNew o a) fits small = line_short keyword.StoreNew (instr_line (StoreNew o a)).operands 5
+instr_short (Room n) fits small few = line_short keyword.Room (instr_line (Room n)).operands 4 (number_short n (small.0), tt) (omega arith)
+instr_short (StoreNew o a) fits small few = line_short keyword.StoreNew (instr_line (StoreNew o a)).operands 4
     (number_short o (small.0), (register_short a, tt)) (omega arith)
-instr_short (Ends (Next k)) fits small =
-    line_short keyword.Next (instr_line (Ends (Next k))).operands 5 (number_short k (small.0), tt) (omega arith)
-instr_short (Ends Finish) fits small = line_short keyword.End [] 5 tt (omega arith)
-instr_short (Ends (Trap x l)) fits small =
-    line_short keyword.Trap (instr_line (Ends (Trap x l))).operands 5 (number_short (trap_number x) (small.0), (number_short l (small.1.0), tt)) (omega arith)
-instr_short (Ends (Call q k None)) fits small =
-    line_short keyword.Call (instr_line (Ends (Call q k None))).operands 5 (number_short q (small.0), (number_short k (small.1.0), tt)) (omega arith)
-instr_short (Ends (Call q k (Some t))) fits small =
-    line_short keyword.CallTo (instr_line (Ends (Call q k (Some t)))).operands 5 (
+instr_short (Ends (Next k)) fits small few =
+    line_short keyword.Next (instr_line (Ends (Next k))).operands 4 (number_short k (small.0), tt) (omega arith)
+instr_short (Ends Finish) fits small few = line_short keyword.End [] 4 tt (omega arith)
+instr_short (Ends (Trap x l)) fits small few =
+    line_short keyword.Trap (instr_line (Ends (Trap x l))).operands 4 (number_short (trap_number x) (small.0), (number_short l (small.1.0), tt)) (omega arith)
+instr_short (Ends (Call q k None)) fits small few =
+    line_short keyword.Call (instr_line (Ends (Call q k None))).operands 4 (number_short q (small.0), (number_short k (small.1.0), tt)) (omega arith)
+instr_short (Ends (Call q k (Some t))) fits small few =
+    line_short keyword.CallTo (instr_line (Ends (Call q k (Some t)))).operands 4 (
       number_short q (small.0),
       (number_short k (small.1.0), (number_short t (small.1.1.0), tt)),
     ) (omega arith)
-instr_short (Ends (Fork q p k None None)) fits small =
-    line_short keyword.Fork (instr_line (Ends (Fork q p k None None))).operands 5
+instr_short (Ends (Fork q p k None None)) fits small few =
+    line_short keyword.Fork (instr_line (Ends (Fork q p k None None))).operands 4
     (number_short q (small.0), (number_short p (small.1.0), (number_short k (small.1.1.0), tt))) (omega arith)
-instr_short (Ends (Fork q p k None (Some u))) fits small =
-    line_short keyword.ForkTo (instr_line (Ends (Fork q p k None (Some u)))).operands 5 (
-      number_short q (small.0),
-      (
-        number_short p (small.1.0),
-        (
-          number_short k (small.1.1.0),
-          (refl_short, (number_short u (small.1.1.1.1.0), tt)),
-        ),
-      ),
-    ) (omega arith)
-instr_short (Ends (Fork q p k (Some t) None)) fits small =
-    line_short keyword.ForkTo (instr_line (Ends (Fork q p k (Some t) None))).operands 5
-    (number_short q (small.0), (number_short p (small.1.0), (number_short k (small.1.1.0), (number_short t (small.1.1.1.0), (refl_short, tt)))))
-    (omega arith)
-instr_short (Ends (Fork q p k (Some t) (Some u))) fits small =
-    line_short keyword.ForkTo (instr_line (Ends (Fork q p k (Some t) (Some u)))).operands 5 (
-      number_short q (small.0),
-      (
-        number_short p (small.1.0),
-        (
-          number_short k (small.1.1.0),
-          (number_short t (small.1.1.1.0), (number_short u (small.1.1.1.1.0), tt)),
-        ),
-      ),
-    ) (omega arith)
+instr_short (Ends (Fork q p k None (Some u))) fits small few =
+    five_short keyword.ForkTo (number q) (number p) (number k) written.Absent (number u)
+    (omega (arith, number_few q few.0, number_few p few.1, number_few k few.2, refl_short, number_short u (small.1.1.1.1.0)))
+instr_short (Ends (Fork q p k (Some t) None)) fits small few =
+    five_short keyword.ForkTo (number q) (number p) (number k) (number t) written.Absent
+    (omega (arith, number_few q few.0, number_few p few.1, number_few k few.2, refl_short, number_short t (small.1.1.1.0)))
+instr_short (Ends (Fork q p k (Some t) (Some u))) fits small few =
+    five_short keyword.ForkTo (number q) (number p) (number k) (number t) (number u)
+    (omega (arith, number_few q few.0, number_few p few.1, number_few k few.2, number_short t (small.1.1.1.0), number_short u (small.1.1.1.1.0)))
+
+-- what fits its code does so
+few_fork : (code : CodeParts) → IsCode code → (procedure : ℕ) (is : List Instr) (at : ℕ) (i : Instr) → Fits code procedure is at i → IsFewFork i
+few_fork code is_code procedure is at (Const d n) h = tt
+few_fork code is_code procedure is at (Move d a) h = tt
+few_fork code is_code procedure is at (Add d a b l) h = tt
+few_fork code is_code procedure is at (Sub d a b l) h = tt
+few_fork code is_code procedure is at (Mul d a b l) h = tt
+few_fork code is_code procedure is at (Div d a b l) h = tt
+few_fork code is_code procedure is at (Rem d a b l) h = tt
+few_fork code is_code procedure is at (Equal d a b) h = tt
+few_fork code is_code procedure is at (NotEqual d a b) h = tt
+few_fork code is_code procedure is at (Less d a b) h = tt
+few_fork code is_code procedure is at (AtMost d a b) h = tt
+few_fork code is_code procedure is at (Len d a) h = tt
+few_fork code is_code procedure is at (CutLeft d a b l) h = tt
+few_fork code is_code procedure is at (CutRight d a b l) h = tt
+few_fork code is_code procedure is at (LoadSlot d s) h = tt
+few_fork code is_code procedure is at (StoreCur s a) h = tt
+few_fork code is_code procedure is at (Give a) h = tt
+few_fork code is_code procedure is at (Get d a b l) h = tt
+few_fork code is_code procedure is at (Put a b s l) h = tt
+few_fork code is_code procedure is at (BranchZero a t) h = tt
+few_fork code is_code procedure is at (BranchNonZero a t) h = tt
+few_fork code is_code procedure is at (Room n) h = tt
+few_fork code is_code procedure is at (StoreNew o a) h = tt
+few_fork code is_code procedure is at (Ends (Next k)) h = tt
+few_fork code is_code procedure is at (Ends Finish) h = tt
+few_fork code is_code procedure is at (Ends (Trap x l)) h = tt
+few_fork code is_code procedure is at (Ends (Call q k to)) h = tt
+few_fork code is_code procedure is at (Ends (Fork q p k left_to to)) h =
+    let procedures = is_code.procedures_most in
+    let capsules = is_code.capsules_most in
+    let left = h.0 in
+    let right = h.1 in
+    let next = h.2.1 in
+    (omega (arith, procedures, left), omega (arith, procedures, right), omega (arith, capsules, next))
+
+by_places : (P : Instr → Type 0) (is : List Instr) → ((at : ℕ) (i : Instr) → slice_get is at ≡ Some i → P i) → AllByRecursion P is
+by_places P [] each = tt
+by_places P (i ∷ is) each = (each 0 i refl, by_places P is (λ at j e. each (suc at) j e))
+
+few_forks : (code : CodeParts) → IsCode code → (c : Capsule) → IsCapsule code c → AllByRecursion IsFewFork c.instrs
+few_forks code is_code c h = by_places IsFewFork c.instrs (λ at i e. few_fork code is_code c.procedure c.instrs at i (h.each at i e))
 
 -- a part that is not the root's
 abbrev IsOther : Part → Type 0
 IsOther (part.Root q xs) = ⊥
 IsOther (part.Instr None) = ⊥
+IsOther (part.Instr (Some i)) = IsFewFork i
 IsOther _ = Unit {0}
 
-part_short : (x : Part) → IsOther x → LineFits (part_line x) → IsLineBelow short_limit (part_line x) → length (line_text (part_line x)) ≤ 49
-part_short part.Version o fits small = line_short keyword.Ppm (part_line part.Version).operands 5 (number_short 1 (omega arith), tt) (omega arith)
+part_short : (x : Part) → IsOther x → LineFits (part_line x) → IsLineBelow short_limit (part_line x) → length (line_text (part_line x)) ≤ 41
+part_short part.Version o fits small = line_short keyword.Ppm (part_line part.Version).operands 4 (number_short 1 (omega arith), tt) (omega arith)
 part_short (part.Root q xs) o fits small = absurd o
 part_short (part.Procedure n s k) o fits small =
-    line_short keyword.Proc (part_line (part.Procedure n s k)).operands 5
-    (number_short n small.0, (omega arith, (number_short s small.1.1.0, (omega arith, (number_short k small.1.1.1.1.0, tt))))) (omega arith)
+    five_short keyword.Proc (number n) (written.Name keyword.Slots) (number s) (written.Name keyword.Entry) (number k)
+    (omega (arith, number_short n small.0, number_short s small.1.1.0, number_short k small.1.1.1.1.0))
 part_short (part.Capsule c p) o fits small =
-    line_short keyword.Capsule (part_line (part.Capsule c p)).operands 5 (number_short c small.0, (omega arith, (number_short p small.1.1.0, tt))) (omega arith)
+    line_short keyword.Capsule (part_line (part.Capsule c p)).operands 4 (number_short c small.0, (omega arith, (number_short p small.1.1.0, tt))) (omega arith)
 part_short (part.Instr None) o fits small = absurd o
-part_short (part.Instr (Some i)) o fits small = instr_short i fits small
+part_short (part.Instr (Some i)) o fits small = instr_short i fits small o
 
 text_short : (xs : List Part) → AllByRecursion IsOther xs → AllByRecursion LineFits (map part_line xs)
     → AllByRecursion (IsLineBelow short_limit) (map part_line xs)
-    → length (text_of (map part_line xs)) ≤ 49 * length xs
+    → length (text_of (map part_line xs)) ≤ 41 * length xs
 text_short [] o f s = omega arith
 text_short (x ∷ xs) o f s =
     omega (arith, part_short x o.0 f.0 s.0, text_short xs o.1 f.1 s.1, length-append (line_text (part_line x)) (text_of (map part_line xs)))
 
-other_instrs : (is : List Instr) (rest : List Part) → AllByRecursion IsOther rest → AllByRecursion IsOther (instr_parts is rest)
-other_instrs [] rest h = h
-other_instrs (i ∷ is) rest h = (tt, other_instrs is rest h)
+other_instrs : (is : List Instr) (rest : List Part) → AllByRecursion IsFewFork is → AllByRecursion IsOther rest
+    → AllByRecursion IsOther (instr_parts is rest)
+other_instrs [] rest few h = h
+other_instrs (i ∷ is) rest few h = (few.0, other_instrs is rest few.1 h)
 
-other_capsules : (first : ℕ) (cs : List Capsule) → AllByRecursion IsOther (capsule_parts first cs)
-other_capsules first [] = tt
-other_capsules first (c ∷ cs) = (tt, other_instrs c.instrs (capsule_parts (first + 1) cs) (other_capsules (first + 1) cs))
+other_capsules : (code : CodeParts) → IsCode code → (first : ℕ) (cs : List Capsule) → AllByRecursion (IsCapsule code) cs
+    → AllByRecursion IsOther (capsule_parts first cs)
+other_capsules code is_code first [] all = tt
+other_capsules code is_code first (c ∷ cs) all = (
+  tt,
+  other_instrs c.instrs (capsule_parts (first + 1) cs) (few_forks code is_code c all.0) (other_capsules code is_code (first + 1) cs all.1),
+)
 
 other_procedures : (first : ℕ) (ps : List Procedure) (rest : List Part) → AllByRecursion IsOther rest → AllByRecursion IsOther (procedure_parts first ps rest)
 other_procedures first [] rest h = h
@@ -262,20 +320,23 @@ by_all : {X : Type 0} (P : X → Type 0) (xs : List X) → All P xs → AllByRec
 by_all P [] h = tt
 by_all P (x ∷ xs) h = (h 0 x (omega arith), by_all P xs (λ k d l. h (suc k) d (omega (arith, l))))
 
--- a listing is not too long
-pub listing_short : (c : CodeParts) → IsCode c → NumbersFit c → length (listing_of c) ≤ listing_limit
+-- no listing has more bytes than these, so it is not too long
+abbrev pub longest_listing : ℕ
+longest_listing = 433000000
+
+pub listing_short : (c : CodeParts) → IsCode c → NumbersFit c → length (listing_of c) ≤ longest_listing
 listing_short c is fits =
     let rest = procedure_parts 0 c.procedures (capsule_parts 0 c.capsules) in
     let below = subst (AllByRecursion (IsLineBelow short_limit)) (sym (parts_lines c)) (lines_small c is short_limit (omega arith)) in
     let all_fit = subst (AllByRecursion LineFits) (sym (parts_lines c)) fits in
-    let others = other_procedures 0 c.procedures (capsule_parts 0 c.capsules) (other_capsules 0 c.capsules) in
+    let others = other_procedures 0 c.procedures (capsule_parts 0 c.capsules) (other_capsules c is 0 c.capsules (by_all (IsCapsule c) c.capsules is.capsules)) in
     let first = part_short part.Version tt all_fit.0 below.0 in
     let root = line_short keyword.Root (part_line (part.Root c.root c.arrays)).operands 26 (numbers_short (c.root ∷ c.arrays) below.1.0)
     (omega (arith, count_numbers c.arrays, is.root_slots, slots_bound c is short_limit (omega arith) c.root)) in
     let body = text_short rest others all_fit.1.1 below.1.1 in
     let count = count_procedures 0 c.procedures (capsule_parts 0 c.capsules) in
     let capsules = count_capsules c 0 c.capsules (by_all (IsCapsule c) c.capsules is.capsules) in
-    let long : length (text_of (map part_line (parts_of c))) ≤ listing_limit =
+    let long : length (text_of (map part_line (parts_of c))) ≤ longest_listing =
     omega (
       arith,
       first,
@@ -288,7 +349,7 @@ listing_short c is fits =
       length-append (line_text (part_line part.Version)) (text_of (map part_line (part.Root c.root c.arrays ∷ rest))),
       length-append (line_text (part_line (part.Root c.root c.arrays))) (text_of (map part_line rest)),
     ) in
-    subst (λ ls. length (text_of ls) ≤ listing_limit) (parts_lines c) long
+    subst (λ ls. length (text_of ls) ≤ longest_listing) (parts_lines c) long
 
 -- a listing has no fault
 pub excludes : (text : List ℕ) (code : CodeParts) (rule : Fault) (line : ℕ) → IsListing text code → HasFault text rule line → ⊥

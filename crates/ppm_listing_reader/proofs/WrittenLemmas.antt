@@ -89,7 +89,7 @@ free_operands (t ∷ ts) f = (
 )
 
 -- the lines of a text
-split_lines : (ls : List Line) → AllByRecursion LineFits ls → split 10 (text_of ls) ≡ map bytes_of ls ++ [] ∷ []
+pub split_lines : (ls : List Line) → AllByRecursion LineFits ls → split 10 (text_of ls) ≡ map bytes_of ls ++ [] ∷ []
 split_lines [] f = refl
 split_lines (l ∷ ls) f =
     ap (split 10) (append_assoc (bytes_of l) (10 ∷ []) (text_of ls))

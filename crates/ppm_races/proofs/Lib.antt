@@ -1,5 +1,5 @@
 -- `LogLemmas`, `AccessLemmas`: what a capsule touches. `ForkLemmas`, `StampLemmas`: what stands beside, and what meets it. `MarkLemmas`, `WalkLemmas`,
--- `ReturnLemmas`: a walk goes from moment to moment. `VerdictLemmas`, `NamingLemmas`, `OneVerdictLemmas`: what is said of it.
+-- `ReturnLemmas`: a walk goes from moment to moment. `VerdictLemmas`, `NamingLemmas`, `OneVerdictLemmas`, `ThereLemmas`: what is said of it.
 pub mod AccessLemmas
 pub mod ForkLemmas
 pub mod LogLemmas
@@ -8,5 +8,6 @@ pub mod NamingLemmas
 pub mod OneVerdictLemmas
 pub mod ReturnLemmas
 pub mod StampLemmas
+pub mod ThereLemmas
 pub mod VerdictLemmas
 pub mod WalkLemmas

@@ -1,7 +1,9 @@
 -- The capsules of a race, looked up by their numbers in the run.
 use Rattle.std.proofs.Common.{◌≡◌, ◌≤◌, ◌<◌, ℕ, zero, suc, ◌+◌, ◌-◌, max, List, [], ◌∷◌, ◌++◌, refl, sym, ap, ◌∙◌, subst, subst₂, arith, length}
 use Rattle.std.proofs.Common.{Bool, true, false, Option, Some, None, replicate, slice_set}
-use Rattle.std.specs.Prelude.{◌↔◌, cond, slice_get}
+use Rattle.std.specs.Prelude.{◌⊎◌, ◌↔◌, cond, slice_get}
+use Rattle.std.proofs.Common.{inl, inr}
+use Rattle.std.proofs.lemmas.Bool.{both_ways, or_cases, and_parts}
 use Rattle.std.specs.List.{AllByRecursion}
 use Rattle.ppm_words.specs.declared.named_array.NamedArray.{NamedArray}
 use Rattle.ppm_capsules.specs.Capsule.{Memory, store}
@@ -34,16 +36,17 @@ use Rattle.ppm_stamps.specs.Moments.{beside_of, Comes, IsOpen, IsPlain, Opened}
 use Rattle.ppm_stamps.proofs.MomentLemmas.{beside_low}
 use Rattle.ppm_stamps.proofs.NameLemmas.{started, touches_are_named}
 use Rattle.ppm_stamps.proofs.OneWayLemmas.{moments_are_one, earlier_pass, moments_before}
-use Rattle.ppm_stamps.proofs.OpenLemmas.{forks_are_opened}
+use Rattle.ppm_stamps.proofs.OpenLemmas.{ascends, forks_are_opened, open_below}
 use Rattle.ppm_races.specs.Judged.{IsMeetingWith, IsVisitTo, MomentWith}
-use Rattle.ppm_races.specs.Touches.{written_in, touches_at, after_act, touches_from}
+use Rattle.ppm_races.specs.Touches.{words_in as words_of_log, written_in, touches_at, after_act, touches_from}
 use Rattle.ppm_races.specs.Verdicts.{IsOpener, IsRaceWith, IsVisit, log_of, meets_at}
 use Rattle.ppm_races.specs.Beside.{IsFirst}
 use Rattle.ppm_races.specs.Walks.{IsLogged, IsMeetingOf}
 use Rattle.ppm_races.specs.declared.race.Visit.{Visit}
 use Rattle.ppm_races.specs.declared.touch.Touch.{Touch}
 use Rattle.ppm_races.specs.declared.walk.Meeting.{Meeting}
-use Rattle.ppm_races.proofs.VerdictLemmas.{log_writes, writes_log, meets_of, passes_not_meets}
+use Rattle.ppm_races.proofs.StampLemmas.{in_words, in_written}
+use Rattle.ppm_races.proofs.VerdictLemmas.{log_touches, log_writes, writes_log, meets_of, passes_not_meets}
 
 -- an end opens one fork at most
 forks_few : (code : CodeParts) (e : End) (own : FrameWord → ℕ) (block : ℕ → ℕ) → forks_in (opens code e own block) ≤ 1
@@ -204,6 +207,43 @@ module _ (code : CodeParts) (input : List NamedArray) where
           opens = subst₂ (λ (f : Own) (a : Words). forks_in (c.next f a) ≡ 1) one.frame one.words opener.opens;
         }
 
+    -- the branch of the later one began no later than it
+    begun : m.met.fork.mid ≤ m.run
+    begun =
+        let le = open_below it.moment.above it.moment.stamps.time m.met.fork.start m.met.fork.mid (ascends c it.moment.come).0 it.fork in
+        let is = it.moment.time in
+        omega (arith, le, is)
+
+    -- one of the two writes: by whether the last writer stands beside
+    writes_by : (left : Visit) → IsVisitTo code input m.met.left m.met.touch.word left → (b : Bool)
+        → beside_of it.moment.above (it.moment.stamps.wrote m.met.touch.word) ≡ b
+        → m.met.left ≡ cond b (it.moment.stamps.wrote m.met.touch.word) (it.moment.stamps.touched m.met.touch.word)
+        → (left.writes ≡ true) ⊎ (m.met.touch.writes ≡ true)
+    writes_by left visit true is same =
+        let was = (touches_are_named c).wrote root words it.moment.above (Strand it.moment.frame) it.moment.words it.moment.stamps it.moment.come
+        m.met.touch.word is in
+        let one = moments_are_one c root words m.met.left
+        (record { above = was.above; frame = was.frame; words = was.words; stamps = was.stamps; come = was.come; time = was.time ∙ sym same })
+        visit.moment in
+        inl (visit.written.1 (subst₂ (λ (f : Own) (a : Words). Has m.met.touch.word (c.writes f a)) one.frame one.words was.has))
+    writes_by left visit false is same =
+        elim (or_cases (beside_of it.moment.above (it.moment.stamps.wrote m.met.touch.word)) _ it.first.here) [
+          | inl y ↦ absurd (both_ways _ is y)
+          | inr y ↦ inr (and_parts m.met.touch.writes _ y).0
+        ]
+
+    one_writes : (left : Visit) → IsVisitTo code input m.met.left m.met.touch.word left → (left.writes ≡ true) ⊎ (m.met.touch.writes ≡ true)
+    one_writes left visit = writes_by left visit (beside_of it.moment.above (it.moment.stamps.wrote m.met.touch.word)) refl it.left
+
+    -- the later one touches the word, and writes it where its touch does
+    right_touches : Has m.met.touch.word (touches c it.moment.frame it.moment.words)
+    right_touches = log_touches code n it.moment.frame it.moment.words m.met.touch.word
+        (subst (λ (l : List Touch). Has m.met.touch.word (words_of_log l)) (sym it.first.all) (in_words it.first.front it.first.rest m.met.touch))
+
+    right_writes : m.met.touch.writes ≡ true → Has m.met.touch.word (c.writes it.moment.frame it.moment.words)
+    right_writes is = log_writes code n it.moment.frame it.moment.words m.met.touch.word
+        (subst (λ (l : List Touch). Has m.met.touch.word (written_in l)) (sym it.first.all) (in_written it.first.front it.first.rest m.met.touch is))
+
     -- all of a race
     pub race_is : (v left : Visit) (at : ℕ) → IsVisitTo code input (m.met.fork.start - 1) m.met.touch.word v
         → IsVisitTo code input m.met.left m.met.touch.word left → at ≡ m.met.touch.at
@@ -224,16 +264,20 @@ module _ (code : CodeParts) (input : List NamedArray) where
           right = record {
             moment = it.moment;
             capsule = it.capsule;
+            touched = right_touches;
+            written = right_writes;
             first = subst (λ (k : ℕ). IsFirst (meets_at (beside_of it.moment.above) it.moment.stamps) (log_of code n it.moment.frame it.moment.words)
                 (record { word = m.met.touch.word; writes = m.met.touch.writes; at = k })) (sym same) it.first;
           };
           there = it.there;
           run = met ∙ it.left;
           left = left_is left visit;
+          one_writes = one_writes left visit;
           mid = m.met.fork.mid;
           both = subst (λ (k : ℕ). IsOpen k m.met.fork.mid it.moment.above) (sym start) it.fork;
           from = omega (arith, start, met, since);
           before = omega (arith, met, until);
+          begun = begun;
           fork = fork_is v opened;
         }
 

@@ -18,12 +18,12 @@ rest_is : {X : Type 0} (x : X) (xs : List X) → take (length (x ∷ xs) - 1) (d
 rest_is x xs = take_all (length (x ∷ xs) - 1) xs (omega arith)
 
 -- a join is false where both are
-or_none : (x y : Bool) → (x || y) ≡ false → (x ≡ false) × (y ≡ false)
+pub or_none : (x y : Bool) → (x || y) ≡ false → (x ≡ false) × (y ≡ false)
 or_none true y h = absurd (cc)
 or_none false y h = (refl, h)
 
 -- a word that is written, by its first
-written_one : (b : Bool) (y x : ℕ) (xs : List ℕ) → Has x (with_written b y xs) → ((b ≡ true) × (x ≡ y)) ⊎ Has x xs
+pub written_one : (b : Bool) (y x : ℕ) (xs : List ℕ) → Has x (with_written b y xs) → ((b ≡ true) × (x ≡ y)) ⊎ Has x xs
 written_one true y x xs h = elim h [ inl e ↦ inl (refl, e) | inr z ↦ inr z ]
 written_one false y x xs h = inr h
 

@@ -58,6 +58,12 @@ module _ {F O : Type 0} (c : Code F O) (local : Local c) (root : Tree F O) (inpu
       let back = clean_back c come s (s, over_end o a, (1, refl), (1, refl), refl) in
       (clean c local back.2.0 nothing root input fresh back.0 (λ k none. absurd (cc)) (λ x. omega arith) (λ x. omega arith) back.2.1).calm
 
+  -- and that is an end of its depth-first run
+  pub ended_ends : (o : O) (a : Words) (s : Stamps) → Comes c root input [] (Over o) a s → (e : End O) × Ends c root input e
+  ended_ends o a s come =
+      let back = clean_back c come s (s, over_end o a, (1, refl), (1, refl), refl) in
+      (clean c local back.2.0 nothing root input fresh back.0 (λ k none. absurd (cc)) (λ x. omega arith) (λ x. omega arith) back.2.1).end
+
   -- where the next capsule meets something
   pub met_not_calm : (above : List (Above F O)) (f : F) (a : Words) (s : Stamps) → Comes c root input above (Strand f) a s → Meets c (beside_of above) f a s
       → Calm c root input → ⊥

@@ -1,5 +1,5 @@
 -- What is said of a code with its input.
-use Rattle.std.specs.Prelude.{◌≡◌, ◌≤◌, ◌<◌, ◌↔◌, ℕ, ◌+◌, Bool, true, cond, ◌&&◌, ◌||◌, List, length}
+use Rattle.std.specs.Prelude.{◌≡◌, ◌≤◌, ◌<◌, ◌⊎◌, ◌↔◌, ℕ, ◌+◌, Bool, true, cond, ◌&&◌, ◌||◌, List, length}
 use Rattle.ppm_strands.specs.Tree.{Words, Has, forks_in}
 use Rattle.ppm_strands.specs.Calm.{Calm as IsCalm, touches}
 use Rattle.ppm_strands.specs.Run.{End}
@@ -59,22 +59,27 @@ module _ (code : CodeParts) (root : Strands) (input : Words) (array_words : ℕ)
     pub touched : Has word (touches (strands_over code array_words) moment.frame moment.words)
     pub written : (v.writes ≡ true) ↔ Has word ((strands_over code array_words).writes moment.frame moment.words)
 
-  -- a touch of the capsule that is next meets something, and is its first that does
+  -- a touch of the capsule that is next, of this word, meets something, and is its first that does
   pub record IsMeeting (word : ℕ) (right : Touching) : Type 0 where
     pub moment : MomentOf right.run
     pub capsule : moment.frame.point.capsule ≡ right.capsule
+    pub touched : Has word (touches (strands_over code array_words) moment.frame moment.words)
+    pub written : right.writes ≡ true → Has word ((strands_over code array_words).writes moment.frame moment.words)
     pub first : IsFirst (meets_at (beside_of moment.above) moment.stamps) (log_of code array_words moment.frame moment.words) (touch_of word right)
 
-  -- a race: a touch of an array word meets another one, in the left branch of a fork in whose right branch it is itself
+  -- A race: a touch of an array word meets another one, in the left branch of a fork in whose right branch it is itself, and one of the two writes.
+  -- The capsules of the left branch are those from the one after the opener up to the first of the right branch, which is no later than the touch.
   pub record IsRace (race : Race) : Type 0 where
     pub there : race.word < array_words
     pub right : IsMeeting race.word race.right
     pub run : race.left.run ≡ met_at (beside_of right.moment.above) right.moment.stamps race.word
     pub left : IsVisit race.word race.left
+    pub one_writes : (race.left.writes ≡ true) ⊎ (race.right.writes ≡ true)
     pub mid : ℕ
     pub both : IsOpen (race.fork.run + 1) mid right.moment.above
     pub from : race.fork.run + 1 ≤ race.left.run
     pub before : race.left.run < mid
+    pub begun : mid ≤ race.right.run
     pub fork : IsOpener race.fork
 
 module _ (code : CodeParts) (input : List NamedArray) where
@@ -96,6 +101,15 @@ module _ (code : CodeParts) (input : List NamedArray) where
   IsVerdict limit (Calm run) = IsCalmWith × IsWithin code input limit run
   IsVerdict limit (Races race) = (IsCalmWith → ⊥) × IsRaceWith race × (race.right.run ≤ limit)
   IsVerdict limit NotWithin = ((e : End Result) → ComesTo code input e → limit < e.counts.capsules) × HasMetNothing limit
+
+-- a code and an input have a verdict within a limit
+pub record HasVerdict (code : CodeParts) (input : List NamedArray) (limit : ℕ) : Type 0 where
+  pub verdict : Verdict
+  pub is : IsVerdict code input limit verdict
+
+-- each code has one with each input and each limit
+abbrev pub VerdictsAreThere : Type 0
+VerdictsAreThere = (code : CodeParts) (input : List NamedArray) (limit : ℕ) → HasVerdict code input limit
 
 -- a code and an input have one verdict within a limit
 abbrev pub VerdictsAreOne : Type 0

@@ -18,5 +18,5 @@ mod touch;
 mod walk;
 
 pub use judging::{Verdict, races};
-pub use laws::verdicts_are_one;
+pub use laws::{verdicts_are_one, verdicts_are_there};
 pub use race::{Opener, Race, Touching, Visit};

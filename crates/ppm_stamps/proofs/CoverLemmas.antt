@@ -112,7 +112,7 @@ module _ (beside : ℕ → Bool) (w t v r : ℕ → Type 0) (s m u : Stamps) (fi
         (second.told_touched q more (all_second q all) x);
   }
 
-or_left : (x y : Bool) → x ≡ true → (x || y) ≡ true
+pub or_left : (x y : Bool) → x ≡ true → (x || y) ≡ true
 or_left true y h = refl
 or_left false y h = absurd (cc)
 
@@ -120,7 +120,7 @@ or_left false y h = absurd (cc)
 pub right_more : (beside : ℕ → Bool) (start mid : ℕ) → SaysMore (right_of beside start mid) beside
 right_more beside start mid k h = or_left (beside k) _ h
 
-or_right : (x y : Bool) → y ≡ true → (x || y) ≡ true
+pub or_right : (x y : Bool) → y ≡ true → (x || y) ≡ true
 or_right true y h = refl
 or_right false y h = h
 

@@ -3,6 +3,8 @@ pub mod CoverLemmas
 pub mod MomentLemmas
 pub mod NameLemmas
 pub mod RaceLemmas
+pub mod SeenLemmas
 pub mod ToldLemmas
 pub mod OneWayLemmas
 pub mod OpenLemmas
+pub mod WithinLemmas

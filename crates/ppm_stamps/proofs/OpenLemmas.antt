@@ -24,7 +24,7 @@ module _ {F O : Type 0} where
   Ascends (InRight g o start mid ∷ above) = AreBelow above start × Ascends above
 
   -- a larger stamp is as good
-  below_more : (above : List (Above F O)) (j k : ℕ) → j ≤ k → AreBelow above j → AreBelow above k
+  pub below_more : (above : List (Above F O)) (j k : ℕ) → j ≤ k → AreBelow above j → AreBelow above k
   below_more [] j k le h = tt
   below_more (InCallee g ∷ above) j k le h = below_more above j k le h
   below_more (InLeft g r start ∷ above) j k le h = let first = h.0 in (omega (arith, first, le), below_more above j k le h.1)
@@ -34,7 +34,7 @@ module _ {F O : Type 0} where
       (omega (arith, first, le), omega (arith, second, le), below_more above j k le h.2)
 
   -- an open fork's left branch ended no later
-  open_below : (above : List (Above F O)) (k s m : ℕ) → AreBelow above k → IsOpen s m above → m ≤ k
+  pub open_below : (above : List (Above F O)) (k s m : ℕ) → AreBelow above k → IsOpen s m above → m ≤ k
   open_below [] k s m below h = absurd h
   open_below (InCallee g ∷ above) k s m below h = open_below above k s m below h
   open_below (InLeft g r start ∷ above) k s m below h = open_below above k s m below.1 h

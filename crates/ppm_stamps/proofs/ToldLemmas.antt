@@ -41,7 +41,7 @@ cond_false true i j h = absurd (cc)
 cond_false false i j h = refl
 
 module _ {F O : Type 0} (c : Code F O) where
-  meets_or_passes : (beside : ℕ → Bool) (f : F) (a : Words) (s : Stamps) → Meets c beside f a s ⊎ Passes c beside f a s
+  pub meets_or_passes : (beside : ℕ → Bool) (f : F) (a : Words) (s : Stamps) → Meets c beside f a s ⊎ Passes c beside f a s
   meets_or_passes beside f a s = elim (some_met (λ x. beside (s.wrote x)) (touches c f a)) [
     | inl h ↦ inl (h.0, inl (h.1, h.2))
     | inr h ↦ elim (some_met (λ x. beside (s.touched x)) (c.writes f a)) [
@@ -50,14 +50,14 @@ module _ {F O : Type 0} (c : Code F O) where
     ]
   ]
 
-  abbrev marked : (beside : ℕ → Bool) → F → Words → Stamps → Stamps
+  abbrev pub marked : (beside : ℕ → Bool) → F → Words → Stamps → Stamps
   marked beside f a s = record {
     time = suc s.time;
     wrote = λ x. choose (has_or_not x (c.writes f a)) s.time (s.wrote x);
     touched = λ x. choose (has_or_not x (touches c f a)) (cond (beside (s.touched x)) (s.touched x) s.time) (s.touched x);
   }
 
-  marks : (beside : ℕ → Bool) (f : F) (a : Words) (s : Stamps) → Marks c beside f a s (marked beside f a s)
+  pub marks : (beside : ℕ → Bool) (f : F) (a : Words) (s : Stamps) → Marks c beside f a s (marked beside f a s)
   marks beside f a s = record {
     time = refl;
     wrote = λ x h. chosen (has_or_not x (c.writes f a)) _ _ h;

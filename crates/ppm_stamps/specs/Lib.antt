@@ -1,2 +1,4 @@
+pub mod Meetings
 pub mod Moments
 pub mod Stamps
+pub mod Within

@@ -1,9 +1,11 @@
 //! What stamps tell of every code and every tree, shown by calls that do nothing.
 ghost use Rattle.ppm_strands.specs.Tree.{Code, Local};
+ghost use Rattle.ppm_stamps.specs.Meetings.{NoneIsMissed};
 ghost use Rattle.ppm_stamps.specs.Moments.{EarlierPass, EndedIsCalm, ForksAreOpened, IsPlain};
 ghost use Rattle.ppm_stamps.specs.Moments.{LeftsAreOne, MetIsNotCalm, MomentsAreOne, NextIsCounted};
 ghost use Rattle.ppm_stamps.specs.Moments.{TouchesAreNamed};
 ghost use Rattle.ppm_stamps.specs.Stamps.{CleanIsCalm, EndsAreTold, FoundIsARace};
+ghost use Rattle.ppm_stamps.specs.Within.{AreToldWithin, GoesOnAtOnce};
 
 /// Where a depth-first run comes to its end and its stamps have shown no race, the tree is calm.
 pub fn a_clean_run_is_calm<F, O>()
@@ -47,4 +49,16 @@ pub fn moments_are_one<F, O>()
 pub fn forks_are_named<F, O>()
     ensures one { (c : Code F O) → LeftsAreOne c }
     ensures opened { (c : Code F O) → IsPlain c → ForksAreOpened c }
+{}
+
+/// Where an earlier capsule of the run stands beside the next one, and both touch a word that one
+/// of them writes, the stamps of that word show a meeting: at each moment none is missed.
+pub fn no_meeting_is_missed<F, O>()
+    ensures { (c : Code F O) → NoneIsMissed c }
+{}
+
+/// Where frames go on at once, each run has an answer within each number of capsules: it comes to
+/// its end, or a capsule meets something, or none did so far and one more capsule is next.
+pub fn runs_are_told_within<F, O>()
+    ensures { (c : Code F O) → GoesOnAtOnce c → AreToldWithin c }
 {}

@@ -10,5 +10,6 @@ mod laws;
 
 pub use laws::{
     a_clean_run_is_calm, a_found_race_is_one, a_run_that_ends_is_told, forks_are_named,
-    moments_are_one, moments_tell_of_calm, touches_are_named,
+    moments_are_one, moments_tell_of_calm, no_meeting_is_missed, runs_are_told_within,
+    touches_are_named,
 };

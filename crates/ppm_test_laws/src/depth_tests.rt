@@ -4,7 +4,7 @@ ghost use Rattle.std.specs.List.{All};
 ghost use Rattle.ppm_code.specs.Tidy.{IsTidy};
 
 use ppm_code::Code;
-use ppm_depth::{DepthRun, depth_first, orders_come_to_one_end};
+use ppm_depth::{DepthRun, depth_first, orders_come_to_one_end, runs_are_there};
 use ppm_listing_reader::read_listing;
 use ppm_war::tidy;
 use ppm_words::{Input, Items, Name, NamedArray, Outcome, Trap};
@@ -187,6 +187,7 @@ fn runs_come_to_their_ends(rt: HostRuntime) -> Result<(), Fail> {
         comes_to(&rt, rt.alloc(), CHOOSING, (values, limit), want, counts)?;
     }
     orders_come_to_one_end();
+    runs_are_there();
     Ok(())
 }
 

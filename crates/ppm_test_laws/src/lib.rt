@@ -24,3 +24,5 @@ pub mod stops;
 mod tests;
 #[cfg(test)]
 mod theorem_tests;
+#[cfg(test)]
+mod unseen_tests;

@@ -1,10 +1,13 @@
 //! Listings of which races are told, run from one array of four zeros.
 use crate::depth_tests::{input, runnable};
 use ppm_listing_reader::read_listing;
-use ppm_races::{Opener, Race, Touching, Verdict, Visit, races, verdicts_are_one};
+use ppm_races::{
+    Opener, Race, Touching, Verdict, Visit, races, verdicts_are_one, verdicts_are_there,
+};
 use ppm_stamps::{
     a_clean_run_is_calm, a_found_race_is_one, a_run_that_ends_is_told, forks_are_named,
-    moments_are_one, moments_tell_of_calm, touches_are_named,
+    moments_are_one, moments_tell_of_calm, no_meeting_is_missed, runs_are_told_within,
+    touches_are_named,
 };
 use std::alloc::Global;
 use std::test::Fail;
@@ -111,6 +114,9 @@ fn laws_of_stamps_and_verdicts_are_cited() -> Result<(), Fail> {
     touches_are_named::<u8, u8>();
     moments_are_one::<u8, u8>();
     forks_are_named::<u8, u8>();
+    no_meeting_is_missed::<u8, u8>();
+    runs_are_told_within::<u8, u8>();
     verdicts_are_one();
+    verdicts_are_there();
     Ok(())
 }

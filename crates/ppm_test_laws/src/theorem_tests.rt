@@ -1,4 +1,5 @@
 //! The laws on where a run ends are there to be called.
+use ppm_advance::{advancing_trees_are_ready, trees_advance};
 use ppm_ends::{
     beside_keeps_with_stores, capsules_show, ends_show, ends_split, fork_is_shown,
     long_capsules_may_begin_again, stores_are_unseen,
@@ -13,6 +14,10 @@ use ppm_kept::{
     turns_show, unruns_stay, untaken_stays, unwind_row_keeps,
 };
 use ppm_paces::{capsules_are_short, looks_are_free, rows_are_paid, rows_keep_pace};
+use ppm_progress::{
+    idle_deques_are_empty, left_comes_later, somebody_works, something_is_ready,
+    stuck_states_are_allowed, work_turns_come_soon,
+};
 use ppm_runs::{
     births_follow, heirs_lead, joints_stay, legs_come_to, nothing_breaks, nothing_breaks_over_legs,
     room_is_spent, room_over_legs, runners_are_counted, runs_are_orderly, runs_come_back,
@@ -132,4 +137,16 @@ fn the_laws_of_runs_are_called() {
     what_is_left_ends_so();
     runners_are_counted();
     seekers_are_idle();
+}
+
+#[test]
+fn the_laws_of_progress_are_called() {
+    advancing_trees_are_ready();
+    trees_advance();
+    left_comes_later();
+    something_is_ready();
+    idle_deques_are_empty();
+    somebody_works();
+    work_turns_come_soon();
+    stuck_states_are_allowed();
 }

@@ -19,6 +19,7 @@ use Rattle.ppm_driver.specs.CaseReplayRows.{ReplayCaseSays}
 use Rattle.ppm_driver.specs.CaseStopRows.{StopCaseSays}
 use Rattle.ppm_driver.proofs.OfReplayCase.{replay_case_rows}
 use Rattle.ppm_driver.proofs.OfRunCase.{case_rows}
+use Rattle.ppm_driver.proofs.CaseStoppedLemmas.{saved_by_code}
 use Rattle.ppm_driver.proofs.OfStopCase.{stop_case_rows}
 use Rattle.ppm_top.specs.Causes.{CommandMay, CommandTells, IsAnswered}
 use Rattle.ppm_top.specs.Laws.{ProgramLaws}
@@ -58,10 +59,14 @@ module _ (laws : ProgramLaws) (words : List (List ℕ)) (o : Outside) (status : 
 
   -- of `stop`
   pub stops_case : StopsCaseByWords words o status
-  stops_case options schedule e = (
-    is_in_range words (commands.StopCase options schedule) e,
-    stop_case_rows options schedule (ports_of o) status (delivered (commands.StopCase options schedule) e) laws.plans laws.stopped_cases,
-  )
+  stops_case options schedule e =
+      let range = is_in_range words (commands.StopCase options schedule) e in (
+        range,
+        record {
+          says = stop_case_rows options schedule (ports_of o) status (delivered (commands.StopCase options schedule) e) laws.plans laws.stopped_cases;
+          left = saved_by_code laws.leave_cases options range schedule (ports_of o);
+        },
+      )
 
   -- status 3 comes of the plan alone
   pub case_plan_refused : (options : RunOptions) (plan : List ℕ) → command_of words ≡ Some (commands.RunCase options plan)
@@ -80,4 +85,4 @@ module _ (laws : ProgramLaws) (words : List (List ℕ)) (o : Outside) (status : 
   pub case_stop_refused : (options : StopOptions) (schedule : List ℕ) → command_of words ≡ Some (commands.StopCase options schedule)
       → status ≡ statuses.WordsRefused → RefusesPlan schedule_form schedule options.processors (ports_of o)
   case_stop_refused options schedule e refused =
-      (subst (StopCaseSays options schedule (ports_of o)) refused (stops_case options schedule e).1.rows.rows.says).0
+      (subst (StopCaseSays options schedule (ports_of o)) refused (stops_case options schedule e).1.says.rows.rows.says).0

@@ -11,6 +11,7 @@ use Rattle.ppm_driver.specs.CaseReplays.{HaveOneCaseAnswer}
 use Rattle.ppm_driver.specs.CaseRuns.{CaseAnswersAreOne, CaseFrontsDecide}
 use Rattle.ppm_driver.specs.CaseStops.{HaveOneStopAnswer}
 use Rattle.ppm_driver.specs.CodeReplays.{ReplaysAreAsCode}
+use Rattle.ppm_driver.specs.CodeResumes.{StopsOfCodeLeaveStates}
 use Rattle.ppm_driver.specs.CodeRuns.{AnswersAreAsCode}
 use Rattle.ppm_driver.specs.Completeness.{RunsComplete}
 use Rattle.ppm_driver.specs.Examples.{ExamplesSumUp}
@@ -30,6 +31,7 @@ pub record ProgramLaws : Type 0 where
   pub sums : ExamplesSumUp
   pub resumes : ResumeLaws
   pub leave : StopsLeaveStates
+  pub leave_cases : StopsOfCodeLeaveStates
   pub outcomes : OutcomesHaveOneAnswer
   pub codes : CodesHaveOneAnswer
   pub faithful : CodesAreFaithful

@@ -31,9 +31,11 @@ use Rattle.ppm_driver.specs.ExampleRows.{ExampleRows}
 use Rattle.ppm_driver.specs.ReplayRows.{ReplayRows}
 use Rattle.ppm_driver.specs.ResumeRows.{ResumeRows, RefusesPlan as RefusesResumed}
 use Rattle.ppm_driver.specs.Resumes.{IsTextLeftBy}
+use Rattle.ppm_driver.specs.Stops.{MayBeResumed}
 use Rattle.ppm_driver.specs.Strikes.{scheduled_faults}
 use Rattle.ppm_driver.specs.RunRows.{RunRows}
-use Rattle.ppm_driver.specs.CaseStopRows.{StopCaseRows}
+use Rattle.ppm_driver.specs.CaseStopRows.{HasRead as HasCaseRead, StopCaseRows}
+use Rattle.ppm_driver.specs.CodeResumes.{IsTextLeftByCode}
 use Rattle.ppm_driver.specs.StopRows.{HasRead, StopRows}
 use Rattle.ppm_plan.specs.Forms.{plan_form, schedule_form}
 use Rattle.ppm_top.specs.Orders.{Orders, plan_of, schedule_of}
@@ -106,10 +108,21 @@ abbrev pub StopsByWords : List (List ℕ) → Outside → Status → Type 0
 StopsByWords words o status = (options : StopOptions) (schedule : List ℕ) → command_of words ≡ Some (commands.Stop options schedule) →
     AreStopped options × StopsLeaving options schedule (ports_of o) status
 
--- those of `stop` of a case where they ask for that, with these options, which are in their ranges, and this schedule
+-- What `stop` saves of the case that was read is the text of a state which its code left, by no more faults than the schedule has, if the code may be
+-- resumed. It is a law as well.
+abbrev pub LeavesStatesOfCases : StopOptions → (schedule : List ℕ) → Ports → Type 0
+LeavesStatesOfCases options schedule p = (text : List ℕ) (read : HasCaseRead options schedule p (answers.Saved text)) → MayBeResumed read.2.has.code
+    → IsTextLeftByCode read.2.has.code read.2.has.input (scheduled_faults read.2.items) text
+
+-- the rows of `stop` of a case with such options and such a schedule; and, a law, what its texts are
+pub record StopsCaseLeaving (options : StopOptions) (schedule : List ℕ) (p : Ports) (status : Status) : Type 0 where
+  pub says : StopCaseRows options schedule p status
+  pub left : LeavesStatesOfCases options schedule p
+
+-- they hold where the words ask for that, with these options, which are in their ranges, and this schedule
 abbrev pub StopsCaseByWords : List (List ℕ) → Outside → Status → Type 0
 StopsCaseByWords words o status = (options : StopOptions) (schedule : List ℕ) → command_of words ≡ Some (commands.StopCase options schedule) →
-    AreStopped options × StopCaseRows options schedule (ports_of o) status
+    AreStopped options × StopsCaseLeaving options schedule (ports_of o) status
 
 -- where they ask for the program's own example, with options in their ranges, nothing is read, and its rows hold
 abbrev pub SumsByWords : List (List ℕ) → Outside → Status → Type 0

@@ -5,6 +5,7 @@ use Rattle.ppm_depth.specs.Start.{NamesArrays}
 use Rattle.ppm_tree.specs.Tree.{tree_of}
 use Rattle.ppm_tree.specs.Limits.{IsWithin}
 use Rattle.ppm_tree.specs.Program.{initial_arrays}
+use Rattle.ppm_answers.specs.declared.answer.Answer.TheVariants as answers
 use Rattle.ppm_saved.specs.Names.{AreNames}
 use Rattle.ppm_driver.specs.Stops.{CodeReads, names_of}
 use Rattle.ppm_driver.proofs.NamesLemmas.{names_are}
@@ -26,10 +27,12 @@ stopped_code-requires-clause-names c =
 pub returns : goal.returns
 returns c =
     let t = tree_of c.args.program.now in
-    of_program_code c.args.options c.args.schedule.now.items t _
+    let saved = answers.Saved c.in_ok-text.text.items in
+    of_program_code c.args.options c.args.schedule.now.items t saved
     (record {
       free = c.may_be_stopped.ensures.law t c.program.ensures.admitted;
       tidy = c.store_tidily.ensures.law t c.program.ensures.admitted;
     })
-    (subst (λ (k : CodeParts). CodeReads c.args.options c.args.schedule.now.items k (initial_arrays t) _) c.in_ok-code.ensures.code
-    (subst (λ (l : List NamedArray). CodeReads c.args.options c.args.schedule.now.items c.in_ok-code.code l _) c.input.ensures.value c.in_ok-text.ensures))
+    (subst (λ (k : CodeParts). CodeReads c.args.options c.args.schedule.now.items k (initial_arrays t) saved) c.in_ok-code.ensures.code
+    (subst (λ (l : List NamedArray). CodeReads c.args.options c.args.schedule.now.items c.in_ok-code.code l saved) c.input.ensures.value
+    c.in_ok-text.ensures))

@@ -1,8 +1,5 @@
-use Rattle.std.proofs.Common.{subst}
-use Rattle.ppm_code.specs.Code.{IsCode}
+use Rattle.std.proofs.Common.{sym, subst}
 use Rattle.ppm_loading.specs.Loading.{AreSizes}
-use Rattle.std.proofs.Common.{sym}
-use Rattle.ppm_driver.proofs.ExactLemmas.{code_opened}
 use Rattle.ppm_driver.proofs.ReadBackLemmas.{read_back}
 use Rattle.ppm_driver.proofs.StopLemmas.{code_reads, stopped_sizes, takes_over_by_places}
 use Rattle.ppm_driver.proofs.stop.stopped_code.Goals as goal
@@ -21,9 +18,8 @@ write_saved-requires c = record {
 -- the text is that of the machine after the run, and is read back, if the code may be resumed
 pub returns : goal.returns
 returns c =
-    let is = code_opened _ _ _ _ _ c.in_ok-machine.ensures (subst IsCode c.code.ensures c.parts.ensures.code) in
     code_reads c.args.options c.args.schedule.now.items c.args.code c.args.input.now _ _ _ _ _ _ _ _ _ _ c.sizes_of.ensures c.keeper.ensures.keeper
-    c.in_ok-machine.ensures c.follow.ensures c.arrays.ensures.value c.in_ok-names.ensures c.shape.ensures c.code-2.ensures c.words.ensures
+    c.in_ok-machine.ensures c.follow.ensures c.arrays.ensures.value c.in_ok-names.ensures c.shape.ensures c.code-capsules.ensures c.words.ensures
     c.in_ok-text.ensures.text c.in_ok-text.ensures.fits
-    (λ opens fits. read_back c.saved_texts_tell_states.ensures.law c.args.code c.args.input.now is c.requires.arrays c.args.options c.requires.options
+    (λ opens fits. read_back c.saved_texts_tell_states.ensures.law c.args.code c.args.input.now c.parts.ensures.code c.requires.arrays c.args.options c.requires.options
     _ _ opens c.args.schedule.now.items fits)

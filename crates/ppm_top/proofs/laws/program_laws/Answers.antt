@@ -11,6 +11,7 @@ returns c = record {
     sums = c.examples_sum_up.ensures.law;
     resumes = c.resume_laws.ensures.law;
     leave = c.stops_leave_states.ensures.law;
+    leave_cases = c.stops_leave_states.ensures.of_code;
     outcomes = c.outcomes_have_one_answer.ensures.law;
     codes = c.codes_have_one_answer.ensures.law;
     faithful = c.codes_are_faithful.ensures.law;

@@ -4,7 +4,7 @@ use Rattle.ppm_code.specs.declared.code.CodeParts.{CodeParts}
 use Rattle.ppm_listing.specs.Correct.{NumbersFit}
 use Rattle.ppm_tree.specs.Tree.{tree_of}
 use Rattle.ppm_cut_code.specs.Routines.{code_of}
-use Rattle.ppm_commands.proofs.case.any_case_of.Goals as goal
+use Rattle.ppm_commands.proofs.case.case_of.Goals as goal
 
 -- the numbers are those of the program's code
 pub returns-clause-fits : goal.returns-clause-fits

@@ -1,0 +1,25 @@
+-- How the laws are shown. What a turn writes is one list of cases (`WriteLemmas`); so a place's restart changes by its own processor alone
+-- (`RestartLemmas`). A right branch that isn't pushed is beside the place that is to push it (`FreshLemmas`, `FreshTurns`), so each turn leaves a
+-- tree that advances (`AdvanceRuns`), and each moment of a run by places has something to do (`ReadyLemmas`).
+-- A place begins to look for work where its row has found no job (`PopRows`), so it has none (`IdleLemmas`, `IdleTurns`, `IdleRuns`). Without
+-- hard faults nobody dies, and places stay home (`AliveLemmas`). So what is ready is at a place that works (`WorkLemmas`; turn by turn
+-- `UnhurtRuns`, `WorkRuns`; over legs `LegRuns`), and its processor makes a work turn soon (`SoonLemmas`). That the other facts of a state are
+-- not enough is `StuckLemmas`.
+
+pub mod WriteLemmas
+pub mod RestartLemmas
+pub mod FreshLemmas
+pub mod FreshTurns
+pub mod AdvanceRuns
+pub mod ReadyLemmas
+pub mod PopRows
+pub mod IdleLemmas
+pub mod IdleTurns
+pub mod IdleRuns
+pub mod AliveLemmas
+pub mod WorkLemmas
+pub mod UnhurtRuns
+pub mod WorkRuns
+pub mod LegRuns
+pub mod SoonLemmas
+pub mod StuckLemmas

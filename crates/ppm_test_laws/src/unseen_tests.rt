@@ -1,0 +1,14 @@
+//! The laws of strands that may race are there to be called.
+use ppm_unseen::{
+    calm_writes_stand, each_condition_is_needed, faults_are_invisible,
+    racing_claims_are_restartable, runs_are_histories,
+};
+
+#[test]
+fn the_laws_of_races_are_called() {
+    faults_are_invisible::<u8, u8, u8, u8>();
+    runs_are_histories::<u8, u8, u8, u8>();
+    calm_writes_stand::<u8, u8, u8, u8>();
+    each_condition_is_needed();
+    racing_claims_are_restartable();
+}
