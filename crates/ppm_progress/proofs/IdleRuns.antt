@@ -22,7 +22,7 @@ use Rattle.ppm_layout.specs.Root.{root_strand}
 use Rattle.ppm_layout.specs.declared.images.Image.{Image}
 use Rattle.ppm_layout.proofs.ValueLemmas.{stands_for}
 use Rattle.ppm_step.specs.Among.{IsTurnAmong}
-use Rattle.ppm_step.specs.State.{State as RunState, stand_of, happens, after, opening, forks_of, takes_of, is_work}
+use Rattle.ppm_step.specs.State.{State as RunState, stand_of, happens, after, opening, forks_of, takes_of}
 use Rattle.ppm_step.specs.declared.turn.Turn.{Turn}
 use Rattle.ppm_tickets.specs.Along.{by_act}
 use Rattle.ppm_tickets.specs.Homes.{Home, Unborn}

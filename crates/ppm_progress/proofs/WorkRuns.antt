@@ -1,5 +1,5 @@
 -- Without hard faults: at each moment of a run that isn't over somebody works.
-use Rattle.std.proofs.Common.{◌≡◌, ◌≢◌, ◌<◌, ℕ, if◌then◌else◌, Option, Some, None, Bool, true, false, List, [], inl, inr, sym, ap, ◌∙◌, subst}
+use Rattle.std.proofs.Common.{◌≡◌, ◌<◌, ℕ, if◌then◌else◌, Option, Some, None, Bool, true, false, List, [], inl, inr, sym, ap, ◌∙◌, subst}
 use Rattle.std.specs.List.{AllByRecursion}
 use Rattle.std.proofs.lemmas.Bool.{true≢false}
 use Rattle.ppm_cells.specs.Memory.{read}
