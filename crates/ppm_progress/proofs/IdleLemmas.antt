@@ -29,7 +29,6 @@ use Rattle.ppm_tickets.specs.Lawful.{IsEmpty, IsLocal, IsTaken, IsTicket, AtBott
 use Rattle.ppm_tickets.specs.Saw.{IsStrand, IsStrandOrPop, IsQuiet, HasSeen, Strand, Looks}
 use Rattle.ppm_tickets.specs.View.{word_as, is_shown, view}
 use Rattle.ppm_tickets.specs.Words.{Word, Local, Spot, Slot}
-use Rattle.ppm_tickets.proofs.EstateLemmas.{own}
 use Rattle.ppm_tickets.proofs.QuietLemmas.{begun_quiet, rest_quiet}
 use Rattle.ppm_tickets.proofs.ViewLemmas.{shows, again, view_else}
 use Rattle.ppm_kept.specs.Pushing.{kind_seat}

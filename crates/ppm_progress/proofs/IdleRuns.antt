@@ -1,5 +1,6 @@
--- At each moment of a run a place that looks for work has no job: it has none where a run opens, and each turn leaves it so.
-use Rattle.std.proofs.Common.{◌≡◌, ◌<◌, ℕ, Bool, true, false, List, [], ◌∷◌, ◌++◌, inl, inr, refl, sym, ap, ◌∙◌, subst, arith}
+-- At each moment of a run a place that looks for work has no job: it has none where a run opens, and each turn leaves it so. At its bottom and above it
+-- the shape of the deque has none.
+use Rattle.std.proofs.Common.{◌≡◌, ◌⊎◌, ◌<◌, ℕ, Bool, true, false, List, [], ◌∷◌, ◌++◌, inl, inr, refl, sym, ap, ◌∙◌, subst, arith}
 use Rattle.std.specs.List.{AllByRecursion}
 use Rattle.std.specs.Prelude.{nat_lt}
 use Rattle.std.proofs.lemmas.Bool.{cases_eq, ltb-true}
@@ -25,10 +26,10 @@ use Rattle.ppm_step.specs.State.{State as RunState, stand_of, happens, after, op
 use Rattle.ppm_step.specs.declared.turn.Turn.{Turn}
 use Rattle.ppm_tickets.specs.Along.{by_act}
 use Rattle.ppm_tickets.specs.Homes.{Home, Unborn}
-use Rattle.ppm_tickets.specs.Lawful.{IsLocal, IsTaken}
+use Rattle.ppm_tickets.specs.Lawful.{IsEmpty, IsJob, IsLocal, IsTaken, IsClaim}
 use Rattle.ppm_tickets.specs.Renewal.{IsLawful}
 use Rattle.ppm_tickets.specs.View as spots
-use Rattle.ppm_tickets.specs.Words.{Word, Taken, Slot}
+use Rattle.ppm_tickets.specs.Words.{Word, Job, Taken, Slot}
 use Rattle.ppm_tickets.proofs.ActLemmas.{restart_is}
 use Rattle.ppm_tickets.proofs.EstateLemmas.{as_was}
 use Rattle.ppm_tickets.proofs.ViewLemmas.{if_false}
@@ -45,12 +46,43 @@ use Rattle.ppm_runs.proofs.MomentLemmas.{turns_lead_on}
 use Rattle.ppm_runs.proofs.OpenLemmas.{runs_open}
 use Rattle.ppm_runs.proofs.OrderlyLemmas.{how_or}
 use Rattle.ppm_runs.proofs.ShownLemmas.{halves}
-use Rattle.ppm_progress.specs.Idle.{IdleAreEmpty, IdleAreEmptyInRuns}
+use Rattle.ppm_progress.specs.Idle.{IdleAreEmpty, IdleHaveNoJob, IdleAreEmptyInRuns}
+use Rattle.ppm_progress.proofs.IdleLemmas.{local_is_bottom, no_job_idle}
 use Rattle.ppm_progress.proofs.IdleTurns.{idle_stay_empty}
 
+-- a taken entry is not local
 taken_not_local : (w : Word) → IsTaken w → IsLocal w → ⊥
 taken_not_local (Taken t x) is local_ = local_
 taken_not_local _ is local_ = absurd is
+
+-- a job is no entry of the other kinds, and none that was inherited
+job_is_no_other : (w : Word) → IsJob w → IsTaken w ⊎ (IsLocal w ⊎ IsEmpty w) → ⊥
+job_is_no_other (Job t r) is (inl taken) = taken
+job_is_no_other (Job t r) is (inr (inl local_)) = local_
+job_is_no_other (Job t r) is (inr (inr empty)) = empty
+job_is_no_other _ is other = absurd is
+
+job_is_no_claim : (w : Word) → IsJob w → IsClaim w → ⊥
+job_is_no_claim (Job t r) is claim = claim
+job_is_no_claim _ is claim = absurd is
+
+-- where the entries below the bottom of a place that looks for work are taken, it has no job
+no_jobs : (s : Shape) (code : CodeParts) (state : RunState) (h : ℕ → Home) (forked taken : List ℕ) → IsLawful s code state h forked taken
+    → IdleAreEmpty s state.words → IdleHaveNoJob s state.words
+no_jobs s code state h forked taken law empty p i idle job =
+    let m = spots.view s state.words in
+    let g = law.1.board.ghost in
+    let b = spots.bottoms s state.words p in
+    let deque = law.1.board.board.deque p in
+    let below : (j : ℕ) → j < b → IsTaken (g (Slot p j)) = λ j lt. elim (law.1.board.covers.slots p j) [
+      | inl same ↦ subst IsTaken (sym same.0) (empty p j idle lt)
+      | inr z ↦ let at = local_is_bottom (λ n. g (Slot p n)) (spots.kinds s state.words p) b deque idle j z.local in absurd (omega (arith, at, lt))
+    ] in
+    elim (law.1.board.covers.slots p i) [
+      | inl same ↦ job_is_no_other (g (Slot p i)) (subst IsJob (sym same.0) job)
+          (no_job_idle (λ n. g (Slot p n)) (spots.kinds s state.words p) b deque idle i below)
+      | inr z ↦ job_is_no_claim (m (Slot p i)) job z.claim
+    ]
 
 -- an entry of lawful words that is taken as if nothing were inherited is taken
 floor_taken : (s : Shape) (code : CodeParts) (state : RunState) (h : ℕ → Home) (forked taken : List ℕ) (law : IsLawful s code state h forked taken)
@@ -86,8 +118,9 @@ module _ (code : CodeParts) (input : List NamedArray) (s : Shape) (keeper : ℕ)
 
 module _ (s : Shape) (code : CodeParts) (fair : IsFair code) (root : Tree (Frame FrameWord Point) Result) (input : Words) where
   pub all_places : s.takeover ≡ ByPlaces → (state : RunState) (h : ℕ → Home) (f tk : List ℕ) (t : Skeleton) → IsRun s code root input state h f tk t
-      → (turns : List Turn) → AllByRecursion (IsTurnAmong s.processors) turns → IdleAreEmpty s state.words → IdleAreEmpty s (after s code state turns).words
-  all_places places state h f tk t run [] among empty = empty
+      → (turns : List Turn) → AllByRecursion (IsTurnAmong s.processors) turns → IdleAreEmpty s state.words
+      → IdleAreEmpty s (after s code state turns).words × IdleHaveNoJob s (after s code state turns).words
+  all_places places state h f tk t run [] among empty = (empty, no_jobs s code state h f tk (halves run).lawful empty)
   all_places places state h f tk t run (turn ∷ more) among empty =
       let next = turns_lead_on s code places fair root input state h f tk t run turn among.0 in
       let then_ = idle_stay_empty s code fair root input state h f tk [] t (halves run) run.agrees turn among.0 _ _ _ next.lawful empty in
@@ -96,8 +129,9 @@ module _ (s : Shape) (code : CodeParts) (fair : IsFair code) (root : Tree (Frame
 
   all_entries : s.takeover ≡ ByEntries → (state : RunState) (h : ℕ → Home) (f tk : List ℕ) (l : List Followed) (t : Skeleton)
       → IsHeired s code root input state h f tk l t
-      → (turns : List Turn) → AllByRecursion (IsTurnAmong s.processors) turns → IdleAreEmpty s state.words → IdleAreEmpty s (after s code state turns).words
-  all_entries ih state h f tk l t run [] among empty = empty
+      → (turns : List Turn) → AllByRecursion (IsTurnAmong s.processors) turns → IdleAreEmpty s state.words
+      → IdleAreEmpty s (after s code state turns).words × IdleHaveNoJob s (after s code state turns).words
+  all_entries ih state h f tk l t run [] among empty = (empty, no_jobs s code state h f tk run.halves.lawful empty)
   all_entries ih state h f tk l t run (turn ∷ more) among empty =
       let next = heirs_lead_on s code ih fair root input state h f tk l t run turn among.0 in
       let then_ = idle_stay_empty s code fair root input state h f tk l t run.halves run.joint.agrees turn among.0 _ _ _ next.2.halves.lawful empty in

@@ -128,7 +128,7 @@ module _ (s : Shape) (code : CodeParts) (fair : IsFair code) (root : Tree (Frame
     pub installs : (i : ℕ) → i < re.bottom → IsTaken (m (Slot p i))
     installs = elim (cases_Bool (is_work (kinds s ws p))) [ inl work ↦ worked work | inr looks ↦ looked looks ]
 
-  -- so of each act by which a place is given a restart
+  -- each act by which a place is given a restart that looks for work finds the entries below its bottom taken
   given : (q : ℕ) (re : Restart) (act : Act) (x : Standing) → turn.act ≡ act → stand_of state c ≡ x → Gives act x q re → restart_at s now q ≡ re
       → is_work re.kind ≡ false → (i : ℕ) → i < re.bottom → IsTaken (m (Slot q i))
   given q re (Step v) (IsWithin seat (Now (Install r))) ea ex gives is idle i lt =

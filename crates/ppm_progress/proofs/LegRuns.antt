@@ -148,7 +148,7 @@ module _ (code : CodeParts) (input : List NamedArray) (s : Shape) (keeper : ℕ)
       let h = homes_then s code im.words legs in
       let f = forked_then s code im.words legs in
       let tk = taken_then s code im.words legs in
-      all_places s code fair root arrays places state h f tk now.0 (run_of s code root arrays state h f tk now.0 now.1 places) turns among empty
+      (all_places s code fair root arrays places state h f tk now.0 (run_of s code root arrays state h f tk now.0 now.1 places) turns among empty).0
 
   empty_then : (legs : List Leg) → AreLegs s code im.words legs → IdleAreEmpty s (words_then s code im.words legs)
   empty_then [] are = first_empty code input s keeper im opens calm

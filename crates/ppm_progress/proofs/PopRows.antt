@@ -87,7 +87,7 @@ module _ (s : Shape) (seat : Seat) (v : ℕ) (M : Spot → Word) where
   pop1_so (Restarts n y ∷ ws) saw = broken_so ws
   pop1_so (Unread ∷ ws) saw = broken_so ws
 
-  -- so does Pop2; else it begins the branch
+  -- Pop2 looks for work where it has found the entry below its bottom taken; else it begins the branch
   offset_so : (r next : ℕ) (ws : List Word) → So (Now (Load (Offset r next))) ws
   offset_so r next [] = tt
   offset_so r next (Number n ∷ ws) = by (nat_lt (r + n) (word_count s)) ws

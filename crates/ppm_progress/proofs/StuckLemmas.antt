@@ -1,4 +1,4 @@
--- Three states that the other laws allow, and in which nobody has anything to do.
+-- A fork, a deque and holder words with which nobody ever works again, and each of which one fact of a run's state allows.
 use Rattle.std.proofs.Common.{◌≡◌, ◌<◌, ℕ, zero, suc, ◌+◌, ◌==◌, Bool, true, false, if◌then◌else◌, inl, inr, refl, sym, ap, subst, arith}
 use Rattle.ppm_cells.specs.declared.restart.RestartKind.TheVariants.{Run, Seek}
 use Rattle.ppm_tickets.specs.Lawful.{IsEmpty, IsTicket, IsDead, IsAlive, Names, Dooms}

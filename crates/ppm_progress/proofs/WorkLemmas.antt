@@ -170,7 +170,7 @@ pub works_at : (s : Shape) (code : CodeParts) (state : RunState) (h : ℕ → Ho
 works_at s code state h forked taken law home p lt live work = record {
   there = lt;
   alive = home.alive p;
-  live = live;
+  not_done = live;
   place = p;
   carried = carries_own s.takeover (spots.view s state.words) (spots.kinds s state.words) home law.1.holding law.1.rooted p;
   at_work = work;

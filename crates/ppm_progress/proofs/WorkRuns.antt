@@ -1,5 +1,5 @@
 -- Without hard faults: at each moment of a run that isn't over somebody works.
-use Rattle.std.proofs.Common.{◌≡◌, ◌≢◌, ◌<◌, ℕ, if◌then◌else◌, Option, Some, None, Bool, true, false, List, [], inl, inr, sym, ap, ◌∙◌, subst}
+use Rattle.std.proofs.Common.{◌≡◌, ◌<◌, ℕ, if◌then◌else◌, Option, Some, None, Bool, true, false, List, [], inl, inr, sym, ap, ◌∙◌, subst}
 use Rattle.std.specs.List.{AllByRecursion}
 use Rattle.std.proofs.lemmas.Bool.{true≢false}
 use Rattle.ppm_cells.specs.Memory.{read}
@@ -82,7 +82,7 @@ some_place_is_at_work code input s keeper im places fair opens calm turns among 
     let first = opening im.words s.processors in
     let a = ready_at s code places fair (root_strand code input) (arrays_at (view s im.words)) first (λ r. Unborn) [] [] _ turns among
     (advancing_first code input s keeper im opens calm) in
-    let empty = idle_are_empty_in_runs code input s keeper im fair opens calm turns among in
+    let empty = (idle_are_empty_in_runs code input s keeper im fair opens calm turns among).0 in
     somewhere s code (root_strand code input) (arrays_at (view s im.words)) now (homes s code first (λ r. Unborn) turns) (forked_in s code first [] turns)
     (taken_in s code first [] turns) a.0 a.1 empty (places_open s.takeover (spots.view s now.words) places)
 
@@ -124,7 +124,7 @@ pub all_idle_is_over : AllIdleIsOver
 all_idle_is_over code input s keeper im fair opens calm turns among none idle unset =
     let a = somebody_works code input s keeper im fair opens calm turns among none unset in
     elim (idle a.0 a.1.there) [
-      | inr done ↦ not_done (stand_of (reached s code im.words turns) a.0) a.1.live done
+      | inr done ↦ not_done (stand_of (reached s code im.words turns) a.0) a.1.not_done done
       | inl seeks ↦
           let is = seekers_are_idle code input s keeper im fair opens calm turns among a.0 seeks in
           let place : a.1.place ≡ is.place = ap number_of (sym a.1.carried ∙ is.carried) in

@@ -169,7 +169,7 @@ module _ (s : Shape) (code : CodeParts) (fair : IsFair code) (root : Tree (Frame
     exchanged x (BlockWord i) old new is kind may none a d n e = Aside (BlockWord i) (word_of new) is tt refl
     exchanged x (ArrayWord i) old new is kind may none a d n e = Aside (ArrayWord i) (word_of new) is tt refl
 
-    -- so it is where the word that it expects is there
+    -- what an exchange writes where the word that it expects is there
     tried : (x : Standing) (cell : Cell) (old new : Content) (next : Then) → stand_of state c ≡ IsWithin seat (Exchange cell old new next)
         → In (Exchange cell old new next) → (made : Bool) → (read s ws cell == word_of old) ≡ made
         → W (Step v) x (if made then store s ws cell (word_of new) else ws)
@@ -258,7 +258,7 @@ module _ (s : Shape) (code : CodeParts) (fair : IsFair code) (root : Tree (Frame
   act_wrote Hard x e = hard_wrote x
   act_wrote (Quit why) x e = quit_wrote why x
 
--- so is each turn of such a state
+-- what each turn of such a state writes
 pub turn_wrote : (s : Shape) (code : CodeParts) → IsFair code → (root : Tree (Frame FrameWord Point) Result) (input : Words) (state : RunState)
     → (h : ℕ → Home) (forked taken : List ℕ) (l : List Followed) (t : Skeleton) → IsHalves s code root input state h forked taken l t
     → Agrees t (λ r. fate_of (h r)) → (turn : Turn) → turn.processor < s.processors

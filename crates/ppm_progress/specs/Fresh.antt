@@ -1,4 +1,5 @@
--- A right branch that isn't pushed yet is beside a place that is to push it; so no left branch comes first beside one.
+-- A right branch that was not forked yet is beside the place that is to fork it; and no left branch comes first beside a right one that isn't pushed.
+-- A branch is forked as Bump installs Push1, and pushed as it becomes a job, or is left to the strand of the left one.
 use Rattle.std.specs.Prelude.{◌≡◌, ℕ, List, ◌++◌}
 use Rattle.ppm_strands.specs.Tree.{Words, Tree}
 use Rattle.ppm_cells.specs.declared.restart.RestartKind.TheVariants.{Bump}
@@ -25,12 +26,12 @@ use Rattle.ppm_runs.specs.Follow.{IsHalves}
 use Rattle.ppm_runs.specs.Joint.{AreJoint, StepsAlone}
 use Rattle.ppm_advance.specs.Turns.{LeftIsLater}
 
--- of a right branch that was not forked yet, the place whose pool has its block is about to open that block
+-- of a right branch that was not forked yet, the place whose pool has its block is about to fork it
 abbrev pub FreshAtBump : (s : Shape) (code : CodeParts) → RunState → (ℕ → Home) → List Followed → Skeleton → Type 0
 FreshAtBump s code state h l t = (r : ℕ) → HasUnrun Fresh r t → h r ≡ Unborn
     → (left (setting s code) l (places_of s state)).kind (owner (setting s code) r) ≡ Bump r
 
--- then no left branch comes first beside one that isn't pushed
+-- then no left branch comes first beside a right one that isn't pushed
 abbrev pub LeftComesLater : Type 0
 LeftComesLater = (s : Shape) (code : CodeParts) → IsFair code
     → (root : Tree (Frame FrameWord Point) Result) (input : Words) (state : RunState) (h : ℕ → Home) (forked taken : List ℕ)
@@ -38,7 +39,7 @@ LeftComesLater = (s : Shape) (code : CodeParts) → IsFair code
     → IsHalves s code root input state h forked taken l t → Agrees t (λ r. fate_of (h r)) → FreshAtBump s code state h l t
     → LeftIsLater (left (setting s code) l (places_of s state)) t
 
--- it is so after each turn by which no place goes on with what it inherited
+-- the places of branches that were not forked are still so after each turn by which no place goes on with what it inherited
 abbrev pub FreshStay : Type 0
 FreshStay = (s : Shape) (code : CodeParts) → IsFair code
     → (root : Tree (Frame FrameWord Point) Result) (input : Words) (state : RunState) (h : ℕ → Home) (forked taken : List ℕ)

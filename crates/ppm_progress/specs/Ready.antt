@@ -22,7 +22,8 @@ use Rattle.ppm_runs.specs.Run.{fate_of}
 use Rattle.ppm_runs.specs.Shown.{Shows}
 use Rattle.ppm_advance.specs.Advance.{HasReady}
 
--- with takeover by places, from an image of a sound code, whatever the turns, hard faults among them
+-- With takeover by places, from an image of a sound code, whatever the turns, hard faults among them. In a run that is over this may be the root's
+-- strand at its end.
 abbrev pub SomethingIsReady : Type 0
 SomethingIsReady = (code : CodeParts) (input : List NamedArray) (s : Shape) (keeper : ℕ) (image : Image)
     → s.takeover ≡ ByPlaces → IsFair code → Opens code input s keeper image

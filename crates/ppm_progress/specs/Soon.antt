@@ -1,4 +1,4 @@
--- A processor whose place is at a kind of work makes a work turn soon, whatever others do.
+-- Without hard faults a processor whose own place is at work makes a work turn soon, whatever others do.
 use Rattle.std.specs.Prelude.{◌≡◌, ◌≢◌, ◌⊎◌, ◌≤◌, ◌<◌, ◌+◌, ◌==◌, if◌then◌else◌, ℕ, true, List, [], ◌∷◌, ◌++◌}
 use Rattle.std.specs.List.{AllByRecursion}
 use Rattle.ppm_strands.specs.Calm.{Calm}
@@ -32,7 +32,7 @@ abbrev pub StepsOnly : (c : ℕ) → Turn → Type 0
 StepsOnly c turn = turn.processor ≡ c → is_step turn.act ≡ true
 
 -- From an image of a sound code, with either takeover, after any first turns, without hard faults: if the own place of processor c is at a kind of
--- work, and then c makes four steps, no fault among them, one of these is a work turn, or the finish word isn't 0 after all.
+-- work, and then c makes four steps, no fault among them, one of these is a work turn, or the finish word isn't 0 after these turns.
 abbrev pub WorksSoon : Type 0
 WorksSoon = (code : CodeParts) (input : List NamedArray) (s : Shape) (keeper : ℕ) (image : Image)
     → IsFair code → Opens code input s keeper image
@@ -44,8 +44,8 @@ WorksSoon = (code : CodeParts) (input : List NamedArray) (s : Shape) (keeper : �
     → (has (along s code work_of (reached s code image.words first) more) c ≡ true)
     ⊎ (read s (reached s code image.words (first ++ more)).words FinishWord ≢ 0)
 
--- By places: if the own place of processor c is at work, also where it has won a job that it has still to begin, and then c makes thirteen steps, no
--- fault among them, one of these is a work turn, or the finish word isn't 0 after all.
+-- By places, without hard faults: if the own place of processor c is at work, also where it has won a job that it has still to begin, and then c makes thirteen steps, no
+-- fault among them, one of these is a work turn, or the finish word isn't 0 after these turns.
 abbrev pub WorksWithin13 : Type 0
 WorksWithin13 = (code : CodeParts) (input : List NamedArray) (s : Shape) (keeper : ℕ) (image : Image)
     → s.takeover ≡ ByPlaces → IsFair code → Opens code input s keeper image

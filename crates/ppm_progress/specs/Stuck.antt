@@ -1,4 +1,4 @@
--- What the other laws of a run's state allow, and runs exclude: states in which nobody ever works again.
+-- What single facts of a run's state allow, each taken alone: pieces of states in which nobody ever works again.
 use Rattle.std.specs.Prelude.{◌≡◌, ℕ, zero, suc, ◌==◌, if◌then◌else◌}
 use Rattle.ppm_cells.specs.declared.restart.RestartKind.{RestartKind}
 use Rattle.ppm_cells.specs.declared.restart.RestartKind.TheVariants.{Run, Seek}
@@ -8,7 +8,7 @@ use Rattle.ppm_frames.specs.Skeletons.{Stand, Came, Leaf, Forking}
 use Rattle.ppm_frames.specs.Good.{mark, order_of}
 use Rattle.ppm_advance.specs.Advance.{HasReady}
 
--- An order word of 1 may stand for a fork whose branches have both come first. Such a tree has nothing to do.
+-- An order word of 1 alone may stand for a fork whose branches have both come first. Such a tree has nothing to do.
 abbrev pub OrdersAllowBothToCome : Type 0
 OrdersAllowBothToCome = (f n y r : ℕ) (st su : Stand) (g m k l : ℕ)
     → (order_of (mark (Leaf Came st g m)) (mark (Leaf Came su k l)) ≡ 1)
@@ -21,7 +21,7 @@ with_job t r (suc zero) = Job t r
 with_job t r (suc (suc zero)) = Local 0 0
 with_job t r (suc (suc (suc i))) = Empty 0
 
--- The shape of a deque allows a job below the bottom of a place that looks for work. Its own processor never looks there.
+-- The shape of a deque alone allows a job below the bottom of a place that looks for work. Its own processor never looks there.
 abbrev pub DequesAllowIdleJobs : Type 0
 DequesAllowIdleJobs = (t r : ℕ) → Deque Seek 2 (with_job t r) × IsJob (with_job t r 1)
 
@@ -38,7 +38,7 @@ left_behind spot = Unread
 abbrev pub with_strand : (frame copy : ℕ) → ℕ → RestartKind
 with_strand f y p = if p == 1 then Run f y else Seek
 
--- By places, what holds of holders allows a strand at a place whose holder lives and carries another one. Nobody carries that place, and since its
+-- By places, what holds of holders alone allows a strand at a place whose holder lives and carries another one. Nobody carries that place, and since its
 -- holder lives none bids for it.
 abbrev pub HoldersAllowALeftPlace : Type 0
 HoldersAllowALeftPlace = (f y : ℕ) → Holding left_behind (with_strand f y) × Names (left_behind (Holder 1)) 0 × IsAlive left_behind 0

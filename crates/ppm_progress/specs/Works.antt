@@ -30,7 +30,8 @@ use Rattle.ppm_kept.specs.Running.{IsFair, strands}
 abbrev pub IsAtWork : (Spot → Word) → (p : ℕ) → RestartKind → Type 0
 IsAtWork m p k = (is_work k ≡ true) ⊎ ((r : ℕ) × Steals m p k r)
 
--- By places, from an image of a sound code, whatever the turns, hard faults among them: at each moment some place is at work.
+-- By places, from an image of a sound code, whatever the turns, hard faults among them: at each moment some place is at work. In a
+-- run that is over this may be the place at which the root's strand stands at its end.
 abbrev pub SomePlaceIsAtWork : Type 0
 SomePlaceIsAtWork = (code : CodeParts) (input : List NamedArray) (s : Shape) (keeper : ℕ) (image : Image)
     → s.takeover ≡ ByPlaces → IsFair code → Opens code input s keeper image
@@ -39,11 +40,11 @@ SomePlaceIsAtWork = (code : CodeParts) (input : List NamedArray) (s : Shape) (ke
     → (p : ℕ) × (p < s.processors)
     × IsAtWork (spots s (reached s code image.words turns).words) p (kinds s (reached s code image.words turns).words p)
 
--- the processor lives, takes steps, and carries a place that is at work
+-- the processor lives, isn't done, and carries a place that is at work
 pub record Works (s : Shape) (state : State) (c : ℕ) : Type 0 where
   pub there : c < s.processors
   pub alive : IsAlive (spots s state.words) c
-  pub live : is_done_at (stand_of state c) ≡ false
+  pub not_done : is_done_at (stand_of state c) ≡ false
   pub place : ℕ
   pub carried : spots s state.words (Carry c) ≡ Number place
   pub at_work : IsAtWork (spots s state.words) place (kinds s state.words place)
@@ -55,7 +56,7 @@ IsNoHard Soft = Unit {0}
 IsNoHard Hard = ⊥
 IsNoHard (Quit why) = Unit {0}
 
--- the turn is none
+-- the turn is no hard fault
 abbrev pub HurtsNone : Turn → Type 0
 HurtsNone turn = IsNoHard turn.act
 
@@ -68,7 +69,7 @@ SomebodyWorks = (code : CodeParts) (input : List NamedArray) (s : Shape) (keeper
     → read s (reached s code image.words turns).words FinishWord ≡ 0
     → (c : ℕ) × Works s (reached s code image.words turns) c
 
--- So the run is over where each processor is done, or would seek work next: who parks or leaves there misses nothing that would stop the run.
+-- Where each processor is done or would seek work next, the run is over: if all have parked or left there, too.
 abbrev pub AllIdleIsOver : Type 0
 AllIdleIsOver = (code : CodeParts) (input : List NamedArray) (s : Shape) (keeper : ℕ) (image : Image)
     → IsFair code → Opens code input s keeper image

@@ -18,8 +18,9 @@ pub fn left_comes_later()
 
 /// With takeover by places, whatever the turns and the faults: at each moment of a run from an
 /// image of a sound code a place has a strand of the tree that the words show, or a right branch of
-/// it waits to be taken. So some place is at work, over legs too: its kind is work, or it has won a
-/// job that it has still to begin.
+/// it waits to be taken. Thus some place is at work, over legs too: its kind is work, or it has won
+/// a job that it has still to begin. In a run that is over this may be the root's strand at its
+/// end.
 pub fn something_is_ready()
     ensures law { SomethingIsReady }
     ensures place { SomePlaceIsAtWork }
@@ -27,7 +28,8 @@ pub fn something_is_ready()
 {}
 
 /// With either takeover, whatever the turns and the faults: at each moment of a run from an image
-/// of a sound code a place that looks for work has no job in its deque.
+/// of a sound code a place whose kind isn't work has no job in its deque; below its bottom all
+/// entries are taken.
 pub fn idle_deques_are_empty()
     ensures stay { IdleStayEmpty }
     ensures law { IdleAreEmptyInRuns }
@@ -35,7 +37,7 @@ pub fn idle_deques_are_empty()
 
 /// With either takeover, whatever the turns, if none of them is a hard fault: while a run from an
 /// image of a sound code isn't over some processor works, or has won a job that it has still to
-/// begin. So the run is over where each processor is done or would seek work next. By places
+/// begin. Thus the run is over where each processor is done or would seek work next. By places
 /// somebody works too in a leg without hard faults, whatever the legs before.
 pub fn somebody_works()
     ensures law { SomebodyWorks }
@@ -43,18 +45,19 @@ pub fn somebody_works()
     ensures legs { SomebodyWorksOverLegs }
 {}
 
-/// With either takeover, without hard faults: a processor whose own place is at a kind of work makes
-/// a work turn within four of its own steps, whatever others do, or the finish word is set
+/// With either takeover, without hard faults: a processor whose own place is at a kind of work
+/// makes a work turn within four of its own steps, whatever others do, or the finish word is set
 /// meanwhile. By places it does so within thirteen where the place has won a job.
 pub fn work_turns_come_soon()
     ensures law { WorksSoon }
     ensures thieves { WorksWithin13 }
 {}
 
-/// The other facts of a run's state allow states in which nobody ever works again: order words a
-/// fork whose branches have both come first, deques a job at a place that looks for work, and
-/// holder words, by places, a strand at a place that its holder has left.
-pub fn stuck_states_are_allowed()
+/// Each of three facts of a run's state, taken alone, allows a piece of a state in which nobody
+/// ever works again: an order word a fork whose branches have both come first, the shape of a deque
+/// a job at a place that looks for work, and holder words, by places, a strand at a place that its
+/// holder has left.
+pub fn single_facts_allow_stuck_pieces()
     ensures orders { OrdersAllowBothToCome }
     ensures deques { DequesAllowIdleJobs }
     ensures holders { HoldersAllowALeftPlace }

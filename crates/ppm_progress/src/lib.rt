@@ -1,10 +1,11 @@
-//! Progress: while a run isn't over something is left to do, and without hard faults somebody does
-//! it; laws alone.
+//! Progress: by places, or without hard faults, something is left to do while a run isn't over; and
+//! without hard faults somebody does it. Laws alone.
 //! Model: a state of a run (`ppm_runs`) whose tree advances (`ppm_advance`), `IsAdvancing` of
 //! `proofs/AdvanceRuns`.
-//! Contract: each moment of a run by places has something to do (`specs/Ready`); a place that looks
-//! for work has no job (`specs/Idle`); without hard faults somebody works while the run isn't over
-//! (`specs/Works`; over legs `specs/Legs`), and makes a work turn soon (`specs/Soon`).
+//! Contract: each moment of a run by places has something to do (`specs/Ready`); a place whose kind
+//! isn't work has no job (`specs/Idle`); without hard faults somebody works while the run isn't
+//! over (`specs/Works`; over legs `specs/Legs`), and whoever does makes a work turn soon, but for
+//! thieves by entries (`specs/Soon`).
 //! Stands on `ppm_runs` and `ppm_advance`.
 //! After the scheduler of Blelloch et al., SPAA 2018. Their bound on time takes this for granted.
 #![tactic(auto)]
@@ -12,6 +13,6 @@
 mod laws;
 
 pub use laws::{
-    idle_deques_are_empty, left_comes_later, somebody_works, something_is_ready,
-    stuck_states_are_allowed, work_turns_come_soon,
+    idle_deques_are_empty, left_comes_later, single_facts_allow_stuck_pieces, somebody_works,
+    something_is_ready, work_turns_come_soon,
 };

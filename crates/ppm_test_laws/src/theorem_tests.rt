@@ -15,8 +15,8 @@ use ppm_kept::{
 };
 use ppm_paces::{capsules_are_short, looks_are_free, rows_are_paid, rows_keep_pace};
 use ppm_progress::{
-    idle_deques_are_empty, left_comes_later, somebody_works, something_is_ready,
-    stuck_states_are_allowed, work_turns_come_soon,
+    idle_deques_are_empty, left_comes_later, single_facts_allow_stuck_pieces, somebody_works,
+    something_is_ready, work_turns_come_soon,
 };
 use ppm_runs::{
     births_follow, heirs_lead, joints_stay, legs_come_to, nothing_breaks, nothing_breaks_over_legs,
@@ -148,5 +148,5 @@ fn the_laws_of_progress_are_called() {
     idle_deques_are_empty();
     somebody_works();
     work_turns_come_soon();
-    stuck_states_are_allowed();
+    single_facts_allow_stuck_pieces();
 }

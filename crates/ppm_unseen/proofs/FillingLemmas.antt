@@ -8,9 +8,8 @@ use Rattle.ppm_unseen.specs.Run.{System, Deed, Changed, Forked, Finished, doer, 
 use Rattle.ppm_unseen.specs.Run.{now, once_done}
 use Rattle.ppm_unseen.specs.Run.{Comes, Begins, Others, Goes, Does, Takes, Stores, Finds, Leaves, Opens, Joins, Faults, Alters, Splits, Finishes}
 use Rattle.ppm_unseen.specs.Conditions.{HasNoChange, IsOrdered, IsFilled}
-use Rattle.ppm_unseen.specs.Correct.{FaultsAreInvisible}
 use Rattle.ppm_unseen.specs.Calm.{ChangesOncePast}
-use Rattle.ppm_unseen.specs.Needed.{builds_none, two, half_filled, dirty, FillingIsNeeded, BlocksAreToBeFilled}
+use Rattle.ppm_unseen.specs.Needed.{builds_none, two, half_filled, dirty, FaultsAreVisible, FillingIsNeeded, BlocksAreToBeFilled}
 use Rattle.ppm_unseen.proofs.CalmLemmas.{calm_writes_stand}
 use Rattle.ppm_unseen.proofs.SingleLemmas.{way, HasAtMost, one_writer_is_calm}
 use Rattle.ppm_unseen.proofs.TwoLemmas.{at_each, idle_comes, closes, both_come, only_left, only_right, keeps_nothing}
@@ -104,11 +103,11 @@ module _ (builds : ℕ → Bool) (left right : Capsule ℕ ℕ) (may : KeepsOne 
   keeps_one (Goes h (Joins g n fs os over)) = absurd (keeps_one h).0
   keeps_one (Goes h (Faults z o' kept)) = absurd z
 
-half_filled_shows : FaultsAreInvisible half_filled → ⊥
-half_filled_shows f =
+half_filled_shows : FaultsAreVisible half_filled
+half_filled_shows =
     let t : List (Deed ℕ ℕ ℕ) = Finished 0 2 ∷ Changed 1 0 1 ∷ [] in
     let all = both_come builds_none (Reads 0 picks) puts (Unit {0}) t keeps_both puts_once (λ i a b. (λ e. a (sym e), (λ e. b (sym e), tt))) in
-    (keeps_one builds_none (Reads 0 picks) puts picks_one ((f.histories t).0 all 0).1).1.0 refl
+    (t, all, λ without. (keeps_one builds_none (Reads 0 picks) puts picks_one (without 0).1).1.0 refl)
 
 -- both words are kept
 pub filling_is_needed : FillingIsNeeded
@@ -129,12 +128,12 @@ left_over x = cond (x == 0) 2 0
 finds_dirt : (σ : State ℕ ℕ ℕ) × Comes dirty (Unit {0}) 0 (Finished 0 2 ∷ []) σ
 finds_dirt = (_, Does (Goes Begins (Faults tt left_over (λ x b. cond-false (x == 0) 2 0 b))) (Finishes 0 2 refl))
 
-dirty_shows : FaultsAreInvisible dirty → ⊥
-dirty_shows f =
+dirty_shows : FaultsAreVisible dirty
+dirty_shows =
     let t : List (Deed ℕ ℕ ℕ) = Finished 0 2 ∷ [] in
     let all = both_come (λ x. x == 0) (Ends 0) (Ends 0) (Unit {0}) t finds_dirt (idle_comes dirty (Unit {0}) 1 t (λ e. omega (arith, e), tt))
     (λ i a b. (λ e. a (sym e), tt)) in
-    (keeps_one (λ x. x == 0) (Ends 0) (Ends 0) (λ e. omega (arith, e)) ((f.histories t).0 all 0).1).1.0 refl
+    (t, all, λ without. (keeps_one (λ x. x == 0) (Ends 0) (Ends 0) (λ e. omega (arith, e)) (without 0).1).1.0 refl)
 
 -- what was left over is told
 pub blocks_are_to_be_filled : BlocksAreToBeFilled

@@ -5,9 +5,8 @@ use Rattle.ppm_unseen.specs.Capsule.{Capsule, Reads, Changes, Ends, constant, ex
 use Rattle.ppm_unseen.specs.Run.{Deed, Changed, State, UnderWay}
 use Rattle.ppm_unseen.specs.Run.{Comes, Begins, Others, Goes, Does, Finds, Faults, Alters}
 use Rattle.ppm_unseen.specs.Conditions.{IsOrdered, IsFilled}
-use Rattle.ppm_unseen.specs.Correct.{FaultsAreInvisible}
 use Rattle.ppm_unseen.specs.Calm.{ChangesOncePast}
-use Rattle.ppm_unseen.specs.Needed.{builds_none, counter, returning, OrderIsNeeded, StandingIsNeeded}
+use Rattle.ppm_unseen.specs.Needed.{builds_none, counter, returning, FaultsAreVisible, OrderIsNeeded, StandingIsNeeded}
 use Rattle.ppm_unseen.proofs.CalmLemmas.{calm_writes_stand}
 use Rattle.ppm_unseen.proofs.SingleLemmas.{one_writer_is_calm}
 use Rattle.ppm_unseen.proofs.TwoLemmas.{at_each, idle_comes, closes, both_come, only_left, not_twice, keeps_nothing}
@@ -25,13 +24,12 @@ counts_twice =
     Goes (Goes put (Faults tt _ (λ x b. refl))) (Finds 0 counts) in
     (_, Does again (Alters 0 (constant 2) (Ends 0) (λ e. omega (arith, e))))
 
-counter_shows : FaultsAreInvisible counter → ⊥
-counter_shows f =
+counter_shows : FaultsAreVisible counter
+counter_shows =
     let t : List (Deed ℕ ℕ ℕ) = Changed 0 0 2 ∷ Changed 0 0 1 ∷ [] in
     let all = both_come builds_none (Reads 0 counts) (Ends 0) (Unit {0}) t counts_twice
     (idle_comes counter (Unit {0}) 1 t (λ e. omega (arith, e), (λ e. omega (arith, e), tt))) (λ i a b. (λ e. a (sym e), (λ e. a (sym e), tt))) in
-    let few : 2 ≤ 1 = not_twice builds_none (Reads 0 counts) (Ends 0) (λ v. tt) t ((f.histories t).0 all) in
-    omega (arith, few)
+    (t, all, λ without. let few : 2 ≤ 1 = not_twice builds_none (Reads 0 counts) (Ends 0) (λ v. tt) t without in omega (arith, few))
 
 -- it counts twice
 pub order_is_needed : OrderIsNeeded
@@ -67,13 +65,12 @@ exchanges_back =
     Does meanwhile (Alters 0 (exchange 1 0) (Ends 0) (λ e. omega (arith, e))) in
     (_, Others (Changed 0 0 1) (λ e. omega (arith, e)) one)
 
-returning_shows : FaultsAreInvisible returning → ⊥
-returning_shows f =
+returning_shows : FaultsAreVisible returning
+returning_shows =
     let t : List (Deed ℕ ℕ ℕ) = Changed 0 0 1 ∷ Changed 1 0 0 ∷ Changed 0 0 1 ∷ [] in
     let all = both_come builds_none there back (Unit {0}) t exchanges_twice exchanges_back
     (λ i a b. (λ e. a (sym e), (λ e. b (sym e), (λ e. a (sym e), tt)))) in
-    let few : 2 ≤ 1 = not_twice builds_none there back tt t ((f.histories t).0 all) in
-    omega (arith, few)
+    (t, all, λ without. let few : 2 ≤ 1 = not_twice builds_none there back tt t without in omega (arith, few))
 
 -- the first exchange happens twice
 pub standing_is_needed : StandingIsNeeded

@@ -9,7 +9,7 @@ use Rattle.ppm_unseen.specs.Run.{System, Deed, Changed, Forked, Finished, doer, 
 use Rattle.ppm_unseen.specs.Run.{count, numbered, begun_if_any, once_done, IsHistory}
 use Rattle.ppm_unseen.specs.Run.{Comes, Begins, Others, Goes, Does, Unseen, Takes, Stores, Finds, Leaves, Opens, Joins, Faults, Seen, Alters, Splits, Finishes}
 use Rattle.ppm_unseen.specs.Correct.{IsBetween, FaultsAreInvisible}
-use Rattle.ppm_unseen.specs.Together.{with_strand, Together, Start, GoesOn, DoesOne, RunsAreHistories, EachRunHasOneWithout}
+use Rattle.ppm_unseen.specs.Together.{with_strand, Together, Start, GoesUnseen, DoesOne, RunsAreHistories, EachRunHasOneWithout}
 use Rattle.ppm_unseen.proofs.InvisibleLemmas.{faults_are_invisible}
 
 -- of fewer frames there is none with a number past them
@@ -114,7 +114,7 @@ module _ {A K E O : Type 0} (s : System A K E O) where
     -- in a run each strand comes along its history
     pub comes_of : {t : List (Deed A K O)} {σ : ℕ → State A K E} → Together s faults t σ → (j : ℕ) → Comes s faults j t (σ j)
     comes_of Start j = Begins
-    comes_of (GoesOn {t = t} {σ = σ} {τ = τ} i r u) j = elim (cases_eq j i) [
+    comes_of (GoesUnseen {t = t} {σ = σ} {τ = τ} i r u) j = elim (cases_eq j i) [
       | inl is ↦ subst (λ (ρ : State A K E). Comes s faults j t ρ) (sym (with_at i τ σ j is))
           (Goes (comes_of r j) (subst (λ (m : ℕ). Unseen s faults t (σ m) τ) (sym is) u))
       | inr isnt ↦ subst (λ (ρ : State A K E). Comes s faults j t ρ) (sym (with_else i τ σ j isnt)) (comes_of r j)
@@ -140,7 +140,7 @@ module _ {A K E O : Type 0} (s : System A K E O) where
     goes_on {t = t} i σ r (More {σ = φ} {τ = τ} h u) same =
         let one : Together s faults t (with_strand s i φ σ) = goes_on i σ r h same in
         subst (λ (ψ : ℕ → State A K E). Together s faults t ψ) (with_twice i φ τ σ)
-        (GoesOn i one (subst (λ (ρ : State A K E). Unseen s faults t ρ τ) (sym (with_at i φ σ i refl)) u))
+        (GoesUnseen i one (subst (λ (ρ : State A K E). Unseen s faults t ρ τ) (sym (with_at i φ σ i refl)) u))
 
     -- the first n do, one after another
     all_go_on : {t : List (Deed A K O)} (n : ℕ) (there here : ℕ → State A K E) → Together s faults t here

@@ -19,7 +19,7 @@ ChangesOncePast w (Changes x g rest) = (In x w → ⊥) × ((v : ℕ) → g (g v
 ChangesOncePast w (Ends e) = Unit {0}
 
 module _ {A K E O : Type 0} (s : System A K E O) where
-  -- each capsule changes a shared word once at most, as puts and exchanges do
+  -- each capsule changes no shared word twice, and each change made twice is as made once, as a put or an exchange is; a sum isn't
   abbrev pub ChangeOnce : Type 0
   ChangeOnce = (k : K) → ChangesOncePast [] (s.code.capsule k)
 

@@ -27,7 +27,8 @@ pub data Next (A K O : Type 0) : Type 0 where
   Closes : O → Next A K O
 
 -- a code: the capsule of each point, and which own words are of the block that it builds; what an end opens, by the strand's own words; and how a
--- frame that waits goes on with the outcomes of its branches. A fork of one branch is a call. The other own words are slots and a value.
+-- frame that waits goes on with the outcomes of its branches. A fork of one branch is a call. The other own words are slots, a value, and the
+-- outcome that a trap stores before it ends.
 pub record Code (A K E O : Type 0) : Type 0 where
   pub names : Equality A
   pub capsule : K → Capsule A E

@@ -7,12 +7,13 @@ use Rattle.ppm_unseen.specs.Run.{System, Changed, Forked, IsHistory}
 use Rattle.ppm_unseen.specs.Conditions.{AreOrdered, AreFilled, Stands}
 use Rattle.ppm_unseen.specs.Correct.{FaultsAreInvisible}
 
--- the first capsule, that of a branch with its number, and the one after the join; an end forks, or closes the strand
+-- the first capsule, that of a branch with its number, and the one after the join
 pub data Point : Type 0 where
   First : Point
   Claims : ℕ → Point
   Last : Point
 
+-- an end forks all branches, or closes the strand with its own word 0 as the outcome
 pub data Exit : Type 0 where
   ForksAll : Exit
   Tells : Exit

@@ -30,7 +30,7 @@ module _ {A E : Type 0} where
   FillsPast out o w (Changes x g rest) = FillsPast out o w rest
   FillsPast out o w (Ends e) = (x : A) → out x ≡ true → In x w
 
-  -- from whatever own words, it keeps some of them so, and all words of the block that it builds
+  -- from whatever own words, it keeps some of them so, and among these all words of the block that its point builds, also where its end opens none
   abbrev pub IsFilled : (builds : A → Bool) → Capsule A E → Type 0
   IsFilled builds c = (o : Memory A) → (out : A → Bool) × FillsPast out o [] c × ((x : A) → builds x ≡ true → out x ≡ true)
 

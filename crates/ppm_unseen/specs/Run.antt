@@ -31,6 +31,7 @@ pub record Change : Type 0 where
   pub at : ℕ
   pub by : ℕ → ℕ
 
+-- the change of word x by g
 abbrev pub change : ℕ → (ℕ → ℕ) → Change
 change x g = record { at = x; by = g }
 
@@ -139,6 +140,7 @@ pub record Asked : Type 0 where
   pub all : List Change
   pub settled : List Change
 
+-- none is asked for yet
 abbrev pub nothing : Asked
 nothing = record { all = []; settled = [] }
 
@@ -158,8 +160,10 @@ module _ {A K E O : Type 0} {s : System A K E O} {faults : Type 0} {me : ℕ} wh
   asked (Does h (Splits e fs g is)) = nothing
   asked (Does h (Finishes e outcome is)) = nothing
 
+  -- all changes of it
   abbrev pub passed : {t : List (Deed A K O)} {σ : State A K E} → Comes s faults me t σ → List Change
   passed h = (asked h).all
 
+  -- those up to the last one that changed a word
   abbrev pub settled : {t : List (Deed A K O)} {σ : State A K E} → Comes s faults me t σ → List Change
   settled h = (asked h).settled
