@@ -1,0 +1,62 @@
+//! RAMs, and what always holds of them.
+ghost use Rattle.std.specs.Prelude.{◌≡◌, slice_get, IfOk};
+ghost use Rattle.ppm_ram.specs.Program.{IsRam, memory_of};
+
+use crate::instruction::Instruction;
+use ppm_words::{Items, NoMemory};
+use std::alloc::Global;
+use std::marker::Model;
+
+/// The parts of a RAM: how many words its memory has, the first values of these, and the
+/// instructions.
+#[derive(Debug, Drop)]
+pub struct RamParts {
+    pub memory: u32,
+    pub values: Items<i64>,
+    pub instructions: Items<Instruction>,
+}
+
+/// A RAM: 4,194,304 words of memory at most, no more values than that, and 1 to 30,000
+/// instructions, none of which leads out of them.
+#[derive(Debug, Drop)]
+pub struct Ram {
+    parts: RamParts,
+}
+
+impl Model for Ram {
+    ghost use Rattle.ppm_ram.specs.declared.ram.RamParts.{RamParts};
+    ghost use Rattle.ppm_ram.specs.Program.{IsRam};
+
+    ghost Value = { RamParts };
+
+    ghost view = { λ r. r.parts };
+
+    ghost invariant = { λ r. IsRam r.parts };
+}
+
+impl Ram {
+    /// The RAM with these parts.
+    pub fn from_parts(parts: RamParts) -> Self
+        requires { IsRam parts }
+        ensures { result ≡ parts }
+    {
+        Ram { parts }
+    }
+
+    /// Its parts.
+    pub fn parts(&self) -> &RamParts
+        ensures value { result.now ≡ self.now }
+        ensures ram { IsRam self.now }
+    {
+        &self.parts
+    }
+
+    /// The memory with which it begins: its values, and 0 after them.
+    pub fn memory(&self, alloc: Global) -> Result<Vec<i64>, NoMemory>
+        ensures { IfOk result (λ memory. memory.items ≡ memory_of self.now) }
+    {
+        let mut memory = Vec::from_slice(alloc, self.parts.values.as_slice())?;
+        memory.resize(self.parts.memory as usize, 0)?;
+        Ok(memory)
+    }
+}

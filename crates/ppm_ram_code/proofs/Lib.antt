@@ -1,0 +1,9 @@
+mod Growing
+mod CapsuleLemmas
+mod WordLemmas
+mod StepLemmas
+mod ListLemmas
+mod SafeLemmas
+mod EndLemmas
+mod CodeLemmas
+mod Theorem

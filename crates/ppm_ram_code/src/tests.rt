@@ -1,0 +1,1 @@
+//! RAMs as codes.
