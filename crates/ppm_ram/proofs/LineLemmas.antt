@@ -1,5 +1,5 @@
 -- A line says an instruction exactly where it is what is written of it.
-use Rattle.std.proofs.Common.{◌≡◌, ◌∙◌, ◌⊎◌, inl, inr, ℕ, ◌^◌, ◌<◌, ◌==◌, Bool, true, false, not, cond, nat_lt, ℤ, List, [], ◌∷◌, ◌++◌, codes, decimal, bytes_eq, Option, Some, None, refl, sym, ap, ap₂, subst, arith}
+use Rattle.std.proofs.Common.{◌≡◌, ◌∙◌, ◌⊎◌, inl, inr, ℕ, ◌-◌, ◌^◌, ◌<◌, ◌==◌, Bool, true, false, not, cond, nat_lt, ℤ, List, [], ◌∷◌, ◌++◌, codes, decimal, bytes_eq, Option, Some, None, refl, sym, ap, ap₂, subst, arith}
 use Rattle.std.specs.Fmt.{signed_decimal}
 use Rattle.std.specs.List.{list_all}
 use Rattle.std.specs.Cmp.Derive.{both_true}
@@ -30,7 +30,7 @@ word_of keyword.Store = codes "store"
 word_of keyword.JumpIfZero = codes "jz"
 word_of keyword.Jump = codes "jump"
 
-some_keyword : Keyword → Option Keyword → Keyword
+abbrev some_keyword : Keyword → Option Keyword → Keyword
 some_keyword k None = k
 some_keyword k (Some j) = j
 

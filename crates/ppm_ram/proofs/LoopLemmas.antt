@@ -1,5 +1,6 @@
 -- What the loops over lines and words have found out so far.
 use Rattle.std.proofs.Common.{◌≡◌, ◌∙◌, ℕ, suc, ◌+◌, ◌==◌, Bool, true, false, ◌&&◌, nat_lt, cond, ℤ, List, [], ◌∷◌, ◌++◌, length, Option, Some, None, Result, Ok, Err, refl, sym, ap, subst, arith, append_assoc, append-nil}
+use Rattle.std.proofs.lemmas.Bool.{cond-false}
 use Rattle.ppm_pieces.specs.Numbers.{is_empty}
 use Rattle.ppm_pieces.specs.Pieces.{split, in_front}
 use Rattle.ppm_ram.specs.declared.instruction.Instruction.{Instruction}
@@ -8,11 +9,11 @@ use Rattle.ppm_ram.specs.declared.ram_error.RamFault.{RamFault}
 use Rattle.ppm_ram.specs.declared.ram_error.RamFault.TheVariants as fault
 use Rattle.ppm_ram.specs.declared.ram_error.RamError.{RamError}
 use Rattle.ppm_ram.specs.declared.ram_error.RamError.TheVariants as error
-use Rattle.ppm_ram.specs.Limits.{line_of}
+use Rattle.ppm_ram.specs.Limits.{text_limit, line_of}
 use Rattle.ppm_ram.specs.Numbers.{in_range_both, pair_of, made_of, value_in, values_in}
 use Rattle.ppm_ram.specs.Lines.{Fault, judged, instruction_in, in_front as instruction_in_front, with_line, instructions_in, count_of, line_then}
-use Rattle.ppm_ram.specs.Lines.{values_of, with_size, with_values, with_instructions, size_in, with_head}
-use Rattle.ppm_ram.specs.Said.{at_line, IsFaultOf, behind, numbers_if, joined_with, followed_by, sized, headed}
+use Rattle.ppm_ram.specs.Lines.{values_of, with_size, with_values, with_instructions, size_in, with_head, ram_in, IsRefusal}
+use Rattle.ppm_ram.specs.Said.{at_line, IsFaultOf, behind, words_left, numbers_if, joined_with, followed_by, sized, headed}
 
 -- there is a piece at least
 pub some_piece : (s : ℕ) (t : List ℕ) → (p : List ℕ) × (ps : List (List ℕ)) × (split s t ≡ p ∷ ps)
@@ -91,6 +92,25 @@ last_piece count number left is false whole e =
 pub handed_on : {A B : Type 0} (v : Result A Fault) (w : Result B Fault) (e : RamError) → ((f : Fault) → v ≡ Err f → w ≡ Err f) → IsFaultOf v e → IsFaultOf w e
 handed_on v w (error.Refused rule line) go h = go (rule, line) h
 handed_on v w error.NoMemory go h = tt
+
+pub refused_values : (memory : ℕ) (v : Result (List ℤ) RamFault) (ls : List (List ℕ)) (f : Fault) → at_line 3 v ≡ Err f → with_values memory v ls ≡ Err f
+refused_values memory (Ok zs) ls f e = absurd (cc)
+refused_values memory (Err rule) ls f e = let same : (rule, 3) ≡ f = cc in ap (λ (g : Fault). Err g) same
+
+pub refused_instructions : (memory : ℕ) (zs : List ℤ) (v : Result (List Instruction) Fault) (f : Fault) → v ≡ Err f → with_instructions memory zs v ≡ Err f
+refused_instructions memory zs v f e = ap (with_instructions memory zs) e
+
+pub refused_text : (text : List ℕ) (v : Result RamParts Fault) (e : RamError) → ram_in text ≡ v → IsFaultOf v e → IsRefusal text e
+refused_text text v (error.Refused rule line) is h = is ∙ h
+refused_text text v error.NoMemory is h = tt
+
+-- a text that is not too long
+pub lines_of_text : (text : List ℕ) → nat_lt text_limit (length text) ≡ false → ram_in text ≡ headed (split 10 text)
+lines_of_text text short = cond-false (nat_lt text_limit (length text)) (Err (fault.NoSuchForm, 1)) (line_then 1 with_head (split 10 text)) short
+
+-- the words that are left, if there are more
+pub words_more : (more : Bool) (left w : List ℕ) (ws : List (List ℕ)) → more ≡ true → split 32 left ≡ w ∷ ws → words_left more left ≡ w ∷ ws
+words_more more left w ws e cut = ap (λ (b : Bool). words_left b left) e ∙ cut
 
 -- the values of words
 pub bad_word : (w : List ℕ) (ws : List (List ℕ)) (zs : Option (List ℤ)) → value_in w ≡ Some None

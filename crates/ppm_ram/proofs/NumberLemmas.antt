@@ -110,7 +110,7 @@ target_read t low =
     ∙ (let is : min t (2 ^ 32 - 1) ≡ t = omega (arith, low) in ap (λ (n : ℕ). Some (Some n)) is)
 
 -- and with a value
-fits_signed : (z : ℤ) → fits z ≡ true → FitsSigned w64 z
+pub fits_signed : (z : ℤ) → fits z ≡ true → FitsSigned w64 z
 fits_signed (pos n) e = grind arith
 fits_signed (negsuc n) e = grind arith
 

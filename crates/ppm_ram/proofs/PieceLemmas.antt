@@ -57,7 +57,7 @@ split_between p s n x (y ∷ ys) h k =
     split_at p s n x (between s (y ∷ ys)) h ∙ ap (λ (l : List (List ℕ)). x ∷ l) (split_between p s n y ys l.0 l.1)
 
 -- bytes are their halves with the separator between them
-some_of : {A : Type 0} → A → Option A → A
+abbrev some_of : {A : Type 0} → A → Option A → A
 some_of d None = d
 some_of d (Some x) = x
 

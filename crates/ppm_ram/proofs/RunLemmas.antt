@@ -1,7 +1,9 @@
 -- The steps of a RAM one after another: what is left to do tells what there was.
-use Rattle.std.proofs.Common.{◌≡◌, ◌∙◌, ◌⊎◌, inl, inr, ℕ, suc, ◌+◌, ◌<◌, ◌≤◌, ℤ, List, refl, sym, ap, subst, arith}
+use Rattle.std.proofs.Common.{◌≡◌, ◌∙◌, ◌⊎◌, inl, inr, ℕ, zero, suc, ◌+◌, ◌<◌, ◌≤◌, ℤ, List, [], ◌∷◌, length, Some, refl, sym, ap, subst, arith}
 use Rattle.ppm_words.specs.declared.outcome.Outcome.{Outcome}
 use Rattle.ppm_words.specs.declared.outcome.Outcome.TheVariants as outcome
+use Rattle.std.specs.Prelude.{slice_get}
+use Rattle.ppm_ram.specs.declared.instruction.Instruction.{Instruction}
 use Rattle.ppm_ram.specs.declared.ram.RamParts.{RamParts}
 use Rattle.ppm_ram.specs.Program.{memory_of}
 use Rattle.ppm_ram.specs.Meaning.{State, End, Move, GoesOn, Stops, step, EndsIn, Last, Further, begins, said_of, IsWithin, IsNotWithin, IsRunOf}
@@ -71,3 +73,9 @@ module _ (r : RamParts) where
         more = λ k e all. let (j, is, rest) = h.back k e all in let some = some_step s j e rest in omega (arith, is, some);
         told = told;
       })
+
+-- an instruction that is there has a small number
+pub within : (is : List Instruction) (k : ℕ) (i : Instruction) → slice_get is k ≡ Some i → k < length is
+within [] k i e = absurd (cc)
+within (j ∷ is) zero i e = omega arith
+within (j ∷ is) (suc k) i e = let rest = within is k i e in omega (arith, rest)

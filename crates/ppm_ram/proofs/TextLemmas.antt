@@ -1,5 +1,5 @@
 -- A text says a RAM exactly where it is what is written of it.
-use Rattle.std.proofs.Common.{◌≡◌, ◌∙◌, ◌↔◌, ℕ, zero, suc, ◌+◌, ◌^◌, ◌<◌, ◌≤◌, ◌==◌, Bool, true, false, not, ◌&&◌, ◌||◌, cond, nat_lt, nat_le, ℤ, List, [], ◌∷◌, ◌++◌, length, map, codes, decimal, bytes_eq}
+use Rattle.std.proofs.Common.{◌≡◌, ◌∙◌, ◌↔◌, ℕ, zero, suc, ◌+◌, ◌-◌, ◌^◌, ◌<◌, ◌≤◌, ◌==◌, Bool, true, false, not, ◌&&◌, ◌||◌, cond, nat_lt, nat_le, ℤ, List, [], ◌∷◌, ◌++◌, length, map, codes, decimal, bytes_eq}
 use Rattle.std.proofs.Common.{Option, Some, None, Result, Ok, Err, refl, sym, ap, ap₂, subst, arith, append_assoc, append-nil, length-append}
 use Rattle.std.specs.Fmt.{signed_decimal}
 use Rattle.std.specs.List.{list_all, flat_map, AllByRecursion}
@@ -123,7 +123,8 @@ lines_spelled : (count number : ℕ) (ls : List (List ℕ)) (is : List Instructi
 lines_spelled count number [] is low one e = absurd (omega (arith, one))
 lines_spelled count number (l ∷ []) is low one e = by (is_empty l && nat_lt 0 number) refl e
   where
-    by : (b : Bool) → (is_empty l && nat_lt 0 number) ≡ b → cond b (Ok []) (Err (fault.NoSuchForm, line_of number)) ≡ Ok is → AreLines count number (l ∷ []) is
+    by : (b : Bool) → (is_empty l && nat_lt 0 number) ≡ b
+        → cond {A = Result (List Instruction) Fault} b (Ok []) (Err (fault.NoSuchForm, line_of number)) ≡ Ok is → AreLines count number (l ∷ []) is
     by false t e = absurd (err_not_ok e)
     by true t e =
         let parts = and_parts (is_empty l) (nat_lt 0 number) t in
@@ -406,9 +407,6 @@ joined_bytes (w ∷ v ∷ vs) h =
     let k = and_parts (list_all is_word_byte w) (list_all (list_all is_word_byte) (v ∷ vs)) h in
     all_append is_line_byte w (32 ∷ joined (v ∷ vs)) (wider is_word_byte is_line_byte line_byte w k.0) (both_true refl (joined_bytes (v ∷ vs) k.1))
 
-one_word : (w : List ℕ) (ws : List (List ℕ)) → AreOf is_word_byte w → list_all (list_all is_word_byte) ws ≡ true → list_all (list_all is_word_byte) (w ∷ ws) ≡ true
-one_word w ws h k = both_true h k
-
 operation_bytes : (o : _) → AreOf is_word_byte (operation_word o)
 operation_bytes operation.Add = refl
 operation_bytes operation.Sub = refl
@@ -422,15 +420,13 @@ target_bytes t count low h = let k = ltb-true t count h in decimal_bytes t (omeg
 
 words_bytes : (i : Instruction) (count : ℕ) → count ≤ text_limit → has_value i ≡ true → has_target count i ≡ true
     → list_all (list_all is_word_byte) (instruction_words i) ≡ true
-words_bytes (Set to z) count low fit h = one_word (codes "set") _ refl (one_word (register_word to) _ (register_bytes to) (one_word (signed_decimal z) [] (value_bytes z fit) refl))
+words_bytes (Set to z) count low fit h = both_true refl (both_true (register_bytes to) (both_true (value_bytes z fit) refl))
 words_bytes (Compute o to x y) count low fit h =
-    one_word (operation_word o) _ (operation_bytes o) (one_word (register_word to) _ (register_bytes to)
-    (one_word (register_word x) _ (register_bytes x) (one_word (register_word y) [] (register_bytes y) refl)))
-words_bytes (Load to x) count low fit h = one_word (codes "load") _ refl (one_word (register_word to) _ (register_bytes to) (one_word (register_word x) [] (register_bytes x) refl))
-words_bytes (Store x y) count low fit h = one_word (codes "store") _ refl (one_word (register_word x) _ (register_bytes x) (one_word (register_word y) [] (register_bytes y) refl))
-words_bytes (JumpIfZero x t) count low fit h =
-    one_word (codes "jz") _ refl (one_word (register_word x) _ (register_bytes x) (one_word (decimal t) [] (target_bytes t count low h) refl))
-words_bytes (Jump t) count low fit h = one_word (codes "jump") _ refl (one_word (decimal t) [] (target_bytes t count low h) refl)
+    both_true (operation_bytes o) (both_true (register_bytes to) (both_true (register_bytes x) (both_true (register_bytes y) refl)))
+words_bytes (Load to x) count low fit h = both_true refl (both_true (register_bytes to) (both_true (register_bytes x) refl))
+words_bytes (Store x y) count low fit h = both_true refl (both_true (register_bytes x) (both_true (register_bytes y) refl))
+words_bytes (JumpIfZero x t) count low fit h = both_true refl (both_true (register_bytes x) (both_true (target_bytes t count low h) refl))
+words_bytes (Jump t) count low fit h = both_true refl (both_true (target_bytes t count low h) refl)
 words_bytes Halt count low fit h = refl
 
 pieces_bytes : (is : List Instruction) (count : ℕ) → count ≤ text_limit → AllByRecursion (λ i. has_value i ≡ true) is
@@ -463,8 +459,8 @@ text_is_said text r h =
     let pieces : split 10 text ≡ codes "ram 1" ∷ two ∷ three ∷ pieces_of is =
     ap (split 10) all
     ∙ split_between is_line_byte 10 refl (codes "ram 1") (two ∷ three ∷ pieces_of is) refl
-    (both_true (joined_bytes (memory_words r.memory) (one_word (codes "memory") _ refl (one_word (decimal r.memory) [] (decimal_bytes r.memory (omega (arith, memory))) refl)))
-    (both_true (joined_bytes (codes "values" ∷ map signed_decimal r.values) (one_word (codes "values") _ refl (all_value_bytes r.values h.ram.values)))
+    (both_true (joined_bytes (memory_words r.memory) (both_true refl (both_true (decimal_bytes r.memory (omega (arith, memory))) refl)))
+    (both_true (joined_bytes (codes "values" ∷ map signed_decimal r.values) (both_true refl (all_value_bytes r.values h.ram.values)))
     (pieces_bytes is (length is) (omega (arith, few)) h.ram.constants h.ram.targets))) in
     let count = count_written is in
     let read : instructions_in (count_of (pieces_of is)) 0 (pieces_of is) ≡ Ok is =

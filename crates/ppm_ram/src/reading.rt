@@ -3,7 +3,8 @@ ghost use Rattle.std.specs.Prelude.{◌≡◌, ◌≤◌, ◌&&◌, nat_lt, IfOk
 ghost use Rattle.ppm_pieces.specs.Numbers.{is_empty as is_nil};
 ghost use Rattle.ppm_pieces.specs.Pieces.{split};
 ghost use Rattle.ppm_ram.specs.Limits.{text_limit};
-ghost use Rattle.ppm_ram.specs.Lines.{count_of as count, instructions_in, IsRefusal, with_size};
+ghost use Rattle.ppm_ram.specs.Lines.{count_of as count, instructions_in, IsRefusal};
+ghost use Rattle.ppm_ram.specs.Lines.{with_instructions, with_size};
 ghost use Rattle.ppm_ram.specs.Said.{headed, sized, IsFaultOf};
 ghost use Rattle.ppm_ram.specs.declared.ram_error.RamError.TheVariants.{Refused};
 ghost use Rattle.ppm_ram.specs.Text.{IsTextOf};
@@ -80,6 +81,29 @@ fn read_instructions(alloc: Global, text: &[u8], count: u32) -> Result<Vec<Instr
     }
 }
 
+/// Reads the instructions of a RAM of so many words of memory with these values.
+fn read_body(
+    alloc: Global,
+    memory: u32,
+    values: Vec<i64>,
+    text: &[u8],
+) -> Result<RamParts, RamError>
+    requires { length text.now ≤ text_limit }
+    ensures ok { IfOk result (λ r. with_instructions memory values.items
+        (instructions_in (count (split 10 text.now)) 0 (split 10 text.now)) ≡ Ok r) }
+    ensures err { IfErr result (IsFaultOf (with_instructions memory values.items
+        (instructions_in (count (split 10 text.now)) 0 (split 10 text.now)))) }
+{
+    match read_instructions(alloc, text, count_of(text)) {
+        Ok(instructions) => Ok(RamParts {
+            memory,
+            values: Items::from_vec(values),
+            instructions: Items::from_vec(instructions),
+        }),
+        Err(error) => Err(error),
+    }
+}
+
 /// Reads what stands after the line of the memory, of so many words.
 fn read_rest(alloc: Global, memory: u32, text: &[u8]) -> Result<RamParts, RamError>
     requires { length text.now ≤ text_limit }
@@ -89,19 +113,10 @@ fn read_rest(alloc: Global, memory: u32, text: &[u8]) -> Result<RamParts, RamErr
     let Some((line, rest)) = split_once(text, b'\n') else {
         return Err(refused(RamFault::NoSuchForm, 3));
     };
-    let values = match values_of(alloc, memory, line) {
-        Ok(values) => values,
-        Err(error) => return Err(error),
-    };
-    let instructions = match read_instructions(alloc, rest, count_of(rest)) {
-        Ok(instructions) => instructions,
-        Err(error) => return Err(error),
-    };
-    Ok(RamParts {
-        memory,
-        values: Items::from_vec(values),
-        instructions: Items::from_vec(instructions),
-    })
+    match values_of(alloc, memory, line) {
+        Ok(values) => read_body(alloc, memory, values, rest),
+        Err(error) => Err(error),
+    }
 }
 
 /// Reads what stands after the first line.
@@ -134,13 +149,20 @@ fn read_lines(alloc: Global, text: &[u8]) -> Result<RamParts, RamError>
     read_memory(alloc, rest)
 }
 
+/// Whether a text is too long.
+fn is_too_long(text: &[u8]) -> bool
+    ensures { result ≡ nat_lt text_limit (length text.now) }
+{
+    text.len() > TEXT_LIMIT
+}
+
 /// The RAM of a text. `Err` with the first fault of a text that is of none, or where memory is
 /// refused.
 pub fn read_ram(alloc: Global, text: &[u8]) -> Result<Ram, RamError>
     ensures ok { IfOk result (IsTextOf text.now) }
     ensures err { IfErr result (IsRefusal text.now) }
 {
-    if text.len() > TEXT_LIMIT {
+    if is_too_long(text) {
         return Err(refused(RamFault::NoSuchForm, 1));
     }
     match read_lines(alloc, text) {

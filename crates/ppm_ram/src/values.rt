@@ -39,7 +39,6 @@ fn cut(words: &[u8]) -> Words
 }
 
 /// The values of words for a memory of so many.
-#[tactic(none)]
 fn read_values(alloc: Global, memory: u32, words: &[u8]) -> Result<Vec<i64>, RamError>
     ensures ok { IfOk result (λ zs. fitting memory (values_in (split 32 words.now))
         ≡ Ok zs.items) }

@@ -62,7 +62,7 @@ values_read (z ∷ memory) start a words fit =
     ap₂ (λ (y : ℤ) (ys : List ℤ). y ∷ ys) first rest
 
 -- the outcome of a branch that is over
-outcome_in : Tree (Frame FrameWord Point) Result → Result → Result
+abbrev outcome_in : Tree (Frame FrameWord Point) Result → Result → Result
 outcome_in (Over o) d = o
 outcome_in (Strand f) d = d
 outcome_in (Call g t) d = d
@@ -72,7 +72,7 @@ outcome_of : {o p : Result} → Over o ≡ Over p → o ≡ p
 outcome_of {o} e = ap (λ t. outcome_in t o) e
 
 module _ (r : RamParts) (is : IsRam r) (memory : List ℤ) (mem : IsMemoryOf r memory) where
-  W : ℕ
+  abbrev W : ℕ
   W = length (words_in (input_of memory))
 
   size : length memory ≡ W
