@@ -9,5 +9,6 @@ mod LineLemmas
 mod LoopLemmas
 mod NumberLemmas
 mod PieceLemmas
+mod ProgramLemmas
 mod RunLemmas
 mod TextLemmas

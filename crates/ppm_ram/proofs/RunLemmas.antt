@@ -1,12 +1,12 @@
 -- The steps of a RAM one after another: what is left to do tells what there was.
-use Rattle.std.proofs.Common.{◌≡◌, ◌∙◌, ◌⊎◌, inl, inr, ℕ, zero, suc, ◌+◌, ◌<◌, ◌≤◌, ℤ, List, [], ◌∷◌, length, Some, refl, sym, ap, subst, arith}
+use Rattle.std.proofs.Common.{◌≡◌, ◌∙◌, ◌⊎◌, inl, inr, ℕ, suc, ◌+◌, ◌<◌, ◌≤◌, ℤ, List, Option, Result, Ok, Err, IfOk, refl, sym, ap, subst, arith}
 use Rattle.ppm_words.specs.declared.outcome.Outcome.{Outcome}
 use Rattle.ppm_words.specs.declared.outcome.Outcome.TheVariants as outcome
 use Rattle.std.specs.Prelude.{slice_get}
 use Rattle.ppm_ram.specs.declared.instruction.Instruction.{Instruction}
 use Rattle.ppm_ram.specs.declared.ram.RamParts.{RamParts}
 use Rattle.ppm_ram.specs.Program.{memory_of}
-use Rattle.ppm_ram.specs.Meaning.{State, End, Move, GoesOn, Stops, step, EndsIn, Last, Further, begins, said_of, IsWithin, IsNotWithin, IsRunOf}
+use Rattle.ppm_ram.specs.Meaning.{State, End, Move, GoesOn, Stops, done, step, EndsIn, Last, Further, begins, said_of, IsWithin, IsNotWithin, IsRunOf}
 
 -- after so many steps from its beginning a RAM is in a state: it ends from there exactly where it ends from the beginning
 pub record HasCome (r : RamParts) (steps : ℕ) (s : State) : Type 0 where
@@ -74,8 +74,11 @@ module _ (r : RamParts) where
         told = told;
       })
 
--- an instruction that is there has a small number
-pub within : (is : List Instruction) (k : ℕ) (i : Instruction) → slice_get is k ≡ Some i → k < length is
-within [] k i e = absurd (cc)
-within (j ∷ is) zero i e = omega arith
-within (j ∷ is) (suc k) i e = let rest = within is k i e in omega (arith, rest)
+-- what holds of an answer, by what it tells
+pub told_by : {E : Type 0} (P Q : Outcome → Type 0) (answer : Result Outcome E) → ((o : Outcome) → P o → Q o) → IfOk answer P → IfOk answer Q
+told_by P Q (Ok o) go h = go o h
+told_by P Q (Err e) go h = tt
+
+-- a step from a state, by the instruction there
+pub step_at : (r : RamParts) (s : State) (i : Option Instruction) → slice_get r.instructions s.at ≡ i → step r s ≡ done s i
+step_at r s i e = ap (done s) e

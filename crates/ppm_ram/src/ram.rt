@@ -1,6 +1,7 @@
 //! RAMs, and what always holds of them.
-ghost use Rattle.std.specs.Prelude.{◌≡◌, slice_get, IfOk};
-ghost use Rattle.ppm_ram.specs.Program.{IsRam, memory_of};
+ghost use Rattle.std.specs.Prelude.{◌≡◌, ◌<◌, slice_get, true, IfOk, IfSome};
+ghost use Rattle.ppm_ram.specs.Limits.{instruction_limit};
+ghost use Rattle.ppm_ram.specs.Program.{IsRam, has_target, memory_of};
 
 use crate::instruction::Instruction;
 use ppm_words::{Items, NoMemory};
@@ -34,6 +35,16 @@ impl Model for Ram {
     ghost invariant = { λ r. IsRam r.parts };
 }
 
+/// The instruction at a place, if there is one.
+fn instruction_at(instructions: &[Instruction], number: u32) -> Option<Instruction>
+    ensures { result ≡ slice_get instructions.now number }
+{
+    match instructions.get(number as usize) {
+        Some(instruction) => Some(*instruction),
+        None => None,
+    }
+}
+
 impl Ram {
     /// The RAM with these parts.
     pub fn from_parts(parts: RamParts) -> Self
@@ -49,6 +60,16 @@ impl Ram {
         ensures ram { IsRam self.now }
     {
         &self.parts
+    }
+
+    /// The instruction with a number, if there is one. It has a number below 30,000, and goes to one
+    /// below 30,000 if it jumps.
+    pub fn instruction(&self, number: u32) -> Option<Instruction>
+        ensures value { result ≡ slice_get self.now.instructions number }
+        ensures few { IfSome result (λ i. number < instruction_limit) }
+        ensures target { IfSome result (λ i. has_target instruction_limit i ≡ true) }
+    {
+        instruction_at(self.parts.instructions.as_slice(), number)
     }
 
     /// The memory with which it begins: its values, and 0 after them.

@@ -1,5 +1,5 @@
 //! Runs a RAM.
-ghost use Rattle.std.specs.Prelude.{◌≡◌, ◌<◌, IfOk, IfSome, get_or, length, pos, slice_get};
+ghost use Rattle.std.specs.Prelude.{◌≡◌, ◌<◌, IfOk, IfSome, get_or, length, pos};
 ghost use Rattle.ppm_ram.specs.Limits.{instruction_limit};
 ghost use Rattle.ppm_ram.specs.Meaning.{applied_by, does, index_of, IsRunOf, said_of, Halted};
 ghost use Rattle.ppm_ram.specs.Moves.{shown, state};
@@ -53,16 +53,6 @@ fn held(registers: &[i64; 8], register: Register) -> i64
     ensures { result ≡ get_or registers.now register.index (pos 0) }
 {
     registers[usize::from(register.index)]
-}
-
-/// The instruction at a place, if there is one.
-fn instruction_at(instructions: &[Instruction], at: u32) -> Option<Instruction>
-    ensures { result ≡ slice_get instructions.now at }
-{
-    match instructions.get(at as usize) {
-        Some(instruction) => Some(*instruction),
-        None => None,
-    }
 }
 
 /// Makes the step of an instruction.
@@ -134,17 +124,14 @@ fn halted(alloc: Global, memory: Vec<i64>) -> Result<Outcome, NoMemory>
 
 /// Runs a RAM from its own memory, for so many steps at most. `NotWithin` exactly where it would
 /// take more.
-#[tactic(none)]
 pub fn ram_run(alloc: Global, ram: &Ram, steps: u64) -> Result<Outcome, NoMemory>
     ensures { IfOk result (IsRunOf ram.now steps) }
 {
-    let parts = ram.parts();
-    let instructions = parts.instructions.as_slice();
     let mut memory = ram.memory(alloc)?;
     let mut registers: [i64; 8] = [0; 8];
     let mut at: u32 = 0;
     for _ in 0..steps {
-        let Some(instruction) = instruction_at(instructions, at) else {
+        let Some(instruction) = ram.instruction(at) else {
             return halted(alloc, memory);
         };
         match advance(at, instruction, &mut registers, &mut memory) {

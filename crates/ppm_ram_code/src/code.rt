@@ -1,6 +1,5 @@
 //! The code of a RAM, and its input.
-ghost use Rattle.std.specs.Prelude.{◌≡◌, ◌∷◌, [], ◌<◌, ◌≤◌, ◌+◌, ◌^◌, true, length, IfOk};
-ghost use Rattle.std.specs.List.{AllByRecursion};
+ghost use Rattle.std.specs.Prelude.{◌≡◌, ◌∷◌, [], ◌<◌, ◌+◌, ◌^◌, true, IfOk};
 ghost use Rattle.ppm_code.specs.declared.act.End.TheVariants.{Finish};
 ghost use Rattle.ppm_code.specs.declared.instr.Instr.TheVariants.{Const, Ends, Get, LoadSlot};
 ghost use Rattle.ppm_ram.specs.declared.instruction.Instruction.TheVariants.{JumpIfZero, Store};
@@ -186,7 +185,7 @@ fn instrs_of(
     instruction: Instruction,
 ) -> Result<Vec<Instr>, NoMemory>
     requires number { number < 2 ^ 29 }
-    requires target { has_target (2 ^ 29) instruction ≡ true }
+    requires target { has_target instruction_limit instruction ≡ true }
     ensures { IfOk result (λ body. body.items ≡ instrs_for number bank instruction) }
 {
     match instruction {
@@ -232,7 +231,7 @@ fn capsule_of(
     instruction: Instruction,
 ) -> Result<Capsule, NoMemory>
     requires number { number < 2 ^ 29 }
-    requires target { has_target (2 ^ 29) instruction ≡ true }
+    requires target { has_target instruction_limit instruction ≡ true }
     ensures { IfOk result (λ c. c ≡ capsule_for number bank instruction) }
 {
     let instrs = instrs_of(alloc, number, bank, instruction)?;
@@ -243,17 +242,15 @@ fn capsule_of(
 }
 
 /// The capsules of all instructions.
-fn capsules_of(alloc: Global, instructions: &[Instruction]) -> Result<Vec<Capsule>, NoMemory>
-    requires few { length instructions.now ≤ instruction_limit }
-    requires targets { AllByRecursion (λ i. has_target (2 ^ 29) i ≡ true) instructions.now }
-    ensures { IfOk result (λ capsules. capsules.items ≡ capsules_from 0 instructions.now) }
+fn capsules_of(alloc: Global, ram: &Ram) -> Result<Vec<Capsule>, NoMemory>
+    ensures { IfOk result (λ capsules. capsules.items ≡ capsules_from 0 ram.now.instructions) }
 {
     let mut capsules = Vec::new(alloc);
     let mut number: u32 = 0;
-    for instruction in instructions {
-        let first = capsule_of(alloc, number, Bank::First, *instruction)?;
+    while let Some(instruction) = ram.instruction(number) {
+        let first = capsule_of(alloc, number, Bank::First, instruction)?;
         capsules.push(first)?;
-        let second = capsule_of(alloc, number, Bank::Second, *instruction)?;
+        let second = capsule_of(alloc, number, Bank::Second, instruction)?;
         capsules.push(second)?;
         number += 1;
     }
@@ -264,7 +261,7 @@ fn capsules_of(alloc: Global, instructions: &[Instruction]) -> Result<Vec<Capsul
 pub fn ram_code(alloc: Global, ram: &Ram) -> Result<Code, NoMemory>
     ensures { IfOk result (λ code. code ≡ code_of ram.now) }
 {
-    let capsules = capsules_of(alloc, ram.parts().instructions.as_slice())?;
+    let capsules = capsules_of(alloc, ram)?;
     let mut arrays = Vec::new(alloc);
     arrays.push(0)?;
     let mut procedures = Vec::new(alloc);
