@@ -98,3 +98,8 @@ capsules_more is k i before e =
     append_assoc (before ++ capsule_for k First i ∷ []) (capsule_for k Second i ∷ []) (capsules_from (k + 1) (drop (k + 1) is))
     ∙ append_assoc before (capsule_for k First i ∷ []) (capsule_for k Second i ∷ capsules_from (k + 1) (drop (k + 1) is))
     ∙ ap (λ (l : List Instruction). before ++ capsules_from k l) (sym (drop_some is k i e))
+
+pub within : (is : List Instruction) (k : ℕ) (i : Instruction) → slice_get is k ≡ Some i → k < length is
+within [] k i e = absurd (cc)
+within (j ∷ is) zero i e = omega arith
+within (j ∷ is) (suc k) i e = let rest = within is k i e in omega (arith, rest)

@@ -84,7 +84,7 @@ module _ (r : RamParts) (is : IsRam r) (memory : List ℤ) (mem : IsMemoryOf r m
   -- the run begins as the RAM does
   root_shows : Shows W First (begins memory) (root_own (code_of r) (input_of memory)) (words_of (words_in (input_of memory)))
   root_shows = record {
-    region = (let s = size in omega (arith, s));
+    region = (let s = size in let first : root_own (code_of r) (input_of memory) (Slot 0) ≡ 0 * 2 ^ 32 + length memory = refl in omega (arith, first, s));
     registers = λ k small. past k ∙ sym (ap word_of (zeros 8 k));
     count = refl;
     values = zero_fits 8;

@@ -261,6 +261,8 @@ fn capsules_of(alloc: Global, ram: &Ram) -> Result<Vec<Capsule>, NoMemory>
 pub fn ram_code(alloc: Global, ram: &Ram) -> Result<Code, NoMemory>
     ensures { IfOk result (λ code. code ≡ code_of ram.now) }
 {
+    // What always holds of a RAM makes the code keep its rules.
+    let _ = ram.parts();
     let capsules = capsules_of(alloc, ram)?;
     let mut arrays = Vec::new(alloc);
     arrays.push(0)?;
@@ -281,6 +283,7 @@ pub fn ram_code(alloc: Global, ram: &Ram) -> Result<Code, NoMemory>
 pub fn ram_input(alloc: Global, ram: &Ram) -> Result<Input, NoMemory>
     ensures { IfOk result (λ input. input ≡ input_of (memory_of ram.now)) }
 {
+    let _ = ram.parts();
     let memory = ram.memory(alloc)?;
     let name = Name::from_bytes(Vec::from_slice(alloc, b"m")?);
     let mut arrays = Vec::new(alloc);
