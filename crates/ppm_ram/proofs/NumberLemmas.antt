@@ -171,9 +171,10 @@ negative_spelled ds z e = by (is_numeral ds && not (value ds == 0)) refl e
         let parts = and_parts (is_numeral ds) (not (value ds == 0)) n in
         let above = positive (value ds) parts.1 in
         let next : value ds ≡ suc (value ds - 1) = omega (arith, above) in
-        subst (λ (z : ℤ). (45 ∷ ds ≡ signed_decimal z) × (fits z ≡ true)) same
-        (ap (λ (l : List ℕ). 45 ∷ l) (sym (decimal-value ds parts.0 (omega (arith, low))) ∙ ap decimal next),
-        lt-ltb (value ds - 1) (2 ^ 63) (omega (arith, low, above)))
+        subst (λ (z : ℤ). (45 ∷ ds ≡ signed_decimal z) × (fits z ≡ true)) same (
+          ap (λ (l : List ℕ). 45 ∷ l) (sym (decimal-value ds parts.0 (omega (arith, low))) ∙ ap decimal next),
+          lt-ltb (value ds - 1) (2 ^ 63) (omega (arith, low, above)),
+        )
     small false t n h = absurd (cc)
 
     by : (b : Bool) → (is_numeral ds && not (value ds == 0)) ≡ b → cond b (Some (below_zero (value ds))) None ≡ Some (Some z)

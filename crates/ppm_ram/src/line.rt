@@ -80,11 +80,11 @@ fn compute_in(operation: Operation, words: &[u8]) -> Option<Option<Instruction>>
         Some(said) => match said {
             None => Some(None),
             Some(((to, left), right)) => Some(Some(Instruction::Compute {
-            operation,
-            to,
-            left,
-            right,
-        })),
+                operation,
+                to,
+                left,
+                right,
+            })),
         },
     }
 }

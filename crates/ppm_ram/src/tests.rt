@@ -1,5 +1,5 @@
 //! RAMs and their ends, worked out by hand.
-use crate::{RamError, read_ram, ram_run, texts_are_of_rams};
+use crate::{RamError, ram_run, read_ram, texts_are_of_rams};
 use ppm_words::{Outcome, Trap};
 use std::test::Fail;
 
@@ -60,7 +60,11 @@ fn ending(rt: HostRuntime, text: &str, steps: u64) -> Result<i64, Fail> {
                 Trap::Index => 3,
                 Trap::Split => 4,
             };
-            Ok(1000_i64.saturating_add(i64::from(line).saturating_mul(10)).saturating_add(kind))
+            Ok(
+                1000_i64
+                    .saturating_add(i64::from(line).saturating_mul(10))
+                    .saturating_add(kind),
+            )
         }
         Outcome::NotWithin => Ok(5000),
     }
@@ -74,9 +78,21 @@ fn rams_end_as_by_hand(rt: HostRuntime) -> Result<(), Fail> {
     let cases = [
         (SUM, 26, 18),
         (SUM, 25, 5000),
-        ("ram 1\nmemory 1\nvalues -3\nset 1 -4\nload 2 0\nlt 3 1 2\nstore 0 3\nhalt\n", 5, 1),
-        ("ram 1\nmemory 1\nvalues\nset 1 1\nload 0 1\nhalt\n", 9, 1053),
-        ("ram 1\nmemory 1\nvalues\nset 1 -1\nstore 1 0\nhalt\n", 9, 1053),
+        (
+            "ram 1\nmemory 1\nvalues -3\nset 1 -4\nload 2 0\nlt 3 1 2\nstore 0 3\nhalt\n",
+            5,
+            1,
+        ),
+        (
+            "ram 1\nmemory 1\nvalues\nset 1 1\nload 0 1\nhalt\n",
+            9,
+            1053,
+        ),
+        (
+            "ram 1\nmemory 1\nvalues\nset 1 -1\nstore 1 0\nhalt\n",
+            9,
+            1053,
+        ),
         ("ram 1\nmemory 1\nvalues\ndiv 0 0 1\nhalt\n", 9, 1042),
         ("ram 1\nmemory 0\nvalues\njump 0\n", 9, 5000),
     ];
