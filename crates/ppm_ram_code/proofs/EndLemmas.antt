@@ -32,7 +32,7 @@ use Rattle.ppm_ram_code.specs.declared.bank.Bank.{Bank}
 use Rattle.ppm_ram_code.specs.Code.{capsule_at, capsule_for, capsules_from, instrs_for, code_of}
 use Rattle.ppm_ram_code.proofs.ListLemmas.{all_at, some_at, next_there, capsule_there}
 use Rattle.ppm_ram_code.proofs.CapsuleLemmas.{Goes}
-use Rattle.ppm_ram_code.proofs.StepLemmas.{IsStored, Shows, frame_at, Comes, Leads, leads}
+use Rattle.ppm_ram_code.proofs.StepLemmas.{IsStored, Shows, frame_at, Comes, leads}
 
 -- what a step leads to is told apart
 abbrev HasStopped : Move → Type 0

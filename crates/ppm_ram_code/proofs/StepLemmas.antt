@@ -94,7 +94,7 @@ set_numbers xs n w k low = by (k == n) refl
     by false e = get_or-set_other xs n k w 0 (eqb-false k n e)
 
 module _ (r : RamParts) (W : ℕ) (low : W < 2 ^ 32) (b : Bank) (s : State) (f : FrameWord → ℕ) (a : Words) (shows : Shows W b s f a) where
-  abbrev m : Memory Where
+  abbrev pub m : Memory Where
   m = start code_locations (table_of (code_of r) W) (frame_at s.at b f) a
 
   -- registers that were read, with those of the RAM as the first ones
@@ -105,7 +105,7 @@ module _ (r : RamParts) (W : ℕ) (low : W < 2 ^ 32) (b : Bank) (s : State) (f :
   taken_reads : Reads (taken b m)
   taken_reads = record { first = λ k h. taken_at b m k h ∙ shows.registers k h; count = refl }
 
-  region_reads : Reads (with_region b m)
+  region_reads : Reads (with_region W b m)
   region_reads = record {
     first = λ k h. get_or-set_other (taken b m) 8 k (m (Own (Slot 0))) 0 (λ e. omega (arith, h, e)) ∙ taken_at b m k h ∙ shows.registers k h;
     count = length-set (taken b m) 8 (m (Own (Slot 0)));
@@ -139,7 +139,7 @@ module _ (r : RamParts) (W : ℕ) (low : W < 2 ^ 32) (b : Bank) (s : State) (f :
         g = slice_set h (own to).index (word_of z)
 
   -- what a capsule of the frame comes to
-  abbrev Leads : List Instr → Move → Type 0
+  abbrev pub Leads : List Instr → Move → Type 0
   Leads is move = (e : End) × (n : Memory Where) × Goes (capsule_of W is) m (Ends e) n
       × Comes W move (opens (code_of r) e (own_of n) (new_of n)) (shared_of n)
 
@@ -190,7 +190,7 @@ module _ (r : RamParts) (W : ℕ) (low : W < 2 ^ 32) (b : Bank) (s : State) (f :
       i = instr.Get (own to) region (own x) (line_of s.at)
 
       h : List ℕ
-      h = with_region b m
+      h = with_region W b m
 
       at : (v : Option ℕ) → index_of s.memory (held s x) ≡ v
           → acts_by W i h ≡ at_element (line_of s.at) v (λ n. Loads (Array n) (own to))
@@ -236,8 +236,10 @@ module _ (r : RamParts) (W : ℕ) (low : W < 2 ^ 32) (b : Bank) (s : State) (f :
       i : Instr
       i = instr.Put region (register 0) (register 1) (line_of s.at)
 
-      x_word y_word : ℕ
+      x_word : ℕ
       x_word = f (Slot (slot_of b x.index))
+
+      y_word : ℕ
       y_word = f (Slot (slot_of b y.index))
 
       -- the registers when the word is stored
@@ -313,8 +315,8 @@ module _ (r : RamParts) (W : ℕ) (low : W < 2 ^ 32) (b : Bank) (s : State) (f :
 
       by : (v : Bool) → int_eq (held s x) (pos 0) ≡ v
           → Leads (instrs_for s.at b (instruction.JumpIfZero x target)) (GoesOn (gone_to s (cond v target (s.at + 1))))
-      by true e = gone_leads _ target (goes_on begun (goes_equal _ _ m (ap after (is_zero true e))))
-      by false e = gone_leads _ (s.at + 1) (goes_on begun (goes_equal _ _ m (ap after (is_zero false e))))
+      by true e = gone_leads (instrs_for s.at b (instruction.JumpIfZero x target)) target (goes_on begun (goes_equal _ _ m (ap after (is_zero true e))))
+      by false e = gone_leads (instrs_for s.at b (instruction.JumpIfZero x target)) (s.at + 1) (goes_on begun (goes_equal _ _ m (ap after (is_zero false e))))
 
   -- each instruction
   pub leads : (i : Instruction) → has_value i ≡ true → Leads (instrs_for s.at b i) (does s i)
@@ -323,5 +325,5 @@ module _ (r : RamParts) (W : ℕ) (low : W < 2 ^ 32) (b : Bank) (s : State) (f :
   leads (instruction.Load to x) fit = load_leads to x
   leads (instruction.Store x y) fit = store_leads x y
   leads (instruction.JumpIfZero x target) fit = test_leads x target
-  leads (instruction.Jump target) fit = gone_leads _ target (record { ends = refl; left = refl; asks = refl })
+  leads (instruction.Jump target) fit = gone_leads (instrs_for s.at b (instruction.Jump target)) target (record { ends = refl; left = refl; asks = refl })
   leads instruction.Halt fit = (Finish, m, record { ends = refl; left = refl; asks = refl }, (f Value, refl, shows.memory, shows.size))

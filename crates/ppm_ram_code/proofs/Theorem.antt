@@ -68,7 +68,7 @@ outcome_in (Strand f) d = d
 outcome_in (Call g t) d = d
 outcome_in (Fork g l q) d = d
 
-outcome_of : {o p : Result} → Over o ≡ Over p → o ≡ p
+outcome_of : {o p : Result} → ◌≡◌ {A = Tree (Frame FrameWord Point) Result} (Over o) (Over p) → o ≡ p
 outcome_of {o} e = ap (λ t. outcome_in t o) e
 
 module _ (r : RamParts) (is : IsRam r) (memory : List ℤ) (mem : IsMemoryOf r memory) where
@@ -118,7 +118,7 @@ module _ (r : RamParts) (is : IsRam r) (memory : List ℤ) (mem : IsMemoryOf r m
           ∙ ap (λ (vs : List ℤ). outcome.Ended (as_array vs ∷ [])) (ap (values_at d.words 0) same ∙ read)
       by (Trapped t line) over = ap (said_of_words (input_of memory) d.words) (outcome_of over)
 
-  pub ends_as : EndsAsRam r memory
+  ends_as : EndsAsRam r memory
   ends_as = record {
     ends = λ steps e ends.
         let (d, runs, tells) = forward r is W low steps (begins memory) e ends First _ _ root_shows there in
@@ -128,7 +128,7 @@ module _ (r : RamParts) (is : IsRam r) (memory : List ℤ) (mem : IsMemoryOf r m
         (k, e, all, told e k d tells);
   }
 
-  pub calm_root : (n : ℕ) → CalmWithin (c r is W low) n (root_strand (code_of r) (input_of memory)) (words_of (words_in (input_of memory)))
+  calm_root : (n : ℕ) → CalmWithin (c r is W low) n (root_strand (code_of r) (input_of memory)) (words_of (words_in (input_of memory)))
   calm_root n = calm_from r is W low n (begins memory) First _ _ root_shows there
 
 pub ends_as_ram : CodeEndsAsRam
