@@ -196,15 +196,21 @@ module _ (r : RamParts) (is : IsRam r) (W : ℕ) (low : W < 2 ^ 32) where
           let (b', f', strand, shows') = subst (λ v. Comes W v (c.next F a) (c.after F a)) goes here.comes in
           let (d', runs', same) = counted_back (steps_counted 1) (run c n (c.next F a) (c.after F a)) d left in
           let (k, e, ends, told) = back t d' b' f' (c.after F a) shows' (stays b s f a shows there t goes)
-          (ap (λ u. run c n u (c.after F a)) (sym strand) ∙ runs') in
-          (suc k, e, Further s t k e goes ends,
-          subst (λ d. Tells e (suc k) d) same (record { there = told.there; counts = one_more d'.counts k told.counts }))
+          (ap (λ u. run c n u (c.after F a)) (sym strand) ∙ runs') in (
+            suc k,
+            e,
+            Further s t k e goes ends,
+            subst (λ d. Tells e (suc k) d) same (record { there = told.there; counts = one_more d'.counts k told.counts }),
+          )
       by (Stops e) stops back =
           let (o, is_over, told) = last_told b s f a shows there e (subst (λ v. Comes W v (c.next F a) (c.after F a)) stops here.comes) in
           let (d', runs', same) = counted_back (steps_counted 1) (run c n (c.next F a) (c.after F a)) d left in
-          let end = over n o (c.after F a) d' (ap (λ u. run c n u (c.after F a)) (sym is_over) ∙ runs') in
-          (1, e, Last s e stops,
-          subst (λ d. Tells e 1 d) (ap (with_counts (steps_counted 1)) (sym end) ∙ same) (record { there = told; counts = refl }))
+          let end = over n o (c.after F a) d' (ap (λ u. run c n u (c.after F a)) (sym is_over) ∙ runs') in (
+            1,
+            e,
+            Last s e stops,
+            subst (λ d. Tells e 1 d) (ap (with_counts (steps_counted 1)) (sym end) ∙ same) (record { there = told; counts = refl }),
+          )
 
   -- and no branch is there that could race
   pub calm_from : (n : ℕ) (s : State) (b : Bank) (f : FrameWord → ℕ) (a : Words) → Shows W b s f a → s.at < length r.instructions

@@ -4,10 +4,7 @@
 -- That no capsule has a conflict goes by classes of words (`SafeLemmas`).
 
 mod CapsuleLemmas
-mod CodeLemmas
 mod EndLemmas
-mod Growing
-mod InputLemmas
 mod ListLemmas
 mod SafeLemmas
 mod StepLemmas

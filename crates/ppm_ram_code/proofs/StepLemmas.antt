@@ -207,8 +207,8 @@ module _ (r : RamParts) (W : ℕ) (low : W < 2 ^ 32) (b : Bank) (s : State) (f :
             Next (capsule_at (s.at + 1) (other b)),
             written (other b) g m,
             goes_on (subst (λ (w : ℕ). Goes (capsule_of W (loads b (instr.LoadSlot region 0 ∷ i ∷ stores (s.at + 1) (other b)))) m
-            (capsule_from W 10 0 (stores (s.at + 1) (other b)) (slice_set h (own to).index w)) m) (shows.memory.words n) read)
-            (back_later W (other b) (s.at + 1) g m),
+                (capsule_from W 10 0 (stores (s.at + 1) (other b)) (slice_set h (own to).index w)) m) (shows.memory.words n) read)
+                (back_later W (other b) (s.at + 1) g m),
             (other b, own_of (written (other b) g m), refl, register_set h region_reads (other b) to z (shows.memory.values n)),
           )
 
