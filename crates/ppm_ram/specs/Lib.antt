@@ -1,0 +1,9 @@
+pub mod Limits
+pub mod Program
+pub mod Text
+pub mod Meaning
+pub mod Numbers
+pub mod Lines
+pub mod Said
+pub mod Moves
+pub mod Correct

@@ -1,0 +1,12 @@
+-- How the code of a RAM is shown to be right. What each capsule does with a memory of locations is
+-- read off its instructions (`CapsuleLemmas`, `WordLemmas`), so a capsule is a step (`StepLemmas`),
+-- and a run of the code one of the RAM, both ways (`EndLemmas`, `Theorem`).
+-- That no capsule has a conflict goes by classes of words (`SafeLemmas`).
+
+mod CapsuleLemmas
+mod EndLemmas
+mod ListLemmas
+mod SafeLemmas
+mod StepLemmas
+mod Theorem
+mod WordLemmas
