@@ -1,6 +1,6 @@
 //! More texts of each kind: what is right beside what is wrong, and the least number before the
 //! first line.
-use crate::tests::{Answer, answer};
+use crate::program::{Answer, answer};
 use ppm_answers::Pass;
 use std::test::Fail;
 

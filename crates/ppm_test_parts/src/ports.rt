@@ -1,5 +1,5 @@
 //! Each port once, each failing call in turn.
-use crate::{
+use ppm_ports::{
     Failed, MemorySink, MemorySource, ReadError, Recorder, Silent, Sink, Source, StdSink,
     StdSource, Watch, read_whole, write_whole,
 };

@@ -1,6 +1,6 @@
 use Rattle.std.proofs.Common.{sym, ◌∙◌}
 use Rattle.ppm_war.proofs.SampleLemmas.{sample_is_code}
-use Rattle.ppm_war.proofs.tests.calling.Goals as goal
+use Rattle.ppm_test_parts.proofs.war.calling.Goals as goal
 
 -- it is the code of the tests
 pub from_parts-requires : goal.from_parts-requires

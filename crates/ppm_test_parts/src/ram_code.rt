@@ -1,5 +1,5 @@
 //! The laws are called.
-use crate::{Bank, ends_as_the_ram, is_sound};
+use ppm_ram_code::{Bank, ends_as_the_ram, is_sound};
 use std::test::Fail;
 
 #[test]

@@ -1,6 +1,6 @@
 //! Transitions worked out by hand, and each call once.
-use crate::{bid, bids_go_on, can_rise, holders_never_return, kept, others_bid_for_themselves};
 use ppm_cells::Holder;
+use ppm_hold::{bid, bids_go_on, can_rise, holders_never_return, kept, others_bid_for_themselves};
 use std::test::Fail;
 
 #[test]

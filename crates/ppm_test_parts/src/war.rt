@@ -1,8 +1,8 @@
 //! Worked capsules, with their first conflict.
 ghost use Rattle.std.specs.Prelude.{◌<◌};
 
-use crate::{Found, UntidyStore, accepted_code_runs_again, check, conflict_in, tidy, untidy};
 use ppm_code::{Capsule, Class, Code, CodeParts, End, Instr, Procedure, Register};
+use ppm_war::{Found, UntidyStore, accepted_code_runs_again, check, conflict_in, tidy, untidy};
 use ppm_words::Items;
 use std::alloc::Global;
 use std::test::Fail;

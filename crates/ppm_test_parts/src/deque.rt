@@ -1,10 +1,10 @@
 //! Transitions worked out by hand, and each call once.
-use crate::{
+use ppm_cells::Entry;
+use ppm_deque::{
     Pop, can_rise, entries_never_return, inherit, others_leave_the_own_entries,
     others_take_for_themselves, pop_above, pop_below, post, push_above, push_job, steal,
     taken_entries_stay, transitions_go_on, what_is_won_was_made, won,
 };
-use ppm_cells::Entry;
 use std::test::Fail;
 
 const EMPTY: Entry = Entry::Empty { tag: 0 };

@@ -1,5 +1,5 @@
 //! Texts of cases and texts of none, from outside.
-use crate::{
+use ppm_case::{
     CaseError, CaseFault, faults_tell_cases, read_case, write_case, written_cases_are_read,
 };
 use std::test::Fail;

@@ -1,8 +1,5 @@
 //! The scanner at values that the language's rules give.
-use super::tokens;
-use crate::laws::have_one_reading;
-use crate::text_error::TextError;
-use crate::token::{Kind, Token};
+use ppm_text::{Kind, TextError, Token, have_one_reading, tokens};
 use std::alloc::Global;
 use std::test::Fail;
 

@@ -1,6 +1,6 @@
 //! Texts of the whole language, and why they are refused.
-use crate::{JudgeError, have_one_answer, program_of};
 use ppm_answers::{Pass, Refusal};
+use ppm_program::{JudgeError, have_one_answer, program_of};
 use ppm_regions::{have_one_fault, keep_rules};
 use ppm_rows::{has_one_row, trees_are_within};
 use std::alloc::Global;

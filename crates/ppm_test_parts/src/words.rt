@@ -1,5 +1,5 @@
 //! Values of two's complement from outside, and each call once.
-use crate::{Input, Items, Name, NamedArray, NoMemory, of_word, to_word};
+use ppm_words::{Input, Items, Name, NamedArray, NoMemory, of_word, to_word};
 use std::alloc::Global;
 use std::test::Fail;
 

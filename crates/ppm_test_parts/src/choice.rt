@@ -1,5 +1,7 @@
 //! What is chosen at some paces, by a table.
-use crate::{Choice, Idle, Limits, Pace, choose, clear_steps, has_one_run, tells_where_it_parks};
+use ppm_choice::{
+    Choice, Idle, Limits, Pace, choose, clear_steps, has_one_run, tells_where_it_parks,
+};
 use ppm_plan::{Plan, read_plan};
 use ppm_step::{Act, Next, Told, Why};
 use std::alloc::Global;

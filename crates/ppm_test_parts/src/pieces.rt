@@ -1,5 +1,5 @@
 //! Texts and numbers from outside, each call once.
-use crate::{
+use ppm_pieces::{
     behind, is_digit, is_numeral, number, numerals_are_decimals, push_number, same_bytes,
     split_once, value,
 };

@@ -1,5 +1,5 @@
 //! Texts on both sides of each limit and each bound, made of parts.
-use crate::tests::{Answer, answer};
+use crate::program::{Answer, answer};
 use ppm_answers::Pass;
 use std::alloc::{AllocError, Global};
 use std::test::Fail;

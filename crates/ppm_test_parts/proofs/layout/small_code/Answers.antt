@@ -1,5 +1,5 @@
 use Rattle.ppm_layout.proofs.SampleLemmas.{sample_is_code}
-use Rattle.ppm_layout.proofs.tests.small_code.Goals as goal
+use Rattle.ppm_test_parts.proofs.layout.small_code.Goals as goal
 
 -- it is the code of the tests
 pub from_parts-requires : goal.from_parts-requires

@@ -4,12 +4,12 @@ ghost use Rattle.ppm_words.specs.Inputs.{value_count};
 ghost use Rattle.ppm_code.specs.declared.act.End.TheVariants.{Finish};
 ghost use Rattle.ppm_code.specs.declared.instr.Instr.TheVariants.{Ends};
 
-use crate::{
+use ppm_cells::Shape;
+use ppm_code::{Capsule, Code, CodeParts, End, Instr, Procedure};
+use ppm_layout::{
     Image, fork_size, frame_size, image, images_are_one, images_begin_with_the_root,
     words_stand_for_values,
 };
-use ppm_cells::Shape;
-use ppm_code::{Capsule, Code, CodeParts, End, Instr, Procedure};
 use ppm_words::{Input, Items, Name, NamedArray};
 use std::alloc::Global;
 use std::test::Fail;

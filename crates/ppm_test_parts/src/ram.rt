@@ -1,5 +1,5 @@
 //! RAMs and their ends, worked out by hand.
-use crate::{RamError, ram_run, read_ram, texts_are_of_rams};
+use ppm_ram::{RamError, ram_run, read_ram, texts_are_of_rams};
 use ppm_words::{Outcome, Trap};
 use std::test::Fail;
 

@@ -1,6 +1,6 @@
 //! Operators at values worked out by hand: signs and extremes.
-use crate::Operator::{Add, And, Div, Eq, Ge, Gt, Le, Lt, Mul, Ne, Or, Rem, Sub};
-use crate::{
+use ppm_tree::Operator::{Add, And, Div, Eq, Ge, Gt, Le, Lt, Mul, Ne, Or, Rem, Sub};
+use ppm_tree::{
     Operator, apply, divide_towards_zero, end_whole, have_one_end, negate, none_is_stuck,
     spend_their_turns,
 };
