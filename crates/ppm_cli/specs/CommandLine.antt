@@ -128,9 +128,9 @@ from = number "from" 0 268435455 0
 abbrev pub acts : OptionRule
 acts = number "acts" 1 turn_limit 268435456
 
--- the runs that are drawn; where there are none, faults are put at every place
+-- how many of these acts are drawn before which the first fault is put; with 0 none is drawn, and it is put before each
 abbrev pub runs : OptionRule
-runs = number "runs" 0 1048576 0
+runs = number "runs" 0 65536 0
 
 -- the plan of faults
 abbrev pub faults : OptionRule
@@ -176,9 +176,9 @@ command_line =
     ∷ command "self" (few_processors ∷ size ∷ seed ∷ count ∷ [])
     ∷ command "stop" (few_processors ∷ after ∷ small_room ∷ few_slots ∷ schedule ∷ input ∷ [])
     ∷ command "resume" (turns ∷ looks ∷ seed ∷ faults ∷ [])
-    ∷ later_command "sweep"
+    ∷ command "sweep"
     (processors ∷ turns ∷ copied_room ∷ copied_slots ∷ swept_takeovers ∷ schedule ∷ met ∷ from ∷ acts ∷ runs ∷ seed ∷ capsules ∷ input ∷ [])
-    ∷ later_command "ram" (processors ∷ turns ∷ room ∷ slots ∷ looks ∷ seed ∷ faults ∷ takeover ∷ idle ∷ [])
+    ∷ command "ram" (processors ∷ turns ∷ room ∷ slots ∷ looks ∷ seed ∷ faults ∷ takeover ∷ idle ∷ [])
     ∷ []
 
 -- the admitted commands

@@ -18,7 +18,7 @@ a listing and a case 536,870,912, a saved text 671,088,640. An option is given a
 ";
 
 /// What stands behind the commands.
-pub(crate) const BEHIND: &str = "to come: ram, sweep\n";
+pub(crate) const BEHIND: &str = "to come: ram\n";
 
 /// What a command is for.
 pub(crate) fn purpose_of(command: &str) -> &'static str {
@@ -33,6 +33,7 @@ pub(crate) fn purpose_of(command: &str) -> &'static str {
         "self" => "makes a source that sums so many values, runs it, and says what came of it",
         "stop" => "stops such a run after so many acts, and writes its words as a saved text",
         "resume" => "fresh processors go on from a saved text, under a plan of faults",
+        "sweep" => "whether a replay comes to one end wherever one fault or two are put into it",
         _ => NO_WORDS,
     }
 }
@@ -50,6 +51,7 @@ pub(crate) fn example_of(command: &str) -> &'static str {
         "self" => "--size 1000 --seed 7 --count 50",
         "stop" => "--processors 3 --after 300 < examples/sum.ppm > sum.saved",
         "resume" => "--faults 0@5s,1@9h < sum.saved",
+        "sweep" => "--processors 2 --faults 2 --runs 1000 < examples/sum.ppm",
         _ => NO_WORDS,
     }
 }
@@ -61,16 +63,19 @@ pub(crate) fn meaning_of(command: &str, option: &str) -> &'static str {
         "turns" => turns_of(command),
         "after" => "acts that are made, those of the schedule too",
         "room" => room_of(command),
-        "capsules" => "capsules that the run may have",
+        "capsules" => capsules_of(command),
         "arrays" => "with yes the arrays stand before the listing",
         "slots" => "entries of a place's deque",
         "looks" => "looks for work in a row until a processor rests",
         "size" => "values that are made and summed",
         "count" => "faults that are drawn",
         "seed" => seed_of(command),
-        "faults" => "as 0@5s,1@9h: soft and hard faults (docs/PLANS.md)",
+        "faults" => faults_of(command),
+        "from" => "the first act before which a fault is put",
+        "acts" => "acts from there on before which one is put",
+        "runs" => "runs that are drawn; with 0 every place is tried",
         "schedule" => "as 0*9,1>0,1!h: acts, a victim, a hard fault",
-        "takeover" => "what others take over of a processor that stopped",
+        "takeover" => takeover_of(command),
         "idle" => "one that rests makes no more acts, or sleeps",
         "input" => "what is read; the code of a case runs, sound or not",
         _ => NO_WORDS,
@@ -83,7 +88,32 @@ fn turns_of(command: &str) -> &'static str {
         "run" | "resume" => "work turns that each processor may make",
         "serial" => "turns of the meaning (docs/LANGUAGE.md)",
         "replay" => "acts that all processors may make together",
+        "sweep" => "acts that all processors of a run may make",
         _ => NO_WORDS,
+    }
+}
+
+/// What the capsules of a command are.
+fn capsules_of(command: &str) -> &'static str {
+    match command {
+        "sweep" => "capsules that the depth-first run may have",
+        _ => "capsules that the run may have",
+    }
+}
+
+/// What the faults of a command are.
+fn faults_of(command: &str) -> &'static str {
+    match command {
+        "sweep" => "faults that a run meets at most",
+        _ => "as 0@5s,1@9h: soft and hard faults (docs/PLANS.md)",
+    }
+}
+
+/// What the takeover of a command is.
+fn takeover_of(command: &str) -> &'static str {
+    match command {
+        "sweep" => "under which takeovers there are runs",
+        _ => "what others take over of a processor that stopped",
     }
 }
 
@@ -91,6 +121,7 @@ fn turns_of(command: &str) -> &'static str {
 fn seed_of(command: &str) -> &'static str {
     match command {
         "self" => "where values, random victims and drawn faults begin",
+        "sweep" => "where the drawn runs begin",
         _ => "where the random victims begin",
     }
 }
