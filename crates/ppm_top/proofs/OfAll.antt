@@ -63,6 +63,8 @@ use Rattle.ppm_top.specs.Causes.{NoCommandMay, CommandMay, CommandTells, IsAnswe
 use Rattle.ppm_top.specs.Laws.{ProgramLaws}
 use Rattle.ppm_top.specs.Rows.{ReportsFaults, ProgramRows}
 use Rattle.ppm_top.proofs.OfCases as of_cases
+use Rattle.ppm_top.proofs.OfRams as of_rams
+use Rattle.ppm_top.proofs.OfSweeps as of_sweeps
 use Rattle.ppm_top.proofs.Refusing.{refuses_words}
 use Rattle.ppm_answers.proofs.Delivered as delivered
 use Rattle.ppm_answers.proofs.Judged as judged
@@ -185,9 +187,9 @@ program_rows laws words o status a = record {
         (by_words (Some (commands.Replay options schedule)) e) laws.plans laws.replays,
   );
   replay_case = of_cases.replays_case laws words o status a;
-  sweep = of_cases.sweeps laws words o status a;
-  sweep_case = of_cases.sweeps_case laws words o status a;
-  ram = of_cases.runs_ram laws words o status a;
+  sweep = of_sweeps.sweeps laws words o status a;
+  sweep_case = of_sweeps.sweeps_case laws words o status a;
+  ram = of_rams.runs_ram laws words o status a;
   resume = λ options plan e. (
     is_in_range words (commands.Resume options plan) e,
     of_resume.resume_rows laws.resumes options plan o status (answered (Some (commands.Resume options plan)) e),

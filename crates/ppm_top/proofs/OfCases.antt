@@ -1,4 +1,4 @@
--- The rows of the commands that run a case or a RAM by a plan or a schedule, and of those that sweep, from an answer of the words that ask for them.
+-- The rows of the commands that run a case by a plan or a schedule, from an answer of the words that ask for them.
 use Rattle.std.proofs.Common.{◌≡◌, ℕ, List, Some, subst}
 use Rattle.ppm_ports.specs.Outside.{Outside, ports_of}
 use Rattle.ppm_answers.specs.declared.status.Status.{Status}

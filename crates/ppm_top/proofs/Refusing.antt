@@ -29,6 +29,8 @@ use Rattle.ppm_top.specs.Laws.{ProgramLaws}
 use Rattle.ppm_top.specs.Orders.{Orders, plan_of, schedule_of}
 use Rattle.ppm_top.specs.Rows.{HasRefusedPlan, OfPlan, OfSchedule, OfResume, RefusesWords}
 use Rattle.ppm_top.proofs.OfCases as of_cases
+use Rattle.ppm_top.proofs.OfRams as of_rams
+use Rattle.ppm_top.proofs.OfSweeps as of_sweeps
 
 -- an answer of status 3 comes without a command, or with one that names a plan or a schedule
 data IsPlanned (command : Option Command) : Type 0 where
@@ -100,7 +102,7 @@ module _ (laws : ProgramLaws) (words : List (List ℕ)) (o : Outside) (status : 
         (of_cases.case_plan_refused laws words o status a options plan c refused)
     plan_refused (commands.Ram options plan) orders c is =
         subst (λ (x : Orders). RefusesPlan plan_form x.bytes x.processors (ports_of o)) (some_is is)
-        (of_cases.ram_plan_refused laws words o status a options plan c refused)
+        (of_rams.ram_plan_refused laws words o status a options plan c refused)
     plan_refused command orders c is = cc
 
     -- a schedule is refused
@@ -121,10 +123,10 @@ module _ (laws : ProgramLaws) (words : List (List ℕ)) (o : Outside) (status : 
         (of_cases.case_stop_refused laws words o status a options schedule c refused)
     schedule_refused (commands.Sweep options schedule) orders c is =
         subst (λ (x : Orders). RefusesPlan schedule_form x.bytes x.processors (ports_of o)) (some_is is)
-        (of_cases.sweep_refused laws words o status a options schedule c refused)
+        (of_sweeps.sweep_refused laws words o status a options schedule c refused)
     schedule_refused (commands.SweepCase options schedule) orders c is =
         subst (λ (x : Orders). RefusesPlan schedule_form x.bytes x.processors (ports_of o)) (some_is is)
-        (of_cases.case_sweep_refused laws words o status a options schedule c refused)
+        (of_sweeps.case_sweep_refused laws words o status a options schedule c refused)
     schedule_refused command orders c is = cc
 
     -- whichever plan or schedule the words name
