@@ -32,7 +32,7 @@ module _ (laws : ProgramLaws) (words : List (List ℕ)) (o : Outside) (status : 
   sweeps options schedule e =
       let are = is_in_range words (commands.Sweep options schedule) e in (
         are,
-        sweep_rows laws.meant laws.swept_codes options are schedule (ports_of o) status (delivered (commands.Sweep options schedule) e) laws.plans
+        sweep_rows laws.coded laws.swept_codes options are schedule (ports_of o) status (delivered (commands.Sweep options schedule) e) laws.plans
             laws.sweeps,
       )
 

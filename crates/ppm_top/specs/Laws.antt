@@ -18,6 +18,7 @@ use Rattle.ppm_driver.specs.CodeRuns.{AnswersAreAsCode}
 use Rattle.ppm_driver.specs.Completeness.{RunsComplete}
 use Rattle.ppm_driver.specs.Examples.{ExamplesSumUp}
 use Rattle.ppm_driver.specs.Meant.{RunsAreAsPrograms}
+use Rattle.ppm_driver.specs.ProgramsAsCode.{ProgramsAreAsCode}
 use Rattle.ppm_driver.specs.RamEnds.{AnswersAreAsRams}
 use Rattle.ppm_driver.specs.RamRuns.{RamAnswersAreOne, RamFrontsDecide}
 use Rattle.ppm_driver.specs.Replays.{HaveOneAnswer as ReplaysHaveOneAnswer}
@@ -59,6 +60,7 @@ pub record ProgramLaws : Type 0 where
   pub sweeps : SweepsHaveOneAnswer
   pub swept_cases : SweptCasesHaveOneAnswer
   pub swept_codes : SweepsAreAsCode
+  pub coded : ProgramsAreAsCode
   pub ram_runs : AnswersAreAsRams
   pub ram_answers : RamAnswersAreOne
   pub ram_fronts : RamFrontsDecide

@@ -33,6 +33,7 @@ returns c = record {
     sweeps = c.sweeps_have_one_answer.ensures.law;
     swept_cases = c.case_sweeps_have_one_answer.ensures.law;
     swept_codes = c.sweeps_are_as_code.ensures.law;
+    coded = c.programs_are_as_code.ensures.law;
     ram_runs = c.answers_are_as_rams.ensures.law;
     ram_answers = c.ram_answers_are_one.ensures.one;
     ram_fronts = c.ram_answers_are_one.ensures.front;
