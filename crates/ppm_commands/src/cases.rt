@@ -11,7 +11,7 @@ use ppm_war::UntidyStore;
 use ppm_words::Input;
 
 /// How many arrays an input has.
-pub fn array_count(input: &Input) -> usize
+pub(crate) fn array_count(input: &Input) -> usize
     ensures value { result ≡ length input.now }
     ensures few { result ≤ array_limit }
 {
@@ -55,7 +55,7 @@ pub(crate) fn counts_told(run: &DepthRun) -> Counts
 }
 
 /// A store that is not tidy, as an answer tells it, of a case with so many arrays.
-pub fn store_told(code: &Code, arrays: usize, store: UntidyStore) -> ppm_answers::UntidyStore
+pub(crate) fn store_told(code: &Code, arrays: usize, store: UntidyStore) -> ppm_answers::UntidyStore
     requires { arrays ≤ array_limit }
     ensures { result ≡ told_store arrays code.now store }
 {

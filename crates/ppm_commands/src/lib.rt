@@ -26,7 +26,6 @@ mod races;
 mod serial;
 
 pub use case::case_command;
-pub use cases::{array_count, store_told};
 pub use check::check_command;
 pub use code::code_command;
 pub use depth::depth_command;
