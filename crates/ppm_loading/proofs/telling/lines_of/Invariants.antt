@@ -1,6 +1,6 @@
 use Rattle.std.proofs.Common.{◌≡◌, ◌+◌, drop}
-use Rattle.ppm_commands.specs.Cases.{capsule_lines}
-use Rattle.ppm_commands.proofs.cases.lines_of.Given as goal
+use Rattle.ppm_loading.specs.Telling.{capsule_lines}
+use Rattle.ppm_loading.proofs.telling.lines_of.Given as goal
 
 -- the lines so far, and those of the capsules that are left
 abbrev pub invariant-loop-capsule : goal.invariant-loop-capsule

@@ -1,8 +1,8 @@
-//! What commands tell of cases: where an instruction stands in the text, counts, stores.
+//! What answers tell of a case: where an instruction stands in its text, counts, stores.
 ghost use Rattle.std.specs.Prelude.{◌≡◌, ◌≤◌, ◌^◌, length};
 ghost use Rattle.ppm_words.specs.Limits.{array_limit};
-ghost use Rattle.ppm_commands.specs.Cases.{capsule_lines, counts_told as told_counts};
-ghost use Rattle.ppm_commands.specs.Cases.{line_at as line_in, store_told as told_store};
+ghost use Rattle.ppm_loading.specs.Telling.{capsule_lines, counts_told as told_counts};
+ghost use Rattle.ppm_loading.specs.Telling.{line_at as line_in, store_told as told_store};
 
 use ppm_answers::Counts;
 use ppm_code::{Capsule, Code};
@@ -11,7 +11,7 @@ use ppm_war::UntidyStore;
 use ppm_words::Input;
 
 /// How many arrays an input has.
-pub(crate) fn array_count(input: &Input) -> usize
+pub fn array_count(input: &Input) -> usize
     ensures value { result ≡ length input.now }
     ensures few { result ≤ array_limit }
 {
@@ -32,7 +32,7 @@ fn lines_of(capsules: &[Capsule]) -> u64
 
 /// The line of a case in which an instruction of a capsule stands, where so many arrays stand in
 /// front of the listing. Lines count from 1.
-pub(crate) fn line_at(code: &Code, arrays: usize, capsule: u32, at: u32) -> u64
+pub fn line_at(code: &Code, arrays: usize, capsule: u32, at: u32) -> u64
     requires { arrays ≤ array_limit }
     ensures { result ≡ line_in arrays code.now capsule at }
 {
@@ -44,7 +44,7 @@ pub(crate) fn line_at(code: &Code, arrays: usize, capsule: u32, at: u32) -> u64
 }
 
 /// The counts of a run, as an answer tells them.
-pub(crate) fn counts_told(run: &DepthRun) -> Counts
+pub fn counts_told(run: &DepthRun) -> Counts
     ensures { result ≡ told_counts run.now }
 {
     Counts {
@@ -55,7 +55,7 @@ pub(crate) fn counts_told(run: &DepthRun) -> Counts
 }
 
 /// A store that is not tidy, as an answer tells it, of a case with so many arrays.
-pub(crate) fn store_told(code: &Code, arrays: usize, store: UntidyStore) -> ppm_answers::UntidyStore
+pub fn store_told(code: &Code, arrays: usize, store: UntidyStore) -> ppm_answers::UntidyStore
     requires { arrays ≤ array_limit }
     ensures { result ≡ told_store arrays code.now store }
 {

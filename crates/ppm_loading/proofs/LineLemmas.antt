@@ -6,7 +6,7 @@ use Rattle.ppm_code.specs.declared.code.CodeParts.{CodeParts}
 use Rattle.ppm_code.specs.declared.code.Procedure.{Procedure}
 use Rattle.ppm_words.specs.Limits.{array_limit, procedure_limit}
 use Rattle.ppm_code.specs.Code.{IsCode, IsCapsule}
-use Rattle.ppm_commands.specs.Cases.{capsule_lines}
+use Rattle.ppm_loading.specs.Telling.{capsule_lines}
 
 -- a capsule has its own line, and at most 160 more
 few : (code : CodeParts) (cs : List Capsule) (n : ℕ) → All (IsCapsule code) cs → capsule_lines (take n cs) ≤ 161 * length cs
@@ -22,7 +22,7 @@ lines_few code is n =
     omega (arith, few code code.capsules n is.capsules, is.capsules_most, big)
 
 module _ (code parts : CodeParts) (same : parts ≡ code) (is : IsCode code) where
-  -- so have those that were read
+  -- those that were read have as few
   pub front_few : (all : List Capsule) (n : ℕ) → all ≡ parts.capsules → capsule_lines (take n all) ≤ 2 ^ 32
   front_few all n whole = subst (λ (cs : List Capsule). capsule_lines (take n cs) ≤ 2 ^ 32)
       (sym (whole ∙ ap (λ (p : CodeParts). p.capsules) same)) (lines_few code is n)

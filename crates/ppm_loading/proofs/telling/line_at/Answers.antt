@@ -1,6 +1,6 @@
 use Rattle.std.proofs.Common.{length, arith}
-use Rattle.ppm_commands.proofs.LineLemmas.{front_few, line_fits}
-use Rattle.ppm_commands.proofs.cases.line_at.Goals as goal
+use Rattle.ppm_loading.proofs.LineLemmas.{front_few, line_fits}
+use Rattle.ppm_loading.proofs.telling.line_at.Goals as goal
 
 -- the capsules in front have few lines
 pub lines_of-requires : goal.lines_of-requires
