@@ -35,8 +35,7 @@ use Rattle.ppm_cli.specs.declared.replay.ReplayOptions.{ReplayOptions}
 use Rattle.ppm_cli.specs.declared.sweep.SweepOptions.{SweepOptions}
 use Rattle.ppm_cli.specs.declared.takeover.SweptTakeovers.{SweptTakeovers}
 use Rattle.ppm_cli.specs.declared.takeover.SweptTakeovers.TheVariants as asked
-use Rattle.ppm_commands.specs.Cases.{IsUntidy}
-use Rattle.ppm_commands.specs.Depth.{GoesOn}
+use Rattle.ppm_loading.specs.Telling.{GoesOn, IsUntidy}
 use Rattle.ppm_loading.specs.Loading.{OpensRun}
 use Rattle.ppm_loading.specs.Planned.{PlannedHas, PlannedMay}
 use Rattle.ppm_loading.specs.Programs as programs

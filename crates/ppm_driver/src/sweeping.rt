@@ -20,10 +20,9 @@ use ppm_answers::{Answer, Difference, Sweep};
 use ppm_cells::Takeover;
 use ppm_cli::{SweepOptions, SweptTakeovers};
 use ppm_code::Code;
-use ppm_commands::{array_count, store_told};
 use ppm_core::code_copy;
 use ppm_depth::{DepthRun, depth_first};
-use ppm_loading::{Sizes, load_code};
+use ppm_loading::{Sizes, array_count, load_code, store_told};
 use ppm_plan::{Schedule, texts_read_as_written};
 use ppm_sweep::{
     Differing, Draws, Stop, Sweeping, Tally, Window, schedules_are_written, sweep, sweeps_are_fair,
