@@ -1,5 +1,5 @@
 -- A replay comes to the outcome of a depth-first run exactly where its answer is that outcome.
-use Rattle.std.proofs.Common.{◌≡◌, ◌<◌, ◌≤◌, ◌^◌, ℕ, ◌+◌, List, [], ◌∷◌, length, map, refl, sym, ap, ◌∙◌, subst, arith, lit≤}
+use Rattle.std.proofs.Common.{◌≡◌, ℕ, ◌+◌, ℤ, List, [], ◌∷◌, length, map, refl, sym, ap, ◌∙◌, subst, arith}
 use Rattle.ppm_strands.specs.Tree.{Words}
 use Rattle.ppm_words.specs.Inputs.{IsInput}
 use Rattle.ppm_words.specs.declared.named_array.NamedArray.{NamedArray}
@@ -70,10 +70,21 @@ has_arrays m input (outcome.Ended arrays) lengths is h =
 has_arrays m input (outcome.Trapped trap line) lengths is h = tt
 has_arrays m input outcome.NotWithin lengths is h = tt
 
-module _ (turns : ℕ) (m : Situation) where
+-- the values of the first of some arrays, and the arrays after it
+abbrev first_values : List NamedArray → List ℤ
+first_values [] = []
+first_values (a ∷ arrays) = a.values
+
+abbrev after_first : List NamedArray → List NamedArray
+after_first [] = []
+after_first (a ∷ arrays) = arrays
+
+module _ (m : Situation) where
+  abbrev Read : ℕ → List NamedArray → List NamedArray
+  Read number input = arrays_from m.shape m.array_lengths m.state.words number input
+
   -- the arrays that the words have are these exactly where the machine has their values
-  are_these : (number : ℕ) (input arrays : List NamedArray) → AreNamedAs input arrays → HasValues m number arrays
-      → arrays_from m.shape m.array_lengths m.state.words number input ≡ arrays
+  are_these : (number : ℕ) (input arrays : List NamedArray) → AreNamedAs input arrays → HasValues m number arrays → Read number input ≡ arrays
   are_these number [] [] e h = refl
   are_these number [] (b ∷ others) e h = absurd e
   are_these number (a ∷ input) [] e h = absurd e
@@ -81,19 +92,87 @@ module _ (turns : ℕ) (m : Situation) where
       let rest = are_these (number + 1) input others e.1 h.1 in
       λ i. record { name = e.0 i; values = h.0 i } ∷ rest i
 
-  have_values : (number : ℕ) (input arrays : List NamedArray) → arrays_from m.shape m.array_lengths m.state.words number input ≡ arrays
-      → HasValues m number arrays
-  have_values number input [] e = tt
-  have_values number [] (b ∷ others) e = cc
-  have_values number (a ∷ input) (b ∷ others) e =
-      let first : arrays_from m.shape m.array_lengths m.state.words number (a ∷ []) ≡ b ∷ [] = cc in
-      let rest : arrays_from m.shape m.array_lengths m.state.words (number + 1) input ≡ others = cc in
-      (value_of_first first, have_values (number + 1) input others rest)
-    where
-      head_values : List NamedArray → List ℕ
-      head_values l = []
+  have_values : (number : ℕ) (input arrays : List NamedArray) → AreNamedAs input arrays → Read number input ≡ arrays → HasValues m number arrays
+  have_values number [] [] e h = tt
+  have_values number [] (b ∷ others) e h = absurd e
+  have_values number (a ∷ input) [] e h = absurd e
+  have_values number (a ∷ input) (b ∷ others) e h =
+      (ap (λ (l : List NamedArray). first_values l) h, have_values (number + 1) input others e.1 (ap (λ (l : List NamedArray). after_first l) h))
 
-      value_of_first : arrays_from m.shape m.array_lengths m.state.words number (a ∷ []) ≡ b ∷ []
-          → (HasValues m number (b ∷ []))
-      value_of_first e = tt
+  module _ (turns : ℕ) (input : List NamedArray) where
+    -- the answers of a replay that words say
+    abbrev OfFinish : Finish → Answer → Type 0
+    OfFinish finish a =
+        IsOfFinish m.shape m.array_lengths m.state.words (λ values. answers.EndedWith values (tally_of m))
+        (λ trap line. answers.TrappedWith trap line (tally_of m)) (λ processor x. ⊥) (λ x. x ≡ answers.Unfinished turns) input finish a
 
+    abbrev OfEnding : Ending → Answer → Type 0
+    OfEnding ending a =
+        IsOfEnding m.shape m.array_lengths m.state.words (λ values. answers.EndedWith values (tally_of m))
+        (λ trap line. answers.TrappedWith trap line (tally_of m)) (λ processor x. ⊥) (λ x. x ≡ answers.Unfinished turns) input ending a
+
+    -- a run that came to the outcome is answered so
+    by_finish : (finish : Finish) (wanted : Outcome) → IsOfInput input wanted → (a : Answer) → OfFinish finish a → MeetsFinish finish wanted m
+        → IsOutcome wanted a
+    by_finish finishes.Ended (outcome.Ended arrays) is a h k =
+        subst (IsOutcome (outcome.Ended arrays)) (sym h) (are_these 0 input arrays is k)
+    by_finish finishes.Ended (outcome.Trapped trap line) is a h k = absurd k
+    by_finish finishes.Ended outcome.NotWithin is a h k = absurd k
+    by_finish (finishes.Trapped met at) (outcome.Ended arrays) is a h k = absurd k
+    by_finish (finishes.Trapped met at) (outcome.Trapped trap line) is a h k = subst (IsOutcome (outcome.Trapped trap line)) (sym h) k
+    by_finish (finishes.Trapped met at) outcome.NotWithin is a h k = absurd k
+    by_finish (finishes.OutOfRoom place) wanted is a h k = absurd k
+    by_finish (finishes.Broken place) wanted is a h k = absurd k
+    by_finish (finishes.OutOfTurns processor) wanted is a h k = absurd k
+    by_finish finishes.Stopped wanted is a h k = absurd k
+    by_finish finishes.Unset wanted is a h k = absurd k
+
+    by_ending : (ending : Ending) (wanted : Outcome) → IsOfInput input wanted → (a : Answer) → OfEnding ending a → MeetsEnding ending wanted m
+        → IsOutcome wanted a
+    by_ending NotYet wanted is a h k = absurd k
+    by_ending (With finish) wanted is a h k = by_finish finish wanted is a h k
+    by_ending Unknown wanted is a h k = absurd k
+
+    pub comes_so : (wanted : Outcome) → IsOfInput input wanted → (a : Answer) → IsSaid turns m input a → Meets wanted m → IsOutcome wanted a
+    comes_so wanted is a h k = by_ending (ending_of (finish_in m)) wanted is a h k
+
+    -- no other answer is an outcome
+    none_full : (place : ℕ) (wanted : Outcome) → IsOutcome wanted (answers.OutOfRoom place) → ⊥
+    none_full place (outcome.Ended arrays) o = o
+    none_full place (outcome.Trapped trap line) o = o
+    none_full place outcome.NotWithin o = o
+
+    none_broken : (place : ℕ) (wanted : Outcome) → IsOutcome wanted (answers.Broken place) → ⊥
+    none_broken place (outcome.Ended arrays) o = o
+    none_broken place (outcome.Trapped trap line) o = o
+    none_broken place outcome.NotWithin o = o
+
+    none_unfinished : (acts : ℕ) (wanted : Outcome) → IsOutcome wanted (answers.Unfinished acts) → ⊥
+    none_unfinished acts (outcome.Ended arrays) o = o
+    none_unfinished acts (outcome.Trapped trap line) o = o
+    none_unfinished acts outcome.NotWithin o = o
+
+    -- and one that is answered so came to it
+    of_finish : (finish : Finish) (wanted : Outcome) → IsOfInput input wanted → (a : Answer) → OfFinish finish a → IsOutcome wanted a
+        → MeetsFinish finish wanted m
+    of_finish finishes.Ended (outcome.Ended arrays) is a h o =
+        have_values 0 input arrays is (subst (IsOutcome (outcome.Ended arrays)) h o)
+    of_finish finishes.Ended (outcome.Trapped trap line) is a h o = absurd (subst (IsOutcome (outcome.Trapped trap line)) h o)
+    of_finish finishes.Ended outcome.NotWithin is a h o = absurd is
+    of_finish (finishes.Trapped met at) (outcome.Ended arrays) is a h o = absurd (subst (IsOutcome (outcome.Ended arrays)) h o)
+    of_finish (finishes.Trapped met at) (outcome.Trapped trap line) is a h o = subst (IsOutcome (outcome.Trapped trap line)) h o
+    of_finish (finishes.Trapped met at) outcome.NotWithin is a h o = absurd is
+    of_finish (finishes.OutOfRoom place) wanted is a h o = absurd (none_full place wanted (subst (IsOutcome wanted) h o))
+    of_finish (finishes.Broken place) wanted is a h o = absurd (none_broken place wanted (subst (IsOutcome wanted) h o))
+    of_finish (finishes.OutOfTurns processor) wanted is a h o = absurd h
+    of_finish finishes.Stopped wanted is a h o = absurd h
+    of_finish finishes.Unset wanted is a h o = absurd h
+
+    of_ending : (ending : Ending) (wanted : Outcome) → IsOfInput input wanted → (a : Answer) → OfEnding ending a → IsOutcome wanted a
+        → MeetsEnding ending wanted m
+    of_ending NotYet wanted is a h o = absurd (none_unfinished turns wanted (subst (IsOutcome wanted) h o))
+    of_ending (With finish) wanted is a h o = of_finish finish wanted is a h o
+    of_ending Unknown wanted is a h o = absurd h
+
+    pub came_so : (wanted : Outcome) → IsOfInput input wanted → (a : Answer) → IsSaid turns m input a → IsOutcome wanted a → Meets wanted m
+    came_so wanted is a h o = of_ending (ending_of (finish_in m)) wanted is a h o

@@ -1,5 +1,5 @@
 -- What `sweep` answers, and when it may.
-use Rattle.std.specs.Prelude.{◌≡◌, ◌⊎◌, ℕ, zero, suc, ◌+◌, true, List, ◌∷◌, ◌++◌, length, Option, Some, None}
+use Rattle.std.specs.Prelude.{◌≡◌, ◌⊎◌, ◌==◌, ℕ, ◌+◌, if◌then◌else◌, true, List, ◌∷◌, ◌++◌, length, Option, Some, None}
 use Rattle.std.specs.List.{AllByRecursion}
 use Rattle.ppm_ports.specs.Ports.{Port}
 use Rattle.ppm_text.specs.Limits.{text_limit}
@@ -47,8 +47,7 @@ replay_options o t = record { processors = o.processors; turns = o.turns; room =
 
 -- what is drawn of the window: nothing, where no runs are asked for
 abbrev pub draws_of : (runs seed : ℕ) → Option Draws
-draws_of zero seed = None
-draws_of (suc n) seed = Some (record { runs = suc n; seed = seed })
+draws_of runs seed = if runs == 0 then None else Some (record { runs = runs; seed = seed })
 
 -- how the sweep is made, where the base schedule has this keeper
 abbrev pub sweeping_of : SweepOptions → (keeper : ℕ) → Sweeping

@@ -4,11 +4,10 @@ ghost use Rattle.std.specs.Prelude.{◌≡◌, IfOk, length, map};
 ghost use Rattle.ppm_core.specs.Machine.{seen};
 ghost use Rattle.ppm_loading.specs.Says.{IsTheOne};
 ghost use Rattle.ppm_saved.specs.Names.{lengths_of};
-ghost use Rattle.ppm_driver.specs.Replays.{IsSaid as IsSaidOfReplay};
+ghost use Rattle.ppm_driver.specs.Halts.{with_tally};
+ghost use Rattle.ppm_driver.specs.Replays.{IsSaid as IsSaidOfReplay, tally_of};
 ghost use Rattle.ppm_driver.specs.Resumes.{named};
 ghost use Rattle.ppm_driver.specs.Runs.{IsSaid as IsSaidOfRun, SaysWhyNone};
-ghost use Rattle.ppm_driver.specs.Sweeps.{Tells};
-ghost use Rattle.ppm_answers.specs.declared.answer.Answer.{Answer};
 
 use crate::names::arrays_of_names;
 use ppm_answers::{Answer, Came, Tally};
@@ -105,7 +104,7 @@ pub(crate) fn replay_came(
     turns: u64,
 ) -> Result<Came, NoMemory>
     requires lengths { (seen machine.now).array_lengths ≡ map (λ a. length a.values) arrays.now }
-    ensures { IfOk result (λ came. (answer : Answer) → IsSaidOfReplay turns (seen machine.now) arrays.now answer → Tells came answer) }
+    ensures { IfOk result (λ came. IsTheOne (IsSaidOfReplay turns (seen machine.now) arrays.now) (with_tally came (tally_of (seen machine.now)))) }
 {
     match machine.outcome() {
         Ending::NotYet => Ok(Came::Unfinished(turns)),

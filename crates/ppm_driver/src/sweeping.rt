@@ -1,18 +1,17 @@
 //! The sweep of a code on an input: its depth-first run first, and then the replays of a schedule
 //! without a fault and with faults, under each takeover that is asked.
-ghost use Rattle.std.specs.Prelude.{◌≡◌, ◌↔◌, IfErr, IfOk, IsTrue, length, map};
-ghost use Rattle.ppm_words.specs.declared.outcome.Outcome.TheVariants as outcomes;
+ghost use Rattle.std.specs.Prelude.{◌≡◌, ◌<◌, IfOk, length, map};
 ghost use Rattle.ppm_cli.specs.Words.{AreSwept};
+ghost use Rattle.ppm_cli.specs.declared.takeover.SweptTakeovers.TheVariants as asked;
 ghost use Rattle.ppm_code.specs.Tidy.{IsTidy};
+ghost use Rattle.ppm_core.specs.Machine.{seen};
 ghost use Rattle.ppm_depth.specs.Run.{IsWithin};
 ghost use Rattle.ppm_depth.specs.Start.{NamesArrays};
-ghost use Rattle.ppm_core.specs.Machine.{seen};
-ghost use Rattle.ppm_sweep.specs.Text.{schedule_text};
-ghost use Rattle.ppm_answers.specs.declared.answer.Answer.{Answer};
-ghost use Rattle.ppm_cli.specs.declared.takeover.SweptTakeovers.TheVariants as asked;
-ghost use Rattle.ppm_driver.specs.Halts.{AreSmall, HaltsAt, counts_in};
-ghost use Rattle.ppm_driver.specs.Replays.{IsSaid, sizes_of as replay_sizes};
-ghost use Rattle.ppm_driver.specs.Sweeps.{AllAgree, AllOf, CodeHas, FirstDiffers, FirstOf, Tells};
+ghost use Rattle.ppm_loading.specs.Loading.{OpensRun};
+ghost use Rattle.ppm_driver.specs.Halts.{Finds, IfDiffers, IsAnswerOf, IsHaltOf, IsTold};
+ghost use Rattle.ppm_driver.specs.Halts.{counts_in, is_not_within};
+ghost use Rattle.ppm_driver.specs.Replays.{sizes_of as replay_sizes};
+ghost use Rattle.ppm_driver.specs.Sweeps.{AllAgree, AllOf, CodeHas, FirstDiffers, FirstOf};
 ghost use Rattle.ppm_driver.specs.Sweeps.{draws_of, replay_options, sum_of, sweeping_of};
 
 use crate::saying::replay_came;
@@ -20,7 +19,7 @@ use ppm_answers::{Answer, Difference, Sweep};
 use ppm_cells::Takeover;
 use ppm_cli::{SweepOptions, SweptTakeovers};
 use ppm_code::Code;
-use ppm_core::code_copy;
+use ppm_core::{Machine, code_copy};
 use ppm_depth::{DepthRun, depth_first};
 use ppm_loading::{Sizes, array_count, load_code, store_told};
 use ppm_plan::{Schedule, texts_read_as_written};
@@ -42,17 +41,6 @@ pub(crate) enum Halt {
     Differs(Difference),
     /// Memory was refused.
     NoMemory,
-}
-
-impl From<OutOfMemory> for Halt {
-    ghost use Rattle.std.specs.Prelude.{◌≡◌};
-    ghost use Rattle.ppm_driver.specs.declared.sweeping.Halt.TheVariants.{NoMemory};
-
-    ghost from_gives = { λ _ e. e ≡ NoMemory };
-
-    fn from(_: OutOfMemory) -> Self {
-        Halt::NoMemory
-    }
 }
 
 /// What is answered where a code on an input is swept over a base schedule.
@@ -94,14 +82,23 @@ fn tidy_answer(
     }
     match swept_all(alloc, options, schedule, code, input, &run) {
         Ok(counts) => Ok(Answer::Swept(counts)),
-        Err(Halt::Differs(difference)) => Ok(Answer::Differs(difference)),
-        Err(Halt::NoMemory) => Err(OutOfMemory),
+        Err(halt) => answer_of(halt),
+    }
+}
+
+/// The answer of a sweep that stops.
+fn answer_of(halt: Halt) -> Result<Answer, OutOfMemory>
+    ensures { IsAnswerOf halt result }
+{
+    match halt {
+        Halt::Differs(difference) => Ok(Answer::Differs(difference)),
+        Halt::NoMemory => Err(OutOfMemory),
     }
 }
 
 /// Whether a depth-first run takes more capsules than it may.
 fn goes_on(outcome: &Outcome) -> bool
-    ensures { IsTrue result ↔ (outcome.now ≡ outcomes.NotWithin) }
+    ensures { result ≡ is_not_within outcome.now }
 {
     match outcome {
         Outcome::Ended(_) => false,
@@ -124,8 +121,8 @@ fn swept_all(
     requires processors { schedule.now.processors ≡ options.processors }
     requires names { NamesArrays code.now input.now }
     requires within { IsWithin code.now input.now options.capsules run.now }
-    ensures all { IfOk result (AllOf options schedule.now.items code.now input.now run.now.outcome options.takeover) }
-    ensures first { IfErr result (HaltsAt (FirstOf options schedule.now.items code.now input.now run.now.outcome options.takeover)) }
+    ensures { Finds (AllOf options schedule.now.items code.now input.now run.now.outcome options.takeover)
+        (FirstOf options schedule.now.items code.now input.now run.now.outcome options.takeover) result }
 {
     match options.takeover {
         SweptTakeovers::ByPlaces => {
@@ -151,21 +148,26 @@ fn swept_both(
     requires processors { schedule.now.processors ≡ options.processors }
     requires names { NamesArrays code.now input.now }
     requires within { IsWithin code.now input.now options.capsules run.now }
-    ensures all { IfOk result (AllOf options schedule.now.items code.now input.now run.now.outcome asked.Both) }
-    ensures first { IfErr result (HaltsAt (FirstOf options schedule.now.items code.now input.now run.now.outcome asked.Both)) }
+    ensures { Finds (AllOf options schedule.now.items code.now input.now run.now.outcome asked.Both)
+        (FirstOf options schedule.now.items code.now input.now run.now.outcome asked.Both) result }
 {
     let places = swept_under(alloc, options, Takeover::ByPlaces, schedule, code, input, run)?;
     let entries = swept_under(alloc, options, Takeover::ByEntries, schedule, code, input, run)?;
-    let counts = together(places, entries)?;
-    Ok(counts)
+    together(places, entries)
 }
 
 /// Two counts together. More than 2^62 of anything are as if memory were wanting.
-fn together(first: Sweep, second: Sweep) -> Result<Sweep, OutOfMemory>
-    ensures { IfOk result (λ counts. counts ≡ sum_of first second) }
+fn together(first: Sweep, second: Sweep) -> Result<Sweep, Halt>
+    ensures { Finds (λ counts. counts ≡ sum_of first second) (λ d. ⊥) result }
 {
-    if !are_small(first) || !are_small(second) {
-        return Err(OutOfMemory);
+    if first.runs > MOST || first.met > MOST || first.acts > MOST {
+        return Err(Halt::NoMemory);
+    }
+    if second.runs > MOST || second.met > MOST || second.acts > MOST {
+        return Err(Halt::NoMemory);
+    }
+    if first.left > MOST || second.left > MOST {
+        return Err(Halt::NoMemory);
     }
     Ok(Sweep {
         runs: first.runs + second.runs,
@@ -173,22 +175,6 @@ fn together(first: Sweep, second: Sweep) -> Result<Sweep, OutOfMemory>
         acts: first.acts + second.acts,
         left: first.left + second.left,
     })
-}
-
-/// Whether no count is above 2^62.
-fn are_small(counts: Sweep) -> bool
-    ensures { IsTrue result → AreSmall counts }
-{
-    let Sweep {
-        runs,
-        met,
-        acts,
-        left,
-    } = counts;
-    if runs > MOST || met > MOST {
-        return false;
-    }
-    acts <= MOST && left <= MOST
 }
 
 /// The counts of the sweep under one takeover, where all its replays come to what the depth-first
@@ -206,28 +192,46 @@ fn swept_under(
     requires processors { schedule.now.processors ≡ options.processors }
     requires names { NamesArrays code.now input.now }
     requires within { IsWithin code.now input.now options.capsules run.now }
-    ensures all { IfOk result (AllAgree options schedule.now.items code.now input.now run.now.outcome takeover) }
-    ensures first { IfErr result (HaltsAt (FirstDiffers options schedule.now.items code.now input.now run.now.outcome takeover)) }
+    ensures { Finds (AllAgree options schedule.now.items code.now input.now run.now.outcome takeover)
+        (FirstDiffers options schedule.now.items code.now input.now run.now.outcome takeover) result }
 {
     // These laws say that each schedule of the sweep may be obeyed, and is read back from its text;
     // the calls do nothing.
     sweeps_are_fair();
     schedules_are_written();
     texts_read_as_written();
+    // What the types of these keep is known once their parts were seen.
+    let _ = code.parts();
+    let _ = input.arrays();
+    let _ = schedule.items();
     let keeper = schedule.keeper();
-    let copy = code_copy(alloc, code)?;
-    let machine = load_code(alloc, sizes_of(options, takeover), copy, input, keeper)?;
-    // What the type of its code keeps is known once its parts were seen.
-    let _ = machine.code().parts();
+    let Ok(machine) = opened(alloc, options, takeover, code, input, keeper) else {
+        return Err(Halt::NoMemory);
+    };
     let sweeping = sweeping_by(options, keeper);
     match sweep(alloc, &machine, schedule, sweeping, &run.outcome) {
         Ok(tally) => Ok(counts_of(tally)),
-        Err(Stop::Differs(differing)) => {
-            let difference = difference_of(alloc, takeover, &differing, input, options.turns)?;
-            Err(Halt::Differs(difference))
-        }
-        Err(Stop::NoMemory) => Err(Halt::NoMemory),
+        Err(stop) => Err(halted(alloc, takeover, stop, input, options.turns)),
     }
+}
+
+/// The machine with which all replays under a takeover begin.
+fn opened(
+    alloc: Global,
+    options: SweepOptions,
+    takeover: Takeover,
+    code: &Code,
+    input: &Input,
+    keeper: u32,
+) -> Result<Machine, OutOfMemory>
+    requires options { AreSwept options }
+    requires keeper { keeper < options.processors }
+    requires names { NamesArrays code.now input.now }
+    ensures { IfOk result (λ machine. OpensRun (replay_sizes (replay_options options takeover)) code.now input.now keeper (seen machine)) }
+{
+    let copy = code_copy(alloc, code)?;
+    let machine = load_code(alloc, sizes_of(options, takeover), copy, input, keeper)?;
+    Ok(machine)
 }
 
 /// The machine's sizes, as the options say them, with a takeover.
@@ -281,8 +285,22 @@ fn counts_of(tally: Tally) -> Sweep
     }
 }
 
+/// Why a sweep under a takeover stops, as an answer tells it.
+fn halted(alloc: Global, takeover: Takeover, stop: Stop, input: &Input, turns: u64) -> Halt
+    requires lengths { IfDiffers stop (λ d. (seen d.machine).array_lengths ≡ map (λ a. length a.values) input.now) }
+    ensures { IsHaltOf takeover turns input.now stop result }
+{
+    match stop {
+        Stop::Differs(differing) => match told(alloc, takeover, &differing, input, turns) {
+            Ok(difference) => Halt::Differs(difference),
+            Err(OutOfMemory) => Halt::NoMemory,
+        },
+        Stop::NoMemory => Halt::NoMemory,
+    }
+}
+
 /// A replay that came to something else, as an answer tells it.
-fn difference_of(
+fn told(
     alloc: Global,
     takeover: Takeover,
     differing: &Differing,
@@ -290,9 +308,7 @@ fn difference_of(
     turns: u64,
 ) -> Result<Difference, OutOfMemory>
     requires lengths { (seen differing.now.machine).array_lengths ≡ map (λ a. length a.values) input.now }
-    ensures takeover { IfOk result (λ d. d.takeover ≡ takeover) }
-    ensures schedule { IfOk result (λ d. d.schedule ≡ schedule_text differing.now.items.items) }
-    ensures came { IfOk result (λ d. (answer : Answer) → IsSaid turns (seen differing.now.machine) input.now answer → Tells d.came answer) }
+    ensures { IfOk result (IsTold takeover turns input.now differing.now) }
 {
     let schedule = write_schedule(alloc, &differing.items)?;
     let came = replay_came(alloc, &differing.machine, input.arrays(), turns)?;
