@@ -16,6 +16,9 @@
 -- (`CaseNamesLemmas`). So `stop` may name them in a saved text, and from that text the state is read back, if the code may be resumed
 -- (`ReadBackLemmas`). After a run a code has one answer of `stop`, the text of the machine there (`StopLemmas`), which makes its laws (`OneStop`,
 -- `OneStopCase`) and its rows (`OfStop`, `OfStopCase`) by the lemmas of `ppm_loading` on texts and plans.
+-- What `sweep` of `ppm_sweep` finds of machines is said of replays (`SweepLemmas`), as a replay comes to an outcome exactly where its answer is that
+-- (`ComeLemmas`); the steps of the command stand in `SweepingLemmas`. A text has one answer (`OneSweep`), a difference of a sound code is of a run that
+-- came to no end (`SweepAsCode`), and the rows follow (`OfSweep`, `OfSweepCase`).
 
 pub mod OrdersLemmas
 pub mod EndLemmas
@@ -51,6 +54,13 @@ pub mod OneCase
 pub mod CaseHeadlineLemmas
 pub mod OfRunCase
 pub mod OfReplayCase
+pub mod ComeLemmas
+pub mod SweepLemmas
+pub mod OneSweep
+pub mod SweepAsCode
+pub mod SweepingLemmas
+pub mod OfSweep
+pub mod OfSweepCase
 pub mod ResumeLemmas
 pub mod TellLemmas
 pub mod LeftLemmas
