@@ -60,6 +60,7 @@ pass_name pass.Text = codes "text"
 pass_name pass.Syntax = codes "syntax"
 pass_name pass.Region = codes "region"
 pass_name pass.Cut = codes "cut"
+pass_name pass.Ram = codes "ram"
 
 -- what a pass says where its faults are: in a line, or at a place
 abbrev pub place_name : Pass → List ℕ
@@ -67,6 +68,7 @@ place_name pass.Text = codes "at"
 place_name pass.Syntax = codes "at"
 place_name pass.Region = codes "line"
 place_name pass.Cut = codes "at"
+place_name pass.Ram = codes "line"
 
 -- a line with a pass that refuses and its fault's number, and where that is
 abbrev pub fault_text : List ℕ → ℕ → List ℕ → ℕ → List ℕ

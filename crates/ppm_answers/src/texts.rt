@@ -215,6 +215,7 @@ fn pass_name(pass: Pass) -> &'static str
         Pass::Syntax => "syntax",
         Pass::Region => "region",
         Pass::Cut => "cut",
+        Pass::Ram => "ram",
     }
 }
 
@@ -223,7 +224,7 @@ fn place_name(pass: Pass) -> &'static str
     ensures { result.now ≡ name_of_place pass }
 {
     match pass {
-        Pass::Region => "line",
+        Pass::Region | Pass::Ram => "line",
         Pass::Text | Pass::Syntax | Pass::Cut => "at",
     }
 }
