@@ -5,6 +5,7 @@ use Rattle.ppm_pieces.specs.Pieces.{split}
 use Rattle.ppm_ports.specs.Ports.{Port}
 use Rattle.ppm_ram.specs.Correct.{TextsAreOfRams}
 use Rattle.ppm_ram.specs.declared.ram.RamParts.{RamParts}
+use Rattle.ppm_ram.specs.declared.ram_error.RamFault.{RamFault}
 use Rattle.ppm_ram.specs.declared.ram_error.RamFault.TheVariants.{NoSuchForm}
 use Rattle.ppm_ram.specs.Limits.{text_limit}
 use Rattle.ppm_ram.specs.Lines.{Fault, line_then, ram_in, with_head}
@@ -12,7 +13,7 @@ use Rattle.ppm_ram.specs.Text.{IsTextOf}
 use Rattle.ppm_answers.specs.declared.refusal.Refusal.{Refusal}
 use Rattle.ppm_answers.specs.declared.answer.Answer.{Answer}
 use Rattle.ppm_answers.specs.declared.answer.Answer.TheVariants as answers
-use Rattle.ppm_answers.specs.Reading.{Reads, JudgingMay, AreOne, FrontsDecide}
+use Rattle.ppm_answers.specs.Reading.{Reads, JudgingMay, TextMay, AreOne, FrontsDecide}
 use Rattle.ppm_loading.proofs.ProgramLemmas.{AreKinds}
 use Rattle.ppm_driver.specs.RamRuns.{OfRam, OfText, RefusedHas, RefusesRam, ram_refusal}
 
@@ -33,6 +34,11 @@ said texts text ram is = (texts text ram).1 is
 too_long : (text : List ℕ) → text_limit < length text → ram_in text ≡ Err (NoSuchForm, 1)
 too_long text long =
     ap (λ (b : Bool). if b then Err (NoSuchForm, 1) else line_then 1 with_head (split 10 text)) (lt-ltb text_limit (length text) long)
+
+-- the refusal for its first fault may be the answer of a text
+pub refused_may : (text : List ℕ) (rule : RamFault) (line : ℕ) → ram_in text ≡ Err (rule, line)
+    → TextMay RefusedHas text (answers.SourceRefused (ram_refusal (rule, line)))
+refused_may text rule line there = record { fault = (rule, line); there = there; same = refl }
 
 front_refused : (text rest : List ℕ) (r : Refusal) → text_limit < length text → RefusesRam text r → RefusesRam (text ++ rest) r
 front_refused text rest r long h =
