@@ -8,6 +8,9 @@ use Rattle.ppm_code.specs.declared.act.End.{End}
 use Rattle.ppm_code.specs.declared.act.End.TheVariants.{Next, Finish}
 use Rattle.ppm_code.specs.declared.code.Capsule.{Capsule}
 use Rattle.ppm_code.specs.declared.code.CodeParts.{CodeParts}
+use Rattle.ppm_code.specs.declared.code.Procedure.{Procedure}
+use Rattle.ppm_code.specs.Limits.{slot_limit}
+use Rattle.ppm_words.specs.Limits.{array_limit}
 use Rattle.ppm_code.specs.declared.instr.Instr.{Instr}
 use Rattle.ppm_code.specs.declared.instr.Instr.TheVariants as instr
 use Rattle.ppm_code.specs.declared.register.Register.{Register}
@@ -132,13 +135,14 @@ module _ (r : RamParts) (is : IsRam r) where
 
   each_is : (n : ℕ) (b : Bank) (i : Instruction) → slice_get r.instructions n ≡ Some i → IsCapsule code (capsule_for n b i)
   each_is n b (instruction.Set to z) e =
-      from_all n b (instruction.Set to z) tt (omega arith) (loads_good b _ (λ all at. tt, stores_good (n + 1) (other b) (on n _ e refl)))
+      from_all n b (instruction.Set to z) tt (omega arith) (loads_good b (instr.Const (own to) z ∷ stores (n + 1) (other b)) (λ all at. tt, stores_good (n + 1) (other b) (on n _ e refl)))
   each_is n b (instruction.Compute o to x y) e =
       from_all n b (instruction.Compute o to x y) tt (omega arith)
-      (loads_good b _ (operation_good o (own to) (own x) (own y) n (there n _ e), stores_good (n + 1) (other b) (on n _ e refl)))
+      (loads_good b (operation_instr o (own to) (own x) (own y) (line_of n) ∷ stores (n + 1) (other b)) (operation_good o (own to) (own x) (own y) n (there n _ e), stores_good (n + 1) (other b) (on n _ e refl)))
   each_is n b (instruction.Load to x) e =
       from_all n b (instruction.Load to x) tt (omega arith)
-      (loads_good b _ (λ all at. omega arith, (λ all at. line_is n (there n _ e), stores_good (n + 1) (other b) (on n _ e refl))))
+      (loads_good b (instr.LoadSlot region 0 ∷ instr.Get (own to) region (own x) (line_of n) ∷ stores (n + 1) (other b))
+      (λ all at. omega arith, (λ all at. line_is n (there n _ e), stores_good (n + 1) (other b) (on n _ e refl))))
   each_is n b (instruction.Store x y) e =
       from_all n b (instruction.Store x y) tt (omega arith)
       (λ all at. omega arith, (slot_good b x.index x.in_range (register 0), (slot_good b y.index y.in_range (register 1),
@@ -161,10 +165,10 @@ module _ (r : RamParts) (is : IsRam r) where
   code_is = record {
     root = omega arith;
     root_slots = omega arith;
-    arrays = All-from_recursion _ (0 ∷ []) (omega arith, tt);
+    arrays = All-from_recursion (λ (a : ℕ). a < array_limit) (0 ∷ []) (omega arith, tt);
     procedures_most = omega arith;
     capsules_most = (let count = capsule_count r.instructions 0 in let few = is.few in omega (arith, count, few));
-    slots_most = All-from_recursion _ code.procedures (omega arith, tt);
+    slots_most = All-from_recursion (λ (p : Procedure). p.slots ≤ slot_limit) code.procedures (omega arith, tt);
     entries = entries;
     capsules = All-from_recursion (IsCapsule code) (capsules_from 0 r.instructions)
         (all_capsules (IsCapsule code) (λ n i. slice_get r.instructions n ≡ Some i) each_is r.instructions 0

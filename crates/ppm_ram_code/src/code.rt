@@ -1,7 +1,7 @@
 //! The code of a RAM, and its input.
 ghost use Rattle.std.specs.Prelude.{◌≡◌, ◌∷◌, [], ◌<◌, ◌+◌, ◌^◌, true, IfOk};
 ghost use Rattle.ppm_code.specs.declared.act.End.TheVariants.{Finish};
-ghost use Rattle.ppm_code.specs.declared.instr.Instr.TheVariants.{Const, Ends, Get, LoadSlot};
+ghost use Rattle.ppm_code.specs.declared.instr.Instr.TheVariants.{Ends, Get, LoadSlot};
 ghost use Rattle.ppm_ram.specs.declared.instruction.Instruction.TheVariants.{JumpIfZero, Store};
 ghost use Rattle.ppm_ram.specs.Limits.{instruction_limit, line_of};
 ghost use Rattle.ppm_ram.specs.Meaning.{as_array};
@@ -24,14 +24,6 @@ fn own_register(register_of: RamRegister) -> Register
     ensures { result ≡ own register_of }
 {
     register(register_of.index)
-}
-
-/// The instruction that sets a register.
-fn constant_in(to: RamRegister, value: i64) -> Instr
-    ensures { result ≡ Const (own to) value }
-{
-    let to = own_register(to);
-    Instr::Const { to, value }
 }
 
 /// The instruction of capsules that is an operation; it traps in a line.
@@ -191,7 +183,8 @@ fn instrs_of(
 {
     match instruction {
         Instruction::Set { to, value } => {
-            register_capsule(alloc, number, bank, constant_in(to, value))
+            let to = own_register(to);
+            register_capsule(alloc, number, bank, Instr::Const { to, value })
         }
         Instruction::Compute {
             operation,
