@@ -69,9 +69,25 @@ module _ (r : RamParts) (is : IsRam r) where
   loads_good : (b : Bank) (rest : List Instr) → AllByRecursion Good rest → AllByRecursion Good (loads b rest)
   loads_good b rest h = (
     slot_good b 0 (omega arith) (register 0),
-    (slot_good b 1 (omega arith) (register 1), (slot_good b 2 (omega arith) (register 2), (slot_good b 3 (omega arith) (register 3),
-        (slot_good b 4 (omega arith) (register 4), (slot_good b 5 (omega arith) (register 5), (slot_good b 6 (omega arith) (register 6),
-        (slot_good b 7 (omega arith) (register 7), h))))))),
+    (
+      slot_good b 1 (omega arith) (register 1),
+      (
+        slot_good b 2 (omega arith) (register 2),
+        (
+          slot_good b 3 (omega arith) (register 3),
+          (
+            slot_good b 4 (omega arith) (register 4),
+            (
+              slot_good b 5 (omega arith) (register 5),
+              (
+                slot_good b 6 (omega arith) (register 6),
+                (slot_good b 7 (omega arith) (register 7), h),
+              ),
+            ),
+          ),
+        ),
+      ),
+    ),
   )
 
   -- a capsule of an instruction is there
@@ -92,9 +108,25 @@ module _ (r : RamParts) (is : IsRam r) where
   stores_good : (k : ℕ) (b : Bank) → k < length r.instructions → AllByRecursion Good (stores k b)
   stores_good k b low = (
     store_good b 0 (omega arith) (register 0),
-    (store_good b 1 (omega arith) (register 1), (store_good b 2 (omega arith) (register 2), (store_good b 3 (omega arith) (register 3),
-        (store_good b 4 (omega arith) (register 4), (store_good b 5 (omega arith) (register 5), (store_good b 6 (omega arith) (register 6),
-        (store_good b 7 (omega arith) (register 7), (onward_good k b low, tt)))))))),
+    (
+      store_good b 1 (omega arith) (register 1),
+      (
+        store_good b 2 (omega arith) (register 2),
+        (
+          store_good b 3 (omega arith) (register 3),
+          (
+            store_good b 4 (omega arith) (register 4),
+            (
+              store_good b 5 (omega arith) (register 5),
+              (
+                store_good b 6 (omega arith) (register 6),
+                (store_good b 7 (omega arith) (register 7), (onward_good k b low, tt)),
+              ),
+            ),
+          ),
+        ),
+      ),
+    ),
   )
 
   line_is : (n : ℕ) → n < length r.instructions → IsLine (line_of n)
@@ -144,9 +176,16 @@ module _ (r : RamParts) (is : IsRam r) where
       (loads_good b (instr.LoadSlot region 0 ∷ instr.Get (own to) region (own x) (line_of n) ∷ stores (n + 1) (other b))
       (λ all at. omega arith, (λ all at. line_is n (there n _ e), stores_good (n + 1) (other b) (on n _ e refl))))
   each_is n b (instruction.Store x y) e =
-      from_all n b (instruction.Store x y) tt (omega arith)
-      (λ all at. omega arith, (slot_good b x.index x.in_range (register 0), (slot_good b y.index y.in_range (register 1),
-      (λ all at. line_is n (there n _ e), (onward_good (n + 1) b (on n _ e refl), tt)))))
+      from_all n b (instruction.Store x y) tt (omega arith) (
+        λ all at. omega arith,
+        (
+          slot_good b x.index x.in_range (register 0),
+          (
+            slot_good b y.index y.in_range (register 1),
+            (λ all at. line_is n (there n _ e), (onward_good (n + 1) b (on n _ e refl), tt)),
+          ),
+        ),
+      )
   each_is n b (instruction.JumpIfZero x t) e =
       let low = ltb-true t (length r.instructions) (target n _ e) in
       let instrs = instrs_for n b (instruction.JumpIfZero x t) in

@@ -12,8 +12,10 @@ ghost use Rattle.ppm_ram_code.specs.Code.{other as other_bank, region, stores};
 ghost use Rattle.ppm_ram_code.specs.Correct.{input_of};
 
 use crate::bank::Bank;
-use crate::instrs::{push, push_get, push_load, push_onward, push_put, push_read, push_reads};
-use crate::instrs::{push_rest, push_test, register};
+use crate::instrs::{
+    push, push_get, push_load, push_onward, push_put, push_read, push_reads, push_rest, push_test,
+    register,
+};
 use ppm_code::{Capsule, Code, CodeParts, End, Instr, Procedure, Register};
 use ppm_ram::{Instruction, Operation, Ram, Register as RamRegister};
 use ppm_words::{Input, Items, Name, NamedArray, NoMemory};
@@ -100,7 +102,7 @@ fn load_capsule(
     requires { number < 2 ^ 29 }
     ensures { IfOk result (λ body. body.items
         ≡ loads bank (LoadSlot region 0 ∷ Get to region at (line_of number)
-            ∷ stores (number + 1) (other_bank bank))) }
+        ∷ stores (number + 1) (other_bank bank))) }
 {
     let mut body = Vec::new(alloc);
     push_reads(&mut body, bank)?;

@@ -161,11 +161,7 @@ fn push_writes(body: &mut Vec<Instr>, bank: Bank) -> Result<(), NoMemory>
 }
 
 /// Appends the end with which the frame goes on at an instruction of the RAM, reading a copy.
-pub(crate) fn push_onward(
-    body: &mut Vec<Instr>,
-    number: u32,
-    bank: Bank,
-) -> Result<(), NoMemory>
+pub(crate) fn push_onward(body: &mut Vec<Instr>, number: u32, bank: Bank) -> Result<(), NoMemory>
     requires { number < 2 ^ 30 }
     ensures { OnOk result (Grows (λ rest. instr.Ends (ends.Next (capsule_at number bank))
         ∷ rest) body.old.items body.new.items) }
@@ -175,11 +171,7 @@ pub(crate) fn push_onward(
 }
 
 /// Appends stores of all registers into a copy, and goes on at an instruction with it.
-pub(crate) fn push_rest(
-    body: &mut Vec<Instr>,
-    number: u32,
-    bank: Bank,
-) -> Result<(), NoMemory>
+pub(crate) fn push_rest(body: &mut Vec<Instr>, number: u32, bank: Bank) -> Result<(), NoMemory>
     requires { number < 2 ^ 30 }
     ensures { OnOk result (Grows (λ rest. stored_in bank
         (instr.Ends (ends.Next (capsule_at number bank)) ∷ rest)) body.old.items body.new.items) }

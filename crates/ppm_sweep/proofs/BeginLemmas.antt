@@ -23,7 +23,7 @@ use Rattle.ppm_sweep.proofs.FoundLemmas.{finds_after, none_come, stops_in}
 
 -- a place before the first act of a run, on a machine
 module _ (o : Sweeping) (spot : Spot) (machine : Holding) (items : List ScheduleItem) (same : spot.machine ≡ machine)
-  (b : IsBeginning o.turns items spot) where
+    (b : IsBeginning o.turns items spot) where
   place_is : place_of spot ≡ first_place (seen machine).shape (seen machine).code o.keeper o.turns (seen machine).state items
   place_is = λ i. record { course = course (seen (same i)) (b.way i); front = b.front i; rest = b.rest i }
 

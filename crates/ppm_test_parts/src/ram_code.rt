@@ -50,7 +50,16 @@ fn a_ram_becomes_capsules(rt: HostRuntime) -> Result<(), Fail> {
         }
     };
     // Two capsules each of `set`, `set`, `jz`, `sub`, `load`, `add`, `jump`, `set`, `store`, `halt`.
-    assert_eq!(rt; sizes(rt, &ram)?.as_slice(), [18, 18, 18, 18, 4, 4, 18, 18, 19, 19, 18, 18, 1, 1, 18, 18, 5, 5, 1, 1].as_slice());
-    assert_eq!(rt; input_values(rt, &ram)?.as_slice(), [109, 3, 4, 5, 6, 0].as_slice());
+    assert_eq!(rt;
+        sizes(rt, &ram)?.as_slice(),
+        [
+            18, 18, 18, 18, 4, 4, 18, 18, 19, 19, 18, 18, 1, 1, 18, 18, 5, 5, 1, 1
+        ]
+        .as_slice()
+    );
+    assert_eq!(rt;
+        input_values(rt, &ram)?.as_slice(),
+        [109, 3, 4, 5, 6, 0].as_slice()
+    );
     Ok(())
 }
