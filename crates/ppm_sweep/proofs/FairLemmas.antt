@@ -302,5 +302,5 @@ module _ (s : Shape) (code : CodeParts) (keeper : ℕ) where
 pub sweeps_are_fair : SweepsAreFair
 sweeps_are_fair s code keeper turns state items most windows fair =
     let p = first_place s code keeper turns state items in
-    let at = (recursion_from_All (IsItemAmong s.processors) items fair.among, fair.kept) in
+    let at : At s code keeper p = (recursion_from_All (IsItemAmong s.processors) items fair.among, fair.kept) in
     (alone_fair s code keeper 0 p at, windows_fair s code keeper turns most windows p at)

@@ -7,7 +7,8 @@ use Rattle.ppm_sweep.proofs.drawing.draw.Goals as goal
 -- nothing is drawn yet
 pub loop-left-init : goal.loop-left-init
 loop-left-init c =
-    (λ i. c.new-windows.ensures.items i ++ acts_drawn c.args.from c.args.among c.args.draws.runs (c.seed_from_u64-words.ensures i))
+    let words = c.seed_from_u64-words.ensures ∙ ap seeded c.from.ensures in
+    (λ i. c.new-windows.ensures.items i ++ acts_drawn c.args.from c.args.among c.args.draws.runs (words i))
 
 -- one act more
 pub loop-left-preserved : goal.loop-left-preserved

@@ -9,8 +9,8 @@ use Rattle.ppm_sweep.proofs.sweeping.sweep_window.Goals as goal
 pub further-requires-clause-spot : goal.further-requires-clause-spot
 further-requires-clause-spot c =
     let s = c.in_ok-spot.ensures in
-    begins_well c.args.sweeping c.in_ok-spot.spot c.args.machine.now c.args.schedule.now.items s.machine s.begins c.args.wanted.now c.requires.fresh
-    c.requires.turns s.processors c.requires.arrays
+    begins_well c.args.sweeping c.in_ok-spot.spot c.args.machine.now c.args.schedule.now.items s.machine s.begins c.args.wanted.now c.requires.start.fresh
+    c.requires.start.turns s.processors c.requires.start.arrays
 
 pub further-requires-clause-dues : goal.further-requires-clause-dues
 further-requires-clause-dues c =
@@ -24,4 +24,4 @@ returns c =
     let m = seen c.args.machine.now in
     subst (λ l. Finds m c.args.sweeping.turns c.args.wanted.now l c.args.tally.now c.further.new.tally c.further.result)
     (window_is c.args.sweeping c.in_ok-spot.spot c.args.machine.now c.args.schedule.now.items s.machine s.begins)
-    (c.further.ensures m c.requires.fresh (came_first c.args.sweeping c.in_ok-spot.spot c.args.machine.now c.args.schedule.now.items s.machine s.begins))
+    (c.further.ensures m c.requires.start.fresh (came_first c.args.sweeping c.in_ok-spot.spot c.args.machine.now c.args.schedule.now.items s.machine s.begins))

@@ -13,7 +13,7 @@ loop-left-init c = λ v found h. h
 -- the sweep over the next window
 pub sweep_window-requires : goal.sweep_window-requires
 sweep_window-requires c =
-    let r = c.requires in
+    let r = c.requires.start in
     subst (λ (o : Sweeping). IsStart c.args.schedule.now c.args.machine.now o c.args.wanted.now) (sym c.over-over.ensures)
     (record { processors = r.processors; turns = r.turns; fresh = r.fresh; arrays = r.arrays })
 
