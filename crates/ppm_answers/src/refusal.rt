@@ -11,6 +11,8 @@ pub enum Pass {
     Region,
     /// The cut of an admitted tree into capsules.
     Cut,
+    /// The text of a RAM, from which its memory and its instructions are made.
+    Ram,
 }
 
 /// Why a source is refused: its fault, by the pass that finds it. Want of memory is none, but an
@@ -22,6 +24,7 @@ pub struct Refusal {
     /// The fault's number, from 1, as each pass numbers its faults.
     pub number: u32,
     /// Where the fault is. Of a text and its tokens: the place of a byte, from 0. Of names and
-    /// regions: a line, from 1, or 0 for none. Of the cut: a procedure, from 0, or 0 for none.
+    /// regions: a line, from 1, or 0 for none. Of the cut: a procedure, from 0, or 0 for none. Of the
+    /// text of a RAM: a line, from 1.
     pub place: u32,
 }
