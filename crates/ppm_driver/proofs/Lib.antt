@@ -12,6 +12,8 @@
 -- (`OfResume`). What `stop` wrote is such a state's text (`StoppedLemmas`), of a sound case too (`CaseStoppedLemmas`).
 -- `run` of a case is shown as `run` of a program, with the code and the input of the case in their place (`RunCaseLemmas`, `OneCase`,
 -- `CaseHeadlineLemmas`, `OfRunCase`), and `replay` of a case likewise (`OneCase`, `OfReplayCase`).
+-- What a RAM's code comes to is what the RAM does (`AsRamLemmas`). A text is of a RAM or has a fault (`RamTextLemmas`, `RamTaskLemmas`), so the rows of
+-- `ram` are shown as those of a case (`RamLemmas`, `OneRam`, `RamHeadlineLemmas`, `OfRam`).
 -- The arrays that an admitted program starts with have names of their own, none of them a keyword (`NamesLemmas`), and so have those of a case
 -- (`CaseNamesLemmas`). So `stop` may name them in a saved text, and from that text the state is read back, if the code may be resumed
 -- (`ReadBackLemmas`). After a run a code has one answer of `stop`, the text of the machine there (`StopLemmas`), which makes its laws (`OneStop`,
@@ -50,6 +52,13 @@ pub mod RunCaseLemmas
 pub mod OneCase
 pub mod CaseHeadlineLemmas
 pub mod OfRunCase
+pub mod AsRamLemmas
+pub mod RamTextLemmas
+pub mod RamTaskLemmas
+pub mod RamLemmas
+pub mod OneRam
+pub mod RamHeadlineLemmas
+pub mod OfRam
 pub mod OfReplayCase
 pub mod ResumeLemmas
 pub mod TellLemmas

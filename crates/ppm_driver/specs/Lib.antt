@@ -13,6 +13,10 @@ pub mod RunRows
 pub mod CaseRuns
 pub mod CaseHeadline
 pub mod CaseRows
+pub mod RamEnds
+pub mod RamRuns
+pub mod RamHeadline
+pub mod RamRows
 pub mod Replays
 pub mod ReplayRows
 pub mod CodeReplays
