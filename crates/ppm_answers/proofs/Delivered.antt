@@ -53,6 +53,7 @@ no_text answers.Accepted status e n m = absurd (n e)
 no_text (answers.Counted arrays counts) status e n m = absurd (n e)
 no_text (answers.TrappedAfter t line counts) status e n m = absurd (m e)
 no_text (answers.Sound counts) status e n m = absurd (n e)
+no_text (answers.Swept sweep) status e n m = absurd (n e)
 no_text answer status e n m = refl
 
 appends_nothing : (before now : Option (List ℕ)) → Appends before now [] → Keeps before now

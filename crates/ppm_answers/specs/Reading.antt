@@ -101,6 +101,8 @@ TellsOfRun Tells (answers.TrappedAfter t line counts) before now = Tells (answer
 TellsOfRun Tells (answers.Sound counts) before now = Tells (answers.Sound counts) before now
 TellsOfRun Tells (answers.NotWithinCapsules capsules) before now = Tells (answers.NotWithinCapsules capsules) before now
 TellsOfRun Tells (answers.Raced race) before now = Tells (answers.Raced race) before now
+TellsOfRun Tells (answers.Swept sweep) before now = Tells (answers.Swept sweep) before now
+TellsOfRun Tells (answers.Differs difference) before now = Tells (answers.Differs difference) before now
 
 -- an answer that may come was delivered, also where a port failed at its text; and watchers were told what belongs to it
 pub record Answers (may : Answer → Type 0) (Tells : Answer → ToldLists → ToldLists → Type 0) (o : Outside) (status : Status) : Type 0 where

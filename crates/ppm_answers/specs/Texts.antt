@@ -1,10 +1,12 @@
 -- The text of each answer on out and on err.
-use Rattle.std.specs.Prelude.{ℕ, ℤ, List, [], ◌∷◌, ◌++◌, codes, decimal, ⊤}
+use Rattle.std.specs.Prelude.{ℕ, ℤ, List, [], ◌∷◌, ◌++◌, codes, decimal, if◌then◌else◌, nat_eq, ⊤}
 use Rattle.std.specs.List.{flat_map}
 use Rattle.std.specs.Fmt.{signed_decimal}
 use Rattle.ppm_words.specs.declared.named_array.NamedArray.{NamedArray}
 use Rattle.ppm_words.specs.declared.trap.Trap.{Trap}
 use Rattle.ppm_words.specs.declared.trap.Trap.TheVariants as trap
+use Rattle.ppm_cells.specs.declared.shape.Takeover.{Takeover}
+use Rattle.ppm_cells.specs.declared.shape.Takeover.TheVariants as takeover
 use Rattle.ppm_answers.specs.declared.refusal.Pass.{Pass}
 use Rattle.ppm_answers.specs.declared.refusal.Pass.TheVariants as pass
 use Rattle.ppm_answers.specs.declared.refusal.Refusal.{Refusal}
@@ -23,6 +25,10 @@ use Rattle.ppm_answers.specs.declared.race.Visit.{Visit}
 use Rattle.ppm_answers.specs.declared.race.Touching.{Touching}
 use Rattle.ppm_answers.specs.declared.race.Race.{Race}
 use Rattle.ppm_answers.specs.declared.sums.Sums.{Sums}
+use Rattle.ppm_answers.specs.declared.sweep.Sweep.{Sweep}
+use Rattle.ppm_answers.specs.declared.sweep.Came.{Came}
+use Rattle.ppm_answers.specs.declared.sweep.Came.TheVariants as came
+use Rattle.ppm_answers.specs.declared.sweep.Difference.{Difference}
 use Rattle.ppm_answers.specs.declared.tally.Tally.{Tally}
 use Rattle.ppm_answers.specs.declared.answer.Answer.{Answer}
 use Rattle.ppm_answers.specs.declared.answer.Answer.TheVariants as answers
@@ -197,6 +203,43 @@ untidy_text u =
 abbrev pub input_text : InputRefusal → List ℕ
 input_text r = ended_line (codes "input refused: " ++ decimal r.number ++ codes " line " ++ decimal r.line)
 
+-- the runs of a sweep that all came to one end, the faults that they met, and their acts
+abbrev pub sweep_words : Sweep → List ℕ
+sweep_words s = codes "ok: " ++ decimal s.runs ++ codes " runs, " ++ decimal s.met ++ codes " met, " ++ decimal s.acts ++ codes " acts"
+
+-- the end of a line with the schedules of a sweep that were left out, if any were
+abbrev pub left_end : ℕ → List ℕ
+left_end left = ended_line (if nat_eq left 0 then [] else codes ", " ++ decimal left ++ codes " left out")
+
+-- the line of such a sweep
+abbrev pub sweep_text : Sweep → List ℕ
+sweep_text s = sweep_words s ++ left_end s.left
+
+-- the word for what is taken over
+abbrev pub takeover_name : Takeover → List ℕ
+takeover_name takeover.ByPlaces = codes "place"
+takeover_name takeover.ByEntries = codes "entry"
+
+-- what a replay says of what its run came to, without its tally
+abbrev pub came_text : Came → List ℕ
+came_text (came.Ended arrays) = arrays_text arrays
+came_text (came.Trapped t line) = trap_text t line
+came_text (came.Unfinished acts) = unfinished_text acts
+came_text (came.OutOfRoom place) = room_text place
+came_text (came.Broken place) = broken_text place
+
+-- a line with the schedule of a run that came to something else
+abbrev pub schedule_line : List ℕ → List ℕ
+schedule_line schedule = ended_line (codes "differs: " ++ schedule)
+
+-- a line with what is taken over in a run
+abbrev pub takeover_line : Takeover → List ℕ
+takeover_line t = ended_line (codes "takeover " ++ takeover_name t)
+
+-- the two lines of such a run, and what it came to
+abbrev pub difference_text : Difference → List ℕ
+difference_text d = schedule_line d.schedule ++ takeover_line d.takeover ++ came_text d.came
+
 -- what is written on out
 abbrev pub out_text : Answer → List ℕ
 out_text (answers.Ended arrays) = arrays_text arrays
@@ -210,6 +253,7 @@ out_text answers.Accepted = accepted_text
 out_text (answers.Counted arrays counts) = arrays_text arrays ++ counts_text counts
 out_text (answers.TrappedAfter t line counts) = trap_text t line ++ counts_text counts
 out_text (answers.Sound counts) = sound_text counts
+out_text (answers.Swept sweep) = sweep_text sweep
 out_text (answers.NotWithin turns) = []
 out_text (answers.OutOfTurns processor) = []
 out_text (answers.OutOfRoom place) = []
@@ -225,6 +269,7 @@ out_text (answers.Raced race) = []
 out_text (answers.Untidy u) = []
 out_text (answers.ConflictingAt c read write) = []
 out_text (answers.InputRefused r) = []
+out_text (answers.Differs difference) = []
 out_text answers.WordsRefused = []
 out_text answers.ReadFault = []
 out_text answers.NoMemory = []
@@ -246,6 +291,7 @@ err_text (answers.Raced race) = race_text race
 err_text (answers.Untidy u) = untidy_text u
 err_text (answers.ConflictingAt c read write) = conflict_at_text c read write
 err_text (answers.InputRefused r) = input_text r
+err_text (answers.Differs difference) = difference_text difference
 err_text answers.WordsRefused = ended_line (codes "words refused")
 err_text answers.ReadFault = ended_line (codes "read fault")
 err_text answers.NoMemory = ended_line (codes "out of memory")
@@ -260,6 +306,7 @@ err_text answers.Accepted = []
 err_text (answers.Counted arrays counts) = []
 err_text (answers.TrappedAfter t line counts) = []
 err_text (answers.Sound counts) = []
+err_text (answers.Swept sweep) = []
 
 -- what is written on err where out failed
 abbrev pub write_fault_text : List ℕ

@@ -6,6 +6,7 @@ use crate::race::Race;
 use crate::refusal::Refusal;
 use crate::saved::SavedRefusal;
 use crate::sums::Sums;
+use crate::sweep::{Difference, Sweep};
 use crate::tally::Tally;
 use ppm_words::{Items, NamedArray, Trap};
 
@@ -68,6 +69,10 @@ pub enum Answer {
     ConflictingAt(Conflict, u64, u64),
     /// The text is no case, for this fault of an array line or of its root.
     InputRefused(InputRefusal),
+    /// All runs of the sweep came to what the depth-first run comes to, and it counts this.
+    Swept(Sweep),
+    /// This run of the sweep came to something else.
+    Differs(Difference),
     /// The words give no command.
     WordsRefused,
     /// The plan or schedule among the words has the fault of this number, from 1 to 4.

@@ -3,7 +3,7 @@
 //! `specs/Statuses`).
 //! Contract: `deliver` writes both texts whole and gives the answer's status, or 8 where a port
 //! failed (`specs/Delivery`).
-//! Stands on `ppm_ports` and `ppm_words`; each command of `ppm_top` ends with it.
+//! Stands on `ppm_ports`, `ppm_cells` and `ppm_words`; each command of `ppm_top` ends with it.
 //! The texts and the numbers are this project's.
 #![tactic(auto)]
 
@@ -18,6 +18,7 @@ mod refusal;
 mod saved;
 mod status;
 mod sums;
+mod sweep;
 mod tally;
 mod texts;
 mod unread;
@@ -32,5 +33,6 @@ pub use refusal::{Pass, Refusal};
 pub use saved::SavedRefusal;
 pub use status::Status;
 pub use sums::Sums;
+pub use sweep::{Came, Difference, Sweep};
 pub use tally::Tally;
 pub use unread::answer_of_read;

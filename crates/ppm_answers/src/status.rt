@@ -33,10 +33,12 @@ pub enum Status {
     SavedRefused = 12,
     /// The words of the run are broken.
     Broken = 13,
+    /// A run of a sweep came to something else than the depth-first run.
+    Differs = 14,
 }
 
 impl Status {
-    /// The number that the program ends with, from 0 to 13.
+    /// The number that the program ends with, from 0 to 14.
     pub fn number(self) -> u8
         ensures { result ≡ number_of self }
     {

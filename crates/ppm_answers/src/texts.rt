@@ -14,6 +14,7 @@ use crate::race::race_text_of;
 use crate::refusal::{Pass, Refusal};
 use crate::saved::saved_line_of;
 use crate::sums::sums_text_of;
+use crate::sweep::{difference_text_of, sweep_text_of};
 use crate::tally::with_tally;
 use std::alloc::{AllocError, Global};
 use std::borrow::CowSlice;
@@ -83,6 +84,14 @@ pub fn texts_of(alloc: Global, answer: &Answer) -> Result<(Text, Text), AllocErr
         Answer::Summed(sums) => Ok((
             CowSlice::Owned(sums_text_of(alloc, *sums)?),
             CowSlice::Borrowed(none),
+        )),
+        Answer::Swept(sweep) => Ok((
+            CowSlice::Owned(sweep_text_of(alloc, *sweep)?),
+            CowSlice::Borrowed(none),
+        )),
+        Answer::Differs(difference) => Ok((
+            CowSlice::Borrowed(none),
+            CowSlice::Owned(difference_text_of(alloc, difference)?),
         )),
         Answer::SourceRefused(refusal) => Ok((
             CowSlice::Borrowed(none),

@@ -12,12 +12,15 @@ use Rattle.ppm_cells.specs.Limits.{most_pool_words}
 use Rattle.ppm_cli.specs.Application.{ppm_application}
 use Rattle.ppm_cli.specs.CommandLine.{Number, OptionRule, processors, turns, room, slots, looks, seed, faults, schedule}
 use Rattle.ppm_cli.specs.CommandLine.{few_processors, after, small_room, few_slots, size, count, capsules, arrays}
+use Rattle.ppm_cli.specs.CommandLine.{copied_room, copied_slots, met, from, acts, runs}
 use Rattle.ppm_cli.specs.Words.{run_options, serial_in, replay_options, resume_options, self_in, self_options, stop_options}
 use Rattle.ppm_cli.specs.Values.{number_in, number_given, value_of_digits, text_given}
 use Rattle.ppm_cli.specs.Words.{command_named, command_in, without_fault, command_of}
 use Rattle.ppm_cli.specs.Values.{takeover_given, idle_given}
 use Rattle.ppm_cli.specs.Words.{with_text, AreReplayed, AreResumed, AreRun, AreSelf, AreStopped, DoPoolsFit, IsInRange, IsLimit, IsOfForm}
 use Rattle.ppm_cli.specs.Values.{fitting_room, room_given}
+use Rattle.ppm_cli.specs.Words.{sweep_options, AreSwept}
+use Rattle.ppm_cli.specs.Values.{swept_takeovers_given}
 use Rattle.ppm_cli.specs.Words.{by_input, code_in, capsule_limit, with_input}
 use Rattle.ppm_cli.specs.Values.{choice_given, is_case_given}
 use Rattle.ppm_cli.specs.declared.capsules.CapsuleLimit.{CapsuleLimit}
@@ -158,6 +161,33 @@ resume_are rows =
     bound AreResumed (number_given seed rows) _ (λ s c.
     (given turns _ _ n rows refl a, given looks _ _ l rows refl b, given seed _ _ s rows refl c))))
 
+sweep_are : (rows : List Row) → IfSome (sweep_options rows) AreSwept
+sweep_are rows =
+    bound AreSwept (number_given processors rows) _ (λ p a.
+    bound AreSwept (number_given turns rows) _ (λ n b.
+    bound AreSwept (room_given copied_room p rows) _ (λ w c.
+    bound AreSwept (number_given copied_slots rows) _ (λ e d.
+    bound AreSwept (swept_takeovers_given rows) _ (λ t g.
+    bound AreSwept (number_given met rows) _ (λ m h.
+    bound AreSwept (number_given from rows) _ (λ f i.
+    bound AreSwept (number_given acts rows) _ (λ x j.
+    bound AreSwept (number_given runs rows) _ (λ r k.
+    bound AreSwept (number_given seed rows) _ (λ s l.
+    bound AreSwept (number_given capsules rows) _ (λ y o.
+    let z = room_fits copied_room _ _ p w rows refl c in (
+      given processors _ _ p rows refl a,
+      given turns _ _ n rows refl b,
+      z.0,
+      given copied_slots _ _ e rows refl d,
+      given met _ _ m rows refl h,
+      given from _ _ f rows refl i,
+      given acts _ _ x rows refl j,
+      given runs _ _ r rows refl k,
+      given seed _ _ s rows refl l,
+      given capsules _ _ y rows refl o,
+      z.1,
+    ))))))))))))
+
 self_are : (rows : List Row) → IfSome (self_options rows) AreSelf
 self_are rows =
     bound AreSelf (number_given few_processors rows) _ (λ p a.
@@ -212,7 +242,11 @@ named_are name rows =
     (with_input_are AreStopped commands.Stop commands.StopCase schedule (stop_options rows) rows (λ o t h. h) (λ o t h. h) (stop_are rows))
     (either IsInRange (bytes_eq name (codes "resume")) _ _
     (with_text_are AreResumed commands.Resume faults (resume_options rows) rows (λ o t h. h) (resume_are rows))
-    tt)))))))))
+    (either IsInRange (bytes_eq name (codes "sweep")) _ _
+    (with_input_are AreSwept commands.Sweep commands.SweepCase schedule (sweep_options rows) rows (λ o t h. h) (λ o t h. h) (sweep_are rows))
+    (either IsInRange (bytes_eq name (codes "ram")) _ _
+    (with_text_are AreRun commands.Ram faults (run_options rows) rows (λ o t h. h) (run_are rows))
+    tt)))))))))))
 
 -- the options of a command that words give
 pub is_in_range : (words : List Text) (command : Command) → command_of words ≡ Some command → IsInRange command

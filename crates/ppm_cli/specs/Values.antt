@@ -9,7 +9,9 @@ use Rattle.ppm_words.specs.declared.idle.Idle.TheVariants.{Leave, Park}
 use Rattle.ppm_cells.specs.Limits.{most_pool_words}
 use Rattle.ppm_cells.specs.declared.shape.Takeover.{Takeover}
 use Rattle.ppm_cells.specs.declared.shape.Takeover.TheVariants.{ByPlaces, ByEntries}
-use Rattle.ppm_cli.specs.CommandLine.{Form, Number, Choice, AnyText, OptionRule, is_free_text, takeover, idle, input}
+use Rattle.ppm_cli.specs.CommandLine.{Form, Number, Choice, AnyText, OptionRule, is_free_text, takeover, swept_takeovers, idle, input}
+use Rattle.ppm_cli.specs.declared.takeover.SweptTakeovers.{SweptTakeovers}
+use Rattle.ppm_cli.specs.declared.takeover.SweptTakeovers.TheVariants as swept
 
 -- the number that decimal digits write; a plus may stand in front
 abbrev pub value_of_digits : Text → ℕ
@@ -54,6 +56,10 @@ choice_given o values rows = option_and_then (choice_in o.form values) (first_of
 -- what is taken over of a dead processor
 abbrev pub takeover_given : List Row → Option Takeover
 takeover_given rows = choice_given takeover (ByPlaces ∷ ByEntries ∷ []) rows
+
+-- under which takeovers a sweep has its runs
+abbrev pub swept_takeovers_given : List Row → Option SweptTakeovers
+swept_takeovers_given rows = choice_given swept_takeovers (swept.ByPlaces ∷ swept.ByEntries ∷ swept.Both ∷ []) rows
 
 -- what a processor does that finds no work
 abbrev pub idle_given : List Row → Option Idle

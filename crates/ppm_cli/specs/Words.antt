@@ -7,7 +7,8 @@ use Rattle.ppm_cli.specs.Application.{ppm_application}
 use Rattle.ppm_cli.specs.CommandLine.{Form, Number, OptionRule}
 use Rattle.ppm_cli.specs.CommandLine.{processors, turns, room, slots, looks, seed, faults, schedule}
 use Rattle.ppm_cli.specs.CommandLine.{few_processors, after, small_room, few_slots, size, count, capsules, arrays}
-use Rattle.ppm_cli.specs.Values.{and_then, choice_given, idle_given, is_case_given, number_given, room_given, takeover_given, text_given}
+use Rattle.ppm_cli.specs.CommandLine.{copied_room, copied_slots, met, from, acts, runs}
+use Rattle.ppm_cli.specs.Values.{and_then, choice_given, idle_given, is_case_given, number_given, room_given, swept_takeovers_given, takeover_given, text_given}
 use Rattle.ppm_cli.specs.declared.capsules.CapsuleLimit.{CapsuleLimit}
 use Rattle.ppm_cli.specs.declared.command.Command.{Command}
 use Rattle.ppm_cli.specs.declared.command.Command.TheVariants as commands
@@ -16,6 +17,7 @@ use Rattle.ppm_cli.specs.declared.replay.ReplayOptions.{ReplayOptions}
 use Rattle.ppm_cli.specs.declared.resume.ResumeOptions.{ResumeOptions}
 use Rattle.ppm_cli.specs.declared.run.RunOptions.{RunOptions}
 use Rattle.ppm_cli.specs.declared.stop.StopOptions.{StopOptions}
+use Rattle.ppm_cli.specs.declared.sweep.SweepOptions.{SweepOptions}
 
 -- a command that has options and a text, if each has a value of its form
 abbrev pub with_text : {O : Type 0} → (O → Text → Command) → OptionRule → Option O → List Row → Option Command
@@ -30,7 +32,7 @@ abbrev pub with_input : {O : Type 0} → (of_source of_case : O → Text → Com
 with_input of_source of_case text options rows =
     and_then options (λ o. and_then (text_given text rows) (λ t. by_input (of_source o t) (of_case o t) rows))
 
--- the options of `run` but for its plan, if each has a value of its form
+-- the options of `run` and of `ram` but for its plan, if each has a value of its form
 abbrev pub run_options : List Row → Option RunOptions
 run_options rows =
     and_then (number_given processors rows) (λ p.
@@ -46,6 +48,10 @@ run_options rows =
 -- the command `run` with its options and its plan, over a source or over a case
 abbrev pub run_in : List Row → Option Command
 run_in rows = with_input commands.Run commands.RunCase faults (run_options rows) rows
+
+-- the command `ram` with its options and its plan
+abbrev pub ram_in : List Row → Option Command
+ram_in rows = with_text commands.Ram faults (run_options rows) rows
 
 -- the command `serial` with its options
 abbrev pub serial_in : List Row → Option Command
@@ -90,6 +96,38 @@ resume_options rows =
 abbrev pub resume_in : List Row → Option Command
 resume_in rows = with_text commands.Resume faults (resume_options rows) rows
 
+-- the options of `sweep` but for its schedule, if each has a value of its form
+abbrev pub sweep_options : List Row → Option SweepOptions
+sweep_options rows =
+    and_then (number_given processors rows) (λ p.
+    and_then (number_given turns rows) (λ n.
+    and_then (room_given copied_room p rows) (λ w.
+    and_then (number_given copied_slots rows) (λ e.
+    and_then (swept_takeovers_given rows) (λ t.
+    and_then (number_given met rows) (λ m.
+    and_then (number_given from rows) (λ f.
+    and_then (number_given acts rows) (λ a.
+    and_then (number_given runs rows) (λ r.
+    and_then (number_given seed rows) (λ s.
+    and_then (number_given capsules rows) (λ c.
+    Some (record {
+      processors = p;
+      turns = n;
+      room = w;
+      slots = e;
+      takeover = t;
+      faults = m;
+      from = f;
+      acts = a;
+      runs = r;
+      seed = s;
+      capsules = c;
+    }))))))))))))
+
+-- the command `sweep` with its options and its schedule, over a source or over a case
+abbrev pub sweep_in : List Row → Option Command
+sweep_in rows = with_input commands.Sweep commands.SweepCase schedule (sweep_options rows) rows
+
 -- the options of `self`, if each has a value of its form
 abbrev pub self_options : List Row → Option SelfOptions
 self_options rows =
@@ -132,6 +170,8 @@ command_named name rows =
     else if bytes_eq name (codes "self") then self_in rows
     else if bytes_eq name (codes "stop") then stop_in rows
     else if bytes_eq name (codes "resume") then resume_in rows
+    else if bytes_eq name (codes "sweep") then sweep_in rows
+    else if bytes_eq name (codes "ram") then ram_in rows
     else None
 
 -- the command of the subcommand that was met, with its options
@@ -186,6 +226,14 @@ abbrev pub AreResumed : ResumeOptions → Type 0
 AreResumed options =
     IsOfForm turns.form options.turns × IsOfForm looks.form options.looks × IsOfForm seed.form options.seed
 
+-- each option of a sweep is in its range, and the pools fit
+abbrev pub AreSwept : SweepOptions → Type 0
+AreSwept options =
+    IsOfForm processors.form options.processors × IsOfForm turns.form options.turns × IsOfForm copied_room.form options.room
+    × IsOfForm copied_slots.form options.slots × IsOfForm met.form options.faults × IsOfForm from.form options.from
+    × IsOfForm acts.form options.acts × IsOfForm runs.form options.runs × IsOfForm seed.form options.seed
+    × IsOfForm capsules.form options.capsules × DoPoolsFit options.processors options.room
+
 -- the limit of a depth-first run is in its range
 abbrev pub IsLimit : CapsuleLimit → Type 0
 IsLimit limit = IsOfForm capsules.form limit.capsules
@@ -206,3 +254,6 @@ IsInRange commands.CodeCase = ⊤
 IsInRange (commands.RunCase options _) = AreRun options
 IsInRange (commands.ReplayCase options _) = AreReplayed options
 IsInRange (commands.StopCase options _) = AreStopped options
+IsInRange (commands.Sweep options _) = AreSwept options
+IsInRange (commands.SweepCase options _) = AreSwept options
+IsInRange (commands.Ram options _) = AreRun options

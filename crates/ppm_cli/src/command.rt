@@ -6,11 +6,13 @@ ghost use Rattle.ppm_cli.specs.Words.{IsInRange, command_in, command_named as na
 use crate::capsules::{CapsuleLimit, depth_from, races_from};
 use crate::code::code_from;
 use crate::example::{SelfOptions, self_from};
+use crate::ram::ram_from;
 use crate::replay::{ReplayOptions, replay_from};
 use crate::resume::{ResumeOptions, resume_from};
 use crate::run::{RunOptions, run_from};
 use crate::serial::{SerialOptions, serial_from};
 use crate::stop::{StopOptions, stop_from};
+use crate::sweep::{SweepOptions, sweep_from};
 use clap::ArgMatches;
 use ppm_words::Items;
 use std::alloc::{AllocError, Global};
@@ -49,6 +51,15 @@ pub enum Command {
     /// To stop the case that is read in mid-run, by a schedule, of which these are the bytes, and to
     /// save the machine's words.
     StopCase(StopOptions, Items<u8>),
+    /// To run the source that is read by a schedule, of which these are the bytes, and again with
+    /// faults, and to compare the ends of all runs.
+    Sweep(SweepOptions, Items<u8>),
+    /// To run the case that is read by a schedule, of which these are the bytes, and again with
+    /// faults, and to compare the ends of all runs.
+    SweepCase(SweepOptions, Items<u8>),
+    /// To run the RAM of the text that is read, under a plan of faults, of which these are the
+    /// bytes.
+    Ram(RunOptions, Items<u8>),
 }
 
 /// The command of the subcommand that was met, with its options.
@@ -85,6 +96,8 @@ fn command_named(
         "self" => Ok(self_from(matches)),
         "stop" => stop_from(alloc, matches),
         "resume" => resume_from(alloc, matches),
+        "sweep" => sweep_from(alloc, matches),
+        "ram" => ram_from(alloc, matches),
         _ => Ok(None),
     }
 }

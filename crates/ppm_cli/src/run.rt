@@ -17,7 +17,7 @@ use ppm_cells::Takeover;
 use ppm_words::{Idle, Items};
 use std::alloc::{AllocError, Global};
 
-/// The options of `run` but for its plan of faults.
+/// The options of `run` or of `ram` but for its plan of faults.
 #[derive(Clone, Copy, Debug, PartialEq, Eq)]
 pub struct RunOptions {
     /// How many processors there are: from 1 to 64, and 4 by default.
@@ -73,8 +73,8 @@ fn run_of(matches: &ArgMatches<'_>, options: RunOptions, plan: Items<u8>) -> Opt
     }
 }
 
-/// The options of `run` in its matches.
-fn run_options(matches: &ArgMatches<'_>) -> Option<RunOptions>
+/// The options of `run` or of `ram` in its matches.
+pub(crate) fn run_options(matches: &ArgMatches<'_>) -> Option<RunOptions>
     ensures value { result ≡ options_in (rows_of (found_of matches.now)) }
     ensures in_range { IfSome result AreRun }
 {

@@ -17,6 +17,9 @@ const MOST_WRITTEN_ENTRIES: u32 = 4_096;
 /// The most looks for work in a row.
 const MOST_LOOKS: u32 = 1_048_576;
 
+/// The most acts of a base run that are drawn.
+const MOST_DRAWN: u32 = 65_536;
+
 /// A command: its name and its options.
 #[derive(Clone, Copy, Debug)]
 pub struct CommandRow {
@@ -118,6 +121,14 @@ pub(crate) const SMALL_ROOM: NumberOption = NumberOption {
     default: "16384",
 };
 
+/// How many it has where each run has words of its own.
+pub(crate) const COPIED_ROOM: NumberOption = NumberOption {
+    name: "room",
+    low: 64,
+    high: POOL_WORD_LIMIT,
+    default: "16384",
+};
+
 /// How many entries the deque of a place has.
 pub(crate) const SLOTS: NumberOption = NumberOption {
     name: "slots",
@@ -131,6 +142,14 @@ pub(crate) const FEW_SLOTS: NumberOption = NumberOption {
     name: "slots",
     low: 2,
     high: MOST_WRITTEN_ENTRIES,
+    default: "256",
+};
+
+/// How many it has where each run has words of its own.
+pub(crate) const COPIED_SLOTS: NumberOption = NumberOption {
+    name: "slots",
+    low: 2,
+    high: ENTRY_LIMIT,
     default: "256",
 };
 
@@ -174,6 +193,38 @@ pub(crate) const COUNT: NumberOption = NumberOption {
     default: "0",
 };
 
+/// How many faults a run meets at most.
+pub(crate) const MET: NumberOption = NumberOption {
+    name: "faults",
+    low: 1,
+    high: 2,
+    default: "1",
+};
+
+/// The first act before which faults are put.
+pub(crate) const FROM: NumberOption = NumberOption {
+    name: "from",
+    low: 0,
+    high: TURN_LIMIT - 1,
+    default: "0",
+};
+
+/// Before how many acts faults are put.
+pub(crate) const ACTS: NumberOption = NumberOption {
+    name: "acts",
+    low: 1,
+    high: TURN_LIMIT,
+    default: "268435456",
+};
+
+/// How many acts of the base run are drawn before which faults are put.
+pub(crate) const RUNS: NumberOption = NumberOption {
+    name: "runs",
+    low: 0,
+    high: MOST_DRAWN,
+    default: "0",
+};
+
 /// The plan of faults.
 pub(crate) const FAULTS: TextOption = TextOption {
     name: "faults",
@@ -185,6 +236,13 @@ pub(crate) const TAKEOVER: ChoiceOption = ChoiceOption {
     name: "takeover",
     words: &["place", "entry"],
     default: "place",
+};
+
+/// Under which takeovers a sweep has its runs.
+pub(crate) const SWEPT_TAKEOVERS: ChoiceOption = ChoiceOption {
+    name: "takeover",
+    words: &["place", "entry", "both"],
+    default: "both",
 };
 
 /// What a processor does that finds no work.
@@ -214,8 +272,8 @@ pub(crate) const SCHEDULE: TextOption = TextOption {
     default: "none",
 };
 
-/// The commands that are admitted, in the order of the help page.
-pub const COMMANDS: [CommandRow; 10] = [
+/// The commands, in the order of the help page.
+pub const COMMANDS: [CommandRow; 12] = [
     CommandRow {
         name: "run",
         options: &[
@@ -290,6 +348,38 @@ pub const COMMANDS: [CommandRow; 10] = [
             OptionRow::Number(LOOKS),
             OptionRow::Number(SEED),
             OptionRow::Text(FAULTS),
+        ],
+    },
+    CommandRow {
+        name: "sweep",
+        options: &[
+            OptionRow::Number(PROCESSORS),
+            OptionRow::Number(TURNS),
+            OptionRow::Number(COPIED_ROOM),
+            OptionRow::Number(COPIED_SLOTS),
+            OptionRow::Choice(SWEPT_TAKEOVERS),
+            OptionRow::Text(SCHEDULE),
+            OptionRow::Number(MET),
+            OptionRow::Number(FROM),
+            OptionRow::Number(ACTS),
+            OptionRow::Number(RUNS),
+            OptionRow::Number(SEED),
+            OptionRow::Number(CAPSULES),
+            OptionRow::Choice(INPUT),
+        ],
+    },
+    CommandRow {
+        name: "ram",
+        options: &[
+            OptionRow::Number(PROCESSORS),
+            OptionRow::Number(TURNS),
+            OptionRow::Number(ROOM),
+            OptionRow::Number(SLOTS),
+            OptionRow::Number(LOOKS),
+            OptionRow::Number(SEED),
+            OptionRow::Text(FAULTS),
+            OptionRow::Choice(TAKEOVER),
+            OptionRow::Choice(IDLE),
         ],
     },
 ];

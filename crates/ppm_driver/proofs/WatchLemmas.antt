@@ -63,6 +63,8 @@ told_none (answers.TrappedAfter t line counts) lists = tt
 told_none (answers.Sound counts) lists = tt
 told_none (answers.NotWithinCapsules capsules) lists = tt
 told_none (answers.Raced race) lists = tt
+told_none (answers.Swept sweep) lists = tt
+told_none (answers.Differs difference) lists = tt
 
 pub others_still : (watching : ℕ) (lists : ToldLists) → OthersKeep watching lists lists
 others_still watching lists c least = stays (get_or lists c None)

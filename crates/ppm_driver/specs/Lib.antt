@@ -23,6 +23,11 @@ pub mod CodeReplays
 pub mod CaseRefusals
 pub mod CaseReplays
 pub mod CaseReplayRows
+pub mod Sweeps
+pub mod Halts
+pub mod SweepRows
+pub mod CaseSweeps
+pub mod CaseSweepRows
 pub mod Stops
 pub mod StopRows
 pub mod CaseStops

@@ -40,6 +40,7 @@ mod one_ram;
 mod one_replay;
 mod one_run;
 mod one_stop;
+mod one_sweep;
 mod orders;
 mod ram;
 mod rams;
@@ -53,6 +54,9 @@ mod stop;
 mod stop_case;
 mod stopped;
 mod sums;
+mod sweep;
+mod sweep_case;
+mod sweeping;
 
 pub use complete::{runs_complete, runs_of_code_complete};
 pub use complete_resume::{resume_laws, resumes_complete, runs_of_code_complete_in_legs};
@@ -64,7 +68,7 @@ pub use legs::{
 };
 pub use meant::{
     answers_are_as_code, answers_are_as_rams, programs_are_as_code, replays_are_as_code,
-    runs_are_as_code, runs_are_as_programs,
+    runs_are_as_code, runs_are_as_programs, sweeps_are_as_code,
 };
 pub use one_case::{
     case_answers_are_one, case_replays_have_one_answer, case_stops_have_one_answer,
@@ -73,6 +77,7 @@ pub use one_ram::ram_answers_are_one;
 pub use one_replay::replays_have_one_answer;
 pub use one_run::answers_are_one;
 pub use one_stop::stops_have_one_answer;
+pub use one_sweep::{case_sweeps_have_one_answer, sweeps_have_one_answer};
 pub use ram::ram_command;
 pub use replay::replay_command;
 pub use replay_case::replay_case_command;
@@ -83,3 +88,5 @@ pub use stop::stop_command;
 pub use stop_case::stop_case_command;
 pub use stopped::{stopped_cases_go_on, stopped_runs_go_on};
 pub use sums::examples_sum_up;
+pub use sweep::sweep_command;
+pub use sweep_case::sweep_case_command;

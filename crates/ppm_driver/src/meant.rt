@@ -4,6 +4,7 @@ ghost use Rattle.ppm_driver.specs.CodeReplays.{ReplaysAreAsCode};
 ghost use Rattle.ppm_driver.specs.CodeRuns.{AnswersAreAsCode};
 ghost use Rattle.ppm_driver.specs.Meant.{RunsAreAsPrograms};
 ghost use Rattle.ppm_driver.specs.ProgramsAsCode.{ProgramsAreAsCode};
+ghost use Rattle.ppm_driver.specs.SweepRows.{SweepsAreAsCode};
 ghost use Rattle.ppm_driver.specs.RamEnds.{AnswersAreAsRams};
 
 use ppm_cut_code::keeps_the_rules;
@@ -63,6 +64,15 @@ pub fn replays_are_as_code()
 {
     // The law rests on this one; the call does nothing.
     runs_are_as_code();
+}
+
+/// With options in their ranges, and a schedule that is accepted: where a sweep of a sound code
+/// tells a difference, the replay came to no end. All its acts were made, or room is not enough.
+pub fn sweeps_are_as_code()
+    ensures law { SweepsAreAsCode }
+{
+    // The law rests on this one; the call does nothing.
+    replays_are_as_code();
 }
 
 /// From the machine with which a run of a text's program begins, whatever the turns are that its

@@ -4,7 +4,7 @@ use ppm_answers::Status;
 use std::io;
 
 /// All statuses of the program, by their numbers.
-const STATUSES: [Status; 13] = [
+const STATUSES: [Status; 14] = [
     Status::Ended,
     Status::Trapped,
     Status::SourceRefused,
@@ -18,6 +18,7 @@ const STATUSES: [Status; 13] = [
     Status::NotWithin,
     Status::SavedRefused,
     Status::Broken,
+    Status::Differs,
 ];
 
 /// Prints what the program and the script end with.
@@ -41,15 +42,17 @@ fn meaning_of(status: Status) -> &'static str {
     match status {
         Status::Ended => {
             "ended: the arrays, and of `replay` its forks and takes, of `depth` its counts; of `code`\n       \
-             the listing or the case; of `check` the line `ok`, of `races` the line `sound: ..`; of\n       \
-             `stop` the saved text (docs/SAVED.md); of `self` `size n forks g sum s last l`"
+             the listing or the case; of `check` the line `ok`, of `races` the line `sound: ..`, of\n       \
+             `sweep` the line `ok: R runs, M met, A acts`, and with more than 0 `, L left out`;\n       \
+             of `stop` the saved text (docs/SAVED.md); of `self` `size n forks g sum s last l`"
         }
         Status::Trapped => {
             "trapped: `trap K line N`, K being overflow, divzero, index or split; of `replay`\n       \
              its forks and takes too, of `depth` its counts"
         }
         Status::SourceRefused => {
-            "source refused: the fault and its place (docs/LANGUAGE.md, \"Refusals\")"
+            "source refused: the fault and its place (docs/LANGUAGE.md, \"Refusals\"); of `ram` the\n       \
+             fault and its line (docs/RAM.md)"
         }
         Status::WordsRefused => {
             "words refused; or of a plan or a schedule `plan refused: N`, by N: 1 an item has\n       \
@@ -57,8 +60,8 @@ fn meaning_of(status: Status) -> &'static str {
              processor is spared, as by a hard fault where there is one processor"
         }
         Status::OutOfTurns => {
-            "of `run` and `resume` `out of turns: processor C`, which spent --turns; of `replay`\n       \
-             `unfinished after N turns`"
+            "of `run`, `ram` and `resume` `out of turns: processor C`, which spent --turns; of\n       \
+             `replay` `unfinished after N turns`"
         }
         Status::OutOfRoom => {
             "out of room: the run needed more words than the pool of that place has, which are\n       \
@@ -69,12 +72,12 @@ fn meaning_of(status: Status) -> &'static str {
         Status::NoMemory => "out of memory",
         Status::CodeRefused => {
             "code refused: of `check`, `depth` or `races` a conflict, an untidy store or a race, the\n       \
-             first one; of these, and wherever `--input case` stands, why what was read is no\n       \
-             listing or no case (docs/CODE.md)"
+             first one, of `sweep` an untidy store; of these, and wherever `--input case` stands,\n       \
+             why what was read is no listing or no case (docs/CODE.md)"
         }
         Status::NotWithin => {
-            "not within: `serial` did not end within --turns, or `depth` or `races` within\n       \
-             --capsules"
+            "not within: `serial` did not end within --turns, or the depth-first run of `depth`,\n       \
+             `races` or `sweep` within --capsules"
         }
         Status::SavedRefused => {
             "saved text refused by `resume`: the fault and its line (docs/SAVED.md)"
@@ -83,6 +86,10 @@ fn meaning_of(status: Status) -> &'static str {
             "saved words broken: place P, of `resume`, or of a case that isn't sound: the machine\n       \
              can't go on from a word at place P; P is 64 where no place is known, or where the\n       \
              saved finish word means nothing"
+        }
+        Status::Differs => {
+            "of `sweep` `differs: SCHEDULE`, a line `takeover ..`, and what `replay` says of that\n       \
+             run: it came to something else than the depth-first run"
         }
     }
 }

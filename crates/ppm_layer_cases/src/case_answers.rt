@@ -1,6 +1,7 @@
 //! Answers of the commands that read a case, by the words of a call.
 use crate::answers::conflict_of;
 use crate::said::{number_at, wide_at};
+use crate::sweep_answers::sweep_answer_of;
 use ppm_answers::{
     Answer, Counts, InputRefusal, Opener, Race, Touch, Touching, UntidyStore, Visit,
 };
@@ -29,7 +30,7 @@ pub(crate) fn case_answer_of(alloc: Global, call: &Call, kind: &str) -> Result<A
             number: number_at(call, 2)?,
             line: number_at(call, 3)?,
         })),
-        _ => Err(Fault::Line("an answer is wanted")),
+        kind => sweep_answer_of(alloc, call, kind),
     }
 }
 

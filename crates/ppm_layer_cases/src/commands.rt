@@ -1,7 +1,9 @@
 //! The commands that words ask for, as lines with all their options.
 use crate::said::Said;
 use ppm_cells::Takeover;
-use ppm_cli::{Command, ReplayOptions, RunOptions, StopOptions, read_words};
+use ppm_cli::{
+    Command, ReplayOptions, RunOptions, StopOptions, SweepOptions, SweptTakeovers, read_words,
+};
 use ppm_sheets::Fault;
 use ppm_words::Idle;
 use std::alloc::Global;
@@ -11,6 +13,15 @@ fn takeover_word(takeover: Takeover) -> &'static str {
     match takeover {
         Takeover::ByPlaces => "place",
         Takeover::ByEntries => "entry",
+    }
+}
+
+/// The word of the takeovers of a sweep.
+fn swept_word(takeover: SweptTakeovers) -> &'static str {
+    match takeover {
+        SweptTakeovers::ByPlaces => "place",
+        SweptTakeovers::ByEntries => "entry",
+        SweptTakeovers::Both => "both",
     }
 }
 
@@ -60,6 +71,25 @@ fn stop_line(alloc: Global, name: &str, it: &StopOptions) -> Result<String, Faul
     Ok(line)
 }
 
+/// The line of a command with the options of `sweep`.
+fn sweep_line(alloc: Global, name: &str, it: &SweepOptions) -> Result<String, Fault> {
+    let takeover = swept_word(it.takeover);
+    let line = format!(in alloc;
+        "{name} processors {} turns {} room {} slots {} takeover {takeover} faults {} from {} acts {} runs {} seed {} capsules {}",
+        it.processors,
+        it.turns,
+        it.room,
+        it.slots,
+        it.faults,
+        it.from,
+        it.acts,
+        it.runs,
+        it.seed,
+        it.capsules
+    )?;
+    Ok(line)
+}
+
 /// The line of a command: its name and its options, the plan or the schedule last.
 fn line_of(alloc: Global, command: &Command) -> Result<Vec<u8>, Fault> {
     let mut plan: &[u8] = b"";
@@ -74,6 +104,11 @@ fn line_of(alloc: Global, command: &Command) -> Result<Vec<u8>, Fault> {
             front = " faults=";
             plan = faults.as_slice();
             run_line(alloc, "run of a case", it)?
+        }
+        Command::Ram(it, faults) => {
+            front = " faults=";
+            plan = faults.as_slice();
+            run_line(alloc, "ram", it)?
         }
         Command::Serial(it) => format!(in alloc; "serial turns {}", it.turns)?,
         Command::Code => String::from_str(alloc, "code")?,
@@ -104,6 +139,16 @@ fn line_of(alloc: Global, command: &Command) -> Result<Vec<u8>, Fault> {
             front = " schedule=";
             plan = schedule.as_slice();
             stop_line(alloc, "stop of a case", it)?
+        }
+        Command::Sweep(it, schedule) => {
+            front = " schedule=";
+            plan = schedule.as_slice();
+            sweep_line(alloc, "sweep", it)?
+        }
+        Command::SweepCase(it, schedule) => {
+            front = " schedule=";
+            plan = schedule.as_slice();
+            sweep_line(alloc, "sweep of a case", it)?
         }
         Command::Resume(it, faults) => {
             front = " faults=";

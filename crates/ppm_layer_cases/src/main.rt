@@ -17,6 +17,7 @@ mod listings;
 mod plans;
 mod said;
 mod steps;
+mod sweep_answers;
 mod texts;
 mod trees;
 

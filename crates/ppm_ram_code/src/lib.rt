@@ -11,8 +11,6 @@ mod bank;
 mod code;
 mod instrs;
 mod laws;
-#[cfg(test)]
-mod tests;
 
 pub use bank::Bank;
 pub use code::{ram_code, ram_input};

@@ -1,4 +1,5 @@
 pub mod Sweep
+pub mod Windows
 pub mod Meets
 pub mod Ahead
 pub mod Found

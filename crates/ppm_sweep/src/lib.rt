@@ -10,6 +10,7 @@
 #![tactic(auto)]
 
 mod ahead;
+mod drawing;
 mod found;
 mod front;
 mod laws;
@@ -21,6 +22,6 @@ mod text;
 
 pub use found::{Differing, Stop, Tally};
 pub use laws::sweeps_are_fair;
-pub use options::{Sweeping, Window};
+pub use options::{Draws, Sweeping, Window};
 pub use sweeping::sweep;
 pub use text::{schedules_are_written, write_schedule};
