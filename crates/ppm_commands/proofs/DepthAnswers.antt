@@ -17,8 +17,9 @@ use Rattle.ppm_answers.specs.declared.case.UntidyStore.{UntidyStore}
 use Rattle.ppm_answers.specs.declared.counts.Counts.{Counts}
 use Rattle.ppm_answers.specs.declared.answer.Answer.{Answer}
 use Rattle.ppm_answers.specs.declared.answer.Answer.TheVariants as answers
-use Rattle.ppm_commands.specs.Cases.{IsUntidy, counts_told, store_told}
-use Rattle.ppm_commands.specs.Depth.{EndsWithin, GoesOn, DepthOf, DepthMayOf, DepthHas, HaveOneAnswer, answer_by, run_answer}
+use Rattle.ppm_loading.specs.Telling.{IsUntidy, counts_told, store_told}
+use Rattle.ppm_commands.specs.Depth.{EndsWithin, DepthOf, DepthMayOf, DepthHas, HaveOneAnswer, answer_by, run_answer}
+use Rattle.ppm_loading.specs.Telling.{GoesOn}
 use Rattle.ppm_commands.proofs.CaseAnswers as case_answers
 use Rattle.ppm_commands.proofs.FirstStore.{one_told, none_told}
 use Rattle.ppm_commands.proofs.TidyLemmas.{all_are}

@@ -8,7 +8,7 @@ use Rattle.ppm_war.specs.declared.untidy_store.UntidyStore.{UntidyStore}
 use Rattle.ppm_war.specs.Untidy.{IsFirstUntidyOf, IsUntidyAt}
 use Rattle.ppm_war.proofs.UntidyLemmas.{not_tidy}
 use Rattle.ppm_answers.specs.declared.case.UntidyStore.{UntidyStore as ToldStore}
-use Rattle.ppm_commands.specs.Cases.{IsUntidy, store_told}
+use Rattle.ppm_loading.specs.Telling.{IsUntidy, store_told}
 use Rattle.ppm_commands.proofs.FirstConflict.{same_number}
 
 -- a store by its parts

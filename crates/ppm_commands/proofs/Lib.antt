@@ -19,7 +19,6 @@ pub mod WordLemmas
 pub mod TouchLemmas
 pub mod RacesAnswers
 pub mod RacesRows
-pub mod LineLemmas
 pub mod PlaceLemmas
 pub mod CaseTextAnswers
 pub mod NameLemmas

@@ -21,7 +21,8 @@ use Rattle.ppm_case.specs.Rules.{AllFollow}
 use Rattle.ppm_case.specs.Spelling.{Written, array_line, array_of, array_text}
 use Rattle.ppm_case.proofs.FormLemmas.{line_of_text}
 use Rattle.ppm_case.proofs.WordLemmas.{split_some}
-use Rattle.ppm_commands.specs.Cases.{capsule_lines, line_at, HasLine, InstructionsHaveTheirLines}
+use Rattle.ppm_commands.specs.Cases.{HasLine, InstructionsHaveTheirLines}
+use Rattle.ppm_loading.specs.Telling.{capsule_lines, line_at}
 
 module _ {A : Type 0} where
   -- what stands behind others

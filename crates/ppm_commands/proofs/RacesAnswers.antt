@@ -17,8 +17,9 @@ use Rattle.ppm_answers.specs.declared.race.Race.{Race as ToldRace}
 use Rattle.ppm_answers.specs.declared.answer.Answer.{Answer}
 use Rattle.ppm_answers.specs.declared.answer.Answer.TheVariants as answers
 use Rattle.ppm_commands.specs.Check.{conflict_told}
-use Rattle.ppm_commands.specs.Cases.{IsUntidy, counts_told, line_at, store_told}
-use Rattle.ppm_commands.specs.Races.{IsWordOf, TellsRace, MayBeRun, HasConflict, RacesOf, RacesHas, HaveOneAnswer}
+use Rattle.ppm_loading.specs.Telling.{IsUntidy, counts_told, line_at, store_told}
+use Rattle.ppm_commands.specs.Races.{IsWordOf, TellsRace, HasConflict, RacesOf, RacesHas, HaveOneAnswer}
+use Rattle.ppm_loading.specs.Telling.{MayBeRun}
 use Rattle.ppm_commands.specs.Races.{conflict_answer, opener_told, visit_told, touching_told}
 use Rattle.ppm_commands.proofs.CaseAnswers as case_answers
 use Rattle.ppm_commands.proofs.FirstConflict.{one_conflict}

@@ -22,7 +22,8 @@ use Rattle.ppm_answers.specs.declared.status.Status.TheVariants as statuses
 use Rattle.ppm_answers.specs.Texts.{arrays_text, trap_text, counts_text, untidy_text, input_text, listing_text, not_within_capsules_text}
 use Rattle.ppm_answers.specs.Reading.{ReadHas, JudgingMay, AreOne, FrontsDecide}
 use Rattle.ppm_answers.specs.Rows.{PortsSay, TextRows, IsShown, IsDone}
-use Rattle.ppm_commands.specs.Cases.{counts_told, IsUntidy, HasOfCase, MayOf}
+use Rattle.ppm_commands.specs.Cases.{HasOfCase, MayOf}
+use Rattle.ppm_loading.specs.Telling.{counts_told, GoesOn, IsUntidy}
 
 -- a tidy code, run depth first from the input, comes within so many capsules to this, with these counts
 pub record EndsWithin (capsules : ℕ) (code : CodeParts) (input : List NamedArray) (o : Outcome) (k : Counts) : Type 0 where
@@ -31,12 +32,6 @@ pub record EndsWithin (capsules : ℕ) (code : CodeParts) (input : List NamedArr
   pub within : IsWithin code input capsules run
   pub outcome : run.outcome ≡ o
   pub counts : k ≡ counts_told run
-
--- a tidy code takes more capsules than that: no end has fewer, and behind the first so many another is next
-pub record GoesOn (capsules : ℕ) (code : CodeParts) (input : List NamedArray) : Type 0 where
-  pub tidy : IsTidy code
-  pub run : DepthRun
-  pub more : IsNotWithin code input capsules run
 
 -- the answer that a case has where it is run depth first for so many capsules
 abbrev pub DepthOf : ℕ → CodeParts → List NamedArray → Answer → Type 0

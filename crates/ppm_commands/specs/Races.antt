@@ -5,7 +5,6 @@ use Rattle.ppm_words.specs.Inputs.{value_count}
 use Rattle.ppm_ports.specs.Ports.{Port, Gets}
 use Rattle.ppm_ports.specs.Outside.{Ports}
 use Rattle.ppm_code.specs.declared.code.CodeParts.{CodeParts}
-use Rattle.ppm_code.specs.Tidy.{IsTidy}
 use Rattle.ppm_war.specs.declared.checked.Conflict.{Conflict}
 use Rattle.ppm_war.specs.Conflicts.{IsFree, IsFirstConflictOf}
 use Rattle.ppm_depth.specs.declared.depth.DepthRun.{DepthRun}
@@ -38,7 +37,8 @@ use Rattle.ppm_answers.specs.Reading.{ReadHas, JudgingMay, AreOne, FrontsDecide}
 use Rattle.ppm_answers.specs.Rows.{PortsSay, TextRows, IsShown, IsDone}
 use Rattle.ppm_commands.specs.declared.race.Cell.{Cell}
 use Rattle.ppm_commands.specs.Check.{conflict_told}
-use Rattle.ppm_commands.specs.Cases.{line_at, counts_told, IsUntidy, HasOfCase, MayOf}
+use Rattle.ppm_commands.specs.Cases.{HasOfCase, MayOf}
+use Rattle.ppm_loading.specs.Telling.{line_at, counts_told, IsUntidy, MayBeRun}
 
 -- arrays lie one after the other: the word with an address is that with an index in the array of a name
 pub record IsWordOf (input : List NamedArray) (word : ℕ) (name : List ℕ) (index : ℕ) : Type 0 where
@@ -82,11 +82,6 @@ pub record TellsRace (code : CodeParts) (input : List NamedArray) (race : Race) 
   pub fork : told.fork ≡ opener_told race.fork
   pub left : told.left ≡ visit_told race.left
   pub right : told.right ≡ touching_told (length input) code race.right
-
--- what is asked of a code before its races: no capsule has a conflict, and it is tidy
-pub record MayBeRun (code : CodeParts) : Type 0 where
-  pub free : IsFree code
-  pub tidy : IsTidy code
 
 -- the code and the input are sound, and the depth-first run ends within so many capsules, with these counts
 pub record IsSoundWithin (capsules : ℕ) (code : CodeParts) (input : List NamedArray) (k : Counts) : Type 0 where

@@ -9,7 +9,7 @@ ghost use Rattle.ppm_answers.specs.Reading.{TextMay};
 ghost use Rattle.ppm_commands.specs.Depth.{DepthHas, DepthMay, DepthMayOf};
 ghost use Rattle.ppm_commands.specs.Depth.{IsRunDepthFirst, run_answer as answer_of};
 
-use crate::cases::{array_count, counts_told, store_told};
+use ppm_loading::{array_count, counts_told, store_told};
 use crate::laws::depth_runs_have_one_answer;
 use ppm_answers::{Answer, Status, answer_of_read, deliver};
 use ppm_case::CASE_LIMIT;

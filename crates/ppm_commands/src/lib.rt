@@ -16,7 +16,6 @@
 #![tactic(auto)]
 
 mod case;
-mod cases;
 mod check;
 mod code;
 mod depth;

@@ -7,7 +7,7 @@ ghost use Rattle.ppm_commands.specs.Races.{touch_told as told_touch};
 ghost use Rattle.ppm_commands.specs.Races.{touching_told as told_touching};
 ghost use Rattle.ppm_commands.specs.Races.{visit_told as told_visit};
 
-use crate::cases::line_at;
+use ppm_loading::line_at;
 use ppm_answers::Touch;
 use ppm_code::Code;
 use ppm_races::{Opener, Race, Touching, Visit};

@@ -12,7 +12,7 @@ ghost use Rattle.ppm_answers.specs.Reading.{TextMay};
 ghost use Rattle.ppm_commands.specs.Races.{RacesHas, RacesMay, RacesMayOf, AreSought};
 ghost use Rattle.ppm_commands.specs.Races.{conflict_answer as answer_of_conflict};
 
-use crate::cases::{array_count, counts_told, line_at, store_told};
+use ppm_loading::{array_count, counts_told, line_at, store_told};
 use crate::check::conflict_told;
 use crate::laws::cases_have_one_answer;
 use crate::race::race_told;

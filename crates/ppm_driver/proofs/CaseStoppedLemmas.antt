@@ -24,7 +24,7 @@ use Rattle.ppm_driver.specs.ResumeCompleteness.{lost_with}
 use Rattle.ppm_driver.specs.ResumeLaws.{ResumeLaws}
 use Rattle.ppm_driver.specs.ResumeRows.{WritesArrays, WritesTrap, WritesOutOfTurns, WritesOutOfRoom, WritesBroken}
 use Rattle.ppm_driver.specs.Resumes.{SavedState, IsTextOf, IsNoText, TextHas}
-use Rattle.ppm_driver.specs.Stops.{MayBeResumed}
+use Rattle.ppm_loading.specs.Telling.{MayBeRun}
 use Rattle.ppm_driver.specs.Strikes.{scheduled_faults}
 use Rattle.ppm_driver.proofs.CaseHeadlineLemmas.{may_run}
 use Rattle.ppm_driver.proofs.OfResume.{short_behind_stop}
@@ -34,7 +34,7 @@ use Rattle.ppm_driver.proofs.StoppedLemmas.{completes_there, count_is, is_state,
 
 -- what is saved of the case that was read is left by its code, if that may be resumed
 pub saved_by_code : StopsOfCodeLeaveStates → (stop : StopOptions) → AreStopped stop → (schedule : List ℕ) (p : Ports) (text : List ℕ)
-    (read : HasRead stop schedule p (answers.Saved text)) → MayBeResumed read.2.has.code
+    (read : HasRead stop schedule p (answers.Saved text)) → MayBeRun read.2.has.code
     → IsTextLeftByCode read.2.has.code read.2.has.input (scheduled_faults read.2.items) text
 saved_by_code law stop are schedule p text read may =
     let h = read.2 in

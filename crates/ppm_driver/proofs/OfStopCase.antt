@@ -21,7 +21,8 @@ use Rattle.ppm_loading.proofs.PlannedLemmas as planned
 use Rattle.ppm_saved_reader.specs.Correct.{HasState}
 use Rattle.ppm_driver.specs.CaseStopRows.{HasRead, StopCaseSays, StopCaseRows, WritesSaved}
 use Rattle.ppm_driver.specs.CaseStops.{TextHas, TextReads, StopCaseHas, StopCaseMay, StopCaseReads, HaveOneStopAnswer}
-use Rattle.ppm_driver.specs.Stops.{MayBeResumed, text_of}
+use Rattle.ppm_driver.specs.Stops.{text_of}
+use Rattle.ppm_loading.specs.Telling.{MayBeRun}
 use Rattle.ppm_driver.proofs.StopLemmas.{of_code_read, same_text}
 
 module _ (options : StopOptions) (schedule : List ℕ) (o : Ports) where
@@ -57,7 +58,7 @@ module _ (options : StopOptions) (schedule : List ℕ) (o : Ports) where
     read = h;
     saves = saves text h;
     read_back = h.2.has.has.read_back;
-    only = subst (λ (l : List ℕ). HasState l → MayBeResumed h.2.has.code) (sym (saves text h)) h.2.has.has.only;
+    only = subst (λ (l : List ℕ). HasState l → MayBeRun h.2.has.code) (sym (saves text h)) h.2.has.has.only;
     gets = w.out_takes.0;
   }
 

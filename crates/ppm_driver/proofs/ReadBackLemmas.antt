@@ -23,7 +23,8 @@ use Rattle.ppm_saved.specs.Correct.{SavedTextsTellStates, StateFits}
 use Rattle.ppm_saved_reader.specs.Rules.{is_from_to, sizes_fit}
 use Rattle.ppm_saved_reader.specs.Correct.{HasState, sizes_of as sizes_in}
 use Rattle.ppm_depth.specs.Start.{NamesArrays}
-use Rattle.ppm_driver.specs.Stops.{sizes_of, names_of, text_of, IsReadBack, MayBeResumed}
+use Rattle.ppm_driver.specs.Stops.{sizes_of, names_of, text_of, IsReadBack}
+use Rattle.ppm_loading.specs.Telling.{MayBeRun}
 use Rattle.ppm_driver.proofs.NamesLemmas.{lengths_are, as_many}
 use Rattle.ppm_driver.proofs.StopLemmas.{IsReadIf}
 
@@ -70,7 +71,7 @@ module _ (states : SavedTextsTellStates) (code : CodeParts) (input : List NamedA
     m = run_on begun turns
 
     -- after turns the state is whole
-    state_read : StateFits (names_of input) m.code m.state.words → MayBeResumed code → IsReadBack m input
+    state_read : StateFits (names_of input) m.code m.state.words → MayBeRun code → IsReadBack m input
     state_read fits may =
         let opened : AreWordsOf s opens.image.words =
         subst (λ (z : Shape). AreWordsOf z opens.image.words) opens.opens.shape_is opens.image.sized.words_are in
@@ -91,10 +92,10 @@ module _ (states : SavedTextsTellStates) (code : CodeParts) (input : List NamedA
         }
 
     -- a state that is read from its text has its code, so that may be resumed
-    state_only : StateFits (names_of input) m.code m.state.words → HasState (text_of m input) → MayBeResumed code
+    state_only : StateFits (names_of input) m.code m.state.words → HasState (text_of m input) → MayBeRun code
     state_only fits h =
         let one = states s h.shape (names_of input) h.arrays code h.code m.state.words h.words fits h.is.fits h.is.same in
-        subst MayBeResumed (sym one.code) (record { free = h.is.free; tidy = h.is.tidy })
+        subst MayBeRun (sym one.code) (record { free = h.is.free; tidy = h.is.tidy })
 
     state_is : StateFits (names_of input) m.code m.state.words → IsReadIf code m input
     state_is fits = record { read_back = state_read fits; only = state_only fits }

@@ -25,7 +25,8 @@ use Rattle.ppm_saved.specs.Correct.{StateFits}
 use Rattle.ppm_saved.specs.Text.{saved_text}
 use Rattle.ppm_saved.specs.declared.names.NamedLength.{NamedLength}
 use Rattle.ppm_saved_reader.specs.Correct.{HasState}
-use Rattle.ppm_driver.specs.Stops.{sizes_of, names_of, text_of, IsReadBack, MayBeResumed, CodeHas, CodeReads, ProgramHas, ProgramReads}
+use Rattle.ppm_driver.specs.Stops.{sizes_of, names_of, text_of, IsReadBack, CodeHas, CodeReads, ProgramHas, ProgramReads}
+use Rattle.ppm_loading.specs.Telling.{MayBeRun}
 
 -- options in their ranges say sizes that a machine may have
 pub stopped_sizes : (options : StopOptions) → AreStopped options → AreSizes (sizes_of options)
@@ -56,8 +57,8 @@ case_kinds = record { no_input = λ r k. k; no_listing = λ r k. k; no_fault = �
 
 -- what is read from the text of a machine: its state, if its code may be resumed, and only then any
 pub record IsReadIf (code : CodeParts) (m : Situation) (input : List NamedArray) : Type 0 where
-  pub read_back : MayBeResumed code → IsReadBack m input
-  pub only : HasState (text_of m input) → MayBeResumed code
+  pub read_back : MayBeRun code → IsReadBack m input
+  pub only : HasState (text_of m input) → MayBeRun code
 
 -- what is the same in all parts has one text
 same_saved : (s z : Shape) (ns ms : List NamedLength) (c d : CodeParts) (ws vs : List ℕ) → s ≡ z → ns ≡ ms → c ≡ d → ws ≡ vs
@@ -124,7 +125,7 @@ module _ (options : StopOptions) (items : List ScheduleItem) where
         }
 
   -- what is said of a program's code, which may be resumed, is said of the program
-  pub of_program_code : (t : ProgramTree) (a : Answer) → MayBeResumed (code_of t) → CodeReads options items (code_of t) (initial_arrays t) a
+  pub of_program_code : (t : ProgramTree) (a : Answer) → MayBeRun (code_of t) → CodeReads options items (code_of t) (initial_arrays t) a
       → ProgramReads options items t a
   of_program_code t a may h = record { has = h.has; read_back = h.read_back may }
 

@@ -17,7 +17,8 @@ use Rattle.ppm_loading.specs.Planned.{IsRefusedBy, HasByItems}
 use Rattle.ppm_saved_reader.specs.Correct.{HasState}
 use Rattle.ppm_driver.specs.CaseRefusals.{RefusesCase}
 use Rattle.ppm_driver.specs.CaseStops.{StopCaseHas, StopCaseMay, TextReads}
-use Rattle.ppm_driver.specs.Stops.{IsReadBack, MayBeResumed, text_of}
+use Rattle.ppm_driver.specs.Stops.{IsReadBack, text_of}
+use Rattle.ppm_loading.specs.Telling.{MayBeRun}
 
 module _ (options : StopOptions) (schedule : List ℕ) (o : Ports) where
   -- the text that was read has this answer, with these options and this schedule
@@ -30,8 +31,8 @@ module _ (options : StopOptions) (schedule : List ℕ) (o : Ports) where
     pub text : List ℕ
     pub read : HasRead (answers.Saved text)
     pub saves : let h = read.2.has in text ≡ text_of (followed h.has.has.start read.2.items options.after) h.input
-    pub read_back : let h = read.2.has in MayBeResumed h.code → IsReadBack (followed h.has.has.start read.2.items options.after) h.input
-    pub only : HasState text → MayBeResumed read.2.has.code
+    pub read_back : let h = read.2.has in MayBeRun h.code → IsReadBack (followed h.has.has.start read.2.items options.after) h.input
+    pub only : HasState text → MayBeRun read.2.has.code
     pub gets : Gets o.out text
 
   -- what each status says; the others never come

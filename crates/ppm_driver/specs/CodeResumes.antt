@@ -36,7 +36,8 @@ use Rattle.ppm_driver.specs.LegsAsCode.{EndsAsCodeInAll, IsAsCodeInAll}
 use Rattle.ppm_driver.specs.ResumeCompleteness.{lost_with}
 use Rattle.ppm_driver.specs.Resumes.{SavedState, saved_finish, GoesOnFrom, IsTextOf, IsNoText, ResumedHas, TextHas, IsLeftBy, state_behind}
 use Rattle.ppm_driver.specs.RunOf.{words_behind}
-use Rattle.ppm_driver.specs.Stops.{names_of, MayBeResumed, CodeReads}
+use Rattle.ppm_driver.specs.Stops.{names_of, CodeReads}
+use Rattle.ppm_loading.specs.Telling.{MayBeRun}
 use Rattle.ppm_driver.specs.Strikes.{scheduled_faults}
 
 -- A state is that of a run of a code on an input, with takeover by places, from its opening words, whatever turns its processors made, and however
@@ -151,7 +152,7 @@ pub record IsTextLeftByCode (code : CodeParts) (input : List NamedArray) (faults
 abbrev pub StopsOfCodeLeaveStates : Type 0
 StopsOfCodeLeaveStates = (options : StopOptions) → AreStopped options
     → (schedule : List ℕ) (items : List ScheduleItem) → IsAccepted schedule_form schedule options.processors items
-    → (code : CodeParts) (input : List NamedArray) → MayBeResumed code → (answer : Answer) → CodeReads options items code input answer
+    → (code : CodeParts) (input : List NamedArray) → MayBeRun code → (answer : Answer) → CodeReads options items code input answer
     → (saved : List ℕ) × (answer ≡ answers.Saved saved) × IsTextLeftByCode code input (scheduled_faults items) saved
 
 -- with options in their ranges, the text of a state that a sound code left, and a plan that is accepted for its processors: where turns and room are

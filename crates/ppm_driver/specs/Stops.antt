@@ -9,8 +9,6 @@ use Rattle.ppm_plan.specs.Forms.{schedule_form}
 use Rattle.ppm_plan.specs.Refusals.{IsKeeper}
 use Rattle.ppm_tree.specs.Tree.{ProgramTree}
 use Rattle.ppm_tree.specs.Program.{initial_arrays}
-use Rattle.ppm_code.specs.Free.{IsFree}
-use Rattle.ppm_code.specs.Tidy.{IsTidy}
 use Rattle.ppm_code.specs.declared.code.CodeParts.{CodeParts}
 use Rattle.ppm_cut_code.specs.Routines.{code_of}
 use Rattle.ppm_words.specs.declared.named_array.NamedArray.{NamedArray}
@@ -21,6 +19,7 @@ use Rattle.ppm_cli.specs.declared.stop.StopOptions.{StopOptions}
 use Rattle.ppm_cli.specs.Words.{AreStopped}
 use Rattle.ppm_following.specs.Followed.{followed}
 use Rattle.ppm_loading.specs.declared.loading.Sizes.{Sizes}
+use Rattle.ppm_loading.specs.Telling.{MayBeRun}
 use Rattle.ppm_loading.specs.Loading.{OpensRun}
 use Rattle.ppm_loading.specs.Planned.{PlannedHas, PlannedMay, HasSomeAnswer}
 use Rattle.ppm_loading.specs.Programs as programs
@@ -53,17 +52,12 @@ pub record CodeHas (options : StopOptions) (items : List ScheduleItem) (code : C
   pub opens : OpensRun (sizes_of options) code input keeper start
   pub saves : answer ≡ answers.Saved (text_of (followed start items options.after) input)
 
--- what is asked of a code where its state is to be resumed: no capsule has a conflict on a path, and it is tidy
-pub record MayBeResumed (code : CodeParts) : Type 0 where
-  pub free : IsFree code
-  pub tidy : IsTidy code
-
 -- A code on an input has this answer. If the code may be resumed, exactly this machine's state is read from the text; and if a state is read from
 -- it, the code may be resumed. Of a machine in memory it is known that its numbers fit 64 bits.
 pub record CodeReads (options : StopOptions) (items : List ScheduleItem) (code : CodeParts) (input : List NamedArray) (answer : Answer) : Type 0 where
   pub has : CodeHas options items code input answer
-  pub read_back : MayBeResumed code → IsReadBack (followed has.start items options.after) input
-  pub only : HasState (text_of (followed has.start items options.after) input) → MayBeResumed code
+  pub read_back : MayBeRun code → IsReadBack (followed has.start items options.after) input
+  pub only : HasState (text_of (followed has.start items options.after) input) → MayBeRun code
 
 -- that of a program: of its code on the arrays that it starts with
 abbrev pub ProgramHas : StopOptions → List ScheduleItem → ProgramTree → Answer → Type 0

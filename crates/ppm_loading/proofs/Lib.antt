@@ -2,7 +2,7 @@
 -- for (`LoadingLemmas`). The answers of texts go by those of programs (`ProgramLemmas`), or
 -- by those of cases (`CaseLemmas`), and the answers and rows of a command with a plan by those of its items (`PlannedLemmas`): each takes the
 -- command's own causes as a parameter. What a finish word says: `SayLemmas`; what its arrays are:
--- `ArrayLemmas`.
+-- `ArrayLemmas`; how many lines a code has: `LineLemmas`.
 
 pub mod SayLemmas
 pub mod PlannedLemmas
@@ -11,3 +11,4 @@ pub mod CaseLemmas
 pub mod CaseInputLemmas
 pub mod LoadingLemmas
 pub mod ArrayLemmas
+pub mod LineLemmas

@@ -4,3 +4,4 @@ pub mod Planned
 pub mod Programs
 pub mod Cases
 pub mod MachineRows
+pub mod Telling

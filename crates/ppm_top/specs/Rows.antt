@@ -34,7 +34,7 @@ use Rattle.ppm_driver.specs.RamRows.{RamRows}
 use Rattle.ppm_driver.specs.ReplayRows.{ReplayRows}
 use Rattle.ppm_driver.specs.ResumeRows.{ResumeRows, RefusesPlan as RefusesResumed}
 use Rattle.ppm_driver.specs.Resumes.{IsTextLeftBy}
-use Rattle.ppm_driver.specs.Stops.{MayBeResumed}
+use Rattle.ppm_loading.specs.Telling.{MayBeRun}
 use Rattle.ppm_driver.specs.Strikes.{scheduled_faults}
 use Rattle.ppm_driver.specs.RunRows.{RunRows}
 use Rattle.ppm_driver.specs.CaseStopRows.{HasRead as HasCaseRead, StopCaseRows}
@@ -130,7 +130,7 @@ StopsByWords words o status = (options : StopOptions) (schedule : List ℕ) → 
 -- What `stop` saves of the case that was read is the text of a state which its code left, by no more faults than the schedule has, if the code may be
 -- resumed. It is a law as well.
 abbrev pub LeavesStatesOfCases : StopOptions → (schedule : List ℕ) → Ports → Type 0
-LeavesStatesOfCases options schedule p = (text : List ℕ) (read : HasCaseRead options schedule p (answers.Saved text)) → MayBeResumed read.2.has.code
+LeavesStatesOfCases options schedule p = (text : List ℕ) (read : HasCaseRead options schedule p (answers.Saved text)) → MayBeRun read.2.has.code
     → IsTextLeftByCode read.2.has.code read.2.has.input (scheduled_faults read.2.items) text
 
 -- the rows of `stop` of a case with such options and such a schedule; and, a law, what its texts are

@@ -1,5 +1,5 @@
 use Rattle.std.proofs.Common.{ℕ, refl, sym, ap, subst}
-use Rattle.ppm_commands.specs.Cases.{line_at}
+use Rattle.ppm_loading.specs.Telling.{line_at}
 use Rattle.ppm_commands.specs.Races.{RacesMayOf}
 use Rattle.ppm_commands.proofs.races.case_answer.Goals as goal
 

@@ -1,5 +1,5 @@
 use Rattle.std.proofs.Common.{ℕ, ◌∙◌, ap}
-use Rattle.ppm_commands.specs.Cases.{store_told}
+use Rattle.ppm_loading.specs.Telling.{store_told}
 use Rattle.ppm_commands.proofs.races.free_answer.Goals as goal
 
 -- the first store that is not tidy is told

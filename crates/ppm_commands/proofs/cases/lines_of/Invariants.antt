@@ -1,7 +1,0 @@
-use Rattle.std.proofs.Common.{◌≡◌, ◌+◌, drop}
-use Rattle.ppm_commands.specs.Cases.{capsule_lines}
-use Rattle.ppm_commands.proofs.cases.lines_of.Given as goal
-
--- the lines so far, and those of the capsules that are left
-abbrev pub invariant-loop-capsule : goal.invariant-loop-capsule
-invariant-loop-capsule l = l.lines + capsule_lines (drop l.capsule-index l.capsules) ≡ capsule_lines l.capsules
