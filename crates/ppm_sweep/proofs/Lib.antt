@@ -15,3 +15,4 @@ pub mod AloneLemmas
 pub mod WalkLemmas
 pub mod FairLemmas
 pub mod BeginLemmas
+pub mod DrawLemmas

@@ -45,7 +45,7 @@ fn alone(
 ) -> Result<(), Stop>
     requires spot { IsSpot wanted.now spot.now }
     ensures { (m : Situation) → m.turns ≡ 0 → CameFrom m (first_way turns) spot.now
-        → Finds m turns wanted.now (alone_at spot.now.faults (place_of spot.now)) tally.old tally.new result }
+        → Finds m turns wanted.now (alone_at spot.now.faults (place_of spot.now) ∷ []) tally.old tally.new result }
 {
     let rest = spot.ahead.rest(alloc)?;
     let front = spot.front.as_slice();

@@ -21,6 +21,7 @@ const SWEEPING: Sweeping = Sweeping {
         from: 0,
         acts: 1000,
     },
+    drawn: None,
 };
 
 /// What a sweep over the steps in turn finds, where a trap in this line is wanted: its counts, or the text of the
@@ -33,7 +34,7 @@ fn found(alloc: Global, line: u32) -> Result<Result<Tally, Vec<u8>>, Fail> {
     }
     match sweep(
         alloc,
-        machine,
+        &machine,
         &schedule,
         SWEEPING,
         &Outcome::Trapped(Trap::Overflow, line),
