@@ -4,13 +4,13 @@ use Rattle.clap.specs.Words.{App, Kinds, IsAmong, Text, Row, fault_of, is_simple
 use Rattle.clap.proofs.WalkLemmas.{both}
 use Rattle.ppm_cli.specs.declared.command.Command.{Command}
 use Rattle.ppm_cli.specs.Application.{ppm_application}
-use Rattle.ppm_cli.specs.CommandLine.{admitted, command_line}
+use Rattle.ppm_cli.specs.CommandLine.{command_line}
 use Rattle.ppm_cli.proofs.TableLemmas.{table_is_free}
 use Rattle.ppm_cli.specs.Words.{command_in, without_fault, command_of}
 
 -- clap's laws of refusals and of a parse hold for the program
 pub ppm_is_free : is_simple_and_free ppm_application ≡ true
-ppm_is_free = table_is_free (admitted command_line)
+ppm_is_free = table_is_free command_line
 
 pub ppm_is_simple : is_simple ppm_application ≡ true
 ppm_is_simple = (both _ _ ppm_is_free).0

@@ -5,7 +5,7 @@ use Rattle.clap.specs.Simple.{on_top}
 use Rattle.clap.specs.declared.builder.ArgAction.TheVariants.{Set}
 use Rattle.clap.specs.declared.builder.value_parser.ValueParser.{ValueParser}
 use Rattle.clap.specs.declared.builder.value_parser.ValueParser.TheVariants as parsers
-use Rattle.ppm_cli.specs.CommandLine.{CommandRule, Form, Number, Choice, AnyText, OptionRule, admitted, command_line, free_text}
+use Rattle.ppm_cli.specs.CommandLine.{CommandRule, Form, Number, Choice, AnyText, OptionRule, command_line, free_text}
 use Rattle.ppm_cli.specs.declared.table.CommandRow.{CommandRow}
 use Rattle.ppm_cli.specs.declared.table.NumberOption.{NumberOption}
 use Rattle.ppm_cli.specs.declared.table.ChoiceOption.{ChoiceOption}
@@ -48,9 +48,9 @@ bare_application = on_top (λ s. record s { disable_help_subcommand = true }) (n
 abbrev pub application_of : List CommandRule → App
 application_of table = with_commands bare_application table
 
--- the program of today: the admitted rules
+-- the program with all its commands
 abbrev pub ppm_application : App
-ppm_application = application_of (admitted command_line)
+ppm_application = application_of command_line
 
 -- the rule that a row of the source states of a number option
 abbrev pub number_rule : NumberOption → OptionRule
@@ -73,4 +73,4 @@ option_rule (row.Text o) = text_rule o
 
 -- and of a command
 abbrev pub command_rule : CommandRow → CommandRule
-command_rule c = record { name = c.name.now; options = map option_rule c.options.now; admitted = true }
+command_rule c = record { name = c.name.now; options = map option_rule c.options.now }

@@ -1,6 +1,6 @@
--- The command line as a table of rules: the twelve commands, their options with ranges and defaults, and which of these are admitted today.
+-- The command line as a table of rules: the twelve commands, and their options with ranges and defaults.
 use Prim.Native.String.{String}
-use Rattle.std.specs.Prelude.{ℕ, Bool, true, false, List, [], ◌∷◌, codes, decimal, filter, map, not, nat_eq}
+use Rattle.std.specs.Prelude.{ℕ, Bool, true, false, List, [], ◌∷◌, codes, decimal, map, not, nat_eq}
 use Rattle.clap.specs.Words.{Text}
 use Rattle.ppm_words.specs.Limits.{processor_limit, entry_limit, turn_limit}
 use Rattle.ppm_cells.specs.Limits.{most_pool_words}
@@ -21,7 +21,6 @@ pub record OptionRule : Type 0 where
 pub record CommandRule : Type 0 where
   pub name : Text
   pub options : List OptionRule
-  pub admitted : Bool
 
 -- an option whose value is a whole number in a range, with its default
 abbrev pub number : String → ℕ → ℕ → ℕ → OptionRule
@@ -48,11 +47,7 @@ text name default = free_text (codes name) (codes default)
 
 -- a command with its options
 abbrev pub command : String → List OptionRule → CommandRule
-command name options = record { name = codes name; options = options; admitted = true }
-
--- a command that is not admitted yet
-abbrev pub later_command : String → List OptionRule → CommandRule
-later_command name options = record (command name options) { admitted = false }
+command name options = record { name = codes name; options = options }
 
 -- ---- the options that several commands have
 
@@ -162,7 +157,7 @@ input = choice "input" ("source" ∷ "case" ∷ []) "source"
 
 -- ---- the commands
 
--- the whole command line; a `later_command` becomes a `command` where it is admitted
+-- the whole command line
 abbrev pub command_line : List CommandRule
 command_line =
     command "run"
@@ -180,7 +175,3 @@ command_line =
     (processors ∷ turns ∷ copied_room ∷ copied_slots ∷ swept_takeovers ∷ schedule ∷ met ∷ from ∷ acts ∷ runs ∷ seed ∷ capsules ∷ input ∷ [])
     ∷ command "ram" (processors ∷ turns ∷ room ∷ slots ∷ looks ∷ seed ∷ faults ∷ takeover ∷ idle ∷ [])
     ∷ []
-
--- the admitted commands
-abbrev pub admitted : List CommandRule → List CommandRule
-admitted table = filter (λ c. c.admitted) table

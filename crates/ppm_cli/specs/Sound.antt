@@ -1,4 +1,4 @@
--- What holds of the whole command line, of the rules that are not admitted yet, too.
+-- What holds of the whole command line.
 use Rattle.std.specs.Prelude.{◌≡◌, ◌&&◌, Bool, true, not, List, [], ◌∷◌, codes, map}
 use Rattle.std.specs.List.{list_all, list_any}
 use Rattle.std.specs.Str.{bytes_eq}

@@ -1,6 +1,6 @@
 //! The words of the command line, and the command that they give.
 //! Model: the words are the list of their texts; the commands are a table of rules
-//! (`specs/CommandLine`), and the admitted ones are an application of `clap` (`specs/Application`).
+//! (`specs/CommandLine`), and these are an application of `clap` (`specs/Application`).
 //! Contract: the command is that which `clap` finds in the words, each option in its range, else
 //! none (`specs/Words`).
 //! Stands on `clap`, `ppm_words` and `ppm_cells`; `ppm_top` calls it. After clap's builder; the
@@ -30,7 +30,7 @@ mod takeover;
 pub use capsules::CapsuleLimit;
 pub use command::Command;
 pub use example::SelfOptions;
-pub use laws::any_rule_may_be_admitted;
+pub use laws::any_command_may_be_added;
 pub use line::read_words;
 pub use replay::ReplayOptions;
 pub use resume::ResumeOptions;

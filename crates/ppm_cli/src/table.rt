@@ -272,7 +272,7 @@ pub(crate) const SCHEDULE: TextOption = TextOption {
     default: "none",
 };
 
-/// The commands that are admitted, in the order of the help page.
+/// The commands, in the order of the help page.
 pub const COMMANDS: [CommandRow; 12] = [
     CommandRow {
         name: "run",

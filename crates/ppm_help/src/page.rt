@@ -2,18 +2,17 @@
 
 use crate::options::print_options;
 use crate::statuses::print_statuses;
-use crate::texts::{AHEAD, BEHIND, example_of, purpose_of};
+use crate::texts::{AHEAD, example_of, purpose_of};
 use ppm_cli::{COMMANDS, CommandRow};
 use std::alloc::Global;
 use std::io;
 
-/// Prints the page: what stands ahead, the commands, what stands behind them, and the statuses.
+/// Prints the page: what stands ahead, the commands, and the statuses.
 pub(crate) fn print_page(rt: &impl Print, alloc: Global) -> io::Result<()> {
     println!(rt; "{AHEAD}")?;
     for command in &COMMANDS {
         print_command(rt, alloc, *command)?;
     }
-    println!(rt; "{BEHIND}")?;
     print_statuses(rt)
 }
 

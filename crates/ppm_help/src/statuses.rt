@@ -43,15 +43,16 @@ fn meaning_of(status: Status) -> &'static str {
         Status::Ended => {
             "ended: the arrays, and of `replay` its forks and takes, of `depth` its counts; of `code`\n       \
              the listing or the case; of `check` the line `ok`, of `races` the line `sound: ..`, of\n       \
-             `sweep` the line `ok: R runs, M met, A acts`; of `stop` the saved text\n       \
-             (docs/SAVED.md); of `self` `size n forks g sum s last l`"
+             `sweep` the line `ok: R runs, M met, A acts`, and with more than 0 `, L left out`;\n       \
+             of `stop` the saved text (docs/SAVED.md); of `self` `size n forks g sum s last l`"
         }
         Status::Trapped => {
             "trapped: `trap K line N`, K being overflow, divzero, index or split; of `replay`\n       \
              its forks and takes too, of `depth` its counts"
         }
         Status::SourceRefused => {
-            "source refused: the fault and its place (docs/LANGUAGE.md, \"Refusals\")"
+            "source refused: the fault and its place (docs/LANGUAGE.md, \"Refusals\"); of `ram` the\n       \
+             fault and its line (docs/RAM.md)"
         }
         Status::WordsRefused => {
             "words refused; or of a plan or a schedule `plan refused: N`, by N: 1 an item has\n       \
@@ -59,8 +60,8 @@ fn meaning_of(status: Status) -> &'static str {
              processor is spared, as by a hard fault where there is one processor"
         }
         Status::OutOfTurns => {
-            "of `run` and `resume` `out of turns: processor C`, which spent --turns; of `replay`\n       \
-             `unfinished after N turns`"
+            "of `run`, `ram` and `resume` `out of turns: processor C`, which spent --turns; of\n       \
+             `replay` `unfinished after N turns`"
         }
         Status::OutOfRoom => {
             "out of room: the run needed more words than the pool of that place has, which are\n       \

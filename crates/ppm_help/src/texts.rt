@@ -12,13 +12,10 @@ Ppm: a small fork-join language, its capsules, and the machine that runs them wh
 
 Input is standard input alone: a source (docs/LANGUAGE.md), of `check` a listing, of `depth`,
 `races` and wherever `--input case` stands a case, which is arrays and a listing (docs/CODE.md),
-of `resume` a saved text (docs/SAVED.md), of `self` nothing. A source has at most 1,048,576 bytes,
-a listing and a case 536,870,912, a saved text 671,088,640. An option is given as `--turns 5` or
-`--turns=5`, at most once. A value never begins with `-`.
+of `resume` a saved text (docs/SAVED.md), of `ram` a RAM (docs/RAM.md), of `self` nothing. A source
+and a RAM have at most 1,048,576 bytes, a listing and a case 536,870,912, a saved text 671,088,640.
+An option is given as `--turns 5` or `--turns=5`, at most once. A value never begins with `-`.
 ";
-
-/// What stands behind the commands.
-pub(crate) const BEHIND: &str = "to come: ram\n";
 
 /// What a command is for.
 pub(crate) fn purpose_of(command: &str) -> &'static str {
@@ -34,6 +31,7 @@ pub(crate) fn purpose_of(command: &str) -> &'static str {
         "stop" => "stops such a run after so many acts, and writes its words as a saved text",
         "resume" => "fresh processors go on from a saved text, under a plan of faults",
         "sweep" => "whether a replay comes to one end wherever one fault or two are put into it",
+        "ram" => "compiles a RAM, and threads run its capsules under a plan of faults",
         _ => NO_WORDS,
     }
 }
@@ -51,7 +49,8 @@ pub(crate) fn example_of(command: &str) -> &'static str {
         "self" => "--size 1000 --seed 7 --count 50",
         "stop" => "--processors 3 --after 300 < examples/sum.ppm > sum.saved",
         "resume" => "--faults 0@5s,1@9h < sum.saved",
-        "sweep" => "--processors 2 --faults 2 --runs 1000 < examples/sum.ppm",
+        "sweep" => "--processors 2 --faults 2 --runs 3 < examples/sum.ppm",
+        "ram" => "--processors 2 --faults 0@5s,0@90h < examples/ram/sum.ram",
         _ => NO_WORDS,
     }
 }
@@ -73,7 +72,7 @@ pub(crate) fn meaning_of(command: &str, option: &str) -> &'static str {
         "faults" => faults_of(command),
         "from" => "the first act before which a fault is put",
         "acts" => "acts from there on before which one is put",
-        "runs" => "runs that are drawn; with 0 every place is tried",
+        "runs" => "acts of these that are drawn; with 0 all are taken",
         "schedule" => "as 0*9,1>0,1!h: acts, a victim, a hard fault",
         "takeover" => takeover_of(command),
         "idle" => "one that rests makes no more acts, or sleeps",
@@ -85,7 +84,7 @@ pub(crate) fn meaning_of(command: &str, option: &str) -> &'static str {
 /// What the turns of a command are.
 fn turns_of(command: &str) -> &'static str {
     match command {
-        "run" | "resume" => "work turns that each processor may make",
+        "run" | "resume" | "ram" => "work turns that each processor may make",
         "serial" => "turns of the meaning (docs/LANGUAGE.md)",
         "replay" => "acts that all processors may make together",
         "sweep" => "acts that all processors of a run may make",
@@ -121,7 +120,7 @@ fn takeover_of(command: &str) -> &'static str {
 fn seed_of(command: &str) -> &'static str {
     match command {
         "self" => "where values, random victims and drawn faults begin",
-        "sweep" => "where the drawn runs begin",
+        "sweep" => "where the random acts begin",
         _ => "where the random victims begin",
     }
 }

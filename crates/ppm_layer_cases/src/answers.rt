@@ -3,7 +3,7 @@ ghost use Rattle.std.specs.Prelude.{◌<◌};
 
 use crate::case_answers::case_answer_of;
 use crate::said::number_at;
-use ppm_answers::{Answer, Class, Conflict, Sums, Tally, deliver};
+use ppm_answers::{Answer, Class, Conflict, Pass, Refusal, Sums, Tally, deliver};
 use ppm_ports::MemorySink;
 use ppm_sheets::{Call, Fault, Shown};
 use ppm_words::Trap;
@@ -38,6 +38,11 @@ fn answer_of(alloc: Global, call: &Call) -> Result<Answer, Fault> {
         "summed" => Ok(Answer::Summed(sums_of(call)?)),
         "trapped" => Ok(Answer::TrappedWith(Trap::DivZero, number_at(call, 2)?, tally_of(call)?)),
         "room" => Ok(Answer::OutOfRoom(number_at(call, 2)?)),
+        "ram" => Ok(Answer::SourceRefused(Refusal {
+            pass: Pass::Ram,
+            number: number_at(call, 2)?,
+            place: number_at(call, 3)?,
+        })),
         "within" => Ok(Answer::NotWithin(u64::from(number_at(call, 2)?))),
         kind => case_answer_of(alloc, call, kind),
     }

@@ -105,6 +105,11 @@ fn line_of(alloc: Global, command: &Command) -> Result<Vec<u8>, Fault> {
             plan = faults.as_slice();
             run_line(alloc, "run of a case", it)?
         }
+        Command::Ram(it, faults) => {
+            front = " faults=";
+            plan = faults.as_slice();
+            run_line(alloc, "ram", it)?
+        }
         Command::Serial(it) => format!(in alloc; "serial turns {}", it.turns)?,
         Command::Code => String::from_str(alloc, "code")?,
         Command::CodeCase => String::from_str(alloc, "code with arrays")?,

@@ -13,6 +13,7 @@ pub(crate) fn sweep_answer_of(alloc: Global, call: &Call, kind: &str) -> Result<
             runs: wide_at(call, 2)?,
             met: wide_at(call, 3)?,
             acts: wide_at(call, 4)?,
+            left: wide_at(call, 5)?,
         })),
         "differs" => Ok(Answer::Differs(difference_of(alloc, call)?)),
         _ => Err(Fault::Line("an answer is wanted")),

@@ -3,7 +3,7 @@
 use ppm_choice::{
     runs_finish, schedules_go_on, schedules_keep_order, schedules_skip_done, unfinished_is_exact,
 };
-use ppm_cli::any_rule_may_be_admitted;
+use ppm_cli::any_command_may_be_added;
 use ppm_commands::instructions_have_their_lines;
 use ppm_cut_code::{few_capsules, lines_alone, names_have_slots, procedures_stand};
 use ppm_driver::{
@@ -20,7 +20,7 @@ fn laws_of_texts_are_called(_: HostRuntime) {
     instructions_have_their_lines();
     printed_texts_have_their_tree();
     canonical_texts_tell_programs();
-    any_rule_may_be_admitted();
+    any_command_may_be_added();
     plan_items_read_as_written();
     schedule_items_read_as_written();
     texts_read_as_written();

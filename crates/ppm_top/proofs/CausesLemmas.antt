@@ -4,6 +4,7 @@ use Rattle.ppm_ports.specs.Outside.{ToldLists, Outside, ports_of}
 use Rattle.ppm_text.specs.Limits.{text_limit}
 use Rattle.ppm_listing_reader.specs.Limits.{listing_limit}
 use Rattle.ppm_case.specs.Rules.{case_limit}
+use Rattle.ppm_ram.specs.Limits.{text_limit as ram_limit}
 use Rattle.ppm_answers.specs.declared.answer.Answer.{Answer}
 use Rattle.ppm_answers.specs.declared.answer.Answer.TheVariants as answers
 use Rattle.ppm_answers.specs.declared.status.Status.{Status}
@@ -25,10 +26,13 @@ use Rattle.ppm_cli.specs.declared.example.SelfOptions.{SelfOptions}
 use Rattle.ppm_driver.specs.CaseReplays.{TextHas as ReplayCaseTextHas}
 use Rattle.ppm_driver.specs.CaseRuns.{TextHas as RunCaseTextHas}
 use Rattle.ppm_driver.specs.CaseStops.{TextReads as StopCaseTextReads}
+use Rattle.ppm_driver.specs.CaseSweeps.{TextHas as SweepCaseTextHas}
 use Rattle.ppm_driver.specs.Examples.{ExampleMay, ExampleTells}
+use Rattle.ppm_driver.specs.RamRuns.{TextHas as RamTextHas}
 use Rattle.ppm_driver.specs.Replays.{TextHas as ReplayTextHas}
 use Rattle.ppm_driver.specs.Resumes.{TextHas as ResumeTextHas}
 use Rattle.ppm_driver.specs.Stops.{TextReads as StopTextReads}
+use Rattle.ppm_driver.specs.Sweeps.{TextHas as SweepTextHas}
 use Rattle.ppm_driver.specs.Runs.{TextHas as RunTextHas}
 use Rattle.ppm_loading.proofs.PlannedLemmas as planned
 use Rattle.ppm_driver.proofs.ResumeLemmas.{untold_source}
@@ -58,6 +62,12 @@ memory_before (Some (commands.ReplayCase options schedule)) o h =
     planned.memory_before schedule_form schedule options.processors (ReplayCaseTextHas options) case_limit o.source h
 memory_before (Some (commands.StopCase options schedule)) o h =
     planned.memory_before schedule_form schedule options.processors (StopCaseTextReads options) case_limit o.source h
+memory_before (Some (commands.Sweep options schedule)) o h =
+    planned.memory_before schedule_form schedule options.processors (SweepTextHas options) text_limit o.source h
+memory_before (Some (commands.SweepCase options schedule)) o h =
+    planned.memory_before schedule_form schedule options.processors (SweepCaseTextHas options) case_limit o.source h
+memory_before (Some (commands.Ram options plan)) o h =
+    planned.memory_before plan_form plan options.processors (RamTextHas options options.processors o.told_before o.told_now) ram_limit o.source h
 memory_before (Some (commands.Example options)) o h = (h, tt)
 
 -- an answer of the command that the words give answers the words
@@ -97,4 +107,7 @@ told_nothing (Some (commands.Stop options schedule)) o answer lists = refl
 told_nothing (Some (commands.RunCase options plan)) o answer lists = untold options.processors _ _ answer lists
 told_nothing (Some (commands.ReplayCase options schedule)) o answer lists = refl
 told_nothing (Some (commands.StopCase options schedule)) o answer lists = refl
+told_nothing (Some (commands.Sweep options schedule)) o answer lists = refl
+told_nothing (Some (commands.SweepCase options schedule)) o answer lists = refl
+told_nothing (Some (commands.Ram options plan)) o answer lists = untold options.processors _ _ answer lists
 told_nothing (Some (commands.Example options)) o answer lists = untold options.processors _ _ answer lists

@@ -6,6 +6,7 @@ use Rattle.ppm_ports.specs.Outside.{Outside, ports_of}
 use Rattle.ppm_text.specs.Limits.{text_limit}
 use Rattle.ppm_listing_reader.specs.Limits.{listing_limit}
 use Rattle.ppm_case.specs.Rules.{case_limit}
+use Rattle.ppm_ram.specs.Limits.{text_limit as ram_limit}
 use Rattle.ppm_answers.specs.declared.answer.Answer.{Answer}
 use Rattle.ppm_answers.specs.declared.answer.Answer.TheVariants as answers
 use Rattle.ppm_answers.specs.declared.status.Status.{Status}
@@ -39,11 +40,14 @@ use Rattle.ppm_loading.specs.MachineRows.{RefusesPlan}
 use Rattle.ppm_driver.specs.CaseReplays.{TextHas as ReplayCaseTextHas}
 use Rattle.ppm_driver.specs.CaseRuns.{TextHas as RunCaseTextHas}
 use Rattle.ppm_driver.specs.CaseStops.{TextReads as StopCaseTextReads}
+use Rattle.ppm_driver.specs.CaseSweeps.{TextHas as SweepCaseTextHas}
+use Rattle.ppm_driver.specs.RamRuns.{TextHas as RamTextHas}
 use Rattle.ppm_driver.specs.Replays.{TextHas as ReplayTextHas}
 use Rattle.ppm_driver.specs.Resumes.{TextHas as ResumeTextHas}
 use Rattle.ppm_driver.specs.ResumeRows.{RefusesPlan as RefusesResumed}
 use Rattle.ppm_driver.specs.Runs.{TextHas as RunTextHas}
 use Rattle.ppm_driver.specs.Stops.{TextReads as StopTextReads}
+use Rattle.ppm_driver.specs.Sweeps.{TextHas as SweepTextHas}
 use Rattle.ppm_driver.proofs.OfStop as of_stop
 use Rattle.ppm_driver.proofs.OfExample as of_example
 use Rattle.ppm_driver.proofs.OfReplay as of_replay
@@ -59,6 +63,8 @@ use Rattle.ppm_top.specs.Causes.{NoCommandMay, CommandMay, CommandTells, IsAnswe
 use Rattle.ppm_top.specs.Laws.{ProgramLaws}
 use Rattle.ppm_top.specs.Rows.{ReportsFaults, ProgramRows}
 use Rattle.ppm_top.proofs.OfCases as of_cases
+use Rattle.ppm_top.proofs.OfRams as of_rams
+use Rattle.ppm_top.proofs.OfSweeps as of_sweeps
 use Rattle.ppm_top.proofs.Refusing.{refuses_words}
 use Rattle.ppm_answers.proofs.Delivered as delivered
 use Rattle.ppm_answers.proofs.Judged as judged
@@ -101,6 +107,12 @@ command_reports o (Some (commands.ReplayCase options schedule)) =
     planned_reports schedule_form schedule options.processors (ReplayCaseTextHas options) case_limit o
 command_reports o (Some (commands.StopCase options schedule)) =
     planned_reports schedule_form schedule options.processors (StopCaseTextReads options) case_limit o
+command_reports o (Some (commands.Sweep options schedule)) =
+    planned_reports schedule_form schedule options.processors (SweepTextHas options) text_limit o
+command_reports o (Some (commands.SweepCase options schedule)) =
+    planned_reports schedule_form schedule options.processors (SweepCaseTextHas options) case_limit o
+command_reports o (Some (commands.Ram options plan)) =
+    planned_reports plan_form plan options.processors (RamTextHas options options.processors o.told_before o.told_now) ram_limit o
 command_reports o (Some (commands.Serial options)) = judging_reports text_limit (SerialHas options.turns) o
 command_reports o (Some commands.Code) = judging_reports text_limit CodeReads o
 command_reports o (Some commands.CodeCase) = judging_reports text_limit CaseReads o
@@ -175,6 +187,9 @@ program_rows laws words o status a = record {
         (by_words (Some (commands.Replay options schedule)) e) laws.plans laws.replays,
   );
   replay_case = of_cases.replays_case laws words o status a;
+  sweep = of_sweeps.sweeps laws words o status a;
+  sweep_case = of_sweeps.sweeps_case laws words o status a;
+  ram = of_rams.runs_ram laws words o status a;
   resume = λ options plan e. (
     is_in_range words (commands.Resume options plan) e,
     of_resume.resume_rows laws.resumes options plan o status (answered (Some (commands.Resume options plan)) e),

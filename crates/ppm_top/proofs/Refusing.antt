@@ -29,6 +29,8 @@ use Rattle.ppm_top.specs.Laws.{ProgramLaws}
 use Rattle.ppm_top.specs.Orders.{Orders, plan_of, schedule_of}
 use Rattle.ppm_top.specs.Rows.{HasRefusedPlan, OfPlan, OfSchedule, OfResume, RefusesWords}
 use Rattle.ppm_top.proofs.OfCases as of_cases
+use Rattle.ppm_top.proofs.OfRams as of_rams
+use Rattle.ppm_top.proofs.OfSweeps as of_sweeps
 
 -- an answer of status 3 comes without a command, or with one that names a plan or a schedule
 data IsPlanned (command : Option Command) : Type 0 where
@@ -46,6 +48,9 @@ no_command (Some (commands.Replay options schedule)) o answer h e = inr (BySched
 no_command (Some (commands.ReplayCase options schedule)) o answer h e = inr (BySchedule (commands.ReplayCase options schedule) _ refl refl)
 no_command (Some (commands.Stop options schedule)) o answer h e = inr (BySchedule (commands.Stop options schedule) _ refl refl)
 no_command (Some (commands.StopCase options schedule)) o answer h e = inr (BySchedule (commands.StopCase options schedule) _ refl refl)
+no_command (Some (commands.Sweep options schedule)) o answer h e = inr (BySchedule (commands.Sweep options schedule) _ refl refl)
+no_command (Some (commands.SweepCase options schedule)) o answer h e = inr (BySchedule (commands.SweepCase options schedule) _ refl refl)
+no_command (Some (commands.Ram options plan)) o answer h e = inr (ByPlan (commands.Ram options plan) _ refl refl)
 no_command (Some (commands.Serial options)) o answers.WordsRefused h e = absurd h.2
 no_command (Some commands.Code) o answers.WordsRefused h e = absurd h.2
 no_command (Some commands.CodeCase) o answers.WordsRefused h e = absurd h.2
@@ -95,6 +100,9 @@ module _ (laws : ProgramLaws) (words : List (List ℕ)) (o : Outside) (status : 
     plan_refused (commands.RunCase options plan) orders c is =
         subst (λ (x : Orders). RefusesPlan plan_form x.bytes x.processors (ports_of o)) (some_is is)
         (of_cases.case_plan_refused laws words o status a options plan c refused)
+    plan_refused (commands.Ram options plan) orders c is =
+        subst (λ (x : Orders). RefusesPlan plan_form x.bytes x.processors (ports_of o)) (some_is is)
+        (of_rams.ram_plan_refused laws words o status a options plan c refused)
     plan_refused command orders c is = cc
 
     -- a schedule is refused
@@ -113,6 +121,12 @@ module _ (laws : ProgramLaws) (words : List (List ℕ)) (o : Outside) (status : 
     schedule_refused (commands.StopCase options schedule) orders c is =
         subst (λ (x : Orders). RefusesPlan schedule_form x.bytes x.processors (ports_of o)) (some_is is)
         (of_cases.case_stop_refused laws words o status a options schedule c refused)
+    schedule_refused (commands.Sweep options schedule) orders c is =
+        subst (λ (x : Orders). RefusesPlan schedule_form x.bytes x.processors (ports_of o)) (some_is is)
+        (of_sweeps.sweep_refused laws words o status a options schedule c refused)
+    schedule_refused (commands.SweepCase options schedule) orders c is =
+        subst (λ (x : Orders). RefusesPlan schedule_form x.bytes x.processors (ports_of o)) (some_is is)
+        (of_sweeps.case_sweep_refused laws words o status a options schedule c refused)
     schedule_refused command orders c is = cc
 
     -- whichever plan or schedule the words name

@@ -17,11 +17,14 @@ use Rattle.ppm_commands.specs.Serial.{SerialMay}
 use Rattle.ppm_driver.specs.CaseReplays.{ReplayCaseMay}
 use Rattle.ppm_driver.specs.CaseRuns.{RunCaseMay, RunCaseTells}
 use Rattle.ppm_driver.specs.CaseStops.{StopCaseMay}
+use Rattle.ppm_driver.specs.CaseSweeps.{SweepCaseMay}
 use Rattle.ppm_driver.specs.Examples.{ExampleMay, ExampleTells}
+use Rattle.ppm_driver.specs.RamRuns.{RamMay, RamTells}
 use Rattle.ppm_driver.specs.Replays.{ReplayMay}
 use Rattle.ppm_driver.specs.Resumes.{ResumeMay, ResumeTells}
 use Rattle.ppm_driver.specs.Runs.{RunMay, RunTells}
 use Rattle.ppm_driver.specs.Stops.{StopMay}
+use Rattle.ppm_driver.specs.Sweeps.{SweepMay}
 
 -- the answers where the words give no command
 abbrev pub NoCommandMay : Outside → Answer → Type 0
@@ -45,6 +48,9 @@ CommandMay (Some (commands.Stop options schedule)) o answer = StopMay options sc
 CommandMay (Some (commands.RunCase options plan)) o answer = RunCaseMay options options.processors plan o.told_before o.told_now o.source answer
 CommandMay (Some (commands.ReplayCase options schedule)) o answer = ReplayCaseMay options schedule o.source answer
 CommandMay (Some (commands.StopCase options schedule)) o answer = StopCaseMay options schedule o.source answer
+CommandMay (Some (commands.Sweep options schedule)) o answer = SweepMay options schedule o.source answer
+CommandMay (Some (commands.SweepCase options schedule)) o answer = SweepCaseMay options schedule o.source answer
+CommandMay (Some (commands.Ram options plan)) o answer = RamMay options options.processors plan o.told_before o.told_now o.source answer
 CommandMay (Some (commands.Example options)) o answer = IsUnread o.source × ExampleMay options o.told_before o.told_now answer
 
 -- What watchers are told with each answer of a command, or of none: a run tells them its turns. Where memory is wanting, what they were told is
@@ -64,6 +70,9 @@ CommandTells (Some (commands.Stop options schedule)) o = TellsNothing
 CommandTells (Some (commands.RunCase options plan)) o = RunCaseTells options options.processors plan o.source
 CommandTells (Some (commands.ReplayCase options schedule)) o = TellsNothing
 CommandTells (Some (commands.StopCase options schedule)) o = TellsNothing
+CommandTells (Some (commands.Sweep options schedule)) o = TellsNothing
+CommandTells (Some (commands.SweepCase options schedule)) o = TellsNothing
+CommandTells (Some (commands.Ram options plan)) o = RamTells options options.processors plan o.source
 CommandTells (Some (commands.Example options)) o = ExampleTells options
 
 -- an answer of the command that the words give was delivered, and watchers were told what belongs to it

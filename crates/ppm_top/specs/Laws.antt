@@ -1,6 +1,7 @@
 -- The laws on which the rows of the program rest.
 use Rattle.ppm_plan.specs.Correct.{HaveOneAnswer as PlansHaveOneAnswer}
 use Rattle.ppm_case.specs.Correct.{FaultsTellCases}
+use Rattle.ppm_ram.specs.Correct.{TextsAreOfRams}
 use Rattle.ppm_commands.specs.Case.{AreCases, HaveOneAnswer as CaseTextsHaveOneAnswer}
 use Rattle.ppm_commands.specs.Check.{HaveOneAnswer as ListingsHaveOneAnswer}
 use Rattle.ppm_commands.specs.Code.{CodesAreFaithful, HaveOneAnswer as CodesHaveOneAnswer}
@@ -10,17 +11,23 @@ use Rattle.ppm_commands.specs.Serial.{HaveOneAnswer as OutcomesHaveOneAnswer}
 use Rattle.ppm_driver.specs.CaseReplays.{HaveOneCaseAnswer}
 use Rattle.ppm_driver.specs.CaseRuns.{CaseAnswersAreOne, CaseFrontsDecide}
 use Rattle.ppm_driver.specs.CaseStops.{HaveOneStopAnswer}
+use Rattle.ppm_driver.specs.CaseSweeps.{HaveOneCaseAnswer as SweptCasesHaveOneAnswer}
 use Rattle.ppm_driver.specs.CodeReplays.{ReplaysAreAsCode}
 use Rattle.ppm_driver.specs.CodeResumes.{StopsOfCodeLeaveStates}
 use Rattle.ppm_driver.specs.CodeRuns.{AnswersAreAsCode}
 use Rattle.ppm_driver.specs.Completeness.{RunsComplete}
 use Rattle.ppm_driver.specs.Examples.{ExamplesSumUp}
 use Rattle.ppm_driver.specs.Meant.{RunsAreAsPrograms}
+use Rattle.ppm_driver.specs.ProgramsAsCode.{ProgramsAreAsCode}
+use Rattle.ppm_driver.specs.RamEnds.{AnswersAreAsRams}
+use Rattle.ppm_driver.specs.RamRuns.{RamAnswersAreOne, RamFrontsDecide}
 use Rattle.ppm_driver.specs.Replays.{HaveOneAnswer as ReplaysHaveOneAnswer}
 use Rattle.ppm_driver.specs.ResumeLaws.{ResumeLaws}
 use Rattle.ppm_driver.specs.Resumes.{StopsLeaveStates}
 use Rattle.ppm_driver.specs.Runs.{AnswersAreOne, FrontsDecideAnswers}
 use Rattle.ppm_driver.specs.Stops.{HaveOneAnswer as StopsHaveOneAnswer}
+use Rattle.ppm_driver.specs.SweepRows.{SweepsAreAsCode}
+use Rattle.ppm_driver.specs.Sweeps.{HaveOneAnswer as SweepsHaveOneAnswer}
 
 -- what the crates of the commands show of every text
 pub record ProgramLaws : Type 0 where
@@ -50,3 +57,11 @@ pub record ProgramLaws : Type 0 where
   pub case_fronts : CaseFrontsDecide
   pub replayed_cases : HaveOneCaseAnswer
   pub stopped_cases : HaveOneStopAnswer
+  pub sweeps : SweepsHaveOneAnswer
+  pub swept_cases : SweptCasesHaveOneAnswer
+  pub swept_codes : SweepsAreAsCode
+  pub coded : ProgramsAreAsCode
+  pub ram_runs : AnswersAreAsRams
+  pub ram_answers : RamAnswersAreOne
+  pub ram_fronts : RamFrontsDecide
+  pub ram_texts : TextsAreOfRams

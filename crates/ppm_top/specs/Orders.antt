@@ -12,6 +12,7 @@ pub record Orders : Type 0 where
 abbrev pub plan_of : Command → Option Orders
 plan_of (commands.Run options plan) = Some (record { processors = options.processors; bytes = plan })
 plan_of (commands.RunCase options plan) = Some (record { processors = options.processors; bytes = plan })
+plan_of (commands.Ram options plan) = Some (record { processors = options.processors; bytes = plan })
 plan_of _ = None
 
 -- the schedule that a command follows
@@ -20,4 +21,6 @@ schedule_of (commands.Replay options schedule) = Some (record { processors = opt
 schedule_of (commands.ReplayCase options schedule) = Some (record { processors = options.processors; bytes = schedule })
 schedule_of (commands.Stop options schedule) = Some (record { processors = options.processors; bytes = schedule })
 schedule_of (commands.StopCase options schedule) = Some (record { processors = options.processors; bytes = schedule })
+schedule_of (commands.Sweep options schedule) = Some (record { processors = options.processors; bytes = schedule })
+schedule_of (commands.SweepCase options schedule) = Some (record { processors = options.processors; bytes = schedule })
 schedule_of _ = None

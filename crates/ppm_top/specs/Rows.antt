@@ -17,7 +17,8 @@ use Rattle.ppm_cli.specs.declared.replay.ReplayOptions.{ReplayOptions}
 use Rattle.ppm_cli.specs.declared.resume.ResumeOptions.{ResumeOptions}
 use Rattle.ppm_cli.specs.declared.run.RunOptions.{RunOptions}
 use Rattle.ppm_cli.specs.declared.stop.StopOptions.{StopOptions}
-use Rattle.ppm_cli.specs.Words.{command_of, AreReplayed, AreResumed, AreRun, AreSelf, AreStopped, IsLimit}
+use Rattle.ppm_cli.specs.declared.sweep.SweepOptions.{SweepOptions}
+use Rattle.ppm_cli.specs.Words.{command_of, AreReplayed, AreResumed, AreRun, AreSelf, AreStopped, AreSwept, IsLimit}
 use Rattle.ppm_commands.specs.Case.{CaseRows}
 use Rattle.ppm_commands.specs.Check.{CheckRows}
 use Rattle.ppm_commands.specs.Code.{CodeRows}
@@ -27,7 +28,9 @@ use Rattle.ppm_commands.specs.Serial.{SerialRows}
 use Rattle.ppm_loading.specs.MachineRows.{RefusesPlan}
 use Rattle.ppm_driver.specs.CaseReplayRows.{ReplayCaseRows}
 use Rattle.ppm_driver.specs.CaseRows.{RunCaseRows}
+use Rattle.ppm_driver.specs.CaseSweepRows.{SweepCaseRows}
 use Rattle.ppm_driver.specs.ExampleRows.{ExampleRows}
+use Rattle.ppm_driver.specs.RamRows.{RamRows}
 use Rattle.ppm_driver.specs.ReplayRows.{ReplayRows}
 use Rattle.ppm_driver.specs.ResumeRows.{ResumeRows, RefusesPlan as RefusesResumed}
 use Rattle.ppm_driver.specs.Resumes.{IsTextLeftBy}
@@ -37,6 +40,7 @@ use Rattle.ppm_driver.specs.RunRows.{RunRows}
 use Rattle.ppm_driver.specs.CaseStopRows.{HasRead as HasCaseRead, StopCaseRows}
 use Rattle.ppm_driver.specs.CodeResumes.{IsTextLeftByCode}
 use Rattle.ppm_driver.specs.StopRows.{HasRead, StopRows}
+use Rattle.ppm_driver.specs.SweepRows.{SweepRows}
 use Rattle.ppm_plan.specs.Forms.{plan_form, schedule_form}
 use Rattle.ppm_top.specs.Orders.{Orders, plan_of, schedule_of}
 
@@ -86,6 +90,21 @@ ReplaysByWords words o status = (options : ReplayOptions) (schedule : List ℕ) 
 abbrev pub ReplaysCaseByWords : List (List ℕ) → Outside → Status → Type 0
 ReplaysCaseByWords words o status = (options : ReplayOptions) (schedule : List ℕ) → command_of words ≡ Some (commands.ReplayCase options schedule)
     → AreReplayed options × ReplayCaseRows options schedule (ports_of o) status
+
+-- those of `sweep` where they ask for that, with these options, which are in their ranges, and this schedule
+abbrev pub SweepsByWords : List (List ℕ) → Outside → Status → Type 0
+SweepsByWords words o status = (options : SweepOptions) (schedule : List ℕ) → command_of words ≡ Some (commands.Sweep options schedule)
+    → AreSwept options × SweepRows options schedule (ports_of o) status
+
+-- those of `sweep` of a case where they ask for that, with these options, which are in their ranges, and this schedule
+abbrev pub SweepsCaseByWords : List (List ℕ) → Outside → Status → Type 0
+SweepsCaseByWords words o status = (options : SweepOptions) (schedule : List ℕ) → command_of words ≡ Some (commands.SweepCase options schedule)
+    → AreSwept options × SweepCaseRows options schedule (ports_of o) status
+
+-- those of `ram` where they ask for that, with these options, which are in their ranges, and this plan
+abbrev pub RunsRamByWords : List (List ℕ) → Outside → Status → Type 0
+RunsRamByWords words o status = (options : RunOptions) (plan : List ℕ) → command_of words ≡ Some (commands.Ram options plan)
+    → AreRun options × RamRows options options.processors plan o status
 
 -- those of `resume` where they ask for that, with these options, which are in their ranges, and this plan
 abbrev pub ResumesByWords : List (List ℕ) → Outside → Status → Type 0
@@ -171,6 +190,9 @@ pub record ProgramRows (words : List (List ℕ)) (o : Outside) (status : Status)
   pub races : SeeksRacesByWords words o status
   pub replay : ReplaysByWords words o status
   pub replay_case : ReplaysCaseByWords words o status
+  pub sweep : SweepsByWords words o status
+  pub sweep_case : SweepsCaseByWords words o status
+  pub ram : RunsRamByWords words o status
   pub resume : ResumesByWords words o status
   pub stop : StopsByWords words o status
   pub stop_case : StopsCaseByWords words o status

@@ -14,8 +14,8 @@ use ppm_commands::{
     case_command, check_command, code_command, depth_command, races_command, serial_command,
 };
 use ppm_driver::{
-    replay_case_command, replay_command, resume_command, run_case_command, run_command,
-    self_command, stop_case_command, stop_command,
+    ram_command, replay_case_command, replay_command, resume_command, run_case_command, run_command,
+    self_command, stop_case_command, stop_command, sweep_case_command, sweep_command,
 };
 use ppm_ports::{Sink, Source, Watch};
 use ppm_words::NoMemory;
@@ -145,6 +145,32 @@ fn answer_words<R: Threads + Wait + Sync, S: Source, K: Sink, E: Sink, W: Watch>
             source,
             out,
             err,
+        ),
+        Ok(Some(Command::Sweep(options, base))) => sweep_command(
+            alloc,
+            options,
+            base.as_slice(),
+            source,
+            out,
+            err,
+        ),
+        Ok(Some(Command::SweepCase(options, case_base))) => sweep_case_command(
+            alloc,
+            options,
+            case_base.as_slice(),
+            source,
+            out,
+            err,
+        ),
+        Ok(Some(Command::Ram(options, ram_plan))) => ram_command(
+            rt,
+            alloc,
+            options,
+            ram_plan.as_slice(),
+            source,
+            out,
+            err,
+            watch,
         ),
         Ok(Some(Command::Example(options))) => self_command(rt, alloc, options, out, err, watch),
         Ok(None) => deliver(alloc, &Answer::WordsRefused, out, err),

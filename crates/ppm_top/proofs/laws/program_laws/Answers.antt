@@ -30,5 +30,13 @@ returns c = record {
     case_fronts = c.case_answers_are_one.ensures.front;
     replayed_cases = c.case_replays_have_one_answer.ensures.law;
     stopped_cases = c.case_stops_have_one_answer.ensures.law;
+    sweeps = c.sweeps_have_one_answer.ensures.law;
+    swept_cases = c.case_sweeps_have_one_answer.ensures.law;
+    swept_codes = c.sweeps_are_as_code.ensures.law;
+    coded = c.programs_are_as_code.ensures.law;
+    ram_runs = c.answers_are_as_rams.ensures.law;
+    ram_answers = c.ram_answers_are_one.ensures.one;
+    ram_fronts = c.ram_answers_are_one.ensures.front;
+    ram_texts = c.texts_are_of_rams.ensures;
   };
 }

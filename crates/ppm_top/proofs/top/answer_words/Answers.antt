@@ -85,6 +85,24 @@ returns-in-Ok-Some-StopCase-clause-answers g c = by_ports (map string_bytes c.ar
     (cc (c.in-Ok-Some-StopCase.ensures.value, c.in-Ok-Some-StopCase.field-0-is, c.in-Ok-Some-StopCase.field-0-0-is)) refl refl
     c.stop_case_command.ensures.delivers
 
+-- the words ask for a sweep, which was answered
+pub returns-in-Ok-Some-Sweep-clause-answers : goal.returns-in-Ok-Some-Sweep-clause-answers
+returns-in-Ok-Some-Sweep-clause-answers g c = by_ports (map string_bytes c.args.words.now) _ _ (Some (commands.Sweep _ _))
+    (cc (c.in-Ok-Some-Sweep.ensures.value, c.in-Ok-Some-Sweep.field-0-is, c.in-Ok-Some-Sweep.field-0-0-is)) refl refl
+    c.sweep_command.ensures.delivers
+
+-- the words ask for a sweep of a case, which was answered
+pub returns-in-Ok-Some-SweepCase-clause-answers : goal.returns-in-Ok-Some-SweepCase-clause-answers
+returns-in-Ok-Some-SweepCase-clause-answers g c = by_ports (map string_bytes c.args.words.now) _ _ (Some (commands.SweepCase _ _))
+    (cc (c.in-Ok-Some-SweepCase.ensures.value, c.in-Ok-Some-SweepCase.field-0-is, c.in-Ok-Some-SweepCase.field-0-0-is)) refl refl
+    c.sweep_case_command.ensures.delivers
+
+-- the words ask for a run of a RAM, which was answered
+pub returns-in-Ok-Some-Ram-clause-answers : goal.returns-in-Ok-Some-Ram-clause-answers
+returns-in-Ok-Some-Ram-clause-answers g c = by_command (map string_bytes c.args.words.now) _ _ (Some (commands.Ram _ _))
+    (cc (c.in-Ok-Some-Ram.ensures.value, c.in-Ok-Some-Ram.field-0-is, c.in-Ok-Some-Ram.field-0-0-is))
+    c.ram_command.ensures.answers
+
 -- the words ask for the program's own example, which was run, and nothing was read
 pub returns-in-Ok-Some-Example-clause-answers : goal.returns-in-Ok-Some-Example-clause-answers
 returns-in-Ok-Some-Example-clause-answers g c = by_command (map string_bytes c.args.words.now) _ _ (Some (commands.Example _))
