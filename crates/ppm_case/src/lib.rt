@@ -15,8 +15,6 @@ mod line;
 mod reading;
 mod row;
 mod run;
-#[cfg(test)]
-mod tests;
 mod values;
 mod writing;
 

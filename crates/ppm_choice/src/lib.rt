@@ -16,8 +16,6 @@ mod limits;
 mod next;
 mod pace;
 mod schedule_laws;
-#[cfg(test)]
-mod tests;
 
 pub use choosing::{Choice, act_of_fault, choose};
 pub use clear::clear_steps;

@@ -13,8 +13,6 @@ mod board;
 mod laws;
 mod owner;
 mod tag;
-#[cfg(test)]
-mod tests;
 mod thief;
 
 pub use board::post;

@@ -10,8 +10,6 @@
 
 mod hold;
 mod laws;
-#[cfg(test)]
-mod tests;
 
 pub use hold::{bid, can_rise, kept};
 pub use laws::{bids_go_on, holders_never_return, others_bid_for_themselves};

@@ -11,8 +11,6 @@
 mod laws;
 mod order;
 mod outcome;
-#[cfg(test)]
-mod tests;
 
 pub use laws::{one_branch_is_last, order_words_are_set_once};
 pub use order::{inline, last};

@@ -12,8 +12,6 @@ mod opening;
 mod root;
 mod sequence;
 mod start;
-#[cfg(test)]
-mod tests;
 
 pub use images::Image;
 pub use laws::{images_are_one, images_begin_with_the_root, words_stand_for_values};

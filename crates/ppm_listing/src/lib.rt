@@ -14,8 +14,6 @@ mod keyword;
 mod laws;
 mod line;
 mod listing;
-#[cfg(test)]
-mod tests;
 mod token;
 
 pub use keyword::Keyword;

@@ -10,7 +10,5 @@
 #![tactic(auto)]
 
 mod laws;
-#[cfg(test)]
-mod tests;
 
 pub use laws::images_begin_the_depth_first_run;

@@ -12,8 +12,6 @@ mod bytes;
 mod decimal;
 mod laws;
 mod split;
-#[cfg(test)]
-mod tests;
 
 pub use bytes::{behind, same_bytes};
 pub use decimal::{is_digit, is_numeral, number, push_number, value};

@@ -16,8 +16,6 @@ mod sink;
 mod source;
 mod std_sink;
 mod std_source;
-#[cfg(test)]
-mod tests;
 mod watch;
 mod writing;
 

@@ -7,14 +7,8 @@
 //! The order of the passes is this project's.
 #![tactic(auto)]
 
-#[cfg(test)]
-mod fault_tests;
 mod judging;
 mod laws;
-#[cfg(test)]
-mod limit_tests;
-#[cfg(test)]
-mod tests;
 
 pub use judging::{JudgeError, program_of};
 pub use laws::have_one_answer;

@@ -17,8 +17,6 @@ mod ram_error;
 mod reading;
 mod register;
 mod run;
-#[cfg(test)]
-mod tests;
 mod values;
 
 pub use instruction::{Instruction, Operation};

@@ -9,8 +9,6 @@
 
 mod bank;
 mod laws;
-#[cfg(test)]
-mod tests;
 
 pub use bank::Bank;
 pub use laws::{ends_as_the_ram, is_sound};

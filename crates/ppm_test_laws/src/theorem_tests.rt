@@ -13,6 +13,7 @@ use ppm_kept::{
     run_row_keeps, steps_are_seen, take_rows_keep, turns_bear, turns_keep, turns_keep_left,
     turns_show, unruns_stay, untaken_stays, unwind_row_keeps,
 };
+use ppm_listing::listings_tell_codes;
 use ppm_paces::{capsules_are_short, looks_are_free, rows_are_paid, rows_keep_pace};
 use ppm_progress::{
     idle_deques_are_empty, left_comes_later, single_facts_allow_stuck_pieces, somebody_works,
@@ -100,6 +101,11 @@ fn the_laws_of_rows_are_called() {
     room_is_bounded();
     credit_stays();
     capsules_are_counted();
+}
+
+#[test]
+fn the_law_of_listings_is_called() {
+    listings_tell_codes();
 }
 
 #[test]

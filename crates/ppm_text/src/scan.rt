@@ -233,6 +233,3 @@ pub fn tokens(alloc: Global, text: &[u8]) -> Result<Tokens, TextError>
     }
     Ok(Tokens::from_parts(all, text.len() as u32))
 }
-
-#[cfg(test)]
-mod tests;

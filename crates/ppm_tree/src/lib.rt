@@ -13,8 +13,6 @@ mod mode;
 mod named;
 mod operator;
 mod program;
-#[cfg(test)]
-mod tests;
 mod tree;
 
 pub use laws::{divide_towards_zero, end_whole, have_one_end, none_is_stuck, spend_their_turns};

@@ -15,8 +15,6 @@ mod firsts;
 mod laws;
 mod masks;
 mod paths;
-#[cfg(test)]
-mod tests;
 mod tidiness;
 mod untidy_store;
 

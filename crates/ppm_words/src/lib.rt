@@ -14,8 +14,6 @@ mod name;
 mod named_array;
 mod no_memory;
 mod outcome;
-#[cfg(test)]
-mod tests;
 mod trap;
 mod value;
 

@@ -1,0 +1,1 @@
+-- How the codes of two tests are known to be codes: by the samples of `ppm_layout` and `ppm_war`, beside each test.
