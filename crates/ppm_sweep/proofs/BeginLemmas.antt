@@ -1,5 +1,5 @@
 -- Where a sweep begins.
-use Rattle.std.proofs.Common.{◌≡◌, refl, sym, ap, subst, arith, ℕ, ◌<◌, ◌≤◌, ◌-◌, List, [], ◌∷◌, ◌++◌, length, get_or, take, drop, take_all, le_refl, flat_map, Result, Ok, Err, IfErr, IfOk, ◌∙◌}
+use Rattle.std.proofs.Common.{◌≡◌, sym, ap, subst, arith, ℕ, ◌<◌, ◌≤◌, ◌-◌, List, [], ◌∷◌, length, get_or, take, drop, take_all, le_refl, flat_map, Result, Ok, Err, IfErr, IfOk, ◌∙◌}
 use Rattle.std.specs.Result.{IsErrAnd}
 use Rattle.ppm_words.specs.declared.outcome.Outcome.{Outcome}
 use Rattle.ppm_plan.specs.declared.schedule_item.ScheduleItem.{ScheduleItem}
@@ -17,7 +17,7 @@ use Rattle.ppm_sweep.specs.declared.spot.Spot.{Spot}
 use Rattle.ppm_sweep.specs.Found.{AllCome, Finds, Stops}
 use Rattle.ppm_sweep.specs.Meets.{HasArraysOf}
 use Rattle.ppm_sweep.specs.Spots.{first_way, place_of, CameFrom, IsBeginning, IsSpot}
-use Rattle.ppm_sweep.specs.Sweep.{Place, Swept, alone, first_place, further}
+use Rattle.ppm_sweep.specs.Sweep.{Swept, alone, first_place, further}
 use Rattle.ppm_sweep.specs.Visits.{base_of, over, swept_further, swept_in}
 use Rattle.ppm_sweep.proofs.FoundLemmas.{finds_after, none_come, stops_in}
 

@@ -14,7 +14,7 @@ use Rattle.ppm_choice.specs.Schedules.{beginning, dues_of, listed, rounds, sched
 use Rattle.ppm_choice.proofs.CourseLemmas.{behind_both, turns_of_both}
 use Rattle.ppm_sweep.specs.declared.options.Window.{Window}
 use Rattle.ppm_sweep.specs.Strikes.{Begin, EachActIsStruck, both_faults, struck_after, struck_turns}
-use Rattle.ppm_sweep.specs.Sweep.{Place, Swept, alone, along, before_due, first_place, is_in, number_after, passed, strikes, struck, with_act, written, sweep_of}
+use Rattle.ppm_sweep.specs.Sweep.{Place, Swept, alone, along, first_place, is_in, passed, strikes, struck, with_act, written, sweep_of}
 use Rattle.ppm_sweep.proofs.FoundLemmas.{no_more}
 use Rattle.ppm_sweep.proofs.FrontLemmas.{listed_with}
 use Rattle.ppm_sweep.proofs.SpotLemmas.{listed_both}
