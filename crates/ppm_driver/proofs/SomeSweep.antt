@@ -1,7 +1,8 @@
 -- A text that is not refused has an answer where it is swept: whether a replay comes to the outcome is not left open.
 use Rattle.std.proofs.Common.{◌≡◌, ◌≢◌, ◌⊎◌, ◌<◌, ◌≤◌, ℕ, ◌+◌, ◌==◌, nat_lt, Bool, true, false, ◌&&◌, ◌||◌, not, cond, ℤ, List, [], ◌∷◌, ◌++◌, length, map, Option, Some, None, inl, inr, refl, sym, ap, ◌∙◌, subst, arith, eqb-true, ltb-true}
 use Rattle.std.specs.Bool.{Decides}
-use Rattle.std.specs.List.{All, AllByRecursion, pointwise}
+use Rattle.std.specs.Cmp.Lexicographic.{pointwise}
+use Rattle.std.specs.List.{All, AllByRecursion}
 use Rattle.std.specs.Ordering.{int_eq}
 use Rattle.std.specs.Str.{bytes_eq}
 use Rattle.std.proofs.lemmas.Bool.{and_parts, both_ways, eq-eqb}
@@ -60,12 +61,12 @@ use Rattle.ppm_driver.proofs.SweepLemmas.{reads_back}
 abbrev IsOpenOrShut : Type 0 → Type 0
 IsOpenOrShut P = P ⊎ (P → ⊥)
 
+by_answer : (P : Type 0) (b x : Bool) → Decides b P → b ≡ x → IsOpenOrShut P
+by_answer P b true d e = inl (d.0 e)
+by_answer P b false d e = inr (λ p. both_ways b e (d.1 p))
+
 by_test : {P : Type 0} (b : Bool) → Decides b P → IsOpenOrShut P
-by_test b d = go b refl
-  where
-    go : (x : Bool) → b ≡ x → IsOpenOrShut _
-    go true e = inl (d.0 e)
-    go false e = inr (λ p. both_ways b e (d.1 p))
+by_test {P = P} b d = by_answer P b b d refl
 
 -- an array is told from another by its name and its values
 abbrev same_array : NamedArray → NamedArray → Bool
@@ -250,7 +251,7 @@ module _ (laws : SweepLaws) (options : SweepOptions) (are : AreSwept options) (s
       before : List Swept
       first : Swept
       after : List Swept
-      are : l ≡ before ++ (first ∷ after)
+      schedules_are : l ≡ before ++ (first ∷ after)
       few : is_short first ≡ true
       all : AllByRecursion Agree (short before)
       fair : Fair first
@@ -270,7 +271,7 @@ module _ (laws : SweepLaws) (options : SweepOptions) (are : AreSwept options) (s
       before = v ∷ f.before;
       first = f.first;
       after = f.after;
-      are = ap (λ (m : List Swept). v ∷ m) f.are;
+      schedules_are = ap (λ (m : List Swept). v ∷ m) f.schedules_are;
       few = f.few;
       all = by b e agree;
       fair = f.fair;
@@ -285,29 +286,24 @@ module _ (laws : SweepLaws) (options : SweepOptions) (are : AreSwept options) (s
 
     seek : (l : List Swept) → AllByRecursion Fair l → Sought l
     seek [] fair = inl tt
-    seek (v ∷ l) fair = go (is_short v) refl (answered v fair.0)
+    seek (v ∷ l) fair = let a = answered v fair.0 in go (is_short v) refl a.0 a.1 (is_or_not wanted a.0) (seek l fair.1)
       where
-        shut : false ≡ true → Agree v
-        shut e = absurd (both_ways false refl e)
-
-        go : (b : Bool) → is_short v ≡ b → (a : Answer) × Replays options items code input wanted t v a → Sought (v ∷ l)
-        go false e (a, h) = after_one v l false e shut (seek l fair.1)
-        go true e (a, h) = by (is_or_not wanted a)
-          where
-            by : IsOpenOrShut (IsOutcome wanted a) → Sought (v ∷ l)
-            by (inl o) = after_one v l true e (λ k. (a, h, o)) (seek l fair.1)
-            by (inr no) = inr (record {
-              before = [];
-              first = v;
-              after = l;
-              are = refl;
-              few = e;
-              all = tt;
-              fair = fair.0;
-              answer = a;
-              replays = h;
-              differs = no;
-            })
+        go : (b : Bool) → is_short v ≡ b → (a : Answer) → Replays options items code input wanted t v a → IsOpenOrShut (IsOutcome wanted a) → Sought l
+            → Sought (v ∷ l)
+        go false e a h o rest = after_one v l false e (λ k. absurd (both_ways false refl k)) rest
+        go true e a h (inl o) rest = after_one v l true e (λ k. (a, h, o)) rest
+        go true e a h (inr no) rest = inr (record {
+          before = [];
+          first = v;
+          after = l;
+          schedules_are = refl;
+          few = e;
+          all = tt;
+          fair = fair.0;
+          answer = a;
+          replays = h;
+          differs = no;
+        })
 
     -- so all agree, or one is the first that differs
     under : ((counts : Sweep) × AllAgree options items code input wanted t counts)
@@ -334,7 +330,7 @@ module _ (laws : SweepLaws) (options : SweepOptions) (are : AreSwept options) (s
                 before = f.before;
                 first = f.first;
                 after = f.after;
-                schedules_are = f.are;
+                schedules_are = f.schedules_are;
                 few = f.few;
                 all = f.all;
                 takeover = refl;
