@@ -1,5 +1,5 @@
 -- Where a sweep begins.
-use Rattle.std.proofs.Common.{◌≡◌, refl, sym, ap, subst, arith, ℕ, ◌<◌, ◌≤◌, ◌-◌, List, [], ◌∷◌, ◌++◌, length, get_or, take, drop, take_all, le_refl, flat_map, Result, Ok, Err, IfErr, IfOk, ◌∙◌}
+use Rattle.std.proofs.Common.{◌≡◌, sym, ap, subst, arith, ℕ, ◌<◌, ◌≤◌, ◌-◌, List, [], ◌∷◌, length, get_or, take, drop, take_all, le_refl, flat_map, Result, Ok, Err, IfErr, IfOk, ◌∙◌}
 use Rattle.std.specs.Result.{IsErrAnd}
 use Rattle.ppm_words.specs.declared.outcome.Outcome.{Outcome}
 use Rattle.ppm_plan.specs.declared.schedule_item.ScheduleItem.{ScheduleItem}
@@ -17,13 +17,13 @@ use Rattle.ppm_sweep.specs.declared.spot.Spot.{Spot}
 use Rattle.ppm_sweep.specs.Found.{AllCome, Finds, Stops}
 use Rattle.ppm_sweep.specs.Meets.{HasArraysOf}
 use Rattle.ppm_sweep.specs.Spots.{first_way, place_of, CameFrom, IsBeginning, IsSpot}
-use Rattle.ppm_sweep.specs.Sweep.{Place, Swept, alone, first_place, further}
+use Rattle.ppm_sweep.specs.Sweep.{Swept, alone, first_place, further}
 use Rattle.ppm_sweep.specs.Visits.{base_of, over, swept_further, swept_in}
 use Rattle.ppm_sweep.proofs.FoundLemmas.{finds_after, none_come, stops_in}
 
 -- a place before the first act of a run, on a machine
 module _ (o : Sweeping) (spot : Spot) (machine : Holding) (items : List ScheduleItem) (same : spot.machine ≡ machine)
-  (b : IsBeginning o.turns items spot) where
+    (b : IsBeginning o.turns items spot) where
   place_is : place_of spot ≡ first_place (seen machine).shape (seen machine).code o.keeper o.turns (seen machine).state items
   place_is = λ i. record { course = course (seen (same i)) (b.way i); front = b.front i; rest = b.rest i }
 

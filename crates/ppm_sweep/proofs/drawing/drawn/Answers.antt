@@ -1,5 +1,5 @@
-use Rattle.std.proofs.Common.{◌∙◌, ap, sym, arith}
-use Rattle.ppm_sweep.specs.Windows.{drawn, made_in}
+use Rattle.std.proofs.Common.{◌∙◌, arith}
+use Rattle.ppm_sweep.specs.Windows.{made_in}
 use Rattle.ppm_sweep.proofs.DrawLemmas.{none_among}
 use Rattle.ppm_sweep.proofs.drawing.drawn.Goals as goal
 

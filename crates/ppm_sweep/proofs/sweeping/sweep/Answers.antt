@@ -1,11 +1,11 @@
-use Rattle.std.proofs.Common.{◌∙◌, sym, subst, Ok, Err, [], ◌∷◌, flat_map}
+use Rattle.std.proofs.Common.{◌∙◌, subst, [], ◌∷◌, flat_map}
 use Rattle.ppm_core.specs.Machine.{seen}
 use Rattle.ppm_sweep.specs.declared.found.Stop.TheVariants.{NoMemory}
 use Rattle.ppm_sweep.specs.declared.found.Tally.{Tally}
 use Rattle.ppm_sweep.specs.Found.{swept_by, AllCome, Stops}
 use Rattle.ppm_sweep.specs.Visits.{base_of, swept_in}
 use Rattle.ppm_sweep.specs.Windows.{windows_for}
-use Rattle.ppm_sweep.proofs.BeginLemmas.{exit_all, exit_stops, swept_all}
+use Rattle.ppm_sweep.proofs.BeginLemmas.{exit_all, exit_stops}
 use Rattle.ppm_sweep.proofs.FoundLemmas.{all_both, stops_after, stops_in}
 use Rattle.ppm_sweep.proofs.sweeping.sweep.Goals as goal
 
