@@ -11,7 +11,6 @@ pub mod CodeRows
 pub mod SerialAnswers
 pub mod SerialRows
 pub mod CaseAnswers
-pub mod TidyLemmas
 pub mod DepthAnswers
 pub mod DepthRows
 pub mod WordLemmas

@@ -19,7 +19,7 @@
 -- (`ReadBackLemmas`). After a run a code has one answer of `stop`, the text of the machine there (`StopLemmas`), which makes its laws (`OneStop`,
 -- `OneStopCase`) and its rows (`OfStop`, `OfStopCase`) by the lemmas of `ppm_loading` on texts and plans.
 -- What `sweep` of `ppm_sweep` finds of machines is said of replays (`SweepLemmas`), as a replay comes to an outcome exactly where its answer is that
--- (`ComeLemmas`); the steps of the command stand in `SweepingLemmas`. A text has one answer (`OneSweep`), a difference of a sound code is of a run that
+-- (`ComeLemmas`); the steps of the command stand in `SweepingLemmas`. A text has one answer (`SomeSweep`, `OneSweep`), a difference of a sound code is of a run that
 -- came to no end (`SweepAsCode`), and the rows follow (`OfSweep`, `OfSweepCase`).
 
 pub mod OrdersLemmas
@@ -65,8 +65,9 @@ pub mod OfRam
 pub mod OfReplayCase
 pub mod ComeLemmas
 pub mod SweepLemmas
-pub mod OneSweep
 pub mod SweepAsCode
+pub mod SomeSweep
+pub mod OneSweep
 pub mod SweepingLemmas
 pub mod OfSweep
 pub mod OfSweepCase

@@ -13,7 +13,7 @@ use Rattle.ppm_cells.specs.declared.shape.Takeover.TheVariants.{ByPlaces, ByEntr
 use Rattle.ppm_code.specs.Inputs.{words_in}
 use Rattle.ppm_code.specs.Strands.{Result}
 use Rattle.ppm_code.specs.declared.code.CodeParts.{CodeParts}
-use Rattle.ppm_depth.specs.Run.{strands_of, said_of, ComesTo, IsWithin}
+use Rattle.ppm_depth.specs.Run.{strands_of, said_of, ComesTo, IsWithin, RunsAreThere}
 use Rattle.ppm_depth.specs.Start.{words_of, root_strand}
 use Rattle.ppm_depth.specs.declared.depth.DepthRun.{DepthRun}
 use Rattle.ppm_core.specs.Situation.{Situation}
@@ -21,40 +21,52 @@ use Rattle.ppm_layout.specs.Correct.{ImagesAreOne}
 use Rattle.ppm_plan.specs.declared.schedule_item.ScheduleItem.{ScheduleItem}
 use Rattle.ppm_plan.specs.Correct.{HaveOneAnswer as PlansHaveOneAnswer}
 use Rattle.ppm_plan.specs.Forms.{schedule_form}
+use Rattle.ppm_plan.specs.Refusals.{IsAccepted}
 use Rattle.ppm_choice.proofs.KeeperLemmas.{one_keeper}
 use Rattle.ppm_tree.specs.Tree.{ProgramTree}
 use Rattle.ppm_tree.specs.Program.{initial_arrays}
 use Rattle.ppm_cut_code.specs.Routines.{code_of}
 use Rattle.ppm_case.specs.Correct.{FaultsTellCases}
+use Rattle.ppm_case.specs.Faults.{HasFault}
 use Rattle.ppm_case.specs.Rules.{case_limit}
+use Rattle.ppm_case.specs.declared.case_error.CaseFault.{CaseFault}
 use Rattle.ppm_program.specs.Correct.{HaveOneAnswer as TextsHaveOneProgram}
+use Rattle.ppm_program.specs.Programs.{HasProgram}
+use Rattle.ppm_program.specs.Refusals.{IsRefusal}
 use Rattle.ppm_sweep.specs.Found.{acts_in, faults_in, left_out, short, swept_by}
 use Rattle.ppm_sweep.specs.Sweep.{Swept, is_short}
 use Rattle.ppm_sweep.specs.Text.{schedule_text}
 use Rattle.ppm_answers.specs.declared.answer.Answer.{Answer}
 use Rattle.ppm_answers.specs.declared.answer.Answer.TheVariants as answers
 use Rattle.ppm_answers.specs.declared.case.UntidyStore.{UntidyStore}
+use Rattle.ppm_answers.specs.declared.refusal.Refusal.{Refusal}
 use Rattle.ppm_answers.specs.declared.sweep.Came.{Came}
 use Rattle.ppm_answers.specs.declared.sweep.Came.TheVariants as came
 use Rattle.ppm_answers.specs.declared.sweep.Difference.{Difference}
 use Rattle.ppm_answers.specs.declared.sweep.Sweep.{Sweep}
+use Rattle.ppm_cli.specs.Words.{AreSwept}
 use Rattle.ppm_cli.specs.declared.sweep.SweepOptions.{SweepOptions}
 use Rattle.ppm_cli.specs.declared.takeover.SweptTakeovers.{SweptTakeovers}
 use Rattle.ppm_cli.specs.declared.takeover.SweptTakeovers.TheVariants as asked
 use Rattle.ppm_loading.specs.Loading.{OpensRun}
-use Rattle.ppm_loading.specs.Telling.{GoesOn}
+use Rattle.ppm_loading.specs.Telling.{GoesOn, store_told}
+use Rattle.ppm_loading.proofs.CaseInputLemmas.{case_input}
 use Rattle.ppm_loading.proofs.CaseLemmas.{AreCaseKinds}
 use Rattle.ppm_loading.proofs.CaseLemmas as cases
 use Rattle.ppm_loading.proofs.FirstStore.{one_told, none_told}
 use Rattle.ppm_loading.proofs.LoadingLemmas.{one_opening}
-use Rattle.ppm_loading.proofs.PlannedLemmas.{IsSteady, planned_one, planned_front}
-use Rattle.ppm_loading.proofs.ProgramLemmas.{AreKinds, text_one, text_front, plain}
+use Rattle.ppm_loading.proofs.PlannedLemmas.{IsSteady, planned_one, planned_front, some_answer}
+use Rattle.ppm_loading.proofs.ProgramLemmas.{AreKinds, of_text, text_one, text_front, plain}
+use Rattle.ppm_loading.proofs.TidyLemmas.{all_are}
+use Rattle.ppm_driver.specs.ProgramsAsCode.{ProgramsAreAsCode}
 use Rattle.ppm_driver.specs.CaseSweeps.{HaveOneCaseAnswer}
 use Rattle.ppm_driver.specs.CaseSweeps as case_sweeps
 use Rattle.ppm_driver.specs.Replays.{sizes_of}
 use Rattle.ppm_driver.specs.Sweeps.{AllAgree, AllOf, Agrees, Begins, FirstDiffers, FirstOf, IsOutcome, Replays, Tells, WithOutcome, replay_options, schedules, sum_of, sweeping_of}
 use Rattle.ppm_driver.specs.Sweeps.{CodeHas, ProgramHas, TextHas, HaveOneAnswer}
+use Rattle.ppm_driver.proofs.OneCase.{some_scheduled}
 use Rattle.ppm_driver.proofs.OneReplay as replays
+use Rattle.ppm_driver.proofs.SomeSweep.{SweepLaws, some_has}
 
 -- Of two lists one holds of those in front of the first of which the other holds: that is one in both.
 module _ (P N : Swept → Type 0) (apart : (v : Swept) → P v → N v → ⊥) where
@@ -345,23 +357,62 @@ steady options items text number = plain (ProgramHas options items) kinds (of_pr
 case_steady : (options : SweepOptions) → IsSteady schedule_form [] options.processors (case_sweeps.TextHas options) case_limit
 case_steady options items text number = cases.plain (CodeHas options items) case_kinds (of_code options items) text number
 
+-- what the crates below show of every text, every code, every image, every run and every schedule
+pub record Laws : Type 0 where
+  pub texts : TextsHaveOneProgram
+  pub programs : ProgramsAreAsCode
+  pub images : ImagesAreOne
+  pub runs : RunsAreThere
+  pub plans : PlansHaveOneAnswer
+  pub sweeps : SweepLaws
+
+-- a text that is not refused has an answer by items that may be obeyed
+some : Laws → (options : SweepOptions) → AreSwept options → (schedule : List ℕ) (items : List ScheduleItem) (text : List ℕ)
+    → IsAccepted schedule_form schedule options.processors items → ((r : Refusal) → ¬ IsRefusal text r) → (a : Answer) × TextHas options items text a
+some laws options are schedule items text accepted free =
+    let has : (t : ProgramTree) × HasProgram text t = (laws.texts text).none free in
+    let may = (laws.programs text has.0 has.1).may in
+    let a = some_has laws.sweeps options are schedule items accepted (code_of has.0) (initial_arrays has.0) may.code_is may.input_is laws.runs may.sound.tidy in
+    (a.0, of_text (ProgramHas options items) kinds (of_program options items) text has.0 has.1 a.0 a.1)
+
 -- so it is with all options and all schedules
-pub have_one_answer : TextsHaveOneProgram → ImagesAreOne → PlansHaveOneAnswer → HaveOneAnswer
-have_one_answer texts images plans = record {
+pub have_one_answer : Laws → HaveOneAnswer
+have_one_answer laws = record {
   one = λ options schedule.
-      planned_one schedule_form schedule options.processors (TextHas options) text_limit plans.schedules
-      (λ items. text_one (ProgramHas options items) texts (λ t. code_one images options items (code_of t) (initial_arrays t)));
+      planned_one schedule_form schedule options.processors (TextHas options) text_limit laws.plans.schedules
+      (λ items. text_one (ProgramHas options items) laws.texts (λ t. code_one laws.images options items (code_of t) (initial_arrays t)));
   front = λ options schedule.
       planned_front schedule_form schedule options.processors (TextHas options) text_limit (steady options)
-      (λ items. text_front (ProgramHas options items) texts);
+      (λ items. text_front (ProgramHas options items) laws.texts);
+  some = λ options schedule are.
+      some_answer schedule_form schedule options.processors (TextHas options) text_limit laws.plans.schedules (steady options)
+      (some laws options are schedule);
 }
 
-pub have_one_case_answer : FaultsTellCases → ImagesAreOne → PlansHaveOneAnswer → HaveOneCaseAnswer
-have_one_case_answer texts images plans = record {
-  one = λ options schedule.
-      planned_one schedule_form schedule options.processors (case_sweeps.TextHas options) case_limit plans.schedules
-      (λ items. cases.text_one (CodeHas options items) texts (code_one images options items));
-  front = λ options schedule.
-      planned_front schedule_form schedule options.processors (case_sweeps.TextHas options) case_limit (case_steady options)
-      (λ items. cases.text_front (CodeHas options items) texts);
-}
+module _ (texts : FaultsTellCases) (images : ImagesAreOne) (runs : RunsAreThere) (plans : PlansHaveOneAnswer) (sweeps : SweepLaws) where
+  -- a case has an answer by items that may be obeyed, if no store is not tidy
+  some_by_items : (options : SweepOptions) → AreSwept options → (schedule : List ℕ) (items : List ScheduleItem) (text : List ℕ)
+      → IsAccepted schedule_form schedule options.processors items → ((f : CaseFault) (line : ℕ) → ¬ HasFault text f line)
+      → ((u : UntidyStore) → ¬ case_sweeps.SweepCaseHas options schedule text (answers.Untidy u)) → (a : Answer) × case_sweeps.TextHas options items text a
+  some_by_items options are schedule items text accepted free no_store =
+      let has = texts.covers text free in
+      let tidy = all_are has.code (λ s f. no_store (store_told (length has.input) has.code s) (record {
+        items = items;
+        accepted = accepted;
+        has = record { code = has.code; input = has.input; is = has.is; has = record { store = s; first = f; tells = refl } };
+      })) in
+      let a = some_has sweeps options are schedule items accepted has.code has.input has.is.listed.code (case_input text has.code has.input has.is) runs tidy in
+      (a.0, cases.of_text (CodeHas options items) case_kinds (of_code options items) text has.code has.input has.is a.0 a.1)
+
+  pub have_one_case_answer : HaveOneCaseAnswer
+  have_one_case_answer = record {
+    one = λ options schedule.
+        planned_one schedule_form schedule options.processors (case_sweeps.TextHas options) case_limit plans.schedules
+        (λ items. cases.text_one (CodeHas options items) texts (code_one images options items));
+    front = λ options schedule.
+        planned_front schedule_form schedule options.processors (case_sweeps.TextHas options) case_limit (case_steady options)
+        (λ items. cases.text_front (CodeHas options items) texts);
+    some = λ options schedule are text free no_store.
+        some_scheduled (case_sweeps.TextHas options) (case_steady options) plans schedule options.processors text
+        (λ items accepted. some_by_items options are schedule items text accepted free no_store);
+  }

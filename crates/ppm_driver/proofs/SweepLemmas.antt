@@ -107,7 +107,7 @@ module _ (p : ℕ) where
 module _ (options : SweepOptions) (items : List ScheduleItem) (code : CodeParts) (input : List NamedArray) (wanted : Outcome) (t : Takeover)
     (is : IsCode code) (named : IsOfInput input wanted) (keeper : ℕ) (start : Situation) (spared : IsKeeper schedule_form items keeper)
     (opens : OpensRun (sizes_of (replay_options options t)) code input keeper start) where
-  begins : Begins options items code input wanted t
+  abbrev begins : Begins options items code input wanted t
   begins = record { keeper = keeper; spared = spared; start = start; opens = opens }
 
   abbrev swept : List Swept

@@ -34,10 +34,11 @@ use Rattle.ppm_answers.specs.Reading.{AreOne, FrontsDecide}
 use Rattle.ppm_cli.specs.declared.replay.ReplayOptions.{ReplayOptions}
 use Rattle.ppm_cli.specs.declared.sweep.SweepOptions.{SweepOptions}
 use Rattle.ppm_cli.specs.declared.takeover.SweptTakeovers.{SweptTakeovers}
+use Rattle.ppm_cli.specs.Words.{AreSwept}
 use Rattle.ppm_cli.specs.declared.takeover.SweptTakeovers.TheVariants as asked
 use Rattle.ppm_loading.specs.Telling.{GoesOn, IsUntidy}
 use Rattle.ppm_loading.specs.Loading.{OpensRun}
-use Rattle.ppm_loading.specs.Planned.{PlannedHas, PlannedMay}
+use Rattle.ppm_loading.specs.Planned.{PlannedHas, PlannedMay, HasSomeAnswer}
 use Rattle.ppm_loading.specs.Programs as programs
 use Rattle.ppm_driver.specs.Replays as replay
 
@@ -170,7 +171,9 @@ SweepHas o schedule text answer = PlannedHas schedule_form schedule o.processors
 abbrev pub SweepMay : SweepOptions → (schedule : List ℕ) → Port → Answer → Type 0
 SweepMay o schedule source answer = PlannedMay schedule_form schedule o.processors (TextHas o) text_limit source answer
 
--- With all options and all schedules two answers of a text are one, and what stands after more bytes than a text may have changes none.
+-- With all options and all schedules two answers of a text are one, and what stands after more bytes than a text may have changes none; with
+-- options in their ranges a text that is not refused has one.
 pub record HaveOneAnswer : Type 0 where
   pub one : (o : SweepOptions) (schedule : List ℕ) → AreOne (SweepHas o schedule)
   pub front : (o : SweepOptions) (schedule : List ℕ) → FrontsDecide text_limit (SweepHas o schedule)
+  pub some : (o : SweepOptions) (schedule : List ℕ) → AreSwept o → HasSomeAnswer schedule_form schedule o.processors (TextHas o)

@@ -76,11 +76,11 @@ fn tidy_answer(
     requires tidy { IsTidy code.now }
     ensures { IfOk result (CodeHas options schedule.now.items code.now input.now) }
 {
-    let run = depth_first(alloc, code, input, options.capsules)?;
-    if goes_on(&run.outcome) {
+    let depth = depth_first(alloc, code, input, options.capsules)?;
+    if goes_on(&depth.outcome) {
         return Ok(Answer::NotWithinCapsules(options.capsules));
     }
-    match swept_all(alloc, options, schedule, code, input, &run) {
+    match swept_all(alloc, options, schedule, code, input, &depth) {
         Ok(counts) => Ok(Answer::Swept(counts)),
         Err(halt) => answer_of(halt),
     }

@@ -34,8 +34,8 @@ sweep-requires-clause-arrays c =
     (within_named c.args.code.now c.args.input.now c.args.options.capsules c.args.run.now c.requires.within)
 
 -- all agree
-pub returns-in-Ok : goal.returns-in-Ok
-returns-in-Ok c =
+pub returns-in-Ok-sweep : goal.returns-in-Ok-sweep
+returns-in-Ok-sweep c =
     subst (AllAgree c.args.options c.args.schedule.now.items c.args.code.now c.args.input.now c.args.run.now.outcome c.args.takeover)
     (sym c.counts_of.ensures)
     (all_of c.args.options c.args.schedule.now.items c.args.code.now c.args.input.now c.args.run.now.outcome c.args.takeover c.parts.ensures.code
@@ -45,14 +45,15 @@ returns-in-Ok c =
     c.in-Ok-sweep.tally c.in-Ok-sweep.ensures.all)
 
 -- the machine after a replay has the arrays of the input
-pub halted-requires-clause-lengths : goal.halted-requires-clause-lengths
-halted-requires-clause-lengths c =
-    stopped_lengths (seen c.in-Ok.machine) c.sweeping_by-sweeping.result.turns c.args.run.now.outcome _ c.args.input.now c.in-Err.stop
-    (opens_lengths _ _ _ _ _ c.in-Ok.ensures) c.in-Err.ensures.differs
+pub halted-requires : goal.halted-requires
+halted-requires c = record {
+  lengths = stopped_lengths (seen c.in-Ok.machine) c.sweeping_by-sweeping.result.turns c.args.run.now.outcome _ c.args.input.now c.in-Err.stop
+      (opens_lengths _ _ _ _ _ c.in-Ok.ensures) c.in-Err.ensures.differs;
+}
 
 -- or it stops
-pub returns-in-Err : goal.returns-in-Err
-returns-in-Err c =
+pub returns : goal.returns
+returns c =
     stop_of c.args.options c.args.schedule.now.items c.args.code.now c.args.input.now c.args.run.now.outcome c.args.takeover c.parts.ensures.code
     (within_named c.args.code.now c.args.input.now c.args.options.capsules c.args.run.now c.requires.within) c.keeper-keeper.result
     (seen c.in-Ok.machine) c.keeper-keeper.ensures.keeper c.in-Ok.ensures c.sweeping_by-sweeping.result c.sweeping_by-sweeping.ensures
