@@ -16,3 +16,4 @@ pub mod WalkLemmas
 pub mod FairLemmas
 pub mod BeginLemmas
 pub mod DrawLemmas
+pub mod StrikeLemmas

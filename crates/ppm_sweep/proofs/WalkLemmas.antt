@@ -181,3 +181,12 @@ before_is o old due more e made chosen =
           ∙ ap (λ b. (if b && is_in o.window old.number then swept_struck o old (processor_of (act_of due)) else []) ++ rest) made
           ∙ ap (λ b. (if b then swept_struck o old (processor_of (act_of due)) else []) ++ rest) chosen,
     )
+
+-- all before an act that is made come to the outcome, where it is to have a fault and where it isn't
+pub all_before : (m : Situation) (wanted : Outcome) (o : Sweeping) (old : Spot) (due : Due) (t u : Tally)
+    → is_made (seen old.machine).shape (seen old.machine).code (place_of old).course due ≡ true → (b : Bool) → is_in o.window old.number ≡ b
+    → AllCome m o.turns wanted (if b then swept_struck o old (processor_of (act_of due)) else []) t u → AllCome m o.turns wanted (swept_before o old due) t u
+all_before m wanted o old due t u made b chosen all =
+    let struck_there = swept_struck o old (processor_of (act_of due)) in
+    subst (λ l. AllCome m o.turns wanted l t u)
+    (sym (ap (λ x. if x && is_in o.window old.number then struck_there else []) made ∙ ap (λ x. if x then struck_there else []) chosen)) all

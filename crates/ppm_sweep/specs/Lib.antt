@@ -7,3 +7,4 @@ pub mod Spots
 pub mod Visits
 pub mod Text
 pub mod Fair
+pub mod Strikes

@@ -23,7 +23,7 @@ mod sweeping;
 mod text;
 
 pub use found::{Differing, Stop, Tally};
-pub use laws::sweeps_are_fair;
+pub use laws::{each_act_is_struck, sweeps_are_fair};
 pub use options::{Draws, Sweeping, Window};
 pub use sweeping::sweep;
 pub use text::{schedules_are_written, write_schedule};

@@ -1,8 +1,9 @@
-use Rattle.std.proofs.Common.{◌≡◌, ◌∙◌, refl, sym, subst, arith, false, suc, ◌+◌, ◌-◌, [], ◌∷◌, Ok, leb-true}
+use Rattle.std.proofs.Common.{◌≡◌, ◌∙◌, refl, sym, subst, arith, false, suc, ◌+◌, ◌-◌, [], ◌∷◌, Ok, leb-true, true}
 use Rattle.std.proofs.lemmas.Bool.{both_ways}
 use Rattle.ppm_core.specs.Machine.{seen}
 use Rattle.ppm_step.specs.State.{stand_of, is_done_at}
 use Rattle.ppm_choice.specs.Course.{act_of, processor_of}
+use Rattle.ppm_sweep.specs.declared.found.Tally.{Tally}
 use Rattle.ppm_sweep.specs.Ahead.{due_of, dues_in}
 use Rattle.ppm_sweep.specs.Found.{AllCome, Finds, Stops}
 use Rattle.ppm_sweep.specs.Spots.{place_of, IsLast}
@@ -11,7 +12,8 @@ use Rattle.ppm_sweep.specs.Visits.{PassesOn, Visits, swept_deeper, swept_from, s
 use Rattle.ppm_sweep.proofs.AlongLemmas.{last_of, none_after, none_made}
 use Rattle.ppm_sweep.proofs.FoundLemmas.{finds_after, none_come, stops_in}
 use Rattle.ppm_sweep.proofs.SpotLemmas.{made}
-use Rattle.ppm_sweep.proofs.WalkLemmas.{before_is, exit_finds, exit_visits, further_is, further_none, hard_too, one_visit, soft_alone, soft_stops, visits_end, walk_stops}
+use Rattle.ppm_sweep.proofs.WalkLemmas.{all_before, before_is, exit_finds, exit_visits, further_is, further_none, hard_too, one_visit, soft_alone, soft_stops, visits_end, walk_stops}
+use Rattle.ppm_sweep.proofs.sweeping.+sweeps.Goals.{visit-then-has+in_ok-strikes, visit-else-has}
 use Rattle.ppm_sweep.proofs.sweeping.+sweeps.Goals as goal
 
 -- a run after the soft fault differs
@@ -115,6 +117,32 @@ visit-returns-in_err-strikes-clause-visits t c = λ m fresh came.
     (stops_in m o.turns c.args.wanted.now (swept_struck o spot processor) before.0 c.in_err-strikes.field-0.0
     (subst (λ k. Stops m o.turns c.args.wanted.now (swept_struck o spot k) c.in_err-strikes.field-0.0) c.processor_of-processor.ensures
     (c.in_err-strikes.ensures m fresh came))))
+
+-- it is made, after all schedules with a fault before it
+pub visit-returns-clause-visits : goal.visit-returns-clause-visits
+visit-returns-clause-visits t c = λ m fresh came.
+    let o = c.args.sweeping in
+    let wanted = c.args.wanted.now in
+    let spot = c.args.spot.now in
+    let n = seen spot.machine in
+    let due = due_of c.in-Some.coming in
+    let more : ¬ IsLast n spot.way c.in-Some.coming = λ over. both_ways c.is_over.result c.if-is_over.false (c.is_over.ensures.1 over) in
+    let lives = subst (λ k. is_done_at (stand_of n.state k) ≡ false) c.processor_of-processor.ensures (sym c.is_done.ensures ∙ c.if-is_done.false) in
+    let is = made n spot.way c.in-Some.coming more lives in
+    record {
+      due = due;
+      advances = c.in_ok-advance.ensures;
+      all = elim c.if-has.branch [
+        | visit-then-has+in_ok-strikes w ↦
+            all_before m wanted o spot due c.args.tally.now c.if-has.tally is true (sym c.has.ensures ∙ w.if-has.true)
+            (subst (λ (v : Tally). AllCome m o.turns wanted (swept_struck o spot (processor_of (act_of due))) c.args.tally.now v) (sym w.tally-is)
+            (subst (λ k. AllCome m o.turns wanted (swept_struck o spot k) c.args.tally.now w.strikes.new.tally) c.processor_of-processor.ensures
+            (w.in_ok-strikes.ensures m fresh came)))
+        | visit-else-has w ↦
+            all_before m wanted o spot due c.args.tally.now c.if-has.tally is false (sym c.has.ensures ∙ w.if-has.false)
+            (subst (λ (v : Tally). AllCome m o.turns wanted [] c.args.tally.now v) (sym w.tally-is) (none_come m o.turns wanted c.args.tally.now))
+      ];
+    }
 
 -- a visit stops
 pub walk-returns-in_err-more : goal.walk-returns-in_err-more

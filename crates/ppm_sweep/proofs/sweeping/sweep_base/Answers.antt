@@ -8,8 +8,11 @@ use Rattle.ppm_sweep.proofs.sweeping.sweep_base.Goals as goal
 pub alone-requires : goal.alone-requires
 alone-requires c =
     let s = c.in_ok-spot.ensures in
-    begins_well c.args.sweeping c.in_ok-spot.spot c.args.machine.now c.args.schedule.now.items s.machine s.begins c.args.wanted.now c.requires.start.fresh
-    c.requires.start.turns s.processors c.requires.start.arrays
+    record {
+      spot =
+          begins_well c.args.sweeping c.in_ok-spot.spot c.args.machine.now c.args.schedule.now.items s.machine s.begins c.args.wanted.now
+          c.requires.start.fresh c.requires.start.turns s.processors c.requires.start.arrays;
+    }
 
 -- and it is that of the base schedule
 pub returns : goal.returns

@@ -14,8 +14,11 @@ loop-left-init c = λ v found h. h
 pub sweep_window-requires : goal.sweep_window-requires
 sweep_window-requires c =
     let r = c.requires.start in
-    subst (λ (o : Sweeping). IsStart c.args.schedule.now c.args.machine.now o c.args.wanted.now) (sym c.over-over.ensures)
-    (record { processors = r.processors; turns = r.turns; fresh = r.fresh; arrays = r.arrays })
+    record {
+      start =
+          subst (λ (o : Sweeping). IsStart c.args.schedule.now c.args.machine.now o c.args.wanted.now) (sym c.over-over.ensures)
+          (record { processors = r.processors; turns = r.turns; fresh = r.fresh; arrays = r.arrays });
+    }
 
 -- one window more
 pub loop-left-preserved : goal.loop-left-preserved
