@@ -1,9 +1,13 @@
 -- The answers that texts have where their RAMs are run.
-use Rattle.std.proofs.Common.{ℕ, List, [], sym, subst, ◌≡◌}
+use Rattle.std.proofs.Common.{ℕ, ◌<◌, List, [], ◌∷◌, length, sym, subst, ◌≡◌, arith}
+use Rattle.std.proofs.lemmas.List.Elements.{All-from_recursion}
 use Rattle.std.specs.Prelude.{Some}
+use Rattle.ppm_words.specs.declared.named_array.NamedArray.{NamedArray}
 use Rattle.ppm_ports.specs.Ports.{Port}
 use Rattle.ppm_ports.specs.Outside.{ToldLists}
 use Rattle.ppm_ports.specs.Whole.{ReadsTo}
+use Rattle.ppm_code.specs.declared.code.CodeParts.{CodeParts}
+use Rattle.ppm_depth.specs.Start.{NamesArrays}
 use Rattle.ppm_ram.specs.declared.ram.RamParts.{RamParts}
 use Rattle.ppm_ram.specs.Limits.{text_limit}
 use Rattle.ppm_ram.specs.Program.{memory_of}
@@ -25,6 +29,14 @@ use Rattle.ppm_driver.specs.Runs.{CodeGivenUp, CodeWants, RunTold}
 use Rattle.ppm_driver.specs.Watchers.{ToldNothing, ToldWhole}
 use Rattle.ppm_driver.proofs.RunLemmas.{forgets, IsOfProgram, of_code}
 use Rattle.ppm_driver.proofs.WantLemmas.{map_want, map_wanting}
+
+-- the root of a RAM's code names the one array of its input
+pub names_kept : (ram : RamParts) (code : CodeParts) (input : List NamedArray) → code ≡ code_of ram → input ≡ input_of (memory_of ram)
+    → NamesArrays code input
+names_kept ram code input e same =
+    subst (λ (k : CodeParts). NamesArrays k input) (sym e)
+    (subst (λ (l : List NamedArray). NamesArrays (code_of ram) l) (sym same)
+    (All-from_recursion (λ (a : ℕ). a < length (input_of (memory_of ram))) (0 ∷ []) (omega arith, tt)))
 
 -- an answer of a RAM is of a kind that codes have
 pub of_ram : (options : RunOptions) (watching : ℕ) (before now : ToldLists) (items : List PlanItem) (ram : RamParts) (a : Answer)

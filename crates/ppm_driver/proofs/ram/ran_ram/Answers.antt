@@ -1,8 +1,6 @@
-use Rattle.std.proofs.Common.{◌<◌, ℕ, List, [], ◌∷◌, length, map, sym, subst, arith}
-use Rattle.std.proofs.lemmas.List.Elements.{All-from_recursion}
+use Rattle.std.proofs.Common.{List, map, subst}
 use Rattle.ppm_words.specs.declared.named_array.NamedArray.{NamedArray}
 use Rattle.ppm_code.specs.declared.code.CodeParts.{CodeParts}
-use Rattle.ppm_depth.specs.Start.{NamesArrays}
 use Rattle.ppm_ram.specs.Program.{memory_of}
 use Rattle.ppm_ram_code.specs.Code.{code_of}
 use Rattle.ppm_ram_code.specs.Correct.{input_of}
@@ -10,13 +8,6 @@ use Rattle.ppm_driver.specs.Runs.{CodeHas, CodeWants}
 use Rattle.ppm_driver.proofs.WantLemmas.{at_err, nothing_told}
 use Rattle.ppm_driver.proofs.WatchLemmas.{fronts_stay, others_still}
 use Rattle.ppm_driver.proofs.ram.ran_ram.Goals as goal
-
--- the code's root names the one array of the input
-pub ran_code-requires-clause-names : goal.ran_code-requires-clause-names
-ran_code-requires-clause-names g c =
-    subst (λ (k : CodeParts). NamesArrays k c.in_ok-input.input) (sym c.in_ok-code.ensures)
-    (subst (λ (l : List NamedArray). NamesArrays (code_of c.args.ram.now) l) (sym c.in_ok-input.ensures)
-    (All-from_recursion (λ (a : ℕ). a < length (input_of (memory_of c.args.ram.now))) (0 ∷ []) (omega arith, tt)))
 
 -- what the run of its code on its memory comes to
 pub returns-clause-has : goal.returns-clause-has

@@ -44,8 +44,9 @@ returns-in-Ok-clause-told g c =
 -- nothing was run, and nobody was told anything
 pub returns-clause-may : goal.returns-clause-may
 returns-clause-may g c =
-    no_ram_task plan_form c.args.faults.now c.args.options.processors (λ items ram a. RamHas ram c.args.options c.args.options.processors _ _ items a) _
-    c.in-Err.answer c.in-Err.ensures.none
+    let lists = map g.W.Watch.told c.args.watch.now.items in
+    no_ram_task plan_form c.args.faults.now c.args.options.processors
+    (λ items ram a. RamHas ram c.args.options c.args.options.processors lists lists items a) _ c.in-Err.answer c.in-Err.ensures.none
 
 pub returns-clause-told : goal.returns-clause-told
 returns-clause-told g c = untold c.args.options.processors _ _ c.in-Err.answer _
