@@ -292,7 +292,7 @@ module _ (laws : SweepLaws) (options : SweepOptions) (are : AreSwept options) (s
             → Sought (v ∷ l)
         go false e a h o rest = after_one v l false e (λ k. absurd (both_ways false refl k)) rest
         go true e a h (inl o) rest = after_one v l true e (λ k. (a, h, o)) rest
-        go true e a h (inr no) rest = inr (record {
+        go true e a h (inr other) rest = inr (record {
           before = [];
           first = v;
           after = l;
@@ -302,7 +302,7 @@ module _ (laws : SweepLaws) (options : SweepOptions) (are : AreSwept options) (s
           fair = fair.0;
           answer = a;
           replays = h;
-          differs = no;
+          differs = other;
         })
 
     -- so all agree, or one is the first that differs
