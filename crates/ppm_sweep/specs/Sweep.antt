@@ -121,14 +121,14 @@ module _ (s : Shape) (code : CodeParts) where
       ++ along keeper sweep window (number_after number p due) (passed p due) dues
 
   module _ (keeper turns : ℕ) where
-    -- the schedules that go on from a place, with so many faults before it, and have further ones, so many at most: those with the next before each
-    -- act of its run that is in the window, and after each of these those with a later one before a later act
+    -- The schedules that go on from a place, which has so many faults before it, and have further ones, so many at most: the next before each act of
+    -- its run that is in the window, and each later one before any later act. A schedule comes before those that have more after its last fault.
     abbrev pub further : (more : ℕ) → Window → (faults : ℕ) → Place → List Swept
     further zero window faults p = []
     further (suc more) window faults p =
         along keeper (λ q. alone (faults + 1) q ∷ further more (all_acts turns) (faults + 1) q) window 0 p (dues_of s.processors p.rest turns)
 
-    -- first the one without a further fault, then those
+    -- those that go on from a place: the one without a further fault, and then those with one
     abbrev pub sweep_from : (more : ℕ) → Window → (faults : ℕ) → Place → List Swept
     sweep_from more window faults p = alone faults p ∷ further more window faults p
 
