@@ -126,10 +126,26 @@ fn swept_all(
 {
     match options.takeover {
         SweptTakeovers::ByPlaces => {
-            swept_under(alloc, options, Takeover::ByPlaces, schedule, code, input, run)
+            swept_under(
+                alloc,
+                options,
+                Takeover::ByPlaces,
+                schedule,
+                code,
+                input,
+                run,
+            )
         }
         SweptTakeovers::ByEntries => {
-            swept_under(alloc, options, Takeover::ByEntries, schedule, code, input, run)
+            swept_under(
+                alloc,
+                options,
+                Takeover::ByEntries,
+                schedule,
+                code,
+                input,
+                run,
+            )
         }
         SweptTakeovers::Both => swept_both(alloc, options, schedule, code, input, run),
     }
@@ -151,8 +167,24 @@ fn swept_both(
     ensures { Finds (AllOf options schedule.now.items code.now input.now run.now.outcome asked.Both)
         (FirstOf options schedule.now.items code.now input.now run.now.outcome asked.Both) result }
 {
-    let places = swept_under(alloc, options, Takeover::ByPlaces, schedule, code, input, run)?;
-    let entries = swept_under(alloc, options, Takeover::ByEntries, schedule, code, input, run)?;
+    let places = swept_under(
+        alloc,
+        options,
+        Takeover::ByPlaces,
+        schedule,
+        code,
+        input,
+        run,
+    )?;
+    let entries = swept_under(
+        alloc,
+        options,
+        Takeover::ByEntries,
+        schedule,
+        code,
+        input,
+        run,
+    )?;
     together(places, entries)
 }
 
