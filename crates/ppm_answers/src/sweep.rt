@@ -65,7 +65,10 @@ fn sweep_words_of(alloc: Global, sweep: Sweep) -> Result<Vec<u8>, AllocError>
     ensures { IfOk result (λ text. text.items ≡ sweep_words sweep) }
 {
     let Sweep {
-        runs, met, acts, ..
+        runs,
+        met,
+        acts,
+        ..
     } = sweep;
     let words = format!(in alloc; "ok: {runs} runs, {met} met, {acts} acts")?;
     Ok(words.into_bytes())

@@ -14,8 +14,8 @@ use ppm_commands::{
     case_command, check_command, code_command, depth_command, races_command, serial_command,
 };
 use ppm_driver::{
-    ram_command, replay_case_command, replay_command, resume_command, run_case_command, run_command,
-    self_command, stop_case_command, stop_command, sweep_case_command, sweep_command,
+    ram_command, replay_case_command, replay_command, resume_command, run_case_command,
+    run_command, self_command, stop_case_command, stop_command, sweep_case_command, sweep_command,
 };
 use ppm_ports::{Sink, Source, Watch};
 use ppm_words::NoMemory;
