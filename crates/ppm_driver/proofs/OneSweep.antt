@@ -1,6 +1,6 @@
 -- A text has one answer where it is swept: its code begins one run under each takeover, which makes one list of schedules, and each has one replay.
-use Rattle.std.proofs.Common.{◌≡◌, ◌⊎◌, ◌<◌, ℕ, Bool, true, cond, List, [], ◌∷◌, ◌++◌, length, inl, inr, refl, sym, ap, ◌∙◌, subst, arith}
-use Rattle.std.specs.List.{AllByRecursion, filter}
+use Rattle.std.proofs.Common.{◌≡◌, ℕ, true, cond, List, [], ◌∷◌, ◌++◌, length, inl, inr, refl, sym, ap, ◌∙◌, subst, arith}
+use Rattle.std.specs.List.{AllByRecursion}
 use Rattle.std.proofs.lemmas.List.Elements.{filter-append}
 use Rattle.ppm_strands.specs.Run.{End}
 use Rattle.ppm_strands.proofs.RunLemmas.{one_end}
@@ -13,10 +13,9 @@ use Rattle.ppm_cells.specs.declared.shape.Takeover.TheVariants.{ByPlaces, ByEntr
 use Rattle.ppm_code.specs.Inputs.{words_in}
 use Rattle.ppm_code.specs.Strands.{Result}
 use Rattle.ppm_code.specs.declared.code.CodeParts.{CodeParts}
-use Rattle.ppm_depth.specs.Run.{strands_of, said_of, ComesTo, IsWithin, RunsAreThere}
+use Rattle.ppm_depth.specs.Run.{strands_of, said_of, IsWithin, RunsAreThere}
 use Rattle.ppm_depth.specs.Start.{words_of, root_strand}
 use Rattle.ppm_depth.specs.declared.depth.DepthRun.{DepthRun}
-use Rattle.ppm_core.specs.Situation.{Situation}
 use Rattle.ppm_layout.specs.Correct.{ImagesAreOne}
 use Rattle.ppm_plan.specs.declared.schedule_item.ScheduleItem.{ScheduleItem}
 use Rattle.ppm_plan.specs.Correct.{HaveOneAnswer as PlansHaveOneAnswer}

@@ -1,5 +1,5 @@
 -- A text that is not refused has an answer where it is swept: whether a replay comes to the outcome is not left open.
-use Rattle.std.proofs.Common.{◌≡◌, ◌≢◌, ◌⊎◌, ◌<◌, ◌≤◌, ℕ, ◌+◌, ◌==◌, nat_lt, Bool, true, false, ◌&&◌, ◌||◌, not, cond, ℤ, List, [], ◌∷◌, ◌++◌, length, map, Option, Some, None, inl, inr, refl, sym, ap, ◌∙◌, subst, arith, eqb-true, ltb-true}
+use Rattle.std.proofs.Common.{◌≡◌, ◌⊎◌, ◌<◌, ℕ, ◌+◌, ◌==◌, nat_lt, Bool, true, false, ◌&&◌, ◌||◌, not, cond, List, [], ◌∷◌, ◌++◌, length, Some, None, inl, inr, refl, sym, ap, ◌∙◌, subst, arith, eqb-true, ltb-true}
 use Rattle.std.specs.Bool.{Decides}
 use Rattle.std.specs.Cmp.Lexicographic.{pointwise}
 use Rattle.std.specs.List.{All, AllByRecursion}
@@ -21,19 +21,18 @@ use Rattle.ppm_cells.specs.declared.shape.Takeover.TheVariants.{ByPlaces, ByEntr
 use Rattle.ppm_code.specs.Code.{IsCode}
 use Rattle.ppm_code.specs.Tidy.{IsTidy}
 use Rattle.ppm_code.specs.declared.code.CodeParts.{CodeParts}
-use Rattle.ppm_depth.specs.Run.{IsDepthRun, IsWithin, RunsAreThere}
+use Rattle.ppm_depth.specs.Run.{IsDepthRun, RunsAreThere}
 use Rattle.ppm_depth.specs.declared.depth.DepthRun.{DepthRun}
 use Rattle.ppm_core.specs.Situation.{Situation}
 use Rattle.ppm_plan.specs.Forms.{schedule_form, victim_outside, act_outside}
 use Rattle.ppm_plan.specs.Items.{WritesScheduleItem, Once, Times}
-use Rattle.ppm_plan.specs.Refusals.{first_at, item_limit, IsAccepted, IsKeeper}
+use Rattle.ppm_plan.specs.Refusals.{first_at, IsAccepted}
 use Rattle.ppm_plan.specs.Schedules.{IsActAmong, IsItemAmong, MayBeDone}
 use Rattle.ppm_plan.specs.Spellings.{TextsReadAsWritten, WritesAll, WritesInTurn, Last, More}
 use Rattle.ppm_plan.specs.declared.schedule_item.ScheduledAct.{ScheduledAct}
 use Rattle.ppm_plan.specs.declared.schedule_item.ScheduledAct.TheVariants.{Step, Fails}
 use Rattle.ppm_plan.specs.declared.schedule_item.ScheduleItem.{ScheduleItem}
-use Rattle.ppm_following.specs.Followed.{followed}
-use Rattle.ppm_sweep.specs.Fair.{AreFair, IsFair, SweepsAreFair}
+use Rattle.ppm_sweep.specs.Fair.{IsFair, SweepsAreFair}
 use Rattle.ppm_sweep.specs.Found.{acts_in, faults_in, left_out, short, swept_by}
 use Rattle.ppm_sweep.specs.Sweep.{Swept, is_short}
 use Rattle.ppm_sweep.specs.Text.{schedule_text, SchedulesAreWritten}
@@ -50,9 +49,8 @@ use Rattle.ppm_cli.specs.declared.takeover.SweptTakeovers.{SweptTakeovers}
 use Rattle.ppm_cli.specs.declared.takeover.SweptTakeovers.TheVariants as asked
 use Rattle.ppm_loading.specs.Loading.{OpensRun}
 use Rattle.ppm_loading.proofs.LoadingLemmas.{opens_processors, some_opening}
-use Rattle.ppm_driver.specs.Replays.{IsSaid, sizes_of}
+use Rattle.ppm_driver.specs.Replays.{sizes_of}
 use Rattle.ppm_driver.specs.Sweeps.{AllAgree, AllOf, Agrees, Begins, CodeHas, FirstDiffers, FirstOf, IsOutcome, Replays, Tells, replay_options, sum_of, sweeping_of}
-use Rattle.ppm_driver.proofs.ComeLemmas.{IsOfInput, within_named}
 use Rattle.ppm_driver.proofs.ReplayLemmas.{IsOfProgram, has_said, of_code, replayed_sizes, some_end}
 use Rattle.ppm_driver.proofs.SweepAsCode.{swept_replayed}
 use Rattle.ppm_driver.proofs.SweepLemmas.{reads_back}

@@ -1,5 +1,5 @@
 -- Of a sound code each replay that comes to an end comes to that of its depth-first run: so one that differs came to no end.
-use Rattle.std.proofs.Common.{◌≡◌, ◌⊎◌, ℕ, List, inl, inr, refl, sym, ap, ◌∙◌, subst}
+use Rattle.std.proofs.Common.{◌≡◌, ℕ, List, inl, inr, refl, sym, ap, ◌∙◌, subst}
 use Rattle.ppm_strands.specs.Run.{End}
 use Rattle.ppm_strands.proofs.RunLemmas.{one_end}
 use Rattle.ppm_words.specs.declared.named_array.NamedArray.{NamedArray}
@@ -17,8 +17,6 @@ use Rattle.ppm_depth.specs.declared.depth.DepthRun.{DepthRun}
 use Rattle.ppm_core.specs.Situation.{Situation}
 use Rattle.ppm_step.specs.declared.turn.Turn.{Turn}
 use Rattle.ppm_plan.specs.declared.schedule_item.ScheduleItem.{ScheduleItem}
-use Rattle.ppm_plan.specs.Forms.{schedule_form}
-use Rattle.ppm_plan.specs.Refusals.{IsAccepted}
 use Rattle.ppm_answers.specs.declared.answer.Answer.{Answer}
 use Rattle.ppm_answers.specs.declared.answer.Answer.TheVariants as answers
 use Rattle.ppm_answers.specs.declared.sweep.Came.{Came}
@@ -31,7 +29,7 @@ use Rattle.ppm_cli.specs.declared.takeover.SweptTakeovers.TheVariants as asked
 use Rattle.ppm_driver.specs.AsCode.{MayRun, CodeEnds}
 use Rattle.ppm_driver.specs.CodeReplays.{ReplaysAreAsCode, SaysAsReplay}
 use Rattle.ppm_driver.specs.SweepRows.{IsCutShort, SweepsAreAsCode}
-use Rattle.ppm_driver.specs.Sweeps.{CodeHas, FirstDiffers, FirstOf, IsOutcome, Tells, replay_options}
+use Rattle.ppm_driver.specs.Sweeps.{FirstDiffers, FirstOf, IsOutcome, Tells, replay_options}
 
 -- the options of a sweep say those of its replays
 pub swept_replayed : (options : SweepOptions) (t : Takeover) → AreSwept options → AreReplayed (replay_options options t)

@@ -1,7 +1,6 @@
 -- The sweep of a code, step by step: its depth-first run, the machine of each takeover, and both takeovers together.
-use Rattle.std.proofs.Common.{◌≡◌, ◌<◌, ◌≤◌, ◌⊎◌, ℕ, Bool, true, false, List, Result, Ok, Err, inl, inr, refl, sym, ap, ◌∙◌, subst, arith, length, map}
+use Rattle.std.proofs.Common.{◌≡◌, ℕ, true, false, List, Result, Ok, Err, inl, inr, sym, ap, ◌∙◌, subst, length, map}
 use Rattle.std.specs.Prelude.{IsErrAnd}
-use Rattle.ppm_words.specs.Inputs.{IsInput}
 use Rattle.ppm_words.specs.declared.named_array.NamedArray.{NamedArray}
 use Rattle.ppm_words.specs.declared.outcome.Outcome.{Outcome}
 use Rattle.ppm_words.specs.declared.outcome.Outcome.TheVariants as outcome
@@ -18,8 +17,6 @@ use Rattle.ppm_sweep.specs.declared.found.Stop.{Stop}
 use Rattle.ppm_sweep.specs.declared.found.Stop.TheVariants as stops
 use Rattle.ppm_sweep.specs.Found.{Stops}
 use Rattle.ppm_sweep.specs.Sweep.{Swept}
-use Rattle.ppm_answers.specs.declared.answer.Answer.{Answer}
-use Rattle.ppm_answers.specs.declared.answer.Answer.TheVariants as answers
 use Rattle.ppm_answers.specs.declared.sweep.Difference.{Difference}
 use Rattle.ppm_answers.specs.declared.sweep.Sweep.{Sweep}
 use Rattle.ppm_cli.specs.Words.{AreSwept}

@@ -1,6 +1,5 @@
 use Rattle.std.proofs.Common.{sym, ap, ◌∙◌, subst, arith}
 use Rattle.ppm_core.specs.Machine.{seen}
-use Rattle.ppm_answers.specs.declared.sweep.Sweep.{Sweep}
 use Rattle.ppm_sweep.specs.declared.options.Sweeping.{Sweeping}
 use Rattle.ppm_loading.proofs.LoadingLemmas.{opens_lengths, opens_processors, opens_turns}
 use Rattle.ppm_driver.specs.Sweeps.{AllAgree}
