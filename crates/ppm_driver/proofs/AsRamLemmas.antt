@@ -86,7 +86,7 @@ module _ (laws : Laws) (options : RunOptions) (are : AreRun options) (items : Li
   says (answers.OutOfRoom place) h said = absurd (never_full place h)
   says a h said = absurd said
 
--- so it is with all options, plans and RAMs
+-- this holds with all options, plans and RAMs
 pub answers_are_as_rams : Laws → AnswersAreAsRams
 answers_are_as_rams laws options are items ram is watching before now a h =
     let run = laws.runs options are items (code_of ram) (input_of (memory_of ram)) (may_run laws ram is) watching before now a h in

@@ -374,7 +374,7 @@ some laws options are schedule items text accepted free =
     let a = some_has laws.sweeps options are schedule items accepted (code_of has.0) (initial_arrays has.0) may.code_is may.input_is laws.runs may.sound.tidy in
     (a.0, of_text (ProgramHas options items) kinds (of_program options items) text has.0 has.1 a.0 a.1)
 
--- so it is with all options and all schedules
+-- this holds with all options and all schedules
 pub have_one_answer : Laws → HaveOneAnswer
 have_one_answer laws = record {
   one = λ options schedule.

@@ -98,7 +98,7 @@ module _ (law : ReplaysAreAsCode) (options : SweepOptions) (are : AreSwept optio
   of_all asked.Both (inl f) = of_one ByPlaces f
   of_all asked.Both (inr (k, all, f)) = of_one ByEntries f
 
--- so it is with all options, schedules and sound codes
+-- this holds with all options, schedules and sound codes
 pub sweeps_are_as_code : ReplaysAreAsCode → SweepsAreAsCode
 sweeps_are_as_code law options are schedule items accepted code input may d h =
     of_all law options are items code input may h.run h.within d options.takeover h.holds

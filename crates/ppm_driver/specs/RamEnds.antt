@@ -62,7 +62,7 @@ pub record IsAsRam (options : RunOptions) (items : List PlanItem) (ram : RamPart
   pub work : RamNeedsMoreTurns ram (undone_in start turns) (worked_in start turns)
   pub says : SaysAsRam options items ram start turns answer
 
--- so it is with options in their ranges, of each plan and each RAM
+-- this holds with options in their ranges, of each plan and each RAM
 abbrev pub AnswersAreAsRams : Type 0
 AnswersAreAsRams = (options : RunOptions) → AreRun options → (items : List PlanItem) (ram : RamParts) → IsRam ram
     → (watching : ℕ) (before now : ToldLists) (answer : Answer) (h : RamHas ram options watching before now items answer)

@@ -30,7 +30,7 @@ module _ (options : RunOptions) (watching : ℕ) (plan : List ℕ) (o : Outside)
     pub as_ram : IsAsRam options items ram h.start h.run.turns answer
     pub undone : undone_in h.start h.run.turns ≤ fault_count items
 
-  -- so is each: a law, in which no status occurs
+  -- each run is so: a law, in which no status occurs
   abbrev pub AreAsRams : Type 0
   AreAsRams = (items : List PlanItem) (ram : RamParts) → IsRam ram → (answer : Answer)
       (h : RamHas ram options watching o.told_before o.told_now items answer) → IsAsPlanned items ram answer h

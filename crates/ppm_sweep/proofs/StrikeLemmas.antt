@@ -199,6 +199,6 @@ module _ (s : Shape) (code : CodeParts) (keeper turns : ℕ) (state : State) whe
               (along_begin dues [] p 0 refl (record { turns_are = refl; course_is = refl })),
         )
 
--- so it is of each
+-- this holds of each
 pub each_act_is_struck : EachActIsStruck
 each_act_is_struck s code keeper turns state items window = swept_begin s code keeper turns state window items
