@@ -203,7 +203,7 @@ untidy_text u =
 abbrev pub input_text : InputRefusal → List ℕ
 input_text r = ended_line (codes "input refused: " ++ decimal r.number ++ codes " line " ++ decimal r.line)
 
--- the runs of a sweep that all came to one end, the faults that they met, and their acts
+-- the runs of a sweep that all came to one end, the faults that it put into them, and their acts
 abbrev pub sweep_words : Sweep → List ℕ
 sweep_words s = codes "ok: " ++ decimal s.runs ++ codes " runs, " ++ decimal s.met ++ codes " met, " ++ decimal s.acts ++ codes " acts"
 

@@ -14,7 +14,7 @@ use std::alloc::{AllocError, Global};
 pub struct Sweep {
     /// How many runs were made.
     pub runs: u64,
-    /// How many of the faults that were put into runs were met.
+    /// How many faults were put into the runs.
     pub met: u64,
     /// How many acts all runs made.
     pub acts: u64,

@@ -75,7 +75,7 @@ room = number "room" 64 most_pool_words 65536
 abbrev pub small_room : OptionRule
 small_room = number "room" 64 65536 16384
 
--- and where each run has words of its own
+-- those words by default where a sweep copies them for each run
 abbrev pub copied_room : OptionRule
 copied_room = number "room" 64 most_pool_words 16384
 
@@ -87,7 +87,7 @@ slots = number "slots" 2 entry_limit 4096
 abbrev pub few_slots : OptionRule
 few_slots = number "slots" 2 4096 256
 
--- and where each run has words of its own
+-- those entries by default where a sweep copies them for each run
 abbrev pub copied_slots : OptionRule
 copied_slots = number "slots" 2 entry_limit 256
 
@@ -111,7 +111,7 @@ size = number "size" 1 4096 64
 abbrev pub count : OptionRule
 count = number "count" 0 4096 0
 
--- the faults that a run of a sweep meets at most
+-- the faults that a sweep puts into a run at most
 abbrev pub met : OptionRule
 met = number "faults" 1 2 1
 

@@ -32,7 +32,7 @@ pub struct SweepOptions {
     pub slots: u32,
     /// Under which takeovers there are runs: under both by default.
     pub takeover: SweptTakeovers,
-    /// How many faults a run meets at most: 1 or 2, and 1 by default.
+    /// How many faults are put into a run at most: 1 or 2, and 1 by default.
     pub faults: u32,
     /// The first act of the base run before which the first fault is put, counted from 0: from 0 to
     /// 268435455, and 0 by default.

@@ -193,7 +193,7 @@ pub(crate) const COUNT: NumberOption = NumberOption {
     default: "0",
 };
 
-/// How many faults a run meets at most.
+/// How many faults a sweep puts into a run at most.
 pub(crate) const MET: NumberOption = NumberOption {
     name: "faults",
     low: 1,

@@ -21,8 +21,8 @@ use Rattle.ppm_loading.specs.Telling.{IsUntidy, counts_told, store_told}
 use Rattle.ppm_commands.specs.Depth.{EndsWithin, DepthOf, DepthMayOf, DepthHas, HaveOneAnswer, answer_by, run_answer}
 use Rattle.ppm_loading.specs.Telling.{GoesOn}
 use Rattle.ppm_commands.proofs.CaseAnswers as case_answers
-use Rattle.ppm_commands.proofs.FirstStore.{one_told, none_told}
-use Rattle.ppm_commands.proofs.TidyLemmas.{all_are}
+use Rattle.ppm_loading.proofs.FirstStore.{one_told, none_told}
+use Rattle.ppm_loading.proofs.TidyLemmas.{all_are}
 
 module _ (code : CodeParts) (input : List NamedArray) where
   -- the depth-first run has one end

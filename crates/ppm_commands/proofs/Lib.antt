@@ -11,8 +11,6 @@ pub mod CodeRows
 pub mod SerialAnswers
 pub mod SerialRows
 pub mod CaseAnswers
-pub mod FirstStore
-pub mod TidyLemmas
 pub mod DepthAnswers
 pub mod DepthRows
 pub mod WordLemmas

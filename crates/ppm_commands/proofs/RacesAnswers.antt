@@ -23,9 +23,9 @@ use Rattle.ppm_loading.specs.Telling.{MayBeRun}
 use Rattle.ppm_commands.specs.Races.{conflict_answer, opener_told, visit_told, touching_told}
 use Rattle.ppm_commands.proofs.CaseAnswers as case_answers
 use Rattle.ppm_commands.proofs.FirstConflict.{one_conflict}
-use Rattle.ppm_commands.proofs.FirstStore.{one_told, none_told}
+use Rattle.ppm_loading.proofs.FirstStore.{one_told, none_told}
 use Rattle.ppm_commands.proofs.LeastLemmas.{no_conflict}
-use Rattle.ppm_commands.proofs.TidyLemmas.{all_are}
+use Rattle.ppm_loading.proofs.TidyLemmas.{all_are}
 use Rattle.ppm_commands.proofs.TouchLemmas.{race_within}
 use Rattle.ppm_commands.proofs.WordLemmas.{count-cons, one_word}
 

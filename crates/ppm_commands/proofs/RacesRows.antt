@@ -13,7 +13,7 @@ use Rattle.ppm_answers.specs.Reading.{ReadHas, DeliversAnswer}
 use Rattle.ppm_answers.proofs.Judged.{text_rows}
 use Rattle.ppm_answers.proofs.RowsLemmas.{shown}
 use Rattle.ppm_commands.specs.Races.{RacesHas, HasOneAnswer, RacesMay, RacesSays, RacesRows}
-use Rattle.ppm_commands.proofs.FirstStore.{none_told}
+use Rattle.ppm_loading.proofs.FirstStore.{none_told}
 use Rattle.ppm_commands.proofs.RacesAnswers.{none_conflicts}
 
 -- no text has a read fault

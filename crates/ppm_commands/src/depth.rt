@@ -9,13 +9,12 @@ ghost use Rattle.ppm_answers.specs.Reading.{TextMay};
 ghost use Rattle.ppm_commands.specs.Depth.{DepthHas, DepthMay, DepthMayOf};
 ghost use Rattle.ppm_commands.specs.Depth.{IsRunDepthFirst, run_answer as answer_of};
 
-use ppm_loading::{array_count, counts_told, store_told};
 use crate::laws::depth_runs_have_one_answer;
 use ppm_answers::{Answer, Status, answer_of_read, deliver};
 use ppm_case::CASE_LIMIT;
 use ppm_code::Code;
 use ppm_depth::{DepthRun, depth_first};
-use ppm_loading::text_case;
+use ppm_loading::{array_count, counts_told, store_told, text_case};
 use ppm_ports::{Sink, Source, read_whole};
 use ppm_war::untidy;
 use ppm_words::{Input, NoMemory, Outcome};

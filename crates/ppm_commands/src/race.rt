@@ -7,9 +7,9 @@ ghost use Rattle.ppm_commands.specs.Races.{touch_told as told_touch};
 ghost use Rattle.ppm_commands.specs.Races.{touching_told as told_touching};
 ghost use Rattle.ppm_commands.specs.Races.{visit_told as told_visit};
 
-use ppm_loading::line_at;
 use ppm_answers::Touch;
 use ppm_code::Code;
+use ppm_loading::line_at;
 use ppm_races::{Opener, Race, Touching, Visit};
 use ppm_words::{NamedArray, NoMemory};
 use std::alloc::Global;

@@ -12,14 +12,13 @@ ghost use Rattle.ppm_answers.specs.Reading.{TextMay};
 ghost use Rattle.ppm_commands.specs.Races.{RacesHas, RacesMay, RacesMayOf, AreSought};
 ghost use Rattle.ppm_commands.specs.Races.{conflict_answer as answer_of_conflict};
 
-use ppm_loading::{array_count, counts_told, line_at, store_told};
 use crate::check::conflict_told;
 use crate::laws::cases_have_one_answer;
 use crate::race::race_told;
 use ppm_answers::{Answer, Status, answer_of_read, deliver};
 use ppm_case::CASE_LIMIT;
 use ppm_code::Code;
-use ppm_loading::text_case;
+use ppm_loading::{array_count, counts_told, line_at, store_told, text_case};
 use ppm_ports::{Sink, Source, read_whole};
 use ppm_races::{Race, Verdict, races};
 use ppm_war::{Conflict, check, untidy};

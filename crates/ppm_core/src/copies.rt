@@ -7,7 +7,7 @@ use ppm_words::{Items, NoMemory};
 use std::alloc::Global;
 
 /// A copy of a code.
-pub(crate) fn code_copy(alloc: Global, code: &Code) -> Result<Code, NoMemory>
+pub fn code_copy(alloc: Global, code: &Code) -> Result<Code, NoMemory>
     ensures { IfOk result (λ copy. copy ≡ code.now) }
 {
     let parts = code.parts();

@@ -18,6 +18,7 @@ mod steps;
 mod waiting;
 
 pub use capsule::address_of;
+pub use copies::code_copy;
 pub use laws::{done_is_done, turns_follow_on, turns_tell_on};
 pub use machine::Machine;
 pub use ppm_layout::Image;

@@ -236,6 +236,6 @@ module _ (laws : Laws) (code : CodeParts) (input : List NamedArray) (may : MayRu
         subst (λ (x : Situation). AllByRecursion (IsTurnAmong x.shape.processors) turns → IsAsCode x turns code input) (sym b.loads)
         (λ among. as_code turns among)
 
--- so it is with each sound code
+-- this holds with each sound code
 pub runs_are_as_code : Laws → RunsAreAsCode
 runs_are_as_code laws code input may sizes keeper m b turns among = as_codes laws code input may sizes keeper m b turns among

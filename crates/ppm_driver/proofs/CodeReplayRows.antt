@@ -106,7 +106,7 @@ module _ (law : RunsAreAsCode) (options : ReplayOptions) (are : AreReplayed opti
   says (answers.Broken place) h = absurd (unbroken place h)
   says a h = absurd (of_code options items code input a h)
 
--- so it is with all options, schedules and sound codes
+-- this holds with all options, schedules and sound codes
 pub replays_are_as_code : RunsAreAsCode → ReplaysAreAsCode
 replays_are_as_code law options are schedule items accepted code input may a h = (
   is law options are schedule items accepted code input may a h,

@@ -83,7 +83,7 @@ module _ (law : RunsAreAsCode) (options : RunOptions) (are : AreRun options) (it
       absurd (kind_said (limits_of options) h.start (unset_opened (sizes_of options) code input h.keeper h.start h.opens) h.run.turns input
       h.run.finished a h.run.says)
 
--- so it is with all options, plans and sound codes
+-- this holds with all options, plans and sound codes
 pub answers_are_as_code : RunsAreAsCode → AnswersAreAsCode
 answers_are_as_code law options are items code input may watching before now a h = (
   is law options are items code input may watching before now a h,

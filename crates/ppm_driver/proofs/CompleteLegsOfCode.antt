@@ -155,7 +155,7 @@ module _ (law : RunsInLegsAreAsCode) (code : CodeParts) (input : List NamedArray
     completes : Completes
     completes = by_cause (runs_finish m.shape m.code code_is plan limits spared (words_back m legs) turns (fit legs are) spares there obey).1
 
--- so it is with all sound codes, legs, plans and limits
+-- this holds with all sound codes, legs, plans and limits
 pub runs_of_code_complete_in_legs : RunsInLegsAreAsCode → RunsOfCodeCompleteInLegs
 runs_of_code_complete_in_legs law code input may sizes places keeper m b legs are low free plan spared spares there limits most enough turns obey =
     completes law code input may sizes places keeper m b legs are low free plan spared spares there limits most enough turns obey

@@ -70,7 +70,7 @@ module _ (laws : Laws) (options : RunOptions) (are : AreRun options) (plan : Lis
       absurd (run_unbroken laws.runs text h.has.0 h.has.1 options watching before now h.items are place h.has.2)
   ends a h = absurd (of_program options watching before now h.items h.has.0 a h.has.2)
 
--- so it is with all options and plans
+-- this holds with all options and plans
 pub runs_complete : Laws → RunsComplete
 runs_complete laws options are plan items accepted text t has enough watching before now a h =
     ends laws options are plan items accepted text t has enough watching before now a h

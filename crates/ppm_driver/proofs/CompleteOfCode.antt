@@ -70,7 +70,7 @@ module _ (law : RunsAreAsCode) (code : CodeParts) (input : List NamedArray) (may
   completes : Completes
   completes = by_cause (has_finished sizes code input keeper plan limits m turns b may.code_is spared obey)
 
--- so it is with all sound codes, plans and limits
+-- this holds with all sound codes, plans and limits
 pub runs_of_code_complete : RunsAreAsCode → RunsOfCodeComplete
 runs_of_code_complete law code input may sizes keeper m b plan spared limits most enough turns obey =
     completes law code input may sizes keeper m b plan spared limits most enough turns obey

@@ -164,6 +164,6 @@ module _ (laws : Laws) (o : SelfOptions) (are : AreSelf o) (before now : ToldLis
   ends (answers.Ended arrays) h = absurd h.2
   ends a h = absurd (kind o before now h.0 a h.2)
 
--- so it is with all options
+-- this holds with all options
 pub examples_sum_up : Laws → ExamplesSumUp
 examples_sum_up laws o are before now a h = ends laws o are before now a h

@@ -63,7 +63,7 @@ module _ (code : CodeParts) (input : List NamedArray) (sizes : Sizes) (places : 
     few = omega arith;
   }
 
--- so it is with each code
+-- this holds with each code
 pub runs_of_code_leave_states : RunsOfCodeLeaveStates
 runs_of_code_leave_states code input sizes places keeper m b turns among = left code input sizes places keeper m b turns among
 
@@ -119,7 +119,7 @@ text_by_code source faults text l = record {
   small = l.small;
 }
 
--- so it is with each text's program
+-- this holds with each text's program
 pub runs_leave_states : RunsLeaveStates
 runs_leave_states text t has sizes places keeper m b turns among =
     by_source text t has (state_behind m (initial_arrays t) turns) (left (code_of t) (initial_arrays t) sizes places keeper m b turns among)

@@ -44,7 +44,7 @@ module _ (t : ProgramTree) (its : IsAsItsCode t) (m : Situation) (legs : List Le
     unbroken = h.unbroken;
   }
 
--- so it is with each text's program
+-- this holds with each text's program
 pub runs_in_legs_are_as_programs : ProgramsAreAsCode → RunsInLegsAreAsCode → RunsInLegsAreAsPrograms
 runs_in_legs_are_as_programs programs runs text t has sizes places keeper m b legs are turns among =
     let its = programs text t has in

@@ -234,7 +234,7 @@ module _ (laws : Laws) (code : CodeParts) (input : List NamedArray) (may : MayRu
         subst (λ (x : Situation). AreLegs x.shape x.code x.state.words legs → AllByRecursion (IsTurnAmong x.shape.processors) turns → TagsMayRise x.shape (words_at_last x legs turns)) (sym b.loads)
         (λ are among. may_rise legs are turns among few) are among
 
--- so it is with each sound code
+-- this holds with each sound code
 pub runs_in_legs_are_as_code : Laws → RunsInLegsAreAsCode
 runs_in_legs_are_as_code laws code input may sizes places keeper m b legs are turns among =
     as_codes laws code input may sizes keeper m b places legs are turns among

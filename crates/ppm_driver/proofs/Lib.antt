@@ -12,10 +12,15 @@
 -- (`OfResume`). What `stop` wrote is such a state's text (`StoppedLemmas`), of a sound case too (`CaseStoppedLemmas`).
 -- `run` of a case is shown as `run` of a program, with the code and the input of the case in their place (`RunCaseLemmas`, `OneCase`,
 -- `CaseHeadlineLemmas`, `OfRunCase`), and `replay` of a case likewise (`OneCase`, `OfReplayCase`).
+-- What a RAM's code comes to is what the RAM does (`AsRamLemmas`). A text is of a RAM or has a fault (`RamTextLemmas`, `RamTaskLemmas`), so the rows of
+-- `ram` are shown as those of a case (`RamLemmas`, `OneRam`, `RamHeadlineLemmas`, `OfRam`).
 -- The arrays that an admitted program starts with have names of their own, none of them a keyword (`NamesLemmas`), and so have those of a case
 -- (`CaseNamesLemmas`). So `stop` may name them in a saved text, and from that text the state is read back, if the code may be resumed
 -- (`ReadBackLemmas`). After a run a code has one answer of `stop`, the text of the machine there (`StopLemmas`), which makes its laws (`OneStop`,
 -- `OneStopCase`) and its rows (`OfStop`, `OfStopCase`) by the lemmas of `ppm_loading` on texts and plans.
+-- What `sweep` of `ppm_sweep` finds of machines is said of replays (`SweepLemmas`), as a replay comes to an outcome exactly where its answer is that
+-- (`ComeLemmas`); the steps of the command stand in `SweepingLemmas`. A text has one answer (`SomeSweep`, `OneSweep`), a difference of a sound code is of a run that
+-- came to no end (`SweepAsCode`), and the rows follow (`OfSweep`, `OfSweepCase`).
 
 pub mod OrdersLemmas
 pub mod EndLemmas
@@ -50,7 +55,22 @@ pub mod RunCaseLemmas
 pub mod OneCase
 pub mod CaseHeadlineLemmas
 pub mod OfRunCase
+pub mod AsRamLemmas
+pub mod RamTextLemmas
+pub mod RamTaskLemmas
+pub mod RamLemmas
+pub mod OneRam
+pub mod RamHeadlineLemmas
+pub mod OfRam
 pub mod OfReplayCase
+pub mod ComeLemmas
+pub mod SweepLemmas
+pub mod SweepAsCode
+pub mod SomeSweep
+pub mod OneSweep
+pub mod SweepingLemmas
+pub mod OfSweep
+pub mod OfSweepCase
 pub mod ResumeLemmas
 pub mod TellLemmas
 pub mod LeftLemmas

@@ -94,7 +94,7 @@ module _ (t : ProgramTree) (its : IsAsItsCode t) (m : Situation) (turns : List T
     pools = h.pools;
   }
 
--- so it is with each text's program
+-- this holds with each text's program
 pub runs_are_as_programs : ProgramsAreAsCode → RunsAreAsCode → RunsAreAsPrograms
 runs_are_as_programs programs runs text t has sizes keeper m b turns among =
     let its = programs text t has in

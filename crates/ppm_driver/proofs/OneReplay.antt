@@ -72,7 +72,7 @@ module _ (laws : Laws) (options : ReplayOptions) where
       let a = some_has options items (code_of has.0) (initial_arrays has.0) accepted.keeper m.0 accepted.obeyed.kept m.1 is in
       (a.0, of_text (ProgramHas options items) (kinds options.processors options.turns) (of_program options items) text has.0 has.1 a.0 a.1)
 
--- so it is with all options and all schedules
+-- this holds with all options and all schedules
 pub have_one_answer : Laws → HaveOneAnswer
 have_one_answer laws = record {
   one = λ options schedule.

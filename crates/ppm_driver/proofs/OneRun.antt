@@ -74,7 +74,7 @@ module _ (images : ImagesAreOne) (runs : RunsAreOne) (options : RunOptions) (alo
       subst (λ (l : List Turn). Says h.start l b) turns (subst (λ (m : Situation). Says m k.run.turns b) start k.run.says) in
       one_said h.start.shape h.start.array_lengths (words_behind h.start h.run.turns) input a b h.run.says says
 
--- so it is with all plans
+-- this holds with all plans
 pub answers_are_one : Laws → AnswersAreOne
 answers_are_one laws options plan alone =
     planned_one plan_form plan options.processors (TextHas options 0 [] []) text_limit laws.plans.plans

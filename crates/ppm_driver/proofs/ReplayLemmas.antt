@@ -141,7 +141,7 @@ module _ (options : ReplayOptions) (items : List ScheduleItem) where
     ending = followed start items options.turns
 
     -- what is said of the machine behind the run of the schedule is the code's answer
-    has_said : (a : Answer) → IsSaid options.turns ending input a → CodeHas options items code input a
+    pub has_said : (a : Answer) → IsSaid options.turns ending input a → CodeHas options items code input a
     has_said a h = record {
       keeper = keeper;
       spared = spared;
@@ -155,19 +155,18 @@ module _ (options : ReplayOptions) (items : List ScheduleItem) where
       says = h;
     }
 
-    -- there is one
+    -- something is said of it
+    pub some_end : (a : Answer) × IsSaid options.turns ending input a
+    some_end = some_said options.processors options.turns ending input
+        (says_proposed (sizes_of options) code input keeper items options.turns start opens is)
+
+    -- so there is one
     pub some_has : (a : Answer) × CodeHas options items code input a
-    some_has =
-        let s = some_said options.processors options.turns ending input
-        (says_proposed (sizes_of options) code input keeper items options.turns start opens is) in
-        (s.0, has_said s.0 s.1)
+    some_has = (some_end.0, has_said some_end.0 some_end.1)
 
     -- and it is the one that is said
     the_one_has : (a : Answer) → IsTheOne (IsSaid options.turns ending input) a → CodeHas options items code input a
-    the_one_has a only =
-        let s = some_said options.processors options.turns ending input
-        (says_proposed (sizes_of options) code input keeper items options.turns start opens is) in
-        subst (CodeHas options items code input) (sym (only s.0 s.1)) (has_said s.0 s.1)
+    the_one_has a only = subst (CodeHas options items code input) (sym (only some_end.0 some_end.1)) (has_said some_end.0 some_end.1)
 
   pub code_has : (code : CodeParts) (input : List NamedArray) (sizes : Sizes) (keeper : ℕ) (start end : Situation) (arrays : List NamedArray) (a : Answer)
       → sizes ≡ sizes_of options → IsKeeper schedule_form items keeper → OpensRun sizes code input keeper start → IsCode code

@@ -144,7 +144,7 @@ module _ (laws : Laws) where
     text_ends (answers.SavedRefused r) h = absurd (refused_none text z is h.error h.refused h.of_text)
     text_ends a h = state_ends a (subst (λ (x : SavedState). StateHas options plan before now x a) (one_state text h.state z h.is is) h.has)
 
--- so it is with all options and plans
+-- this holds with all options and plans
 pub resumes_of_code_complete : Laws → ResumesOfCodeComplete
 resumes_of_code_complete laws options are text z is plan items accepted code input may left enough before now a h =
     text_ends laws options are text z is plan items accepted code input may left enough before now a h

@@ -551,7 +551,7 @@ module _ {W : Type 0} (told : W → Option (List Event)) (options : ResumeOption
         let some = state_some closed.words others d in
         subst (ResumedHas options (map told old) (map told new) plan.items z) (sym (said some.0 some.1)) some.2
 
-  -- so it is of a table that was made of what fresh processors find
+  -- this holds of a table that was made of what fresh processors find
   module _ (saved : Saved) (is_state : z ≡ state_of saved) (keeper : ℕ) (r : Renewed) (shared : Shared) (limits : Limits) (old new : List W) (w : W)
       (stands : finish_of (saved_finish z) ≢ None) (is : IsRenewalOf saved keeper r)
       (opens : opening_of shared ≡ record { shape = r.image.shape; code = r.code; words = r.image.words })

@@ -254,7 +254,7 @@ module _ (law : RunsInLegsAreAsCode) (comes : CodeWordsComeBack) (code : CodePar
     pub resumed_as_code : (a : Answer) (h : Resumed a) → IsAsResumed h left
     resumed_as_code a h = record { as_code = resumed_is a h; lost = resumed_loses a h; says = says a h }
 
--- so it is with each sound code
+-- this holds with each sound code
 pub resumes_are_as_code : RunsInLegsAreAsCode → CodeWordsComeBack → (options : ResumeOptions) (before now : ToldLists) → ResumesAreAsCode options before now
 resumes_are_as_code law comes options before now items z a h code input may left =
     resumed_as_code law comes code input may z left options before now items a h

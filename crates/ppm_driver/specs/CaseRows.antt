@@ -32,7 +32,7 @@ module _ (options : RunOptions) (watching : ℕ) (plan : List ℕ) (o : Outside)
     pub undone : undone_in h.start h.run.turns ≤ fault_count items
     pub says : SaysAsCode options items code input h.start h.run.turns answer
 
-  -- so is each: a law, in which no status occurs
+  -- each run is so: a law, in which no status occurs
   abbrev pub AreAsCode : Type 0
   AreAsCode = (items : List PlanItem) (code : CodeParts) (input : List NamedArray) → MayRun code input → (answer : Answer)
       (h : CodeHas options watching o.told_before o.told_now items code input answer) → IsAsPlanned items code input answer h

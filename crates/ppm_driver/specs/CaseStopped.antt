@@ -49,7 +49,7 @@ pub record ResumesStoppedCase {stop : StopOptions} {schedule : List ℕ} {p : Po
       → CodeIsEnough w.read.2.has.code w.read.2.has.input (lost_with (scheduled_faults w.read.2.items) stop.processors items) options.turns stop.room
       → (before now : ToldLists) (answer : Answer) → TextHas options plan before now w.text answer → IsEnd answer
 
--- so it is whatever sound case was stopped, with options in their ranges, and however it is resumed
+-- this holds whatever sound case was stopped, with options in their ranges, and however it is resumed
 abbrev pub StoppedCasesGoOn : Type 0
 StoppedCasesGoOn = (stop : StopOptions) → AreStopped stop → (schedule : List ℕ) (p : Ports) (w : WritesSaved stop schedule p)
     → IsSound w.read.2.has.code w.read.2.has.input → (options : ResumeOptions) (plan : List ℕ) (o : Outside) → ResumesStoppedCase w options plan o

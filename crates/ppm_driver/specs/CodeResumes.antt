@@ -106,7 +106,7 @@ pub record IsAsResumed {options : ResumeOptions} {before now : ToldLists} {items
   pub lost : lost_in_all left.start (legs_of left h.start.state.words) h.run.turns ≤ faults_of left items
   pub says : SaysAsResumed left options.turns h.start.state.words h.run.turns answer
 
--- so is each, of a sound code
+-- each is so, of a sound code
 abbrev pub ResumesAreAsCode : ResumeOptions → (before now : ToldLists) → Type 0
 ResumesAreAsCode options before now = (items : List PlanItem) (z : SavedState) (answer : Answer) (h : ResumedHas options before now items z answer)
     (code : CodeParts) (input : List NamedArray) → MayRun code input → (left : IsLeftByCode code input z) → IsAsResumed h left

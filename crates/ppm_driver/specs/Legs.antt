@@ -70,7 +70,7 @@ module _ (m : Situation) (legs : List Leg) (turns : List Turn) where
   abbrev pub NoneIsTakenTwiceInAll : Type 0
   NoneIsTakenTwiceInAll = AreOnce forked_in_all taken_in_all
 
-  -- so it is, and each that is forked is taken
+  -- this holds, and each that is forked is taken
   pub record EachIsTakenOnceInAll : Type 0 where
     pub once : NoneIsTakenTwiceInAll
     pub all : (block : ℕ) → has forked_in_all block ≡ has taken_in_all block

@@ -74,7 +74,7 @@ module _ (m : Situation) (turns : List Turn) where
   abbrev pub NoneIsTakenTwice : Type 0
   NoneIsTakenTwice = AreOnce forked_in taken_in
 
-  -- so it is, and each that is forked is taken: there are as many takes as forks
+  -- this holds, and each that is forked is taken: there are as many takes as forks
   pub record EachIsTakenOnce : Type 0 where
     pub once : NoneIsTakenTwice
     pub all : (block : ℕ) → has forked_in block ≡ has taken_in block

@@ -85,7 +85,7 @@ module _ (options : ReplayOptions) (schedule : List ℕ) (o : Ports) where
       (place < options.processors)
       × IsFilledBehind p.start.shape p.start.code place p.start.state.words (turns_by p.start read.2.items)
 
-  -- So it is, and err got exactly the line that says so. The program takes more words than a pool has, or it has no end.
+  -- This holds, and err got exactly the line that says so. The program takes more words than a pool has, or it has no end.
   pub record WritesOutOfRoom : Type 0 where
     pub place : ℕ
     pub read : HasRead (answers.OutOfRoom place)

@@ -142,7 +142,7 @@ pub record OfState (P : SavedState → Type 0) (text : List ℕ) : Type 0 where
   pub is : IsTextOf text state
   pub has : P state
 
--- so it does by the items of a plan that may be obeyed
+-- it does by the items of a plan that may be obeyed
 pub record ByItems (plan : List ℕ) (P : List PlanItem → SavedState → Type 0) (z : SavedState) : Type 0 where
   pub items : List PlanItem
   pub accepted : IsAccepted plan_form plan z.shape.processors items

@@ -33,7 +33,7 @@ module _ (options : RunOptions) (watching : ℕ) (plan : List ℕ) (o : Outside)
     pub undone : undone_in h.start h.run.turns ≤ fault_count items
     pub unbroken : (place : ℕ) → answer ≢ answers.Broken place
 
-  -- so is each: a law, in which no status occurs
+  -- each run is so: a law, in which no status occurs
   abbrev pub AreAsPrograms : Type 0
   AreAsPrograms = (items : List PlanItem) (text : List ℕ) (t : ProgramTree) → HasProgram text t → (answer : Answer)
       (h : ProgramHas options watching o.told_before o.told_now items t answer) → IsAsPlanned items t answer h

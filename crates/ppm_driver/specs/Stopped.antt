@@ -41,7 +41,7 @@ pub record ResumesStopped {stop : StopOptions} {schedule : List ℕ} {p : Ports}
       → (t : ProgramTree) → HasProgram w.read.0 t → IsEnough t (lost_with (scheduled_faults w.read.2.items) stop.processors items) options.turns stop.room
       → (before now : ToldLists) (answer : Answer) → TextHas options plan before now w.text answer → IsEnd answer
 
--- so it is whatever was stopped, with options in their ranges, and however it is resumed
+-- this holds whatever was stopped, with options in their ranges, and however it is resumed
 abbrev pub StoppedRunsGoOn : Type 0
 StoppedRunsGoOn = (stop : StopOptions) → AreStopped stop → (schedule : List ℕ) (p : Ports) (w : WritesSaved stop schedule p)
     → (options : ResumeOptions) (plan : List ℕ) (o : Outside) → ResumesStopped w options plan o

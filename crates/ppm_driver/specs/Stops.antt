@@ -80,7 +80,7 @@ TextReads options items text answer = programs.TextHas (ProgramReads options ite
 abbrev pub StopHas : StopOptions → (schedule : List ℕ) → List ℕ → Answer → Type 0
 StopHas options schedule text answer = PlannedHas schedule_form schedule options.processors (TextHas options) text answer
 
--- so it is with that of the text that was read
+-- this holds with that of the text that was read
 abbrev pub StopReads : StopOptions → (schedule : List ℕ) → List ℕ → Answer → Type 0
 StopReads options schedule text answer = PlannedHas schedule_form schedule options.processors (TextReads options) text answer
 

@@ -4,11 +4,14 @@ ghost use Rattle.ppm_driver.specs.CodeReplays.{ReplaysAreAsCode};
 ghost use Rattle.ppm_driver.specs.CodeRuns.{AnswersAreAsCode};
 ghost use Rattle.ppm_driver.specs.Meant.{RunsAreAsPrograms};
 ghost use Rattle.ppm_driver.specs.ProgramsAsCode.{ProgramsAreAsCode};
+ghost use Rattle.ppm_driver.specs.SweepRows.{SweepsAreAsCode};
+ghost use Rattle.ppm_driver.specs.RamEnds.{AnswersAreAsRams};
 
 use ppm_cut_code::keeps_the_rules;
 use ppm_cut_correct::{end_as_meant, ends_serially, name_arrays, start_with_input};
 use ppm_cut_sound::code_is_sound;
 use ppm_opening::images_begin_the_depth_first_run;
+use ppm_ram_code::{ends_as_the_ram, is_sound, keeps_the_rules as ram_code_keeps_the_rules};
 use ppm_rows::trees_are_within;
 use ppm_runs::{nothing_breaks, room_is_spent, runs_end_so, work_is_bounded};
 
@@ -40,6 +43,19 @@ pub fn answers_are_as_code()
     runs_are_as_code();
 }
 
+/// With options in their ranges, and a plan: the answer of a run of a RAM's code on its memory, in
+/// which each processor obeys, is the memory with which the RAM ends, or its trap; or that turns
+/// are not enough for its steps. It is never that a pool is full, or that words are broken.
+pub fn answers_are_as_rams()
+    ensures law { AnswersAreAsRams }
+{
+    // The law rests on these; the calls do nothing.
+    answers_are_as_code();
+    ram_code_keeps_the_rules();
+    is_sound();
+    ends_as_the_ram();
+}
+
 /// With options in their ranges, and a schedule that is accepted: the answer of a replay of a sound
 /// code is the outcome of the code, run depth first, with the forks of its run, and as many takes;
 /// or that all acts were made, or that room is not enough for it.
@@ -48,6 +64,15 @@ pub fn replays_are_as_code()
 {
     // The law rests on this one; the call does nothing.
     runs_are_as_code();
+}
+
+/// With options in their ranges, and a schedule that is accepted: where a sweep of a sound code
+/// tells a difference, the replay came to no end. All its acts were made, or room is not enough.
+pub fn sweeps_are_as_code()
+    ensures law { SweepsAreAsCode }
+{
+    // The law rests on this one; the call does nothing.
+    replays_are_as_code();
 }
 
 /// From the machine with which a run of a text's program begins, whatever the turns are that its

@@ -1,5 +1,5 @@
 //! What the processors of a machine are told to do: a plan of faults, or a schedule; and what they
-//! run: a program, or a case.
+//! run: a program, a case, or a RAM.
 ghost use Rattle.std.specs.Prelude.{◌≡◌, ℕ, IfErr, IfOk, List};
 ghost use Rattle.std.specs.Int.{IsInRange};
 ghost use Rattle.ppm_ports.specs.Ports.{port};
@@ -11,6 +11,7 @@ ghost use Rattle.ppm_answers.specs.declared.answer.Answer.{Answer};
 ghost use Rattle.ppm_answers.specs.declared.answer.Answer.TheVariants.{PlanRefused};
 ghost use Rattle.ppm_driver.specs.Orders.{NoTaskMay, ReadsTask};
 
+use crate::rams::ram_of_source;
 use ppm_answers::Answer;
 use ppm_case::Case;
 use ppm_loading::{case_of_source, read_program, refusal_answer};
@@ -18,6 +19,7 @@ use ppm_plan::{
     Plan, PlanError, PlanItem, Schedule, ScheduleItem, have_one_answer, read_plan, read_schedule,
 };
 use ppm_ports::Source;
+use ppm_ram::Ram;
 use ppm_regions::Admitted;
 use std::alloc::Global;
 
@@ -136,6 +138,24 @@ impl Task for Case {
 
     fn read<S: Source>(alloc: Global, source: &mut S) -> Result<Case, Answer> {
         case_of_source(alloc, source)
+    }
+}
+
+impl Task for Ram {
+    ghost use Rattle.ppm_ram.specs.Limits.{text_limit};
+    ghost use Rattle.ppm_ram.specs.Text.{IsTextOf};
+    ghost use Rattle.ppm_driver.specs.RamRuns.{RefusedHas};
+
+    ghost limit = { text_limit };
+
+    ghost says = { λ ram text. IsTextOf text ram };
+
+    ghost refused = { RefusedHas };
+
+    ghost plain = { λ text number refused. refused.has };
+
+    fn read<S: Source>(alloc: Global, source: &mut S) -> Result<Ram, Answer> {
+        ram_of_source(alloc, source)
     }
 }
 

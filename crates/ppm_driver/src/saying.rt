@@ -4,12 +4,13 @@ ghost use Rattle.std.specs.Prelude.{◌≡◌, IfOk, length, map};
 ghost use Rattle.ppm_core.specs.Machine.{seen};
 ghost use Rattle.ppm_loading.specs.Says.{IsTheOne};
 ghost use Rattle.ppm_saved.specs.Names.{lengths_of};
-ghost use Rattle.ppm_driver.specs.Replays.{IsSaid as IsSaidOfReplay};
+ghost use Rattle.ppm_driver.specs.Halts.{with_tally};
+ghost use Rattle.ppm_driver.specs.Replays.{IsSaid as IsSaidOfReplay, tally_of};
 ghost use Rattle.ppm_driver.specs.Resumes.{named};
 ghost use Rattle.ppm_driver.specs.Runs.{IsSaid as IsSaidOfRun, SaysWhyNone};
 
 use crate::names::arrays_of_names;
-use ppm_answers::{Answer, Tally};
+use ppm_answers::{Answer, Came, Tally};
 use ppm_cells::{Ending, Finish, UNKNOWN_PLACE};
 use ppm_core::Machine;
 use ppm_loading::{arrays_of, arrays_of_closed};
@@ -92,5 +93,30 @@ pub(crate) fn replay_answer(
             Finish::Stopped | Finish::Unset => Ok(Answer::Broken(UNKNOWN_PLACE)),
         },
         Ending::Unknown => Ok(Answer::Broken(UNKNOWN_PLACE)),
+    }
+}
+
+/// What a replay of at most so many acts came to: its answer, without the tally.
+pub(crate) fn replay_came(
+    alloc: Global,
+    machine: &Machine,
+    arrays: &[NamedArray],
+    turns: u64,
+) -> Result<Came, NoMemory>
+    requires lengths { (seen machine.now).array_lengths ≡ map (λ a. length a.values) arrays.now }
+    ensures { IfOk result (λ came. IsTheOne (IsSaidOfReplay turns (seen machine.now) arrays.now) (with_tally came (tally_of (seen machine.now)))) }
+{
+    match machine.outcome() {
+        Ending::NotYet => Ok(Came::Unfinished(turns)),
+        Ending::With(finish) => match finish {
+            Finish::Ended => Ok(Came::Ended(arrays_of(alloc, machine, arrays)?)),
+            Finish::Trapped { trap, line } => Ok(Came::Trapped(trap, line)),
+            Finish::OutOfRoom { place } => Ok(Came::OutOfRoom(place)),
+            Finish::Broken { place } => Ok(Came::Broken(place)),
+            // Of no replay, as are unknown words.
+            Finish::OutOfTurns { .. } => Ok(Came::Broken(UNKNOWN_PLACE)),
+            Finish::Stopped | Finish::Unset => Ok(Came::Broken(UNKNOWN_PLACE)),
+        },
+        Ending::Unknown => Ok(Came::Broken(UNKNOWN_PLACE)),
     }
 }

@@ -103,7 +103,7 @@ fn capsules_of(command: &str) -> &'static str {
 /// What the faults of a command are.
 fn faults_of(command: &str) -> &'static str {
     match command {
-        "sweep" => "faults that a run meets at most",
+        "sweep" => "faults put into a run at most",
         _ => "as 0@5s,1@9h: soft and hard faults (docs/PLANS.md)",
     }
 }

@@ -3,7 +3,7 @@
 //! (`specs/Meaning`).
 //! Contract: `read_ram` answers the RAM of a text or its first fault (`specs/Lines`), and `ram_run`
 //! how it ends within so many steps.
-//! Stands on `ppm_tree` for what operators give; its code and the command `ram` are to stand on it.
+//! Stands on `ppm_tree` for what operators give; its code and the command `ram` stand on it.
 //! After the random access machine of Cook and Reckhow; the form of the text is this project's.
 #![tactic(auto)]
 
@@ -24,6 +24,6 @@ pub use keyword::Keyword;
 pub use laws::texts_are_of_rams;
 pub use ram::{Ram, RamParts};
 pub use ram_error::{RamError, RamFault};
-pub use reading::read_ram;
+pub use reading::{TEXT_LIMIT, read_ram};
 pub use register::Register;
 pub use run::{Next, ram_run};

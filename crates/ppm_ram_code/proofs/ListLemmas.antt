@@ -1,5 +1,5 @@
 -- Elements of lists by their places, and the capsules of instructions.
-use Rattle.std.proofs.Common.{◌≡◌, ◌∙◌, ◌<◌, ◌≤◌, ◌⊎◌, inl, inr, ℕ, zero, suc, ◌+◌, ◌*◌, Bool, true, false, ℤ, pos, List, [], ◌∷◌, get_or, length, Some, refl, sym, ap, subst, arith}
+use Rattle.std.proofs.Common.{◌≡◌, ◌∙◌, ◌<◌, ◌≤◌, ◌⊎◌, inl, inr, ℕ, zero, suc, ◌+◌, ◌*◌, Bool, true, false, ℤ, pos, List, [], ◌∷◌, ◌++◌, get_or, drop, length, append_assoc, Some, None, refl, sym, ap, subst, arith}
 use Rattle.std.specs.Prelude.{slice_get, replicate}
 use Rattle.std.specs.List.{AllByRecursion}
 use Rattle.std.proofs.lemmas.Bool.{both_ways}
@@ -77,3 +77,29 @@ pub zeros : (n k : ℕ) → get_or (replicate n (pos 0)) k (pos 0) ≡ pos 0
 zeros zero k = refl
 zeros (suc n) zero = refl
 zeros (suc n) (suc k) = zeros n k
+
+-- the instructions from one on
+pub drop_some : (is : List Instruction) (k : ℕ) (i : Instruction) → slice_get is k ≡ Some i → drop k is ≡ i ∷ drop (k + 1) is
+drop_some [] k i e = absurd (cc)
+drop_some (j ∷ is) zero i e = let same : j ≡ i = cc in ap (λ (i : Instruction). i ∷ is) same
+drop_some (j ∷ is) (suc k) i e = let next : suc k + 1 ≡ suc (k + 1) = omega arith in rw next (drop_some is k i e)
+
+pub drop_none : (is : List Instruction) (k : ℕ) → slice_get is k ≡ None → drop k is ≡ []
+drop_none [] zero e = refl
+drop_none [] (suc k) e = refl
+drop_none (j ∷ is) zero e = absurd (cc)
+drop_none (j ∷ is) (suc k) e = drop_none is k e
+
+-- the capsules of one instruction more
+pub capsules_more : (is : List Instruction) (k : ℕ) (i : Instruction) (before : List Capsule) → slice_get is k ≡ Some i
+    → ((before ++ capsule_for k First i ∷ []) ++ capsule_for k Second i ∷ []) ++ capsules_from (k + 1) (drop (k + 1) is)
+    ≡ before ++ capsules_from k (drop k is)
+capsules_more is k i before e =
+    append_assoc (before ++ capsule_for k First i ∷ []) (capsule_for k Second i ∷ []) (capsules_from (k + 1) (drop (k + 1) is))
+    ∙ append_assoc before (capsule_for k First i ∷ []) (capsule_for k Second i ∷ capsules_from (k + 1) (drop (k + 1) is))
+    ∙ ap (λ (l : List Instruction). before ++ capsules_from k l) (sym (drop_some is k i e))
+
+pub within : (is : List Instruction) (k : ℕ) (i : Instruction) → slice_get is k ≡ Some i → k < length is
+within [] k i e = absurd (cc)
+within (j ∷ is) zero i e = omega arith
+within (j ∷ is) (suc k) i e = let rest = within is k i e in omega (arith, rest)

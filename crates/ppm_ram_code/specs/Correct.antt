@@ -1,18 +1,21 @@
 -- The theorem on a RAM's code: with every memory it is sound, and it ends, run depth first, exactly where the RAM ends.
-use Rattle.std.specs.Prelude.{◌≡◌, ℕ, ◌+◌, ℤ, true, List, [], ◌∷◌, length}
+use Rattle.std.specs.Prelude.{◌≡◌, ℕ, ◌+◌, ℤ, true, List, [], ◌∷◌, length, Some, None, slice_get}
 use Rattle.std.specs.List.{AllByRecursion}
 use Rattle.ppm_strands.specs.Run.{Counts, End}
-use Rattle.ppm_code.specs.Code.{IsCode}
+use Rattle.ppm_code.specs.Code.{IsCode, room_of}
+use Rattle.ppm_code.specs.declared.code.Capsule.{Capsule}
 use Rattle.ppm_code.specs.Free.{IsFree}
 use Rattle.ppm_code.specs.Sizes.{frame_size}
 use Rattle.ppm_code.specs.Strands.{Result}
 use Rattle.ppm_code.specs.Tidy.{IsTidy}
 use Rattle.ppm_depth.specs.Run.{ComesTo, said_of as said_of_words, pool_words}
 use Rattle.ppm_depth.specs.Sound.{IsSound}
+use Rattle.ppm_depth.specs.Start.{NamesArrays}
 use Rattle.ppm_tree.specs.Values.{fits}
+use Rattle.ppm_words.specs.Inputs.{IsInput}
 use Rattle.ppm_words.specs.declared.named_array.NamedArray.{NamedArray}
 use Rattle.ppm_ram.specs.declared.ram.RamParts.{RamParts}
-use Rattle.ppm_ram.specs.Program.{IsRam}
+use Rattle.ppm_ram.specs.Program.{IsRam, memory_of}
 use Rattle.ppm_ram.specs.Meaning.{EndsIn, End as RamEnd, begins, as_array, said_of}
 use Rattle.ppm_ram_code.specs.Code.{code_of}
 
@@ -24,6 +27,19 @@ pub record IsMemoryOf (r : RamParts) (memory : List ℤ) : Type 0 where
 -- the memory as the input of the code
 abbrev pub input_of : List ℤ → List NamedArray
 input_of memory = as_array memory ∷ []
+
+-- The code keeps all rules of a code, and none of its capsules asks for room. The memory with which the RAM begins is one of its memories, and an
+-- input of the code.
+pub record KeepsRules (r : RamParts) : Type 0 where
+  pub code : IsCode (code_of r)
+  pub roomless : (number : ℕ) (c : Capsule) → slice_get (code_of r).capsules number ≡ Some c → room_of c.instrs ≡ None
+  pub memory : IsMemoryOf r (memory_of r)
+  pub input : IsInput (input_of (memory_of r))
+  pub names : NamesArrays (code_of r) (input_of (memory_of r))
+
+-- so it is of every RAM
+abbrev pub CodeKeepsRules : Type 0
+CodeKeepsRules = (r : RamParts) → IsRam r → KeepsRules r
 
 -- the code is tidy, and no path of any of its capsules has a conflict
 pub record StandsAlone (r : RamParts) : Type 0 where

@@ -1,6 +1,7 @@
 -- The schedules along what is due.
-use Rattle.std.proofs.Common.{◌≡◌, ◌∙◌, inl, inr, refl, sym, ap, subst, ℕ, ◌&&◌, false, if◌then◌else◌, List, [], ◌∷◌, ◌++◌, Some, None}
+use Rattle.std.proofs.Common.{◌≡◌, ◌∙◌, inl, inr, refl, sym, ap, subst, arith, ℕ, ◌+◌, ◌≤◌, ◌&&◌, nat_lt, nat_le, Bool, true, false, if◌then◌else◌, List, [], ◌∷◌, ◌++◌, Some, None}
 use Rattle.std.specs.List.{AllByRecursion}
+use Rattle.std.proofs.lemmas.Bool.{le-ltb}
 use Rattle.ppm_cells.specs.declared.shape.Shape.{Shape}
 use Rattle.ppm_code.specs.declared.code.CodeParts.{CodeParts}
 use Rattle.ppm_core.specs.Situation.{Situation, finish_in}
@@ -15,6 +16,12 @@ use Rattle.ppm_sweep.specs.declared.options.Window.{Window}
 use Rattle.ppm_sweep.specs.Ahead.{Left, IsStepInRound, dues_in, due_of, first_due, first_in}
 use Rattle.ppm_sweep.specs.Spots.{IsLast}
 use Rattle.ppm_sweep.specs.Sweep.{Place, Swept, along, before_due, is_in, number_after, passed, strikes}
+
+-- where the last of three fails
+no_and : (a b c : Bool) → c ≡ false → (a && (b && c)) ≡ false
+no_and true true c e = e
+no_and true false c e = refl
+no_and false b c e = refl
 
 module _ (s : Shape) (code : CodeParts) (keeper : ℕ) (sweep : Place → List Swept) (window : Window) where
   -- before what isn't made no fault is put
@@ -32,6 +39,24 @@ module _ (s : Shape) (code : CodeParts) (keeper : ℕ) (sweep : Place → List S
       (nothing_before number p due none.0)
       ∙ none_made (number_after s code number p due) (passed s code p due) dues
       (subst (λ w. AllByRecursion (λ d. is_made s code w d ≡ false) dues) (sym same) none.1)
+
+  nothing_in : (number : ℕ) → window.from + window.acts ≤ number → (a : Bool) → (a && is_in window number) ≡ false
+  nothing_in number h a =
+      no_and a (nat_le window.from number) (nat_lt number (window.from + window.acts)) (le-ltb number (window.from + window.acts) h)
+
+  -- where all of what is due comes after the window, there is none either
+  pub none_after : (number : ℕ) (p : Place) (dues : List Due) → window.from + window.acts ≤ number
+      → along s code keeper sweep window number p dues ≡ []
+  none_after number p [] h = refl
+  none_after number p (due ∷ dues) h =
+      ap (λ b. (if b then strikes s code keeper sweep p (processor_of (act_of due)) else [])
+      ++ along s code keeper sweep window (number_after s code number p due) (passed s code p due) dues)
+      (nothing_in number h (is_made s code p.course due))
+      ∙ none_after (number_after s code number p due) (passed s code p due) dues (still_after number (is_made s code p.course due) h)
+    where
+      still_after : (n : ℕ) (b : Bool) → window.from + window.acts ≤ n → window.from + window.acts ≤ (if b then n + 1 else n)
+      still_after n true le = omega (arith, le)
+      still_after n false le = le
 
 -- it fails of all
 all_fail : (P : Due → Type 0) → ((due : Due) → P due) → (dues : List Due) → AllByRecursion P dues

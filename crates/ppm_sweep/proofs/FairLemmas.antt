@@ -1,5 +1,5 @@
 -- The schedules of a sweep may be obeyed as the base schedule may.
-use Rattle.std.proofs.Common.{◌≡◌, ◌∙◌, refl, sym, ap, subst, arith, ℕ, zero, suc, ◌+◌, ◌-◌, ◌<◌, ◌≤◌, ◌==◌, ◌&&◌, ◌||◌, nat_lt, nat_le, Bool, true, false, if◌then◌else◌, List, [], ◌∷◌, ◌++◌, length, None, leb-true, length-append, ltb-true}
+use Rattle.std.proofs.Common.{◌≡◌, ◌∙◌, refl, sym, ap, subst, arith, ℕ, zero, suc, ◌+◌, ◌-◌, ◌<◌, ◌≤◌, ◌==◌, ◌&&◌, ◌||◌, nat_lt, Bool, true, false, if◌then◌else◌, List, [], ◌∷◌, ◌++◌, length, flat_map, None, leb-true, ltb-true}
 use Rattle.std.specs.List.{AllByRecursion}
 use Rattle.std.proofs.lemmas.Bool.{both_ways}
 use Rattle.std.proofs.lemmas.List.Elements.{All-from_recursion, recursion_from_All}
@@ -18,7 +18,7 @@ use Rattle.ppm_choice.specs.Course.{Due, Listed, InRound, act_of, processor_of, 
 use Rattle.ppm_choice.specs.Schedules.{listed, rounds, dues_of}
 use Rattle.ppm_sweep.specs.declared.options.Window.{Window}
 use Rattle.ppm_sweep.specs.Fair.{IsFair, SweepsAreFair}
-use Rattle.ppm_sweep.specs.Sweep.{Place, Swept, same_step, with_act, after_act, alone, along, before_due, passed, number_after, strikes, struck, sweep_from, all_acts, is_in, first_place}
+use Rattle.ppm_sweep.specs.Sweep.{Place, Swept, same_step, with_act, after_act, alone, along, before_due, passed, number_after, strikes, struck, further, all_acts, is_in, first_place}
 use Rattle.ppm_sweep.proofs.FrontLemmas.{steps_are}
 use Rattle.ppm_sweep.proofs.LeftLemmas.{some_times, listed_by, rest_by, done_less}
 
@@ -274,35 +274,33 @@ module _ (s : Shape) (code : CodeParts) (keeper : ℕ) where
         (before_fair number p due n.there at)
         (along_fair (number_after s code number p due) (passed s code p due) dues n.left n.at)
 
-  alone_fair : (faults : ℕ) (p : Place) → At p → AllFair (alone faults p)
-  alone_fair faults p at = go (nat_le (length p.front + length p.rest) item_limit) refl
-    where
-      go : (b : Bool) → nat_le (length p.front + length p.rest) item_limit ≡ b
-          → AllFair (if b then record { items = p.front ++ p.rest; faults = faults } ∷ [] else [])
-      go true e = (
-        record {
-          fair = record { among = All-from_recursion (IsItemAmong s.processors) (p.front ++ p.rest) at.0; kept = at.1 };
-          few = omega (arith, leb-true (length p.front + length p.rest) item_limit e, length-append p.front p.rest);
-        },
-        tt,
-      )
-      go false e = tt
+  alone_fair : (faults : ℕ) (p : Place) → At p → IsFair s.processors keeper (alone faults p)
+  alone_fair faults p at = record {
+    fair = record { among = All-from_recursion (IsItemAmong s.processors) (p.front ++ p.rest) at.0; kept = at.1 };
+    few = leb-true (length (p.front ++ p.rest)) item_limit;
+  }
 
   module _ (turns : ℕ) where
     rounds_below : (count : ℕ) → AllByRecursion (Below s.processors) (rounds s.processors count)
     rounds_below count = all_due (Below s.processors) s.processors [] count tt (λ c h. h)
 
-    sweep_fair : (more : ℕ) (window : Window) (faults : ℕ) (p : Place) → At p → AllFair (sweep_from s code keeper turns more window faults p)
-    sweep_fair zero window faults p at = alone_fair faults p at
-    sweep_fair (suc more) window faults p at =
-        all_fair (alone faults p) (along s code keeper (sweep_from s code keeper turns more (all_acts turns) (faults + 1)) window 0 p (dues_of s.processors p.rest turns))
-        (alone_fair faults p at)
-        (along_fair (sweep_from s code keeper turns more (all_acts turns) (faults + 1)) (sweep_fair more (all_acts turns) (faults + 1)) window 0 p
-        (dues_of s.processors p.rest turns)
-        (record { steps = rounds s.processors turns; dues_are = refl; below = rounds_below turns }) at)
+    further_fair : (more : ℕ) (window : Window) (faults : ℕ) (p : Place) → At p → AllFair (further s code keeper turns more window faults p)
+    further_fair zero window faults p at = tt
+    further_fair (suc more) window faults p at =
+        along_fair (λ q. alone (faults + 1) q ∷ further s code keeper turns more (all_acts turns) (faults + 1) q)
+        (λ q h. (alone_fair (faults + 1) q h, further_fair more (all_acts turns) (faults + 1) q h)) window 0 p (dues_of s.processors p.rest turns)
+        (record { steps = rounds s.processors turns; dues_are = refl; below = rounds_below turns }) at
+
+    windows_fair : (most : ℕ) (windows : List Window) (p : Place) → At p
+        → AllFair (flat_map (λ window. further s code keeper turns most window 0 p) windows)
+    windows_fair most [] p at = tt
+    windows_fair most (window ∷ windows) p at =
+        all_fair (further s code keeper turns most window 0 p) (flat_map (λ w. further s code keeper turns most w 0 p) windows)
+        (further_fair most window 0 p at) (windows_fair most windows p at)
 
 -- so is each schedule of a sweep
 pub sweeps_are_fair : SweepsAreFair
-sweeps_are_fair s code keeper turns state items most window fair =
-    sweep_fair s code keeper turns most window 0 (first_place s code keeper turns state items)
-    (recursion_from_All (IsItemAmong s.processors) items fair.among, fair.kept)
+sweeps_are_fair s code keeper turns state items most windows fair =
+    let p = first_place s code keeper turns state items in
+    let at : At s code keeper p = (recursion_from_All (IsItemAmong s.processors) items fair.among, fair.kept) in
+    (alone_fair s code keeper 0 p at, windows_fair s code keeper turns most windows p at)

@@ -15,3 +15,5 @@ pub mod AloneLemmas
 pub mod WalkLemmas
 pub mod FairLemmas
 pub mod BeginLemmas
+pub mod DrawLemmas
+pub mod StrikeLemmas

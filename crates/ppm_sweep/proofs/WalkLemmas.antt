@@ -1,5 +1,5 @@
 -- A sweep goes along a run.
-use Rattle.std.proofs.Common.{◌≡◌, ◌∙◌, refl, sym, ap, subst, arith, ℕ, zero, suc, ◌+◌, ◌-◌, ◌==◌, ◌&&◌, if◌then◌else◌, Bool, true, false, List, [], ◌∷◌, ◌++◌, Result, Ok, Err, eq-eqb, ne_eqb}
+use Rattle.std.proofs.Common.{◌≡◌, ◌∙◌, refl, sym, ap, subst, arith, ℕ, suc, ◌+◌, ◌-◌, ◌==◌, ◌&&◌, if◌then◌else◌, Bool, true, false, List, [], ◌∷◌, ◌++◌, Result, Ok, Err, eq-eqb, ne_eqb}
 use Rattle.std.specs.Result.{IsErrAnd}
 use Rattle.ppm_words.specs.declared.outcome.Outcome.{Outcome}
 use Rattle.ppm_plan.specs.declared.fault.Fault.{Fault}
@@ -15,15 +15,15 @@ use Rattle.ppm_sweep.specs.declared.spot.Spot.{Spot}
 use Rattle.ppm_sweep.specs.Ahead.{dues_in}
 use Rattle.ppm_sweep.specs.Found.{AllCome, Stops, Finds}
 use Rattle.ppm_sweep.specs.Spots.{place_of, first_way, CameFrom, GoesOn, Advances}
-use Rattle.ppm_sweep.specs.Sweep.{Swept, all_acts, alone, along, is_in, passed, number_after, sweep_from, struck}
-use Rattle.ppm_sweep.specs.Visits.{one_less, swept_from, swept_deeper, swept_before, swept_ahead, swept_struck, Visits, PassesOn}
+use Rattle.ppm_sweep.specs.Sweep.{Swept, all_acts, along, further, is_in, passed, number_after, sweep_from, struck}
+use Rattle.ppm_sweep.specs.Visits.{one_less, swept_from, swept_further, swept_deeper, swept_before, swept_ahead, swept_struck, Visits, PassesOn}
 use Rattle.ppm_sweep.proofs.FoundLemmas.{none_come, finds_after, no_more, stops_in}
 
 pub stays : (spot : Spot) → GoesOn spot spot
 stays spot = record { shape = refl; code = refl; is_spot = λ wanted h. h; came = λ m first h. h }
 
-pub further : (a b c : Spot) → GoesOn a b → GoesOn b c → GoesOn a c
-further a b c g h = record {
+pub on_and_on : (a b c : Spot) → GoesOn a b → GoesOn b c → GoesOn a c
+on_and_on a b c g h = record {
   shape = h.shape ∙ g.shape;
   code = h.code ∙ g.code;
   is_spot = λ wanted k. h.is_spot wanted (g.is_spot wanted k);
@@ -49,24 +49,19 @@ pub deeper_is : (o : Sweeping) (old new : Spot) (c : ℕ) (fault : Fault) → Go
 deeper_is o old new c fault g place faults =
     λ i. sweep_from (g.shape i) (g.code i) o.keeper o.turns (o.faults - 1) (all_acts o.turns) (faults i) (place i)
 
--- what comes after the schedule without a further fault
-abbrev pub later : Sweeping → Spot → (faults : ℕ) → List Swept
-later o spot zero = []
-later o spot (suc n) = swept_ahead o spot
+-- there are no schedules with a further fault, where there may be none
+pub further_none : (o : Sweeping) (spot : Spot) → o.faults ≡ 0 → swept_further o spot ≡ []
+further_none o spot e =
+    let m = seen spot.machine in ap (λ f. further m.shape m.code o.keeper o.turns f o.window spot.faults (place_of spot)) e
 
-pub from_is : (o : Sweeping) (spot : Spot) (n : ℕ) → o.faults ≡ n → spot.number ≡ 0
-    → dues_in spot.ahead ≡ dues_of (seen spot.machine).shape.processors spot.ahead.rest o.turns
-    → swept_from o spot ≡ alone spot.faults (place_of spot) ++ later o spot n
-from_is o spot zero e begins dues =
-    let m = seen spot.machine in
-    ap (λ f. sweep_from m.shape m.code o.keeper o.turns f o.window spot.faults (place_of spot)) e
-    ∙ sym (no_more (alone spot.faults (place_of spot)))
-from_is o spot (suc n) e begins dues =
+-- else they are those with the next before an act that is ahead
+pub further_is : (o : Sweeping) (spot : Spot) (n : ℕ) → o.faults ≡ suc n → spot.number ≡ 0
+    → dues_in spot.ahead ≡ dues_of (seen spot.machine).shape.processors spot.ahead.rest o.turns → swept_further o spot ≡ swept_ahead o spot
+further_is o spot n e begins dues =
     let m = seen spot.machine in
     let one : o.faults - 1 ≡ n = omega (arith, e) in
-    ap (λ f. sweep_from m.shape m.code o.keeper o.turns f o.window spot.faults (place_of spot)) e
-    ∙ ap (λ l. alone spot.faults (place_of spot) ++ l)
-    (λ i. along m.shape m.code o.keeper (sweep_from m.shape m.code o.keeper o.turns (sym one i) (all_acts o.turns) (spot.faults + 1))
+    ap (λ f. further m.shape m.code o.keeper o.turns f o.window spot.faults (place_of spot)) e
+    ∙ (λ i. along m.shape m.code o.keeper (sweep_from m.shape m.code o.keeper o.turns (sym one i) (all_acts o.turns) (spot.faults + 1))
     o.window (sym begins i) (place_of spot) (sym dues i))
 
 -- what the exit of a `?` returns
@@ -97,7 +92,7 @@ module _ (wanted : Outcome) (o : Sweeping) where
   pub one_visit : (old now new : Spot) (t u v : Tally) → Walked wanted o old now t u → PassesOn true now new → AllVisits now new u v (Ok true)
       → Walked wanted o old new t v
   one_visit old now new t u v w p each = record {
-    goes_on = further old now new w.goes_on p.1.goes_on;
+    goes_on = on_and_on old now new w.goes_on p.1.goes_on;
     rest = λ m fresh came x found h.
         let k = each m fresh (w.goes_on.came m (first_way o.turns) came) in
         w.rest m fresh came x found
@@ -186,3 +181,12 @@ before_is o old due more e made chosen =
           ∙ ap (λ b. (if b && is_in o.window old.number then swept_struck o old (processor_of (act_of due)) else []) ++ rest) made
           ∙ ap (λ b. (if b then swept_struck o old (processor_of (act_of due)) else []) ++ rest) chosen,
     )
+
+-- all before an act that is made come to the outcome, where it is to have a fault and where it isn't
+pub all_before : (m : Situation) (wanted : Outcome) (o : Sweeping) (old : Spot) (due : Due) (t u : Tally)
+    → is_made (seen old.machine).shape (seen old.machine).code (place_of old).course due ≡ true → (b : Bool) → is_in o.window old.number ≡ b
+    → AllCome m o.turns wanted (if b then swept_struck o old (processor_of (act_of due)) else []) t u → AllCome m o.turns wanted (swept_before o old due) t u
+all_before m wanted o old due t u made b chosen all =
+    let struck_there = swept_struck o old (processor_of (act_of due)) in
+    subst (λ l. AllCome m o.turns wanted l t u)
+    (sym (ap (λ x. if x && is_in o.window old.number then struck_there else []) made ∙ ap (λ x. if x then struck_there else []) chosen)) all

@@ -1,4 +1,5 @@
 pub mod Sweep
+pub mod Windows
 pub mod Meets
 pub mod Ahead
 pub mod Found
@@ -6,3 +7,4 @@ pub mod Spots
 pub mod Visits
 pub mod Text
 pub mod Fair
+pub mod Strikes

@@ -22,7 +22,7 @@ MeetsFinish finishes.Ended (outcome.Ended arrays) m = HasValues m 0 arrays
 MeetsFinish (finishes.Trapped trap line) (outcome.Trapped wanted at) m = (trap ≡ wanted) × (line ≡ at)
 MeetsFinish finish o m = ⊥
 
--- so it is with what the finish word says
+-- this holds with what the finish word says
 abbrev pub MeetsEnding : Ending → Outcome → Situation → Type 0
 MeetsEnding NotYet o m = ⊥
 MeetsEnding (With finish) o m = MeetsFinish finish o m

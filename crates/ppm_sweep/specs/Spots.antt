@@ -1,6 +1,7 @@
 -- Where a sweep stands in a run.
-use Rattle.std.specs.Prelude.{◌≡◌, ◌≢◌, ◌⊎◌, ℕ, ◌∷◌, replicate}
+use Rattle.std.specs.Prelude.{◌≡◌, ◌≢◌, ◌⊎◌, ℕ, List, [], ◌∷◌, replicate}
 use Rattle.ppm_words.specs.declared.outcome.Outcome.{Outcome}
+use Rattle.ppm_plan.specs.declared.schedule_item.ScheduleItem.{ScheduleItem}
 use Rattle.ppm_core.specs.Machine.{seen}
 use Rattle.ppm_core.specs.Situation.{Situation, finish_in}
 use Rattle.ppm_choice.specs.Course.{Due}
@@ -27,6 +28,14 @@ pub record IsSpot (wanted : Outcome) (spot : Spot) : Type 0 where
 -- a run of at most so many acts begins
 abbrev pub first_way : (turns : ℕ) → Way
 first_way turns = record { loads = replicate 64 0; left = turns }
+
+-- a place before the first act of a schedule's run, which has at most so many
+pub record IsBeginning (turns : ℕ) (items : List ScheduleItem) (spot : Spot) : Type 0 where
+  pub way : spot.way ≡ first_way turns
+  pub front : spot.front.items ≡ []
+  pub rest : spot.ahead.rest ≡ items
+  pub faults : spot.faults ≡ 0
+  pub number : spot.number ≡ 0
 
 -- from a machine the run came here by the acts that are written
 abbrev pub CameFrom : Situation → (first : Way) → Spot → Type 0

@@ -1,5 +1,6 @@
 -- The schedules of a sweep: a base schedule, and it with faults put before acts of its run.
 use Rattle.std.specs.Prelude.{ℕ, zero, suc, ◌+◌, ◌-◌, ◌==◌, nat_lt, nat_le, ◌&&◌, if◌then◌else◌, Bool, true, false, List, [], ◌∷◌, ◌++◌, length, Option, Some, None}
+use Rattle.std.specs.List.{flat_map}
 use Rattle.ppm_cells.specs.declared.shape.Shape.{Shape}
 use Rattle.ppm_code.specs.declared.code.CodeParts.{CodeParts}
 use Rattle.ppm_plan.specs.declared.fault.Fault.{Fault}
@@ -69,10 +70,13 @@ is_in window number = nat_le window.from number && nat_lt number (window.from + 
 abbrev pub all_acts : (turns : ℕ) → Window
 all_acts turns = record { from = 0; acts = turns }
 
--- the schedule of a place that goes on to its end, with so many faults put before: where it has more items than a schedule may, there is none
-abbrev pub alone : (faults : ℕ) → Place → List Swept
-alone faults p =
-    if nat_le (length p.front + length p.rest) item_limit then record { items = p.front ++ p.rest; faults = faults } ∷ [] else []
+-- the schedule of a place that goes on to its end, with so many faults put before
+abbrev pub alone : (faults : ℕ) → Place → Swept
+alone faults p = record { items = p.front ++ p.rest; faults = faults }
+
+-- it has no more items than a schedule may
+abbrev pub is_short : Swept → Bool
+is_short v = nat_le (length v.items) item_limit
 
 module _ (s : Shape) (code : CodeParts) where
   -- what is written of what is due: an act of the list, made or not; and a step that is made after the list
@@ -117,18 +121,23 @@ module _ (s : Shape) (code : CodeParts) where
       ++ along keeper sweep window (number_after number p due) (passed p due) dues
 
   module _ (keeper turns : ℕ) where
-    -- the schedules that go on from a place, with so many faults before it and so many more at most: first the one without a further fault, then
-    -- those with the next fault before each act of its run that is in the window, and each later one before a later act
+    -- The schedules that go on from a place, which has so many faults before it, and have further ones, so many at most: the next before each act of
+    -- its run that is in the window, and each later one before any later act. A schedule comes before those that have more after its last fault.
+    abbrev pub further : (more : ℕ) → Window → (faults : ℕ) → Place → List Swept
+    further zero window faults p = []
+    further (suc more) window faults p =
+        along keeper (λ q. alone (faults + 1) q ∷ further more (all_acts turns) (faults + 1) q) window 0 p (dues_of s.processors p.rest turns)
+
+    -- those that go on from a place: the one without a further fault, and then those with one
     abbrev pub sweep_from : (more : ℕ) → Window → (faults : ℕ) → Place → List Swept
-    sweep_from zero window faults p = alone faults p
-    sweep_from (suc more) window faults p =
-        alone faults p
-        ++ along keeper (sweep_from more (all_acts turns) (faults + 1)) window 0 p (dues_of s.processors p.rest turns)
+    sweep_from more window faults p = alone faults p ∷ further more window faults p
 
     -- the place at which the run of a schedule begins
     abbrev pub first_place : State → List ScheduleItem → Place
     first_place state items = record { course = beginning state turns; front = []; rest = items }
 
-    -- the schedules of a sweep over a base schedule from a state, with so many faults in each at most
-    abbrev pub sweep_of : State → List ScheduleItem → (most : ℕ) → Window → List Swept
-    sweep_of state items most window = sweep_from most window 0 (first_place state items)
+    -- the schedules of a sweep over a base schedule from a state, with so many faults in each at most: the base schedule, and then those with the
+    -- first fault before an act in a window, for one window after another
+    abbrev pub sweep_of : State → List ScheduleItem → (most : ℕ) → List Window → List Swept
+    sweep_of state items most windows =
+        let p = first_place state items in alone 0 p ∷ flat_map (λ window. further most window 0 p) windows

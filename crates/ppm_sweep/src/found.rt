@@ -8,15 +8,18 @@ use ppm_plan::ScheduleItem;
 use ppm_words::NoMemory as OutOfMemory;
 use std::alloc::{AllocError, AllocFailed};
 
-/// What is counted of the schedules of a sweep whose runs came to the outcome that is wanted.
+/// What is counted of the schedules of a sweep. The runs of those that are not left out came to the
+/// outcome that is wanted.
 #[derive(Clone, Copy, Debug, PartialEq, Eq)]
 pub struct Tally {
-    /// How many schedules there were.
+    /// How many schedules there were that are not left out.
     pub runs: u64,
     /// How many faults were put into them, each of which was met.
     pub met: u64,
     /// How many acts their runs made.
     pub acts: u64,
+    /// How many were left out, since they have more items than a schedule may.
+    pub left: u64,
 }
 
 /// The most that is counted.
@@ -25,12 +28,13 @@ const MOST: u64 = 1 << 62;
 impl Tally {
     /// Nothing is counted yet.
     pub fn zero() -> Tally
-        ensures { result ≡ record { runs = 0; met = 0; acts = 0 } }
+        ensures { result ≡ record { runs = 0; met = 0; acts = 0; left = 0 } }
     {
         Tally {
             runs: 0,
             met: 0,
             acts: 0,
+            left: 0,
         }
     }
 
@@ -40,6 +44,7 @@ impl Tally {
         ensures runs { OnOk result (self.new.runs ≡ self.old.runs + 1) }
         ensures met { OnOk result (self.new.met ≡ self.old.met + faults) }
         ensures acts { OnOk result (self.new.acts ≡ self.old.acts + acts) }
+        ensures left { self.new.left ≡ self.old.left }
         ensures stops { IfErr result (λ e. e ≡ stops.NoMemory) }
     {
         if self.runs >= MOST || self.met >= MOST || self.acts >= MOST {
@@ -51,6 +56,19 @@ impl Tally {
         self.runs += 1;
         self.met += faults;
         self.acts += acts;
+        Ok(())
+    }
+
+    /// Counts a schedule that is left out. More than 2^62 of them are as if memory were wanting.
+    pub(crate) fn leave_out(&mut self) -> Result<(), Stop>
+        ensures left { OnOk result (self.new.left ≡ self.old.left + 1) }
+        ensures others { (self.new.runs ≡ self.old.runs) × (self.new.met ≡ self.old.met) × (self.new.acts ≡ self.old.acts) }
+        ensures stops { IfErr result (λ e. e ≡ stops.NoMemory) }
+    {
+        if self.left >= MOST {
+            return Err(Stop::NoMemory);
+        }
+        self.left += 1;
         Ok(())
     }
 }

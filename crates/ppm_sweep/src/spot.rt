@@ -7,7 +7,7 @@ ghost use Rattle.ppm_step.specs.State.{stand_of};
 ghost use Rattle.ppm_choice.specs.Course.{act_of as act_due, processor_of as processor_named};
 ghost use Rattle.ppm_choice.specs.Schedules.{dues_of};
 ghost use Rattle.ppm_sweep.specs.Ahead.{due_of, dues_in, first_due, IsComingAmong};
-ghost use Rattle.ppm_sweep.specs.Spots.{place_of, Advances, GoesOn, IsLast, IsSpot};
+ghost use Rattle.ppm_sweep.specs.Spots.{place_of, Advances, GoesOn, IsBeginning, IsLast, IsSpot};
 ghost use Rattle.ppm_sweep.specs.Sweep.{struck as struck_by};
 ghost use Rattle.ppm_words.specs.declared.outcome.Outcome.{Outcome};
 
@@ -15,7 +15,7 @@ use crate::ahead::{Ahead, Coming};
 use crate::front::write_act;
 use ppm_core::Machine;
 use ppm_following::{Way, make};
-use ppm_plan::{Fault, ScheduleItem, ScheduledAct};
+use ppm_plan::{Fault, Schedule, ScheduleItem, ScheduledAct};
 use ppm_words::NoMemory;
 use std::alloc::Global;
 
@@ -34,6 +34,32 @@ pub(crate) struct Spot {
     pub(crate) faults: u64,
     /// How many acts were made since the last of them.
     pub(crate) number: u64,
+}
+
+/// The place before the first act of a schedule's run, on a copy of the machine.
+pub(crate) fn begin(
+    alloc: Global,
+    machine: &Machine,
+    schedule: &Schedule,
+    turns: u64,
+) -> Result<Spot, NoMemory>
+    requires processors { schedule.now.processors ≡ (seen machine.now).shape.processors }
+    ensures machine { IfOk result (λ s. s.machine ≡ machine.now) }
+    ensures begins { IfOk result (IsBeginning turns schedule.now.items) }
+    ensures dues { IfOk result (λ s. dues_in s.ahead ≡ dues_of (seen machine.now).shape.processors s.ahead.rest turns) }
+    ensures processors { IfOk result (λ s. s.ahead.processors ≡ (seen machine.now).shape.processors) }
+{
+    let items = Vec::from_slice(alloc, schedule.items())?;
+    let ahead = Ahead::new(items, machine.processors(), turns);
+    let machine = machine.copy(alloc)?;
+    Ok(Spot {
+        machine,
+        way: Way::first(turns),
+        front: Vec::new(alloc),
+        ahead,
+        faults: 0,
+        number: 0,
+    })
 }
 
 /// Whether nothing more is made, where this comes next: no act is left, or it comes after the list

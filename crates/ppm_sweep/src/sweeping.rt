@@ -1,5 +1,6 @@
 //! Goes through the schedules of a sweep, in order.
-ghost use Rattle.std.specs.Prelude.{◌≡◌, ◌<◌, ◌≤◌, ◌+◌, ◌^◌, nat_le, length, IfOk, IfErr, false};
+ghost use Rattle.std.specs.Prelude.{◌≡◌, ◌<◌, ◌≤◌, ◌+◌, ◌^◌, ◌∷◌, [], nat_le, length, IfOk, IfErr, false};
+ghost use Rattle.std.specs.List.{flat_map};
 ghost use Rattle.ppm_plan.specs.Refusals.{item_limit};
 ghost use Rattle.ppm_core.specs.Acts.{is_done_at};
 ghost use Rattle.ppm_core.specs.Machine.{seen};
@@ -11,17 +12,17 @@ ghost use Rattle.ppm_sweep.specs.Found.{AllCome, Finds, Stops, swept_by, zero_ta
 ghost use Rattle.ppm_sweep.specs.Meets.{HasArraysOf};
 ghost use Rattle.ppm_sweep.specs.Spots.{first_way, place_of, CameFrom, IsSpot};
 ghost use Rattle.ppm_sweep.specs.Sweep.{alone as alone_at};
-ghost use Rattle.ppm_sweep.specs.Visits.{swept_ahead, swept_from, swept_struck};
+ghost use Rattle.ppm_sweep.specs.Visits.{base_of, swept_ahead, swept_from, swept_further, swept_in, swept_struck, IsStart};
 ghost use Rattle.ppm_sweep.specs.Visits.{PassesOn, Visits};
 
-use crate::ahead::Ahead;
+use crate::drawing::windows;
 use crate::found::{Differing, Stop, Tally};
 use crate::front::both;
 use crate::meeting::meets;
-use crate::options::Sweeping;
-use crate::spot::{Spot, advance, is_over, processor_of, skip, struck};
+use crate::options::{Sweeping, Window};
+use crate::spot::{Spot, advance, begin, is_over, processor_of, skip, struck};
 use ppm_core::Machine;
-use ppm_following::{Way, follow_on};
+use ppm_following::follow_on;
 use ppm_plan::{Fault, ITEM_LIMIT, Schedule, ScheduleItem};
 use ppm_words::Outcome;
 use std::alloc::Global;
@@ -33,7 +34,8 @@ fn are_few(front: &[ScheduleItem], rest: &[ScheduleItem]) -> bool
     front.len() <= ITEM_LIMIT && rest.len() <= ITEM_LIMIT - front.len()
 }
 
-/// Goes on from a place to the end of its run, if its schedule has no more items than it may.
+/// Goes on from a place to the end of its run, if its schedule has no more items than it may;
+/// otherwise it is counted among those that are left out.
 fn alone(
     alloc: Global,
     spot: &Spot,
@@ -43,13 +45,13 @@ fn alone(
 ) -> Result<(), Stop>
     requires spot { IsSpot wanted.now spot.now }
     ensures { (m : Situation) → m.turns ≡ 0 → CameFrom m (first_way turns) spot.now
-        → Finds m turns wanted.now (alone_at spot.now.faults (place_of spot.now)) tally.old tally.new result }
+        → Finds m turns wanted.now (alone_at spot.now.faults (place_of spot.now) ∷ []) tally.old tally.new result }
 {
     let rest = spot.ahead.rest(alloc)?;
     let front = spot.front.as_slice();
     let left = rest.as_slice();
     if !are_few(front, left) {
-        return Ok(());
+        return tally.leave_out();
     }
     let mut machine = spot.machine.copy(alloc)?;
     let mut way = spot.way;
@@ -77,6 +79,24 @@ fn sweep_from(
         → Finds m sweeping.turns wanted.now (swept_from sweeping spot) tally.old tally.new result }
 {
     alone(alloc, &spot, sweeping.turns, wanted, tally)?;
+    further(alloc, spot, sweeping, wanted, tally)
+}
+
+/// Goes through the schedules that go on from a place and have a further fault, if there may be one.
+#[cycle(sweeps)]
+fn further(
+    alloc: Global,
+    spot: Spot,
+    sweeping: Sweeping,
+    wanted: &Outcome,
+    tally: &mut Tally,
+) -> Result<(), Stop>
+    requires spot { IsSpot wanted.now spot }
+    requires dues { dues_in spot.ahead ≡ dues_of (seen spot.machine).shape.processors spot.ahead.rest sweeping.turns }
+    requires begins { spot.number ≡ 0 }
+    ensures { (m : Situation) → m.turns ≡ 0 → CameFrom m (first_way sweeping.turns) spot
+        → Finds m sweeping.turns wanted.now (swept_further sweeping spot) tally.old tally.new result }
+{
     if sweeping.faults == 0 {
         return Ok(());
     }
@@ -107,7 +127,7 @@ fn walk(
 }
 
 /// Goes through the schedules with a fault before what comes next, if it is made and is to have
-/// one, and passes it; false where nothing more is made.
+/// one, and passes it; false where nothing more is made, or all after it is to have none.
 #[cycle(sweeps)]
 fn visit(
     alloc: Global,
@@ -126,6 +146,9 @@ fn visit(
         return Ok(false);
     };
     if is_over(spot, coming) {
+        return Ok(false);
+    }
+    if sweeping.window.is_before(spot.number) {
         return Ok(false);
     }
     let processor = processor_of(coming);
@@ -169,37 +192,91 @@ fn strikes(
     sweep_from(alloc, hard, deeper, wanted, tally)
 }
 
+/// Goes through the schedules of a sweep whose first fault comes before an act in a window.
+fn sweep_window(
+    alloc: Global,
+    machine: &Machine,
+    schedule: &Schedule,
+    sweeping: Sweeping,
+    wanted: &Outcome,
+    tally: &mut Tally,
+) -> Result<(), Stop>
+    requires start { IsStart schedule.now machine.now sweeping wanted.now }
+    ensures { Finds (seen machine.now) sweeping.turns wanted.now
+        (swept_in (seen machine.now) schedule.now.items sweeping sweeping.window) tally.old tally.new result }
+{
+    let spot = begin(alloc, machine, schedule, sweeping.turns)?;
+    further(alloc, spot, sweeping, wanted, tally)
+}
+
+/// So it does for one window after another.
+fn sweep_windows(
+    alloc: Global,
+    machine: &Machine,
+    schedule: &Schedule,
+    sweeping: Sweeping,
+    windows: &[Window],
+    wanted: &Outcome,
+    tally: &mut Tally,
+) -> Result<(), Stop>
+    requires start { IsStart schedule.now machine.now sweeping wanted.now }
+    ensures { Finds (seen machine.now) sweeping.turns wanted.now
+        (flat_map (swept_in (seen machine.now) schedule.now.items sweeping) windows.now) tally.old tally.new result }
+{
+    let mut left = windows;
+    while let [window, rest @ ..] = left {
+        let over = sweeping.over(*window);
+        sweep_window(alloc, machine, schedule, over, wanted, tally)?;
+        left = rest;
+    }
+    Ok(())
+}
+
+/// The run of the base schedule.
+fn sweep_base(
+    alloc: Global,
+    machine: &Machine,
+    schedule: &Schedule,
+    sweeping: Sweeping,
+    wanted: &Outcome,
+    tally: &mut Tally,
+) -> Result<(), Stop>
+    requires start { IsStart schedule.now machine.now sweeping wanted.now }
+    ensures { Finds (seen machine.now) sweeping.turns wanted.now
+        (base_of (seen machine.now) schedule.now.items sweeping ∷ []) tally.old tally.new result }
+{
+    let spot = begin(alloc, machine, schedule, sweeping.turns)?;
+    alone(alloc, &spot, sweeping.turns, wanted, tally)
+}
+
 /// Goes through the schedules of a sweep over a base schedule, from a machine before its first act,
-/// until the run of one of them comes to something else than the outcome that is wanted. The runs
-/// have at most 2^40 acts each.
+/// until the run of one of them comes to something else than the outcome that is wanted. A schedule
+/// of more items than it may have is left out, and counted. The runs have at most 2^40 acts each.
 pub fn sweep(
     alloc: Global,
-    machine: Machine,
+    machine: &Machine,
     schedule: &Schedule,
     sweeping: Sweeping,
     wanted: &Outcome,
 ) -> Result<Tally, Stop>
-    requires processors { schedule.now.processors ≡ (seen machine).shape.processors }
+    requires processors { schedule.now.processors ≡ (seen machine.now).shape.processors }
     requires turns { sweeping.turns ≤ 2 ^ 40 }
-    requires fresh { (seen machine).turns ≡ 0 }
-    requires arrays { HasArraysOf (seen machine) wanted.now }
-    ensures all { IfOk result (AllCome (seen machine) sweeping.turns wanted.now (swept_by (seen machine) schedule.now.items sweeping) zero_tally) }
-    ensures differs { IfErr result (Stops (seen machine) sweeping.turns wanted.now (swept_by (seen machine) schedule.now.items sweeping)) }
+    requires fresh { (seen machine.now).turns ≡ 0 }
+    requires arrays { HasArraysOf (seen machine.now) wanted.now }
+    ensures all { IfOk result (AllCome (seen machine.now) sweeping.turns wanted.now (swept_by (seen machine.now) schedule.now.items sweeping) zero_tally) }
+    ensures differs { IfErr result (Stops (seen machine.now) sweeping.turns wanted.now (swept_by (seen machine.now) schedule.now.items sweeping)) }
 {
     let mut tally = Tally::zero();
-    let processors = machine.processors();
-    let items = Vec::from_slice(alloc, schedule.items())?;
-    let way = Way::first(sweeping.turns);
-    let front = Vec::new(alloc);
-    let ahead = Ahead::new(items, processors, sweeping.turns);
-    let spot = Spot {
+    sweep_base(alloc, machine, schedule, sweeping, wanted, &mut tally)?;
+    let windows = windows(alloc, machine, schedule, sweeping)?;
+    sweep_windows(
+        alloc,
         machine,
-        way,
-        front,
-        ahead,
-        faults: 0,
-        number: 0,
-    };
-    sweep_from(alloc, spot, sweeping, wanted, &mut tally)?;
+        schedule,
+        sweeping,
+        windows.as_slice(),
+        wanted,
+        &mut tally,
+    )?;
     Ok(tally)
 }

@@ -9,7 +9,9 @@ use Rattle.ppm_war.specs.Untidy.{IsFirstUntidyOf, IsUntidyAt}
 use Rattle.ppm_war.proofs.UntidyLemmas.{not_tidy}
 use Rattle.ppm_answers.specs.declared.case.UntidyStore.{UntidyStore as ToldStore}
 use Rattle.ppm_loading.specs.Telling.{IsUntidy, store_told}
-use Rattle.ppm_commands.proofs.FirstConflict.{same_number}
+
+same_number : (m n : ℕ) → (m < n → ⊥) → (n < m → ⊥) → m ≡ n
+same_number m n f g = omega (arith, f, g)
 
 -- a store by its parts
 store_path : (s t : UntidyStore) → s.capsule ≡ t.capsule → s.at ≡ t.at → s ≡ t
