@@ -37,6 +37,9 @@ fn found(
     if machine.processors() != 1 || machine.turns() != 0 {
         return Err("another machine")?;
     }
+    if sweeping.turns > 1000 {
+        return Err("more acts")?;
+    }
     match sweep(
         alloc,
         &machine,
