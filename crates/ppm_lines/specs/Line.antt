@@ -28,18 +28,14 @@ module _ (scene : Scene) (turn : Turn) (standing : Standing) where
   abbrev pub row_fields : List ℕ
   row_fields = field 6 (row_text (doing_of standing)) ++ field 16 (of_text scene (doing_of standing))
 
-  -- what the turn does
-  abbrev pub step_field : List ℕ
-  step_field = field 5 (step_text (before scene (coming scene turn standing)) turn.act (coming scene turn standing))
-
-  -- the name of its word
-  abbrev pub word_field : List ℕ
-  word_field = field 18 (part_text scene (part_of scene turn standing))
-
-  -- the values of that word
-  abbrev pub values : List ℕ
-  values = worth_text (part_kind (stores_link standing) (part_of scene turn standing))
-      (before scene (coming scene turn standing)) turn.act (coming scene turn standing)
+  -- what it does, with which word, and the values of that word
+  abbrev pub step_fields : List ℕ
+  step_fields =
+      let want = coming scene turn standing in
+      let part = part_of scene turn standing in
+      let found = before scene want in
+      field 5 (step_text found turn.act want) ++ field 18 (part_text scene part)
+      ++ worth_text (part_kind (stores_link standing) part) found turn.act want
 
   -- its marks
   abbrev pub marks : List ℕ
@@ -49,7 +45,7 @@ module _ (scene : Scene) (turn : Turn) (standing : Standing) where
   abbrev pub line_at : (number : ℕ) → List ℕ
   line_at number =
       field 6 (decimal number) ++ field 3 (112 ∷ decimal turn.processor) ++ field 2 (carried_text (place_of standing))
-      ++ row_fields ++ step_field ++ word_field ++ values ++ marks ++ 10 ∷ []
+      ++ row_fields ++ step_fields ++ marks ++ 10 ∷ []
 
 -- what the lines of a run are told from, at a state of it
 abbrev pub scene_of : Names → (lengths : List ℕ) → Shape → CodeParts → State → Scene

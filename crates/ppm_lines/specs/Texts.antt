@@ -154,11 +154,15 @@ change_text shown old new =
     else (if old == new then value_text shown new
     else pair_text shown 62 old new)
 
--- the values of a word step: what was found, what was changed, or what was found in place of what was awaited and what was proposed
+-- an exchange: the change, or what was found in place of what was awaited and what was proposed
+abbrev pub exchange_text : WordKind → (found old new : ℕ) → List ℕ
+exchange_text shown found old new = if found == old then change_text shown found new else pair_text shown 47 found new
+
+-- the values of a word step
 abbrev pub done_text : WordKind → (found : ℕ) → Want → List ℕ
 done_text shown found (Loads at) = value_text shown found
 done_text shown found (Stores at word) = change_text shown found word
-done_text shown found (Exchanges at old new) = if found == old then change_text shown found new else pair_text shown 47 found new
+done_text shown found (Exchanges at old new) = exchange_text shown found old new
 done_text shown found Nothing = codes "-"
 
 -- those of a step that did not come

@@ -1,16 +1,16 @@
 //! What a turn does, and the values of its word.
-ghost use Rattle.std.specs.Prelude.{◌≡◌, ◌++◌, ℕ, OnOk};
+ghost use Rattle.std.specs.Prelude.{◌≡◌, ◌++◌, OnOk};
 ghost use Rattle.ppm_lines.specs.Texts.{frame_part_kind as frame_kind, fork_part_kind as fork_kind};
 ghost use Rattle.ppm_lines.specs.Texts.{new_kind as kind_of_new, part_kind as kind_of_part};
 ghost use Rattle.ppm_lines.specs.Texts.{is_link as is_link_by, stores_link as stores_link_by};
 ghost use Rattle.ppm_lines.specs.Texts.{rest_stores_link as rest_by, before as before_step};
 ghost use Rattle.ppm_lines.specs.Texts.{made_text as made_by, step_text as step_by};
 ghost use Rattle.ppm_lines.specs.Texts.{is_message as is_message_by, pair_text, change_text};
+ghost use Rattle.ppm_lines.specs.Texts.{exchange_text};
 ghost use Rattle.ppm_lines.specs.Texts.{done_text, missed_text, worth_text};
 ghost use Rattle.ppm_naming.specs.Values.{value_text};
 ghost use Rattle.ppm_step.specs.Locals.{IsLocal, standing_of};
 ghost use Rattle.ppm_step.specs.Stages.{IsUnderWay, rest_at};
-ghost use Rattle.ppm_step.specs.declared.ask.Want.TheVariants.{Exchanges};
 
 use crate::name::push_word;
 use crate::part::{ForkPart, FramePart, Part};
@@ -228,8 +228,8 @@ fn push_exchange(
     old: u64,
     new: u64,
 ) -> Result<(), NoMemory>
-    ensures { (at : ℕ) → OnOk result (text.new.items
-        ≡ text.old.items ++ done_text kind found (Exchanges at old new)) }
+    ensures { OnOk result (text.new.items
+        ≡ text.old.items ++ exchange_text kind found old new) }
 {
     if found == old {
         return push_change(alloc, text, kind, found, new);
