@@ -240,7 +240,7 @@ fn in_built(scene: &Scene, block: u32) -> Part
 }
 
 /// A word of a pool, by the kind of the restart word.
-fn part_in(scene: &Scene, place: u32, at: u32, kind: RestartKind) -> Part
+pub(crate) fn part_in(scene: &Scene, place: u32, at: u32, kind: RestartKind) -> Part
     requires { place < scene.now.shape.processors }
     ensures { result ≡ in_row scene.now place at kind }
 {

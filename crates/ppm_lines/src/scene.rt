@@ -110,7 +110,6 @@ impl<'a> Scene<'a> {
     }
 
     /// The word at an address; 0 past the last one.
-    #[tactic(auto, using(std::proofs::lemmas::Option::unwrap_or-slice_get))]
     pub(crate) fn word_at(&self, at: u64) -> u64
         ensures { result ≡ scenes.word_at self.now at }
     {
