@@ -29,6 +29,7 @@ procedure_name_text (Named name) = name
 procedure_name_text (EachOf line) = codes "each:" ++ decimal line
 procedure_name_text (Numbered number) = codes "proc:" ++ decimal number
 
+-- the same, and `?` for none
 abbrev pub called : Option ProcedureName → List ℕ
 called None = codes "?"
 called (Some name) = procedure_name_text name
@@ -53,7 +54,7 @@ element_from index (name ∷ arrays) [] left = codes "array" ++ index_text index
 abbrev pub element_text : (arrays : List (List ℕ)) → (lengths : List ℕ) → (index : ℕ) → List ℕ
 element_text arrays lengths index = element_from index arrays lengths index
 
--- a name with the number of its processor or place
+-- a name, a point and a number
 abbrev pub numbered : (name : List ℕ) (number : ℕ) → List ℕ
 numbered name number = name ++ 46 ∷ decimal number
 

@@ -54,8 +54,8 @@ trap_name Index = codes "index"
 trap_name Split = codes "split"
 
 -- a trap and its line in the source, in brackets
-abbrev pub trap_text : Trap → (line : ℕ) → List ℕ
-trap_text trap line = 40 ∷ trap_name trap ++ 44 ∷ decimal line ++ 41 ∷ []
+abbrev pub trapped_text : Trap → (line : ℕ) → List ℕ
+trapped_text trap line = 40 ∷ trap_name trap ++ 44 ∷ decimal line ++ 41 ∷ []
 
 -- the name of a kind of restart words
 abbrev pub restart_name : RestartKind → List ℕ
@@ -125,7 +125,7 @@ link_text link = lead_text link.kind
 abbrev pub finish_text : Finish → List ℕ
 finish_text Unset = codes "none"
 finish_text Ended = codes "ended"
-finish_text (Trapped trap line) = codes "trap" ++ trap_text trap line
+finish_text (Trapped trap line) = codes "trap" ++ trapped_text trap line
 finish_text (OutOfTurns processor) = codes "turns" ++ one_text processor
 finish_text (OutOfRoom place) = codes "room" ++ one_text place
 finish_text Stopped = codes "stopped"
@@ -145,9 +145,11 @@ order_text word =
     else (if word == 3 then codes "both"
     else decimal word)))
 
+-- the entry that a word stands for
 abbrev pub entry_word_text : (word : ℕ) → List ℕ
 entry_word_text word = or_decimal entry_text word (entry_of word)
 
+-- who carries a place by a word
 abbrev pub holder_word_text : (word : ℕ) → List ℕ
 holder_word_text word = or_decimal holder_text word (holder_of word)
 

@@ -1,7 +1,6 @@
 //! The names of cells.
-ghost use Rattle.std.specs.Prelude.{◌≡◌, ◌++◌, OnOk};
+ghost use Rattle.std.specs.Prelude.{◌≡◌, ◌++◌, OnOk, codes};
 ghost use Rattle.ppm_naming.specs.Cells.{cell_text, element_text, numbered};
-ghost use Rattle.std.specs.Prelude.{codes};
 
 use crate::names::Names;
 use crate::numbers::{push_index, push_numbered, push_word};

@@ -1,7 +1,7 @@
 //! The texts of what words stand for.
 ghost use Rattle.std.specs.Prelude.{◌≡◌, ◌++◌, OnOk};
 ghost use Rattle.ppm_naming.specs.Values.{side_name as name_of_side, branch_text, taker_text};
-ghost use Rattle.ppm_naming.specs.Values.{trap_name as name_of_trap, trap_text, subject_text};
+ghost use Rattle.ppm_naming.specs.Values.{trap_name as name_of_trap, trapped_text, subject_text};
 ghost use Rattle.ppm_naming.specs.Values.{restart_name as name_of_restart, restart_text};
 ghost use Rattle.ppm_naming.specs.Values.{entry_text, holder_text, lead_text, finish_text};
 
@@ -69,7 +69,7 @@ fn push_branch(alloc: Global, text: &mut Vec<u8>, block: u32, side: Side) -> Res
 
 /// Appends a trap and its line, in brackets.
 fn push_trap(alloc: Global, text: &mut Vec<u8>, trap: Trap, line: u32) -> Result<(), NoMemory>
-    ensures { OnOk result (text.new.items ≡ text.old.items ++ trap_text trap line) }
+    ensures { OnOk result (text.new.items ≡ text.old.items ++ trapped_text trap line) }
 {
     text.push(b'(')?;
     push_word(text, trap_name(trap))?;
