@@ -8,14 +8,12 @@ use Rattle.ppm_plan.specs.Forms.{schedule_form}
 use Rattle.ppm_answers.specs.declared.answer.Answer.{Answer}
 use Rattle.ppm_answers.specs.declared.answer.Answer.TheVariants as answers
 use Rattle.ppm_answers.specs.declared.status.Status.{Status}
-use Rattle.ppm_answers.specs.declared.status.Status.TheVariants as statuses
 use Rattle.ppm_answers.specs.Delivery.{IsWritten}
 use Rattle.ppm_answers.specs.Reading.{DeliversAnswer}
 use Rattle.ppm_answers.specs.Rows.{PlannedRows, ReadOrRefused}
 use Rattle.ppm_answers.specs.Statuses.{status_of}
 use Rattle.ppm_answers.proofs.RowsLemmas as rows_lemmas
 use Rattle.ppm_cli.specs.declared.trace.TraceOptions.{TraceOptions}
-use Rattle.ppm_loading.specs.MachineRows.{RefusesPlan}
 use Rattle.ppm_loading.specs.Planned.{IsRefusedBy, HasByItems}
 use Rattle.ppm_loading.proofs.PlannedLemmas as planned
 use Rattle.ppm_driver.specs.TraceNames.{program_names}
@@ -45,15 +43,6 @@ module _ (options : TraceOptions) (schedule : List ℕ) (o : Ports) where
   by answer h w = absurd (of_program options h.2.items h.2.has.0 answer h.2.has.2)
 
   module _ (status : Status) (a : DeliversAnswer (TraceMay options schedule o.source) o status) where
-    -- what the status says
-    says : TraceSays options schedule o status
-    says = rows_lemmas.says (TraceMay options schedule) Read
-        (planned.are_causes schedule_form schedule options.processors (TextHas options) text_limit) o status a
-        (TraceSays options schedule o) of_ports by
-
-    pub schedule_refused : status ≡ statuses.WordsRefused → RefusesPlan schedule_form schedule options.processors o
-    schedule_refused e = (subst (TraceSays options schedule o) e says).0
-
     planned_rows : PlansHaveOneAnswer → HaveOneAnswer
         → PlannedRows (IsRefusedBy schedule_form schedule options.processors) (HasByItems schedule_form schedule options.processors (TextHas options))
         text_limit (TraceSays options schedule o) o status

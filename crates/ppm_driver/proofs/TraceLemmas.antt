@@ -17,7 +17,7 @@ use Rattle.ppm_loading.specs.declared.loading.Sizes.{Sizes}
 use Rattle.ppm_loading.specs.Loading.{AreSizes, OpensRun}
 use Rattle.ppm_loading.proofs.CaseLemmas.{AreCaseKinds}
 use Rattle.ppm_loading.proofs.ProgramLemmas.{AreKinds}
-use Rattle.ppm_marks.specs.declared.only.Only.{Only}
+use Rattle.ppm_marks.specs.declared.shown.Only.{Only}
 use Rattle.ppm_naming.specs.declared.names.Names.{Names}
 use Rattle.ppm_trace.specs.Text.{trace_text}
 use Rattle.ppm_driver.specs.TraceNames.{case_names, program_names}

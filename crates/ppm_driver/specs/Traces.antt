@@ -24,8 +24,8 @@ use Rattle.ppm_loading.specs.Loading.{OpensRun}
 use Rattle.ppm_loading.specs.Planned.{PlannedHas, PlannedMay, HasSomeAnswer}
 use Rattle.ppm_loading.specs.Programs as programs
 use Rattle.ppm_choice.specs.Schedules.{schedule_turns}
-use Rattle.ppm_marks.specs.declared.only.Only.{Only}
-use Rattle.ppm_marks.specs.declared.only.Only.TheVariants as shown
+use Rattle.ppm_marks.specs.declared.shown.Only.{Only}
+use Rattle.ppm_marks.specs.declared.shown.Only.TheVariants as shown
 use Rattle.ppm_naming.specs.declared.names.Names.{Names}
 use Rattle.ppm_trace.specs.Text.{trace_text}
 use Rattle.ppm_driver.specs.TraceNames.{program_names}

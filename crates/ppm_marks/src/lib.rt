@@ -1,6 +1,6 @@
 //! A stub: which lines of a trace are written.
 #![tactic(auto)]
 
-mod only;
+mod shown;
 
-pub use only::Only;
+pub use shown::Only;
