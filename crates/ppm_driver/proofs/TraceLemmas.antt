@@ -19,7 +19,7 @@ use Rattle.ppm_loading.proofs.CaseLemmas.{AreCaseKinds}
 use Rattle.ppm_loading.proofs.ProgramLemmas.{AreKinds}
 use Rattle.ppm_marks.specs.declared.shown.Only.{Only}
 use Rattle.ppm_naming.specs.declared.names.Names.{Names}
-use Rattle.ppm_trace.specs.Text.{trace_text}
+use Rattle.ppm_trace.specs.Trace.{trace_text}
 use Rattle.ppm_driver.specs.TraceNames.{case_names, program_names}
 use Rattle.ppm_driver.specs.Traces.{sizes_of, only_of, turns_by, text_of, CodeHas, ProgramHas}
 use Rattle.ppm_driver.specs.CaseTraces.{CaseHas}

@@ -27,7 +27,7 @@ use Rattle.ppm_choice.specs.Schedules.{schedule_turns}
 use Rattle.ppm_marks.specs.declared.shown.Only.{Only}
 use Rattle.ppm_marks.specs.declared.shown.Only.TheVariants as shown
 use Rattle.ppm_naming.specs.declared.names.Names.{Names}
-use Rattle.ppm_trace.specs.Text.{trace_text}
+use Rattle.ppm_trace.specs.Trace.{trace_text}
 use Rattle.ppm_driver.specs.TraceNames.{program_names}
 
 -- the machine's sizes, as the options say them

@@ -2,7 +2,7 @@
 ghost use Rattle.std.specs.Prelude.{◌≡◌, ◌≤◌, ◌+◌, ◌^◌, IfOk};
 ghost use Rattle.ppm_core.specs.Machine.{seen};
 ghost use Rattle.ppm_choice.specs.Schedules.{schedule_turns};
-ghost use Rattle.ppm_trace.specs.Text.{trace_text};
+ghost use Rattle.ppm_trace.specs.Trace.{trace_text};
 
 use ppm_core::Machine;
 use ppm_marks::Only;

@@ -1,4 +1,4 @@
-use Rattle.std.proofs.Common.{arith, sym, subst}
+use Rattle.std.proofs.Common.{sym, subst}
 use Rattle.ppm_loading.specs.Loading.{AreSizes}
 use Rattle.ppm_driver.proofs.TraceLemmas.{code_tells, traced_sizes}
 use Rattle.ppm_driver.proofs.trace.traced_code.Goals as goal
