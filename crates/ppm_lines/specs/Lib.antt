@@ -1,0 +1,5 @@
+pub mod Scene
+pub mod Doing
+pub mod Parts
+pub mod Texts
+pub mod Line

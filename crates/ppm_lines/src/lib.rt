@@ -1,0 +1,22 @@
+//! A turn as a line of text: who acts, where it stands, what it does there, and what comes of it.
+//! Model: a line is told from the names of the source, the machine's words before the turn, and
+//! where the processor stands (`specs/Line`); how a word is called, its row tells (`specs/Parts`).
+//! Contract: `push_line` appends exactly the line of the turn, and fails only where memory is
+//! refused.
+//! Stands on `ppm_naming`, `ppm_marks` and `ppm_step`; `ppm_trace` writes a run by it.
+//! The text form is this project's.
+#![tactic(auto)]
+
+mod column;
+mod doing;
+mod line;
+mod name;
+mod part;
+mod place;
+mod scene;
+mod value;
+
+pub use doing::Doing;
+pub use line::push_line;
+pub use part::{ForkPart, FramePart, Part};
+pub use scene::Scene;

@@ -1,0 +1,4 @@
+pub mod Addresses
+pub mod Values
+pub mod Cells
+pub mod Correct
