@@ -114,7 +114,7 @@ module _ (names : Names) (window : Window) where
       let all = schedule_turns m.shape m.code m.state items turns in
       let lines = along_turns (shown_line names window.only window.from) m all in
       let d = subst (λ v. Tells names window (dues_of p items v.left) (telling m v a) (telling n u b)) first
-          (subst (λ list. Tells names window (dues_of p list way.left) (telling m way a) (telling n u b)) same tells) in
+      (subst (λ list. Tells names window (dues_of p list way.left) (telling m way a) (telling n u b)) same tells) in
       is
       ∙ ap (λ front. front ++ tail_text b.counts (finish_in n)) (d.told.text ∙ ap (λ front. front ++ lines) head)
       ∙ ap (λ c. head_text m.shape window.from ++ lines ++ tail_text c (finish_in n))
