@@ -1,0 +1,3 @@
+-- The law of all grammars is in `NextLemmas`.
+
+pub mod NextLemmas
