@@ -1,16 +1,16 @@
 -- Tokens can come just where a text begins with them, and of what is still to come the first kinds are those that can stand next.
-use Rattle.std.proofs.Common.{◌≡◌, Bool, true, false, List, [], ◌∷◌, ◌++◌, refl, sym, ◌∙◌, ap, subst}
+use Rattle.std.proofs.Common.{◌≡◌, Bool, true, false, List, [], ◌∷◌, ◌++◌, length, refl, sym, ◌∙◌, ap, subst}
 use Rattle.std.proofs.lemmas.List.{append-nil as append_nil}
-use Rattle.std.specs.Prelude.{◌↔◌, ◌||◌, ◌&&◌, Option, Some, None, is_some, if◌then◌else◌}
+use Rattle.std.specs.Prelude.{◌↔◌, ◌||◌, ◌&&◌, Option, Some, None, is_some, cond, if◌then◌else◌}
 use Rattle.std.specs.List.{filter}
 use Rattle.ppm_grammar.specs.Rows.{In, first, later, Item, Take, Part, Grammar}
-use Rattle.ppm_grammar.specs.Derivation.{Due, Within, Mark, mark, Derives, beginning, Begins}
+use Rattle.ppm_grammar.specs.Derivation.{Due, Within, Mark, mark, Derives, beginning, IsText}
 use Rattle.ppm_grammar.specs.Predictive.{same_kind, starts, may_be_empty, is_predictive, HasGround, IsPredictive}
 use Rattle.ppm_grammar.specs.Stack.{Move, move, chosen, Whole, Cut, ons, step, can_end, trace}
 use Rattle.ppm_grammar.proofs.ListLemmas.{listed_in}
 use Rattle.ppm_grammar.proofs.StackLemmas.{next_there}
 use Rattle.ppm_grammar.proofs.DerivationLemmas.{text_trace}
-use Rattle.ppm_grammar.proofs.TextLemmas.{end_sound, one_value}
+use Rattle.ppm_grammar.proofs.TextLemmas.{end_sound, one_value, consumes}
 use Rattle.ppm_grammar.proofs.MovesLemmas.{Moves, here, there, moves_on, moves_sound, moves_trace, begins_so, they_come, never_cut}
 use Rattle.ppm_grammar.proofs.PredictiveLemmas.{predictive}
 use Rattle.ppm_expected.specs.Next.{BeginsText, IsWholeText, AreExpected}
@@ -35,18 +35,27 @@ there_is (Some a) h = record { found = a; is = refl }
 
 -- the elements that pass a test are those of the list that do
 module _ {A : Type 0} (p : A → Bool) where
-  pub in_filter : {x : A} {xs : List A} → In x xs → p x ≡ true → In x (filter p xs)
-  in_filter (first {xs = xs}) h = rw h first
+  in_filter : {x : A} {xs : List A} → In x xs → p x ≡ true → In x (filter p xs)
+  in_filter {x = x} (first {xs = xs}) h = rw h first
   in_filter {x = x} (later {y = y} {xs = xs} i) h = go (p y) (in_filter i h)
     where
-      go : (b : Bool) → In x (filter p xs) → In x (elim b [ true ↦ y ∷ filter p xs | false ↦ filter p xs ])
+      go : (b : Bool) → In x (filter p xs) → In x (cond b (y ∷ filter p xs) (filter p xs))
       go true j = later j
       go false j = j
 
+  -- the first of a list, or a later one
+  passes_in : {x y : A} {ys : List A} → p y ≡ true → (In x ys → p x ≡ true) → In x (y ∷ ys) → p x ≡ true
+  passes_in h below first = h
+  passes_in h below (later i) = below i
+
   -- and no others
-  pub filter_passes : {x : A} (xs : List A) → In x (filter p xs) → p x ≡ true
+  filter_passes : {x : A} (xs : List A) → In x (filter p xs) → p x ≡ true
   filter_passes [] i = elim i [ ]
-  filter_passes {x = x} (y ∷ xs) i = ?
+  filter_passes {x = x} (y ∷ xs) i = go (p y) refl i (λ j. filter_passes xs j)
+    where
+      go : (b : Bool) → p y ≡ b → In x (cond b (y ∷ filter p xs) (filter p xs)) → (In x (filter p xs) → p x ≡ true) → p x ≡ true
+      go true e j below = passes_in e below j
+      go false e j below = below j
 
 module _ {T K P V C : Type 0} (g : Grammar T K P V C) where
   -- tokens that can come leave what is still to come
@@ -133,14 +142,26 @@ module _ {T K P V C : Type 0} (g : Grammar T K P V C) where
 
     -- a whole text is one that a text begins with
     whole_begins : (ts : List T) → IsWholeText g ts → BeginsText g ts
-    whole_begins ts w = ?
+    whole_begins ts w =
+        let c = consumes g w.text in
+        let same : c.front ≡ ts = sym (c.shape ∙ append_nil c.front) in
+        record {
+          marks = w.marks;
+          begins = record {
+            more = [];
+            value = w.value;
+            others = [];
+            text = subst (λ q. IsText g q w.value (w.marks ++ [])) (sym (append_nil ts)) (subst (IsText g ts w.value) (sym (append_nil w.marks)) w.text);
+            each = c.each ∙ ap length same;
+          };
+        }
 
     -- where this is left, a token can stand next just if it can come first
     next_by : (front : List T) (left : List (Due K P)) (t : T) → still g (beginning g) front ≡ Some left → comes_first g left (g.kind t) ≡ true →
         BeginsText g (front ++ t ∷ [])
     next_by front left t h e =
         let s = there_is (step g left (g.kind t)) (step_there left (g.kind t) ∙ e) in
-        begun_by (front ++ t ∷ []) s.found.still (still_on (beginning g) front t left h ∙ rw s.is refl)
+        begun_by (front ++ t ∷ []) s.found.still (still_on (beginning g) front t left h ∙ ap (λ q. behind_move q (λ l. Some l)) s.is)
 
     -- and no other can
     comes_by : (front : List T) (left : List (Due K P)) (t : T) → still g (beginning g) front ≡ Some left → BeginsText g (front ++ t ∷ []) →
