@@ -6,5 +6,8 @@
 #![tactic(auto)]
 
 mod laws;
+mod phrase;
+mod row;
+mod terminal;
 
 pub use laws::collects_expected;
