@@ -14,7 +14,7 @@ use Rattle.ppm_grammar.proofs.TextLemmas.{end_sound, one_value, consumes}
 use Rattle.ppm_grammar.proofs.MovesLemmas.{Moves, here, there, moves_on, moves_sound, moves_trace, begins_so, they_come, never_cut}
 use Rattle.ppm_grammar.proofs.PredictiveLemmas.{predictive}
 use Rattle.ppm_expected.specs.Next.{BeginsText, IsWholeText, AreExpected}
-use Rattle.ppm_expected.specs.Machine.{behind_move, still, comes_first, kinds_first, ends_there, expected_kinds, expected_end, CollectsExpected}
+use Rattle.ppm_expected.specs.Machine.{items_due, behind_move, still, comes_first, may_end, kinds_first, ends_there, expected_kinds, expected_end, CollectsExpected}
 
 -- a part that goes on with its row, is empty, or cannot come
 chosen_there : {K P C : Type 0} (o : Option (Move K P C)) (b : Bool) (st : List (Due K P)) (other : Option (Move K P C)) →
@@ -110,28 +110,34 @@ module _ {T K P V C : Type 0} (g : Grammar T K P V C) where
     begun_by ts left h = let c = still_moves (beginning g) ts left h in record { marks = c.marks; begins = begins_so g p.grounded c.moves }
 
     -- a step is there at the kinds that can come first
-    pub step_there : (st : List (Due K P)) (k : K) → is_some (step g st k) ≡ comes_first g st k
+    pub step_there : (st : List (Due K P)) (k : K) → is_some (step g st k) ≡ comes_first g (items_due st) k
     step_there [] k = refl
     step_there (Within d (Take x) ∷ st) k = go (same_kind g x k)
       where
-        go : (b : Bool) → is_some (if b then Some (move {C = C} (mark d []) st) else None) ≡ b
+        go : (b : Bool) → is_some (if b then Some (move {C = C} (mark d []) st) else None) ≡ (b || false)
         go true = refl
         go false = refl
     step_there (Within d (Part n) ∷ st) k =
         chosen_there _ (may_be_empty g n) st (step g st k) ∙ rw (next_there g follows p d n k, step_there st k) refl
 
+    -- a text may end where all that is to come may have no tokens
+    pub end_there : (st : List (Due K P)) → can_end g st ≡ may_end g (items_due st)
+    end_there [] = refl
+    end_there (Within d (Take x) ∷ st) = refl
+    end_there (Within d (Part n) ∷ st) = ap (λ q. may_be_empty g n && q) (end_there st)
+
     -- the tokens are a text where a text may end
-    whole_by : (ts : List T) (left : List (Due K P)) → still g (beginning g) ts ≡ Some left → can_end g left ≡ true → IsWholeText g ts
+    whole_by : (ts : List T) (left : List (Due K P)) → still g (beginning g) ts ≡ Some left → may_end g (items_due left) ≡ true → IsWholeText g ts
     whole_by ts left h e =
         let c = still_moves (beginning g) ts left h in
-        let whole = moves_sound g c.moves (end_sound g left e) in
+        let whole = moves_sound g c.moves (end_sound g left (end_there left ∙ e)) in
         let short = subst (λ q. Derives g (beginning g) q whole.values (c.marks ++ []) []) (append_nil ts) whole.derived in
         let v = one_value g short in
         record { value = v.0; marks = c.marks ++ []; text = subst (λ q. Derives g (beginning g) ts q (c.marks ++ []) []) v.1 short }
 
     -- and nowhere else
-    ends_by : (ts : List T) (left : List (Due K P)) → still g (beginning g) ts ≡ Some left → IsWholeText g ts → can_end g left ≡ true
-    ends_by ts left h w = go (can_end g left) refl
+    ends_by : (ts : List T) (left : List (Due K P)) → still g (beginning g) ts ≡ Some left → IsWholeText g ts → may_end g (items_due left) ≡ true
+    ends_by ts left h w = sym (end_there left) ∙ go (can_end g left) refl
       where
         go : (b : Bool) → can_end g left ≡ b → b ≡ true
         go true e = refl
@@ -157,7 +163,7 @@ module _ {T K P V C : Type 0} (g : Grammar T K P V C) where
         }
 
     -- where this is left, a token can stand next just if it can come first
-    next_by : (front : List T) (left : List (Due K P)) (t : T) → still g (beginning g) front ≡ Some left → comes_first g left (g.kind t) ≡ true →
+    next_by : (front : List T) (left : List (Due K P)) (t : T) → still g (beginning g) front ≡ Some left → comes_first g (items_due left) (g.kind t) ≡ true →
         BeginsText g (front ++ t ∷ [])
     next_by front left t h e =
         let s = there_is (step g left (g.kind t)) (step_there left (g.kind t) ∙ e) in
@@ -165,7 +171,7 @@ module _ {T K P V C : Type 0} (g : Grammar T K P V C) where
 
     -- and no other can
     comes_by : (front : List T) (left : List (Due K P)) (t : T) → still g (beginning g) front ≡ Some left → BeginsText g (front ++ t ∷ []) →
-        comes_first g left (g.kind t) ≡ true
+        comes_first g (items_due left) (g.kind t) ≡ true
     comes_by front left t h b =
         let s = left_by (front ++ t ∷ []) b in
         sym (step_there left (g.kind t)) ∙ go (step g left (g.kind t)) (sym (still_on (beginning g) front t left h) ∙ s.is)
@@ -176,12 +182,12 @@ module _ {T K P V C : Type 0} (g : Grammar T K P V C) where
 
     -- what is collected where this is left
     pub are_expected : (front : List T) (left : List (Due K P)) → still g (beginning g) front ≡ Some left →
-        AreExpected g front (filter (λ k. comes_first g left k) g.kinds.all) (can_end g left)
+        AreExpected g front (filter (comes_first g (items_due left)) g.kinds.all) (may_end g (items_due left))
     are_expected front left h = record {
       tokens = λ t.
           (
-            λ i. next_by front left t h (filter_passes (λ k. comes_first g left k) g.kinds.all i),
-            λ b. in_filter (λ k. comes_first g left k) (listed_in g.kinds (g.kind t)) (comes_by front left t h b),
+            λ i. next_by front left t h (filter_passes (comes_first g (items_due left)) g.kinds.all i),
+            λ b. in_filter (comes_first g (items_due left)) (listed_in g.kinds (g.kind t)) (comes_by front left t h b),
           );
       whole = (λ e. whole_by front left h e, λ w. ends_by front left h w);
     }

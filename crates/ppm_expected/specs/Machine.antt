@@ -1,10 +1,10 @@
 -- What can stand behind tokens, computed from the rows: the tokens are read, and of what is still to come the first kinds are collected.
 use Rattle.std.specs.Prelude.{◌≡◌, Bool, true, false, ◌&&◌, ◌||◌, List, [], ◌∷◌, Option, Some, None}
 use Rattle.std.specs.List.{filter}
-use Rattle.ppm_grammar.specs.Rows.{Take, Part, Grammar}
+use Rattle.ppm_grammar.specs.Rows.{Item, Take, Part, Grammar}
 use Rattle.ppm_grammar.specs.Derivation.{Due, Within, beginning}
 use Rattle.ppm_grammar.specs.Predictive.{same_kind, starts, may_be_empty, is_predictive}
-use Rattle.ppm_grammar.specs.Stack.{Move, step, can_end}
+use Rattle.ppm_grammar.specs.Stack.{Move, step}
 use Rattle.ppm_expected.specs.Next.{AreExpected}
 
 -- what follows a move, if there is one
@@ -12,27 +12,46 @@ abbrev pub behind_move : {K P C : Type 0} → Option (Move K P C) → (List (Due
 behind_move None next = None
 behind_move (Some m) next = next m.still
 
+-- the items that are to come
+abbrev pub items_due : {K P : Type 0} → List (Due K P) → List (Item K P)
+items_due [] = []
+items_due (Within d x ∷ st) = x ∷ items_due st
+
 module _ {T K P V C : Type 0} (g : Grammar T K P V C) where
   -- what is still to come behind the tokens, if these can come
   abbrev pub still : List (Due K P) → List T → Option (List (Due K P))
   still st [] = Some st
   still st (t ∷ ts) = behind_move (step g st (g.kind t)) (λ later. still later ts)
 
-  -- a token of the kind can come first where these are to come: parts in front that may be empty are passed over
-  abbrev pub comes_first : List (Due K P) → K → Bool
-  comes_first [] k = false
-  comes_first (Within d (Take x) ∷ st) k = same_kind g x k
-  comes_first (Within d (Part n) ∷ st) k = starts g n k || (may_be_empty g n && comes_first st k)
+  -- the item can begin with a token of the kind
+  abbrev pub can_begin : Item K P → K → Bool
+  can_begin (Take x) k = same_kind g x k
+  can_begin (Part n) k = starts g n k
 
-  -- the kinds of which a token can come first, in the order of the listing; none where the tokens before cannot come
+  -- the item may have no tokens
+  abbrev pub may_lack : Item K P → Bool
+  may_lack (Take x) = false
+  may_lack (Part n) = may_be_empty g n
+
+  -- where these are to come a token of the kind can come first: items in front that may have no tokens are passed over
+  abbrev pub comes_first : List (Item K P) → K → Bool
+  comes_first [] k = false
+  comes_first (x ∷ xs) k = can_begin x k || (may_lack x && comes_first xs k)
+
+  -- where these are to come a text may end
+  abbrev pub may_end : List (Item K P) → Bool
+  may_end [] = true
+  may_end (x ∷ xs) = may_lack x && may_end xs
+
+  -- the kinds of tokens that can come first, in the order of the listing; none where the tokens before cannot come
   abbrev pub kinds_first : Option (List (Due K P)) → List K
   kinds_first None = []
-  kinds_first (Some st) = filter (λ k. comes_first st k) g.kinds.all
+  kinds_first (Some st) = filter (comes_first (items_due st)) g.kinds.all
 
   -- whether a text may end there
   abbrev pub ends_there : Option (List (Due K P)) → Bool
   ends_there None = false
-  ends_there (Some st) = can_end g st
+  ends_there (Some st) = may_end (items_due st)
 
   -- what can stand behind the tokens
   abbrev pub expected_kinds : List T → List K
