@@ -5,9 +5,14 @@
 //! After the predictive parsers of Lewis and Stearns (LL(1)), whose table has the tokens expected at an error.
 #![tactic(auto)]
 
+mod choice;
+mod expected;
 mod laws;
 mod phrase;
 mod row;
+mod stack;
 mod terminal;
 
+pub use expected::{Expected, expected_at_fault};
 pub use laws::collects_expected;
+pub use terminal::Terminal;
