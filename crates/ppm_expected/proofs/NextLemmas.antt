@@ -24,12 +24,12 @@ chosen_there None false st other = refl
 chosen_there (Some m) b st other = refl
 
 -- what is there
-record There {A : Type 0} (o : Option A) : Type 0 where
-  found : A
-  is : o ≡ Some found
+pub record There {A : Type 0} (o : Option A) : Type 0 where
+  pub found : A
+  pub is : o ≡ Some found
 
 -- is there
-there_is : {A : Type 0} (o : Option A) → is_some o ≡ true → There o
+pub there_is : {A : Type 0} (o : Option A) → is_some o ≡ true → There o
 there_is None h = cc
 there_is (Some a) h = record { found = a; is = refl }
 
@@ -59,7 +59,7 @@ module _ {A : Type 0} (p : A → Bool) where
 
 module _ {T K P V C : Type 0} (g : Grammar T K P V C) where
   -- tokens that can come leave what is still to come
-  moves_still : {st left : List (Due K P)} {ts : List T} {ms : List (Mark C)} → Moves g st ts ms left → still g st ts ≡ Some left
+  pub moves_still : {st left : List (Due K P)} {ts : List T} {ms : List (Mark C)} → Moves g st ts ms left → still g st ts ≡ Some left
   moves_still here = refl
   moves_still (there is r) = rw is (moves_still r)
 
@@ -79,7 +79,7 @@ module _ {T K P V C : Type 0} (g : Grammar T K P V C) where
       go (Some m) is h below = let r = below m h in record { marks = m.marked ∷ r.marks; moves = there is r.moves }
 
   -- tokens behind tokens
-  still_on : (st : List (Due K P)) (front : List T) (t : T) (left : List (Due K P)) → still g st front ≡ Some left →
+  pub still_on : (st : List (Due K P)) (front : List T) (t : T) (left : List (Due K P)) → still g st front ≡ Some left →
       still g st (front ++ t ∷ []) ≡ behind_move (step g left (g.kind t)) (λ l. Some l)
   still_on st [] t left h = let same : st ≡ left = cc in rw same refl
   still_on st (u ∷ front) t left h = go (step g st (g.kind u)) h (λ l is. still_on l front t left is)
@@ -91,7 +91,7 @@ module _ {T K P V C : Type 0} (g : Grammar T K P V C) where
       go (Some m) h below = below m.still h
 
   -- none behind tokens that cannot come
-  still_none : (st : List (Due K P)) (front ts : List T) → still g st front ≡ None → still g st (front ++ ts) ≡ None
+  pub still_none : (st : List (Due K P)) (front ts : List T) → still g st front ≡ None → still g st (front ++ ts) ≡ None
   still_none st [] ts h = cc
   still_none st (u ∷ front) ts h = go (step g st (g.kind u)) h (λ l is. still_none l front ts is)
     where
@@ -102,7 +102,7 @@ module _ {T K P V C : Type 0} (g : Grammar T K P V C) where
 
   module _ (follows : P → K → Bool) (p : IsPredictive g follows) where
     -- a text begins with tokens just where something is left
-    left_by : (ts : List T) → BeginsText g ts → There (still g (beginning g) ts)
+    pub left_by : (ts : List T) → BeginsText g ts → There (still g (beginning g) ts)
     left_by ts b = let c = they_come g follows p ts b.marks b.begins in record { found = c.later; is = moves_still c.moves }
 
     -- and it begins where something is

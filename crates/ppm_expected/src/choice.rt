@@ -26,9 +26,9 @@ pub(crate) fn begins(item: Item, kind: Terminal) -> bool
 fn begins_row(items: &[Item], kind: Terminal) -> bool
     ensures { result ≡ can_start language (starts language) (items_of items.now) (terminal_of kind) }
 {
-    match items {
-        [] => false,
-        [first, ..] => begins(*first, kind),
+    match items.split_first() {
+        None => false,
+        Some((first, _)) => begins(*first, kind),
     }
 }
 
@@ -39,7 +39,7 @@ pub(crate) fn row_for(phrase: Phrase, kind: Terminal) -> Option<&'static [Item]>
     ensures row { IfSome result (λ items. BeginsRow (phrase_of phrase) (terminal_of kind) (items_of items.now)) }
 {
     let mut left = rows(phrase);
-    'rows: while let [row, rest @ ..] = left {
+    'rows: while let Some((row, rest)) = left.split_first() {
         if begins_row(row.items, kind) {
             return Some(row.items);
         }
@@ -53,7 +53,7 @@ fn may_be_empty(phrase: Phrase) -> bool
     ensures { result ≡ may_be_empty language (phrase_of phrase) }
 {
     let mut left = rows(phrase);
-    'rows: while let [row, rest @ ..] = left {
+    'rows: while let Some((row, rest)) = left.split_first() {
         if row.items.is_empty() {
             return true;
         }

@@ -34,7 +34,7 @@ fn after(alloc: Global, tokens: &[Token]) -> Result<Vec<Item>, NoMemory>
     let mut stack = Vec::new(alloc);
     stack.push(Item::Part(Phrase::Source))?;
     let mut left = tokens;
-    'tokens: while let [token, rest @ ..] = left {
+    'tokens: while let Some((token, rest)) = left.split_first() {
         let kind = Terminal::of(&token.kind);
         if !can_come(&stack, kind) {
             return Ok(stack);
@@ -51,7 +51,7 @@ fn first_terminals(alloc: Global, stack: &[Item]) -> Result<Vec<Terminal>, NoMem
 {
     let mut all = Vec::new(alloc);
     let mut left: &[Terminal] = &TERMINALS;
-    'terminals: while let [kind, rest @ ..] = left {
+    'terminals: while let Some((kind, rest)) = left.split_first() {
         if can_come(stack, *kind) {
             all.push(*kind)?;
         }

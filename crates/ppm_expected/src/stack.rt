@@ -15,7 +15,7 @@ pub(crate) fn can_come(stack: &[Item], kind: Terminal) -> bool
     ensures { result ≡ comes_first language (to_come stack.now) (terminal_of kind) }
 {
     let mut left = stack;
-    'items: while let [rest @ .., last] = left {
+    'items: while let Some((last, rest)) = left.split_last() {
         if begins(*last, kind) {
             return true;
         }
@@ -32,7 +32,7 @@ pub(crate) fn can_end(stack: &[Item]) -> bool
     ensures { result ≡ may_end language (to_come stack.now) }
 {
     let mut left = stack;
-    'items: while let [rest @ .., last] = left {
+    'items: while let Some((last, rest)) = left.split_last() {
         if !lacks(*last) {
             return false;
         }
@@ -46,7 +46,7 @@ fn push_items(stack: &mut Vec<Item>, items: &[Item]) -> Result<(), NoMemory>
     ensures { IfOk result (λ _. to_come stack.new.items ≡ items_of items.now ++ to_come stack.old.items) }
 {
     let mut left = items;
-    'items: while let [rest @ .., last] = left {
+    'items: while let Some((last, rest)) = left.split_last() {
         stack.push(*last)?;
         left = rest;
     }
@@ -60,11 +60,13 @@ fn enter(stack: &mut Vec<Item>, item: Item, kind: Terminal) -> Result<(), NoMemo
     match item {
         Item::Take(_) => Ok(()),
         Item::Part(phrase) => match row_for(phrase, kind) {
-            Some([first, rest @ ..]) => {
-                push_items(stack, rest)?;
-                enter(stack, *first, kind)
-            }
-            Some([]) => Ok(()),
+            Some(items) => match items.split_first() {
+                Some((first, rest)) => {
+                    push_items(stack, rest)?;
+                    enter(stack, *first, kind)
+                }
+                None => Ok(()),
+            },
             None => Ok(()),
         },
     }

@@ -1,22 +1,21 @@
-use Rattle.std.proofs.Common.{◌≡◌, IfSome, is_some, ℕ, ◌+◌, ◌-◌, ◌*◌, ◌<◌, ◌≤◌, length}
-use Rattle.ppm_grammar.specs.Predictive.{can_start, starts, may_be_empty}
-use Rattle.ppm_rows.specs.Language.{language}
-use Rattle.ppm_expected.specs.Machine.{can_begin, may_lack}
-use Rattle.ppm_expected.specs.Language.{terminal_of, phrase_of, item_of, items_of}
-use Rattle.ppm_expected.specs.Steps.{BeginsRow}
+use Rattle.std.proofs.Common.{ℕ, length, ◌*◌, ◌-◌}
+use Rattle.ppm_rows.specs.Phrases.{phrase_number}
+use Rattle.ppm_expected.specs.Language.{terminal_of, phrase_of, item_of, items_of, rows_of}
+use Rattle.ppm_expected.proofs.ChoiceLemmas.{rank, rank_row, RowsLeft}
 use Rattle.ppm_expected.proofs.choice.+choice.Given as goal
 
 abbrev pub decreases-begins : goal.decreases-begins
-decreases-begins l = ?
+decreases-begins l = rank (item_of l.item)
 
 abbrev pub decreases-begins_row : goal.decreases-begins_row
-decreases-begins_row l = ?
+decreases-begins_row l = rank_row (items_of l.items.now)
 
 abbrev pub decreases-row_for : goal.decreases-row_for
-decreases-row_for l = ?
+decreases-row_for l = 3 * (40 - phrase_number (phrase_of l.phrase))
 
+-- the row that comes is one of those that are left
 abbrev pub invariant-row_for-rows : goal.invariant-row_for-rows
-invariant-row_for-rows l = ?
+invariant-row_for-rows l = RowsLeft (phrase_of l.fn.phrase) (terminal_of l.kind) (rows_of l.left)
 
 abbrev pub decreases-row_for-rows : goal.decreases-row_for-rows
-decreases-row_for-rows l = ?
+decreases-row_for-rows l = length l.left

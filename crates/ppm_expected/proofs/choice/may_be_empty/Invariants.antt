@@ -1,13 +1,13 @@
-use Rattle.std.proofs.Common.{◌≡◌, IfSome, is_some, ℕ, ◌+◌, ◌-◌, ◌*◌, ◌<◌, ◌≤◌, length}
-use Rattle.ppm_grammar.specs.Predictive.{can_start, starts, may_be_empty}
+use Rattle.std.proofs.Common.{◌≡◌, length}
+use Rattle.ppm_grammar.specs.Predictive.{some, may_be_empty}
 use Rattle.ppm_rows.specs.Language.{language}
-use Rattle.ppm_expected.specs.Machine.{can_begin, may_lack}
-use Rattle.ppm_expected.specs.Language.{terminal_of, phrase_of, item_of, items_of}
-use Rattle.ppm_expected.specs.Steps.{BeginsRow}
+use Rattle.ppm_expected.specs.Language.{phrase_of, rows_of}
+use Rattle.ppm_expected.proofs.ChoiceLemmas.{is_nil}
 use Rattle.ppm_expected.proofs.choice.may_be_empty.Given as goal
 
+-- the empty row is one of those that are left
 abbrev pub invariant-rows : goal.invariant-rows
-invariant-rows l = ?
+invariant-rows l = some is_nil (rows_of l.left) ≡ may_be_empty language (phrase_of l.fn.phrase)
 
 abbrev pub decreases-rows : goal.decreases-rows
-decreases-rows l = ?
+decreases-rows l = length l.left
