@@ -1,11 +1,12 @@
 -- What a token leaves to come, item by item.
-use Rattle.std.proofs.Common.{◌≡◌, ℕ, Bool, true, false, List, [], ◌∷◌, ◌++◌, length, map, reverse, refl, sym, ◌∙◌, ap, subst, append_assoc}
+use Rattle.std.proofs.Common.{◌≡◌, ℕ, Bool, true, false, List, [], ◌∷◌, ◌++◌, length, map, reverse, refl, sym, ◌∙◌, ap, subst, append_assoc, arith}
 use Rattle.std.proofs.lemmas.List.{append-nil as append_nil, reverse-append as reverse_append, map-append as map_append}
 use Rattle.std.specs.Prelude.{◌||◌, ◌&&◌, Option, Some, None, is_some}
 use Rattle.ppm_grammar.specs.Rows.{Item, Take, Part}
 use Rattle.ppm_grammar.specs.Derivation.{Due, Within, due, inside, beginning}
 use Rattle.ppm_grammar.specs.Predictive.{may_be_empty, can_start, starts}
 use Rattle.ppm_grammar.specs.Stack.{Move, counted, chosen, step}
+use Rattle.ppm_grammar.proofs.ListLemmas.{or_left}
 use Rattle.ppm_grammar.proofs.StackLemmas.{part_step, next_none}
 use Rattle.ppm_text.specs.declared.token.Token.{Token}
 use Rattle.ppm_rows.specs.Kinds.{Terminal, terminal}
@@ -13,7 +14,7 @@ use Rattle.ppm_rows.specs.Phrases.{Phrase}
 use Rattle.ppm_rows.specs.Phrases as p
 use Rattle.ppm_rows.specs.Language.{Counted, language}
 use Rattle.ppm_rows.specs.Follow.{may_follow}
-use Rattle.ppm_expected.specs.Machine.{items_due, behind_move, still, can_begin, comes_first}
+use Rattle.ppm_expected.specs.Machine.{items_due, behind_move, still, can_begin, may_lack, comes_first, may_end}
 use Rattle.ppm_expected.specs.Language.{Piece, item_of, items_of, to_come}
 use Rattle.ppm_expected.specs.Steps.{Dues, TokenMove, BeginsRow, Enters, Advances, ReadsTo, StopsAt}
 use Rattle.ppm_expected.specs.declared.row.Item.{Item as Held}
@@ -127,3 +128,44 @@ stops_at {t = t} {items = items} {rest = rest} r never = record {
 -- or none follows
 pub stops_end : {ts : List Token} {items : List Piece} → ReadsTo ts items [] → StopsAt ts items
 stops_end r = record { rest = []; reads = r; stuck = λ t more is. absurd (cc) }
+
+-- a stack by its last item
+pub split_come : {stack rest : List Held} {x : Held} → stack ≡ rest ++ x ∷ [] → to_come stack ≡ item_of x ∷ to_come rest
+split_come {rest = rest} {x = x} is = ap to_come is ∙ last_first rest x
+
+-- an empty one
+pub none_come : (stack : List Held) → length stack ≡ 0 → to_come stack ≡ []
+none_come [] h = refl
+none_come (x ∷ xs) h = absurd (omega (arith, h))
+
+-- the first item can begin so
+pub comes_now : {k : Terminal} {x : Piece} {all xs : List Piece} → all ≡ x ∷ xs → can_begin language x k ≡ true → comes_first language all k ≡ true
+comes_now {k = k} {x = x} {xs = xs} is can = ap (λ q. comes_first language q k) is ∙ or_left _ (may_lack language x && comes_first language xs k) can
+
+-- it cannot, and may not be left out
+pub comes_never : {k : Terminal} {x : Piece} {all xs : List Piece} → all ≡ x ∷ xs → can_begin language x k ≡ false → may_lack language x ≡ false →
+    comes_first language all k ≡ false
+comes_never {k = k} {xs = xs} is can lack =
+    ap (λ q. comes_first language q k) is ∙ ap (λ q. q || (may_lack language _ && comes_first language xs k)) can ∙ ap (λ q. q && comes_first language xs k) lack
+
+-- it cannot, and may
+pub comes_over : {k : Terminal} {x : Piece} {all xs : List Piece} → all ≡ x ∷ xs → can_begin language x k ≡ false → may_lack language x ≡ true →
+    comes_first language all k ≡ comes_first language xs k
+comes_over {k = k} {xs = xs} is can lack =
+    ap (λ q. comes_first language q k) is ∙ ap (λ q. q || (may_lack language _ && comes_first language xs k)) can ∙ ap (λ q. q && comes_first language xs k) lack
+
+-- a text may not end before an item that may not be left out
+pub ends_never : {x : Piece} {all xs : List Piece} → all ≡ x ∷ xs → may_lack language x ≡ false → may_end language all ≡ false
+ends_never {xs = xs} is lack = ap (may_end language) is ∙ ap (λ q. q && may_end language xs) lack
+
+-- others are passed over
+pub ends_over : {x : Piece} {all xs : List Piece} → all ≡ x ∷ xs → may_lack language x ≡ true → may_end language all ≡ may_end language xs
+ends_over {xs = xs} is lack = ap (may_end language) is ∙ ap (λ q. q && may_end language xs) lack
+
+-- the last of the items goes on the stack
+pub pushed_on : {left rest stack pushed : List Held} {x : Held} → left ≡ rest ++ x ∷ [] → pushed ≡ stack ++ x ∷ [] →
+    items_of rest ++ to_come pushed ≡ items_of left ++ to_come stack
+pushed_on {left = left} {rest = rest} {stack = stack} {x = x} is on =
+    ap (λ q. items_of rest ++ q) (ap to_come on ∙ last_first stack x)
+    ∙ sym (append_assoc (items_of rest) (item_of x ∷ []) (to_come stack))
+    ∙ ap (λ q. q ++ to_come stack) (sym (ap items_of is ∙ map_append item_of rest (x ∷ [])))
