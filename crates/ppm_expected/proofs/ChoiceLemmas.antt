@@ -105,6 +105,15 @@ pub next_below : (n : Phrase) {k : Terminal} {items : List Piece} {left : List (
     rank_row items < 3 * (40 - phrase_number n)
 next_below n {items = items} r = row_below n items (r.within items first)
 
+-- a row is in the list with its items
+with_row : {row : Form} {rows : List Form} {items : List Piece} → In row rows → row.items ≡ items → In items (map (λ row. row.items) rows)
+with_row (first {xs = rows}) is = rw (← is) first
+with_row (later i) is = later (with_row i is)
+
+-- the first item of a row is below its part
+pub first_below : (n : Phrase) {k : Terminal} {x : Piece} {xs : List Piece} → BeginsRow n k (x ∷ xs) → rank x < 3 * (40 - phrase_number n)
+first_below n {x = x} {xs = xs} b = omega (arith, row_below n (x ∷ xs) (with_row b.within b.is))
+
 -- no rows are left
 pub no_rows : (left : List Row) → length left ≡ 0 → rows_of left ≡ []
 no_rows [] h = refl

@@ -26,13 +26,13 @@ pub record BeginsRow (n : Phrase) (k : Terminal) (items : List Piece) : Type 0 w
   pub can : can_start language (starts language) items k ≡ true
 
 -- a token of the kind, with which the item begins, leaves the new items to come where the item was in front of the old ones
-abbrev pub Enters : Piece → Terminal → List Piece → List Piece → Type 0
-Enters x k old new =
-    (d : ℕ) (st : Dues) (m : TokenMove) → items_due st ≡ old → can_begin language x k ≡ true → step language (Within d x ∷ st) k ≡ Some m → items_due m.still ≡ new
+pub record Enters (x : Piece) (k : Terminal) (old new : List Piece) : Type 0 where
+  pub leaves : (d : ℕ) (st : Dues) (m : TokenMove) → items_due st ≡ old → can_begin language x k ≡ true → step language (Within d x ∷ st) k ≡ Some m →
+      items_due m.still ≡ new
 
 -- a token of the kind leaves the new items to come where the old ones were
-abbrev pub Advances : Terminal → List Piece → List Piece → Type 0
-Advances k old new = (st : Dues) (m : TokenMove) → items_due st ≡ old → step language st k ≡ Some m → items_due m.still ≡ new
+pub record Advances (k : Terminal) (old new : List Piece) : Type 0 where
+  pub leaves : (st : Dues) (m : TokenMove) → items_due st ≡ old → step language st k ≡ Some m → items_due m.still ≡ new
 
 -- the first of the tokens can come and leave these items to come, and the rest follows
 pub record ReadsTo (ts : List Token) (items : List Piece) (rest : List Token) : Type 0 where
