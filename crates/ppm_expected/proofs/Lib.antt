@@ -4,3 +4,4 @@
 pub mod NextLemmas
 pub mod ChoiceLemmas
 pub mod StepLemmas
+pub mod FollowLemmas

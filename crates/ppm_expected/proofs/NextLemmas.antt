@@ -1,5 +1,5 @@
 -- Tokens can come just where a text begins with them, and of what is still to come the first kinds are those that can stand next.
-use Rattle.std.proofs.Common.{◌≡◌, Bool, true, false, List, [], ◌∷◌, ◌++◌, length, refl, sym, ◌∙◌, ap, subst}
+use Rattle.std.proofs.Common.{◌≡◌, Bool, true, false, List, [], ◌∷◌, ◌++◌, length, refl, sym, ◌∙◌, ap, subst, append_assoc}
 use Rattle.std.proofs.lemmas.List.{append-nil as append_nil}
 use Rattle.std.specs.Prelude.{◌↔◌, ◌||◌, ◌&&◌, Option, Some, None, is_some, cond, if◌then◌else◌}
 use Rattle.std.specs.List.{filter}
@@ -32,6 +32,11 @@ pub record There {A : Type 0} (o : Option A) : Type 0 where
 pub there_is : {A : Type 0} (o : Option A) → is_some o ≡ true → There o
 there_is None h = cc
 there_is (Some a) h = record { found = a; is = refl }
+
+-- what is not there is none
+none_there : {A : Type 0} (o : Option A) → is_some o ≡ false → o ≡ None
+none_there None h = refl
+none_there (Some a) h = cc
 
 -- the elements that pass a test are those of the list that do
 module _ {A : Type 0} (p : A → Bool) where
@@ -100,6 +105,41 @@ module _ {T K P V C : Type 0} (g : Grammar T K P V C) where
       go None h below = refl
       go (Some m) h below = below m.still h
 
+  -- tokens that go no further, and tokens in front of one that cannot come, are the same where both are followed alike
+  pub same_front : (st : List (Due K P)) (f h rest more : List T) (t : T) {left left' : List (Due K P)} → f ++ rest ≡ h ++ t ∷ more →
+      still g st f ≡ Some left → ((u : T) (us : List T) → rest ≡ u ∷ us → step g left (g.kind u) ≡ None) → still g st h ≡ Some left' →
+      step g left' (g.kind t) ≡ None → f ≡ h
+  same_front st [] [] rest more t shape a stuck b none = refl
+  same_front st [] (u ∷ h) rest more t {left = left} {left' = left'} shape a stuck b none =
+      let same : left ≡ st = cc in
+      let never : step g st (g.kind u) ≡ None = ap (λ q. step g q (g.kind u)) (sym same) ∙ stuck u (h ++ t ∷ more) shape in
+      let b' : None ≡ Some left' = ap (λ q. behind_move q (λ l. still g l h)) (sym never) ∙ b in absurd (cc)
+  same_front st (v ∷ f) [] rest more t {left = left} {left' = left'} shape a stuck b none =
+      let same : left' ≡ st = cc in
+      let token : t ≡ v = cc in
+      let never : step g st (g.kind v) ≡ None = ap (λ q. step g q (g.kind v)) (sym same) ∙ ap (λ q. step g left' (g.kind q)) (sym token) ∙ none in
+      let a' : None ≡ Some left = ap (λ q. behind_move q (λ l. still g l f)) (sym never) ∙ a in absurd (cc)
+  same_front st (v ∷ f) (u ∷ h) rest more t {left = left} {left' = left'} shape a stuck b none =
+      let same : u ≡ v = cc in
+      let tail : f ++ rest ≡ h ++ t ∷ more = cc in
+      let b' : behind_move (step g st (g.kind v)) (λ l. still g l h) ≡ Some left' = rw (← same) b in
+      let below = go (step g st (g.kind v)) a b' (λ l x y. same_front l f h rest more t tail x stuck y none) in
+      ap (λ q. v ∷ q) below ∙ ap (λ q. q ∷ h) (sym same)
+    where
+      go : (o : Option (Move K P C)) → behind_move o (λ l. still g l f) ≡ Some left → behind_move o (λ l. still g l h) ≡ Some left' →
+          ((l : List (Due K P)) → still g l f ≡ Some left → still g l h ≡ Some left' → f ≡ h) → f ≡ h
+      go None x y below = cc
+      go (Some m) x y below = below m.still x y
+
+  -- tokens that go no further are all of them, where all can come
+  pub all_read : (st : List (Due K P)) (f rest : List T) {left left' : List (Due K P)} → still g st f ≡ Some left →
+      ((u : T) (us : List T) → rest ≡ u ∷ us → step g left (g.kind u) ≡ None) → still g st (f ++ rest) ≡ Some left' → rest ≡ []
+  all_read st f [] a stuck b = refl
+  all_read st f (u ∷ us) {left = left} {left' = left'} a stuck b =
+      let one : still g st (f ++ u ∷ []) ≡ None = still_on st f u left a ∙ ap (λ q. behind_move q (λ l. Some l)) (stuck u us refl) in
+      let all : still g st (f ++ u ∷ us) ≡ None = ap (still g st) (sym (append_assoc f (u ∷ []) us)) ∙ still_none st (f ++ u ∷ []) us one in
+      absurd (cc (all, b))
+
   module _ (follows : P → K → Bool) (p : IsPredictive g follows) where
     -- a text begins with tokens just where something is left
     pub left_by : (ts : List T) → BeginsText g ts → There (still g (beginning g) ts)
@@ -108,6 +148,16 @@ module _ {T K P V C : Type 0} (g : Grammar T K P V C) where
     -- and it begins where something is
     begun_by : (ts : List T) (left : List (Due K P)) → still g (beginning g) ts ≡ Some left → BeginsText g ts
     begun_by ts left h = let c = still_moves (beginning g) ts left h in record { marks = c.marks; begins = begins_so g p.grounded c.moves }
+
+    -- nor where no text begins with the tokens
+    pub none_next : (front : List T) (t : T) (left : List (Due K P)) → still g (beginning g) front ≡ Some left → (BeginsText g (front ++ t ∷ []) → ⊥) →
+        step g left (g.kind t) ≡ None
+    none_next front t left h never = go (step g left (g.kind t)) refl
+      where
+        go : (o : Option (Move K P C)) → step g left (g.kind t) ≡ o → o ≡ None
+        go None is = refl
+        go (Some m) is =
+            absurd (never (begun_by (front ++ t ∷ []) m.still (still_on (beginning g) front t left h ∙ ap (λ q. behind_move q (λ l. Some l)) is)))
 
     -- a step is there at the kinds that can come first
     pub step_there : (st : List (Due K P)) (k : K) → is_some (step g st k) ≡ comes_first g (items_due st) k
@@ -119,6 +169,10 @@ module _ {T K P V C : Type 0} (g : Grammar T K P V C) where
         go false = refl
     step_there (Within d (Part n) ∷ st) k =
         chosen_there _ (may_be_empty g n) st (step g st k) ∙ rw (next_there g follows p d n k, step_there st k) refl
+
+    -- no step is there at others
+    pub step_none : (st : List (Due K P)) (k : K) → comes_first g (items_due st) k ≡ false → step g st k ≡ None
+    step_none st k never = none_there (step g st k) (step_there st k ∙ never)
 
     -- a text may end where all that is to come may have no tokens
     pub end_there : (st : List (Due K P)) → can_end g st ≡ may_end g (items_due st)

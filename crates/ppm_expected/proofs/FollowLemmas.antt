@@ -1,0 +1,94 @@
+-- What can stand where tokens go no further.
+use Rattle.std.proofs.Common.{◌≡◌, ℕ, zero, suc, ◌<◌, Bool, true, false, List, [], ◌∷◌, ◌++◌, length, map, refl, sym, ◌∙◌, ap, subst, arith}
+use Rattle.std.proofs.lemmas.List.{append-nil as append_nil}
+use Rattle.std.proofs.lemmas.List.Kept.{AllPairs-cons, AllPairs-filter}
+use Rattle.std.specs.Prelude.{nat_lt, ◌&&◌, Some, None, Option, get_or}
+use Rattle.std.specs.List.{All, AllPairs, filter}
+use Rattle.ppm_grammar.specs.Derivation.{beginning}
+use Rattle.ppm_grammar.specs.Faults.{IsFirstUnexpected, IsEnded}
+use Rattle.ppm_grammar.specs.Predictive.{every}
+use Rattle.ppm_grammar.specs.Stack.{step}
+use Rattle.ppm_grammar.proofs.ListLemmas.{and_left, and_right}
+use Rattle.ppm_text.specs.declared.token.Token.{Token}
+use Rattle.ppm_rows.specs.Kinds.{Terminal, terminal, terminal_number, terminals}
+use Rattle.ppm_rows.specs.Language.{language}
+use Rattle.ppm_rows.specs.Follow.{may_follow}
+use Rattle.ppm_rows.specs.Limits.{limits}
+use Rattle.ppm_expected.specs.declared.expected.Expected.{Expected}
+use Rattle.ppm_expected.specs.Next.{AreExpected}
+use Rattle.ppm_expected.specs.Machine.{items_due, still, comes_first, may_end}
+use Rattle.ppm_expected.specs.Language.{Piece, terminal_of}
+use Rattle.ppm_expected.specs.Steps.{Dues, ReadsTo, StopsAt}
+use Rattle.ppm_expected.specs.Correct.{CanFollow}
+use Rattle.ppm_expected.proofs.NextLemmas.{left_by, are_expected, step_none, none_next, same_front, all_read}
+use Rattle.ppm_expected.proofs.ChoiceLemmas.{predictive}
+
+-- each kind is below those after it: a test
+rises : List Terminal → Bool
+rises [] = true
+rises (x ∷ xs) = every (λ y. nat_lt (terminal_number x) (terminal_number y)) xs && rises xs
+
+-- the kinds are in the order of their numbers
+Below : Terminal → Terminal → Type 0
+Below x y = terminal_number x < terminal_number y
+
+-- element by element
+all_above : (x : Terminal) (xs : List Terminal) → every (λ y. nat_lt (terminal_number x) (terminal_number y)) xs ≡ true → All (Below x) xs
+all_above x [] h k d less = absurd (omega (arith, less))
+all_above x (y ∷ ys) h zero d less = let first = and_left _ _ h in grind (arith, first)
+all_above x (y ∷ ys) h (suc k) d less = all_above x ys (and_right _ _ h) k d (omega (arith, less))
+
+-- by the test
+in_order : (xs : List Terminal) → rises xs ≡ true → AllPairs Below xs
+in_order [] h i j d less below = absurd (omega (arith, below))
+in_order (x ∷ xs) h = AllPairs-cons Below x xs (all_above x xs (and_left _ _ h)) (in_order xs (and_right _ _ h))
+
+-- so it is with those of them that pass a test
+pub found_in_order : (p : Terminal → Bool) → AllPairs Below (filter p terminals)
+found_in_order p = AllPairs-filter Below p terminals (in_order terminals refl)
+
+-- of these tokens no more can come, so the next cannot
+stuck_at : {ts : List Token} {items : List Piece} (s : StopsAt ts items) (u : Token) (us : List Token) → s.rest ≡ u ∷ us →
+    step language s.reads.left (terminal u.kind) ≡ None
+stuck_at s u us is =
+    step_none language may_follow predictive s.reads.left (terminal u.kind)
+    (ap (λ q. comes_first language q (terminal u.kind)) s.reads.due ∙ s.stuck u us is)
+
+-- the front of an unexpected token is as far as the tokens can come
+front_of : {ts : List Token} {items : List Piece} {place : ℕ} (s : StopsAt ts items) (h : IsFirstUnexpected language limits ts place) →
+    s.reads.front ≡ h.front
+front_of s h =
+    let b = left_by language may_follow predictive h.front (record { marks = h.marks; begins = h.begins }) in
+    let none = none_next language may_follow predictive h.front h.found b.found b.is (λ q. h.ends q.marks q.begins) in
+    same_front language (beginning language) s.reads.front h.front s.rest h.stands.more h.found (sym s.reads.shape ∙ h.stands.shape) s.reads.comes
+    (stuck_at s) b.is none
+
+-- all tokens can come where they only end
+front_whole : {ts : List Token} {items : List Piece} (s : StopsAt ts items) → IsEnded language limits ts → s.reads.front ≡ ts
+front_whole {ts = ts} s h =
+    let b = left_by language may_follow predictive ts (record { marks = h.marks; begins = h.begins }) in
+    let none = all_read language (beginning language) s.reads.front s.rest s.reads.comes (stuck_at s)
+    (ap (still language (beginning language)) (sym s.reads.shape) ∙ b.is) in
+    sym (append_nil s.reads.front) ∙ ap (λ q. s.reads.front ++ q) (sym none) ∙ sym s.reads.shape
+
+-- what is collected there can follow
+follows : {ts : List Token} {items : List Piece} (s : StopsAt ts items) (e : Expected) →
+    map terminal_of e.terminals.items ≡ filter (comes_first language items) terminals → e.end ≡ may_end language items → CanFollow s.reads.front e
+follows {items = items} s e kinds end = record {
+  exactly = subst (λ q. AreExpected language s.reads.front q e.end) (ap (λ q. filter (comes_first language q) terminals) s.reads.due ∙ sym kinds)
+      (subst (AreExpected language s.reads.front (filter (comes_first language (items_due s.reads.left)) terminals))
+      (ap (may_end language) s.reads.due ∙ sym end) (are_expected language may_follow predictive s.reads.front s.reads.left s.reads.comes));
+  order = subst (AllPairs Below) (sym kinds) (found_in_order (comes_first language items));
+}
+
+-- at a token that cannot come
+pub follows_unexpected : {ts : List Token} {items : List Piece} {place : ℕ} (e : Expected) → StopsAt ts items →
+    map terminal_of e.terminals.items ≡ filter (comes_first language items) terminals → e.end ≡ may_end language items →
+    (h : IsFirstUnexpected language limits ts place) → CanFollow h.front e
+follows_unexpected e s kinds end h = subst (λ q. CanFollow q e) (front_of s h) (follows s e kinds end)
+
+-- at the end
+pub follows_ended : {ts : List Token} {items : List Piece} (e : Expected) → StopsAt ts items →
+    map terminal_of e.terminals.items ≡ filter (comes_first language items) terminals → e.end ≡ may_end language items →
+    IsEnded language limits ts → CanFollow ts e
+follows_ended e s kinds end h = subst (λ q. CanFollow q e) (front_whole s h) (follows s e kinds end)
