@@ -19,6 +19,7 @@ use Rattle.ppm_expected.specs.Steps.{Dues, TokenMove, BeginsRow, Enters, Advance
 use Rattle.ppm_expected.specs.declared.row.Item.{Item as Held}
 use Rattle.ppm_expected.specs.declared.row.Item.TheVariants as i
 use Rattle.ppm_expected.specs.declared.phrase.Phrase.{Phrase as Holding}
+use Rattle.ppm_expected.specs.declared.phrase.Phrase.TheVariants as h
 use Rattle.ppm_expected.proofs.NextLemmas.{step_there, still_on, there_is}
 use Rattle.ppm_expected.proofs.ChoiceLemmas.{predictive}
 
@@ -191,3 +192,15 @@ advanced_over stack rest x {k = k} {new = new} is never a =
 -- nothing is on the stack
 pub advanced_none : (stack : List Held) (k : Terminal) (new : List Piece) → length stack ≡ 0 → Advances k (to_come stack) new
 advanced_none stack k new is = subst (λ q. Advances k q new) (sym (none_come stack is)) (advances_none k new)
+
+-- a stack with the whole text alone
+pub read_none : (empty stack : List Held) (ts : List Token) → empty ≡ [] → stack ≡ empty ++ i.Part h.Source ∷ [] → ReadsTo ts (to_come stack) ts
+read_none empty stack ts none is = subst (λ q. ReadsTo ts (to_come q) ts) (sym (is ∙ ap (λ q. q ++ i.Part h.Source ∷ []) none)) (reads_none ts)
+
+-- one token more is read
+pub read_on : (stack seen new : List Held) (t : Token) {k : Terminal} {ts left rest : List Token} → ReadsTo ts (to_come stack) left → left ≡ t ∷ rest →
+    seen ≡ stack → k ≡ terminal t.kind → true ≡ comes_first language (to_come seen) k → Advances k (to_come stack) (to_come new) → ReadsTo ts (to_come new) rest
+read_on stack seen new t {k = k} {ts = ts} r is same kind can a =
+    reads_on (subst (ReadsTo ts (to_come stack)) is r)
+    (ap (λ q. comes_first language q (terminal t.kind)) (ap to_come (sym same)) ∙ ap (comes_first language (to_come seen)) (sym kind) ∙ sym can)
+    (subst (λ q. Advances q (to_come stack) (to_come new)) kind a)
