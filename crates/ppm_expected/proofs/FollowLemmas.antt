@@ -25,8 +25,12 @@ use Rattle.ppm_expected.specs.Correct.{CanFollow}
 use Rattle.ppm_expected.proofs.NextLemmas.{left_by, are_expected, step_none, none_next, same_front, all_read}
 use Rattle.ppm_expected.proofs.ChoiceLemmas.{predictive}
 
+-- a number that is below another by the test
+below_by : (a b : ℕ) → nat_lt a b ≡ true → a < b
+below_by a b h = grind (arith, h)
+
 -- each kind is below those after it: a test
-rises : List Terminal → Bool
+abbrev rises : List Terminal → Bool
 rises [] = true
 rises (x ∷ xs) = every (λ y. nat_lt (terminal_number x) (terminal_number y)) xs && rises xs
 
@@ -37,7 +41,7 @@ Below x y = terminal_number x < terminal_number y
 -- element by element
 all_above : (x : Terminal) (xs : List Terminal) → every (λ y. nat_lt (terminal_number x) (terminal_number y)) xs ≡ true → All (Below x) xs
 all_above x [] h k d less = absurd (omega (arith, less))
-all_above x (y ∷ ys) h zero d less = let below : nat_lt (terminal_number x) (terminal_number y) ≡ true = and_left _ _ h in grind (arith, below)
+all_above x (y ∷ ys) h zero d less = below_by (terminal_number x) (terminal_number y) (and_left _ _ h)
 all_above x (y ∷ ys) h (suc k) d less = all_above x ys (and_right _ _ h) k d (omega (arith, less))
 
 -- by the test
