@@ -21,8 +21,8 @@ use Rattle.ppm_expected.specs.Next.{AreExpected}
 use Rattle.ppm_expected.specs.Machine.{items_due, still, comes_first, may_end}
 use Rattle.ppm_expected.specs.Language.{Piece, terminal_of, to_come}
 use Rattle.ppm_expected.specs.Steps.{Dues, ReadsTo, StopsAt}
-use Rattle.ppm_expected.specs.Correct.{CanFollow}
-use Rattle.ppm_expected.proofs.NextLemmas.{left_by, are_expected, step_none, none_next, same_front, all_read}
+use Rattle.ppm_expected.specs.Correct.{CanFollow, CanGoOn}
+use Rattle.ppm_expected.proofs.NextLemmas.{left_by, begun_by, never_next, are_expected, step_none, none_next, same_front, all_read}
 use Rattle.ppm_expected.proofs.ChoiceLemmas.{predictive}
 
 -- a number that is below another by the test
@@ -104,6 +104,20 @@ tells all stack seen also s is same same' kinds end = record {
   kinds = kinds ∙ ap (λ q. filter (comes_first language (to_come q)) terminals) same;
   end = end ∙ ap (λ q. may_end language (to_come q)) same';
 }
+
+-- as far as the tokens go
+pub goes_on : {ts : List Token} {e : Expected} → Tells ts e → CanGoOn ts e
+goes_on {ts = ts} {e = e} t = record {
+  front = s.reads.front;
+  rest = s.rest;
+  shape = s.reads.shape;
+  begins = begun_by language may_follow predictive s.reads.front s.reads.left s.reads.comes;
+  ends = λ u us is. never_next language may_follow predictive s.reads.front u s.reads.left s.reads.comes (stuck_at s u us is);
+  follows = follows s e t.kinds t.end;
+}
+  where
+    s : StopsAt ts t.items
+    s = t.stops
 
 -- at a token that cannot come
 pub follows_unexpected : {ts : List Token} {place : ℕ} {e : Expected} → Tells ts e → (h : IsFirstUnexpected language limits ts place) → CanFollow h.front e

@@ -146,7 +146,7 @@ module _ {T K P V C : Type 0} (g : Grammar T K P V C) where
     left_by ts b = let c = they_come g follows p ts b.marks b.begins in record { found = c.later; is = moves_still c.moves }
 
     -- and it begins where something is
-    begun_by : (ts : List T) (left : List (Due K P)) → still g (beginning g) ts ≡ Some left → BeginsText g ts
+    pub begun_by : (ts : List T) (left : List (Due K P)) → still g (beginning g) ts ≡ Some left → BeginsText g ts
     begun_by ts left h = let c = still_moves (beginning g) ts left h in record { marks = c.marks; begins = begins_so g p.grounded c.moves }
 
     -- nor where no text begins with the tokens
@@ -158,6 +158,14 @@ module _ {T K P V C : Type 0} (g : Grammar T K P V C) where
         go None is = refl
         go (Some m) is =
             absurd (never (begun_by (front ++ t ∷ []) m.still (still_on (beginning g) front t left h ∙ ap (λ q. behind_move q (λ l. Some l)) is)))
+
+    -- no text begins with tokens and one for which there is no step
+    pub never_next : (front : List T) (t : T) (left : List (Due K P)) → still g (beginning g) front ≡ Some left → step g left (g.kind t) ≡ None →
+        BeginsText g (front ++ t ∷ []) → ⊥
+    never_next front t left h none b =
+        let s = left_by (front ++ t ∷ []) b in
+        let never : still g (beginning g) (front ++ t ∷ []) ≡ None = still_on (beginning g) front t left h ∙ ap (λ q. behind_move q (λ l. Some l)) none in
+        absurd (cc (s.is, never))
 
     -- a step is there at the kinds that can come first
     pub step_there : (st : List (Due K P)) (k : K) → is_some (step g st k) ≡ comes_first g (items_due st) k

@@ -8,7 +8,7 @@ ghost use Rattle.ppm_rows.specs.Limits.{limits};
 ghost use Rattle.ppm_expected.specs.Machine.{comes_first};
 ghost use Rattle.ppm_expected.specs.Language.{terminal_of, to_come};
 ghost use Rattle.ppm_expected.specs.Steps.{StopsAt};
-ghost use Rattle.ppm_expected.specs.Correct.{CanFollow};
+ghost use Rattle.ppm_expected.specs.Correct.{CanFollow, CanGoOn};
 
 use crate::phrase::Phrase;
 use crate::row::Item;
@@ -60,12 +60,16 @@ fn first_terminals(alloc: Global, stack: &[Item]) -> Result<Vec<Terminal>, NoMem
     Ok(all)
 }
 
-/// What can stand at the fault of the tokens, where that is a token that cannot come or their end: just the tokens
-/// with which some text of the grammar goes on from those before it. Limits are not looked at. Where the tokens
-/// have another fault or none, it is told what can stand after the longest front with which a text begins.
+/// What can stand where the tokens go no further: just the tokens with which some text of the
+/// grammar goes on from those before. At a token that cannot come this is the place of the fault,
+/// and so it is where the tokens end too soon. Limits are not looked at, so with a token that passes
+/// one it may be a later place.
 pub fn expected_at_fault(alloc: Global, tokens: &Tokens) -> Result<Expected, NoMemory>
-    ensures unexpected { (place : ℕ) (fault : IsFirstUnexpected language limits tokens.now.tokens place) → IfOk result (CanFollow fault.front) }
-    ensures ended { IsEnded language limits tokens.now.tokens → IfOk result (CanFollow tokens.now.tokens) }
+    ensures farthest { IfOk result (CanGoOn tokens.now.tokens) }
+    ensures unexpected { (place : ℕ) (fault : IsFirstUnexpected language limits tokens.now.tokens place)
+        → IfOk result (CanFollow fault.front) }
+    ensures ended { IsEnded language limits tokens.now.tokens
+        → IfOk result (CanFollow tokens.now.tokens) }
 {
     let stack = after(alloc, tokens.as_slice())?;
     let terminals = first_terminals(alloc, &stack)?;
