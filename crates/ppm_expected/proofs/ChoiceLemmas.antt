@@ -2,7 +2,7 @@
 use Rattle.std.proofs.Common.{◌≡◌, ℕ, ◌+◌, ◌-◌, ◌*◌, ◌<◌, Bool, true, false, List, [], ◌∷◌, length, map, refl, sym, ◌∙◌, ap, subst, arith}
 use Rattle.std.specs.Prelude.{◌||◌}
 use Rattle.ppm_grammar.specs.Rows.{In, first, later, Take, Part}
-use Rattle.ppm_grammar.specs.Predictive.{some, is_empty, may_be_empty, can_start, starts, IsPredictive}
+use Rattle.ppm_grammar.specs.Predictive.{some, may_be_empty, can_start, starts, IsPredictive}
 use Rattle.ppm_grammar.proofs.ListLemmas.{or_left, number_below}
 use Rattle.ppm_rows.specs.Kinds.{Terminal}
 use Rattle.ppm_rows.specs.Phrases.{Phrase, phrases, phrase_number}

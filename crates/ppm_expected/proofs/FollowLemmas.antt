@@ -2,7 +2,7 @@
 use Rattle.std.proofs.Common.{◌≡◌, ℕ, zero, suc, ◌<◌, Bool, true, false, List, [], ◌∷◌, ◌++◌, length, map, refl, sym, ◌∙◌, ap, subst, append_assoc, arith}
 use Rattle.std.proofs.lemmas.List.{append-nil as append_nil, map-append as map_append}
 use Rattle.std.proofs.lemmas.List.Kept.{AllPairs-cons, AllPairs-filter}
-use Rattle.std.specs.Prelude.{nat_lt, cond, ◌&&◌, Some, None, Option, get_or}
+use Rattle.std.specs.Prelude.{nat_lt, cond, ◌&&◌, None}
 use Rattle.std.specs.List.{All, AllPairs, filter}
 use Rattle.ppm_grammar.specs.Derivation.{beginning}
 use Rattle.ppm_grammar.specs.Faults.{IsFirstUnexpected, IsEnded}
@@ -20,7 +20,7 @@ use Rattle.ppm_expected.specs.declared.terminal.Terminal.{Terminal as Kind}
 use Rattle.ppm_expected.specs.Next.{AreExpected}
 use Rattle.ppm_expected.specs.Machine.{items_due, still, comes_first, may_end}
 use Rattle.ppm_expected.specs.Language.{Piece, terminal_of, to_come}
-use Rattle.ppm_expected.specs.Steps.{Dues, ReadsTo, StopsAt}
+use Rattle.ppm_expected.specs.Steps.{StopsAt}
 use Rattle.ppm_expected.specs.Correct.{CanFollow, CanGoOn}
 use Rattle.ppm_expected.proofs.NextLemmas.{left_by, begun_by, never_next, are_expected, step_none, none_next, same_front, all_read}
 use Rattle.ppm_expected.proofs.ChoiceLemmas.{predictive}

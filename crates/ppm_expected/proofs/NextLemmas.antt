@@ -1,20 +1,20 @@
 -- Tokens can come just where a text begins with them, and of what is still to come the first kinds are those that can stand next.
 use Rattle.std.proofs.Common.{◌≡◌, Bool, true, false, List, [], ◌∷◌, ◌++◌, length, refl, sym, ◌∙◌, ap, subst, append_assoc}
 use Rattle.std.proofs.lemmas.List.{append-nil as append_nil}
-use Rattle.std.specs.Prelude.{◌↔◌, ◌||◌, ◌&&◌, Option, Some, None, is_some, cond, if◌then◌else◌}
+use Rattle.std.specs.Prelude.{◌||◌, ◌&&◌, Option, Some, None, is_some, cond, if◌then◌else◌}
 use Rattle.std.specs.List.{filter}
-use Rattle.ppm_grammar.specs.Rows.{In, first, later, Item, Take, Part, Grammar}
+use Rattle.ppm_grammar.specs.Rows.{In, first, later, Take, Part, Grammar}
 use Rattle.ppm_grammar.specs.Derivation.{Due, Within, Mark, mark, Derives, beginning, IsText}
-use Rattle.ppm_grammar.specs.Predictive.{same_kind, starts, may_be_empty, is_predictive, HasGround, IsPredictive}
-use Rattle.ppm_grammar.specs.Stack.{Move, move, chosen, Whole, Cut, ons, step, can_end, trace}
+use Rattle.ppm_grammar.specs.Predictive.{same_kind, may_be_empty, IsPredictive}
+use Rattle.ppm_grammar.specs.Stack.{Move, move, chosen, Cut, ons, step, can_end, trace}
 use Rattle.ppm_grammar.proofs.ListLemmas.{listed_in}
 use Rattle.ppm_grammar.proofs.StackLemmas.{next_there}
 use Rattle.ppm_grammar.proofs.DerivationLemmas.{text_trace}
 use Rattle.ppm_grammar.proofs.TextLemmas.{end_sound, one_value, consumes}
-use Rattle.ppm_grammar.proofs.MovesLemmas.{Moves, here, there, moves_on, moves_sound, moves_trace, begins_so, they_come, never_cut}
+use Rattle.ppm_grammar.proofs.MovesLemmas.{Moves, here, there, moves_sound, moves_trace, begins_so, they_come, never_cut}
 use Rattle.ppm_grammar.proofs.PredictiveLemmas.{predictive}
 use Rattle.ppm_expected.specs.Next.{BeginsText, IsWholeText, AreExpected}
-use Rattle.ppm_expected.specs.Machine.{items_due, behind_move, still, comes_first, may_end, kinds_first, ends_there, expected_kinds, expected_end, CollectsExpected}
+use Rattle.ppm_expected.specs.Machine.{items_due, after_move, still, comes_first, may_end, kinds_first, ends_there, expected_kinds, expected_end, CollectsExpected}
 
 -- a part that goes on with its row, is empty, or cannot come
 chosen_there : {K P C : Type 0} (o : Option (Move K P C)) (b : Bool) (st : List (Due K P)) (other : Option (Move K P C)) →
@@ -78,30 +78,30 @@ module _ {T K P V C : Type 0} (g : Grammar T K P V C) where
   still_moves st [] left h = let same : st ≡ left = cc in record { marks = []; moves = rw same here }
   still_moves st (t ∷ ts) left h = go (step g st (g.kind t)) refl h (λ m is. still_moves m.still ts left is)
     where
-      go : (o : Option (Move K P C)) → step g st (g.kind t) ≡ o → behind_move o (λ l. still g l ts) ≡ Some left →
+      go : (o : Option (Move K P C)) → step g st (g.kind t) ≡ o → after_move o (λ l. still g l ts) ≡ Some left →
           ((m : Move K P C) → still g m.still ts ≡ Some left → Came m.still ts left) → Came st (t ∷ ts) left
       go None is h below = cc
       go (Some m) is h below = let r = below m h in record { marks = m.marked ∷ r.marks; moves = there is r.moves }
 
-  -- tokens behind tokens
+  -- tokens after tokens
   pub still_on : (st : List (Due K P)) (front : List T) (t : T) (left : List (Due K P)) → still g st front ≡ Some left →
-      still g st (front ++ t ∷ []) ≡ behind_move (step g left (g.kind t)) (λ l. Some l)
+      still g st (front ++ t ∷ []) ≡ after_move (step g left (g.kind t)) (λ l. Some l)
   still_on st [] t left h = let same : st ≡ left = cc in rw same refl
   still_on st (u ∷ front) t left h = go (step g st (g.kind u)) h (λ l is. still_on l front t left is)
     where
-      go : (o : Option (Move K P C)) → behind_move o (λ l. still g l front) ≡ Some left →
-          ((l : List (Due K P)) → still g l front ≡ Some left → still g l (front ++ t ∷ []) ≡ behind_move (step g left (g.kind t)) (λ l. Some l)) →
-          behind_move o (λ l. still g l (front ++ t ∷ [])) ≡ behind_move (step g left (g.kind t)) (λ l. Some l)
+      go : (o : Option (Move K P C)) → after_move o (λ l. still g l front) ≡ Some left →
+          ((l : List (Due K P)) → still g l front ≡ Some left → still g l (front ++ t ∷ []) ≡ after_move (step g left (g.kind t)) (λ l. Some l)) →
+          after_move o (λ l. still g l (front ++ t ∷ [])) ≡ after_move (step g left (g.kind t)) (λ l. Some l)
       go None h below = cc
       go (Some m) h below = below m.still h
 
-  -- none behind tokens that cannot come
+  -- none after tokens that cannot come
   pub still_none : (st : List (Due K P)) (front ts : List T) → still g st front ≡ None → still g st (front ++ ts) ≡ None
   still_none st [] ts h = cc
   still_none st (u ∷ front) ts h = go (step g st (g.kind u)) h (λ l is. still_none l front ts is)
     where
-      go : (o : Option (Move K P C)) → behind_move o (λ l. still g l front) ≡ None →
-          ((l : List (Due K P)) → still g l front ≡ None → still g l (front ++ ts) ≡ None) → behind_move o (λ l. still g l (front ++ ts)) ≡ None
+      go : (o : Option (Move K P C)) → after_move o (λ l. still g l front) ≡ None →
+          ((l : List (Due K P)) → still g l front ≡ None → still g l (front ++ ts) ≡ None) → after_move o (λ l. still g l (front ++ ts)) ≡ None
       go None h below = refl
       go (Some m) h below = below m.still h
 
@@ -113,20 +113,20 @@ module _ {T K P V C : Type 0} (g : Grammar T K P V C) where
   same_front st [] (u ∷ h) rest more t {left = left} {left' = left'} shape a stuck b none =
       let same : left ≡ st = cc in
       let never : step g st (g.kind u) ≡ None = ap (λ q. step g q (g.kind u)) (sym same) ∙ stuck u (h ++ t ∷ more) shape in
-      let b' : None ≡ Some left' = ap (λ q. behind_move q (λ l. still g l h)) (sym never) ∙ b in absurd (cc)
+      let b' : None ≡ Some left' = ap (λ q. after_move q (λ l. still g l h)) (sym never) ∙ b in absurd (cc)
   same_front st (v ∷ f) [] rest more t {left = left} {left' = left'} shape a stuck b none =
       let same : left' ≡ st = cc in
       let token : t ≡ v = cc in
       let never : step g st (g.kind v) ≡ None = ap (λ q. step g q (g.kind v)) (sym same) ∙ ap (λ q. step g left' (g.kind q)) (sym token) ∙ none in
-      let a' : None ≡ Some left = ap (λ q. behind_move q (λ l. still g l f)) (sym never) ∙ a in absurd (cc)
+      let a' : None ≡ Some left = ap (λ q. after_move q (λ l. still g l f)) (sym never) ∙ a in absurd (cc)
   same_front st (v ∷ f) (u ∷ h) rest more t {left = left} {left' = left'} shape a stuck b none =
       let same : u ≡ v = cc in
       let tail : f ++ rest ≡ h ++ t ∷ more = cc in
-      let b' : behind_move (step g st (g.kind v)) (λ l. still g l h) ≡ Some left' = rw (← same) b in
+      let b' : after_move (step g st (g.kind v)) (λ l. still g l h) ≡ Some left' = rw (← same) b in
       let below = go (step g st (g.kind v)) a b' (λ l x y. same_front l f h rest more t tail x stuck y none) in
       ap (λ q. v ∷ q) below ∙ ap (λ q. q ∷ h) (sym same)
     where
-      go : (o : Option (Move K P C)) → behind_move o (λ l. still g l f) ≡ Some left → behind_move o (λ l. still g l h) ≡ Some left' →
+      go : (o : Option (Move K P C)) → after_move o (λ l. still g l f) ≡ Some left → after_move o (λ l. still g l h) ≡ Some left' →
           ((l : List (Due K P)) → still g l f ≡ Some left → still g l h ≡ Some left' → f ≡ h) → f ≡ h
       go None x y below = cc
       go (Some m) x y below = below m.still x y
@@ -136,7 +136,7 @@ module _ {T K P V C : Type 0} (g : Grammar T K P V C) where
       ((u : T) (us : List T) → rest ≡ u ∷ us → step g left (g.kind u) ≡ None) → still g st (f ++ rest) ≡ Some left' → rest ≡ []
   all_read st f [] a stuck b = refl
   all_read st f (u ∷ us) {left = left} {left' = left'} a stuck b =
-      let one : still g st (f ++ u ∷ []) ≡ None = still_on st f u left a ∙ ap (λ q. behind_move q (λ l. Some l)) (stuck u us refl) in
+      let one : still g st (f ++ u ∷ []) ≡ None = still_on st f u left a ∙ ap (λ q. after_move q (λ l. Some l)) (stuck u us refl) in
       let all : still g st (f ++ u ∷ us) ≡ None = ap (still g st) (sym (append_assoc f (u ∷ []) us)) ∙ still_none st (f ++ u ∷ []) us one in
       absurd (cc (all, b))
 
@@ -157,14 +157,14 @@ module _ {T K P V C : Type 0} (g : Grammar T K P V C) where
         go : (o : Option (Move K P C)) → step g left (g.kind t) ≡ o → o ≡ None
         go None is = refl
         go (Some m) is =
-            absurd (never (begun_by (front ++ t ∷ []) m.still (still_on (beginning g) front t left h ∙ ap (λ q. behind_move q (λ l. Some l)) is)))
+            absurd (never (begun_by (front ++ t ∷ []) m.still (still_on (beginning g) front t left h ∙ ap (λ q. after_move q (λ l. Some l)) is)))
 
     -- no text begins with tokens and one for which there is no step
     pub never_next : (front : List T) (t : T) (left : List (Due K P)) → still g (beginning g) front ≡ Some left → step g left (g.kind t) ≡ None →
         BeginsText g (front ++ t ∷ []) → ⊥
     never_next front t left h none b =
         let s = left_by (front ++ t ∷ []) b in
-        let never : still g (beginning g) (front ++ t ∷ []) ≡ None = still_on (beginning g) front t left h ∙ ap (λ q. behind_move q (λ l. Some l)) none in
+        let never : still g (beginning g) (front ++ t ∷ []) ≡ None = still_on (beginning g) front t left h ∙ ap (λ q. after_move q (λ l. Some l)) none in
         absurd (cc (s.is, never))
 
     -- a step is there at the kinds that can come first
@@ -229,7 +229,7 @@ module _ {T K P V C : Type 0} (g : Grammar T K P V C) where
         BeginsText g (front ++ t ∷ [])
     next_by front left t h e =
         let s = there_is (step g left (g.kind t)) (step_there left (g.kind t) ∙ e) in
-        begun_by (front ++ t ∷ []) s.found.still (still_on (beginning g) front t left h ∙ ap (λ q. behind_move q (λ l. Some l)) s.is)
+        begun_by (front ++ t ∷ []) s.found.still (still_on (beginning g) front t left h ∙ ap (λ q. after_move q (λ l. Some l)) s.is)
 
     -- and no other can
     comes_by : (front : List T) (left : List (Due K P)) (t : T) → still g (beginning g) front ≡ Some left → BeginsText g (front ++ t ∷ []) →
@@ -238,7 +238,7 @@ module _ {T K P V C : Type 0} (g : Grammar T K P V C) where
         let s = left_by (front ++ t ∷ []) b in
         sym (step_there left (g.kind t)) ∙ go (step g left (g.kind t)) (sym (still_on (beginning g) front t left h) ∙ s.is)
       where
-        go : {l : List (Due K P)} (o : Option (Move K P C)) → behind_move o (λ l. Some l) ≡ Some l → is_some o ≡ true
+        go : {l : List (Due K P)} (o : Option (Move K P C)) → after_move o (λ l. Some l) ≡ Some l → is_some o ≡ true
         go None h = cc
         go (Some m) h = refl
 
@@ -246,22 +246,20 @@ module _ {T K P V C : Type 0} (g : Grammar T K P V C) where
     pub are_expected : (front : List T) (left : List (Due K P)) → still g (beginning g) front ≡ Some left →
         AreExpected g front (filter (comes_first g (items_due left)) g.kinds.all) (may_end g (items_due left))
     are_expected front left h = record {
-      tokens = λ t.
-          (
-            λ i. next_by front left t h (filter_passes (comes_first g (items_due left)) g.kinds.all i),
-            λ b. in_filter (comes_first g (items_due left)) (listed_in g.kinds (g.kind t)) (comes_by front left t h b),
-          );
+      tokens = λ t. (
+        λ i. next_by front left t h (filter_passes (comes_first g (items_due left)) g.kinds.all i),
+        λ b. in_filter (comes_first g (items_due left)) (listed_in g.kinds (g.kind t)) (comes_by front left t h b),
+      );
       whole = (λ e. whole_by front left h e, λ w. ends_by front left h w);
     }
 
     -- nothing, where the tokens cannot come
     none_expected : (front : List T) → still g (beginning g) front ≡ None → AreExpected g front [] false
     none_expected front h = record {
-      tokens = λ t.
-          (
-            λ i. elim i [ ],
-            λ b. let s = left_by (front ++ t ∷ []) b in let none = still_none (beginning g) front (t ∷ []) h in absurd (cc (s.is, none)),
-          );
+      tokens = λ t. (
+        λ i. elim i [ ],
+        λ b. let s = left_by (front ++ t ∷ []) b in let none = still_none (beginning g) front (t ∷ []) h in absurd (cc (s.is, none)),
+      );
       whole = (λ e. absurd (cc), λ w. let s = left_by front (whole_begins front w) in absurd (cc (s.is, h)));
     }
 

@@ -1,11 +1,11 @@
 -- What a token leaves to come, item by item.
-use Rattle.std.proofs.Common.{◌≡◌, ℕ, Bool, true, false, List, [], ◌∷◌, ◌++◌, length, map, reverse, refl, sym, ◌∙◌, ap, subst, append_assoc, arith}
-use Rattle.std.proofs.lemmas.List.{append-nil as append_nil, reverse-append as reverse_append, map-append as map_append}
-use Rattle.std.specs.Prelude.{◌||◌, ◌&&◌, Option, Some, None, is_some, if◌then◌else◌}
-use Rattle.ppm_grammar.specs.Rows.{Item, Take, Part}
-use Rattle.ppm_grammar.specs.Derivation.{Due, Within, due, mark, inside, beginning}
+use Rattle.std.proofs.Common.{◌≡◌, ℕ, Bool, true, false, List, [], ◌∷◌, ◌++◌, length, reverse, refl, sym, ◌∙◌, ap, subst, append_assoc, arith}
+use Rattle.std.proofs.lemmas.List.{reverse-append as reverse_append, map-append as map_append}
+use Rattle.std.specs.Prelude.{Option, Some, None, is_some, if◌then◌else◌}
+use Rattle.ppm_grammar.specs.Rows.{Take, Part}
+use Rattle.ppm_grammar.specs.Derivation.{Within, due, mark, inside, beginning}
 use Rattle.ppm_grammar.specs.Predictive.{same_kind, may_be_empty, can_start, starts}
-use Rattle.ppm_grammar.specs.Stack.{Move, move, counted, chosen, step}
+use Rattle.ppm_grammar.specs.Stack.{move, counted, chosen, step}
 use Rattle.ppm_grammar.proofs.StackLemmas.{part_step, next_none}
 use Rattle.ppm_text.specs.declared.token.Token.{Token}
 use Rattle.ppm_rows.specs.Kinds.{Terminal, terminal}
@@ -13,7 +13,7 @@ use Rattle.ppm_rows.specs.Phrases.{Phrase}
 use Rattle.ppm_rows.specs.Phrases as p
 use Rattle.ppm_rows.specs.Language.{Counted, language}
 use Rattle.ppm_rows.specs.Follow.{may_follow}
-use Rattle.ppm_expected.specs.Machine.{items_due, behind_move, still, can_begin, comes_first}
+use Rattle.ppm_expected.specs.Machine.{items_due, after_move, can_begin, comes_first}
 use Rattle.ppm_expected.specs.Language.{Piece, phrase_of, item_of, items_of, to_come}
 use Rattle.ppm_expected.specs.Steps.{Dues, TokenMove, BeginsRow, Enters, Advances, ReadsTo, StopsAt}
 use Rattle.ppm_expected.specs.declared.row.Item.{Item as Held}
@@ -147,7 +147,7 @@ reads_on {t = t} {items = items} {rest = rest} r can a =
       front = r.front ++ t ∷ [];
       shape = r.shape ∙ sym (append_assoc r.front (t ∷ []) rest);
       left = s.found.still;
-      comes = still_on language (beginning language) r.front t r.left r.comes ∙ ap (λ q. behind_move q (λ l. Some l)) s.is;
+      comes = still_on language (beginning language) r.front t r.left r.comes ∙ ap (λ q. after_move q (λ l. Some l)) s.is;
       due = a.leaves r.left s.found r.due s.is;
     }
 

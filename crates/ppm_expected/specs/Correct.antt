@@ -8,7 +8,7 @@ use Rattle.ppm_expected.specs.declared.expected.Expected.{Expected}
 use Rattle.ppm_expected.specs.Next.{BeginsText, AreExpected}
 use Rattle.ppm_expected.specs.Language.{terminal_of}
 
--- the kinds are just those of the tokens that can stand behind these, in the order of the grammar's kinds and each once,
+-- the kinds are just those of the tokens that can stand after these, in the order of the grammar's kinds and each once,
 -- and it is told whether a text may end there
 pub record CanFollow (front : List Token) (e : Expected) : Type 0 where
   pub exactly : AreExpected language front (map terminal_of e.terminals.items) e.end

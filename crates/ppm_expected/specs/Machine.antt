@@ -1,4 +1,4 @@
--- What can stand behind tokens, computed from the rows: the tokens are read, and of what is still to come the first kinds are collected.
+-- What can stand after tokens, computed from the rows: the tokens are read, and of what is still to come the first kinds are collected.
 use Rattle.std.specs.Prelude.{◌≡◌, Bool, true, false, ◌&&◌, ◌||◌, List, [], ◌∷◌, Option, Some, None}
 use Rattle.std.specs.List.{filter}
 use Rattle.ppm_grammar.specs.Rows.{Item, Take, Part, Grammar}
@@ -8,9 +8,9 @@ use Rattle.ppm_grammar.specs.Stack.{Move, step}
 use Rattle.ppm_expected.specs.Next.{AreExpected}
 
 -- what follows a move, if there is one
-abbrev pub behind_move : {K P C : Type 0} → Option (Move K P C) → (List (Due K P) → Option (List (Due K P))) → Option (List (Due K P))
-behind_move None next = None
-behind_move (Some m) next = next m.still
+abbrev pub after_move : {K P C : Type 0} → Option (Move K P C) → (List (Due K P) → Option (List (Due K P))) → Option (List (Due K P))
+after_move None next = None
+after_move (Some m) next = next m.still
 
 -- the items that are to come
 abbrev pub items_due : {K P : Type 0} → List (Due K P) → List (Item K P)
@@ -18,10 +18,10 @@ items_due [] = []
 items_due (Within d x ∷ st) = x ∷ items_due st
 
 module _ {T K P V C : Type 0} (g : Grammar T K P V C) where
-  -- what is still to come behind the tokens, if these can come
+  -- what is still to come after the tokens, if these can come
   abbrev pub still : List (Due K P) → List T → Option (List (Due K P))
   still st [] = Some st
-  still st (t ∷ ts) = behind_move (step g st (g.kind t)) (λ later. still later ts)
+  still st (t ∷ ts) = after_move (step g st (g.kind t)) (λ later. still later ts)
 
   -- the item can begin with a token of the kind
   abbrev pub can_begin : Item K P → K → Bool
@@ -53,15 +53,15 @@ module _ {T K P V C : Type 0} (g : Grammar T K P V C) where
   ends_there None = false
   ends_there (Some st) = may_end (items_due st)
 
-  -- what can stand behind the tokens
+  -- what can stand after the tokens
   abbrev pub expected_kinds : List T → List K
   expected_kinds front = kinds_first (still (beginning g) front)
 
-  -- and whether a text may end behind them
+  -- and whether a text may end after them
   abbrev pub expected_end : List T → Bool
   expected_end front = ends_there (still (beginning g) front)
 
--- where one token tells the row, what is computed is just what can stand behind the tokens, whatever these are
+-- where one token tells the row, what is computed is just what can stand after the tokens, whatever these are
 abbrev pub CollectsExpected : {T K P V C : Type 0} → Grammar T K P V C → Type 0
 CollectsExpected {T} {K} {P} {V} {C} g =
     (follows : P → K → Bool) → is_predictive g follows ≡ true → (front : List T) → AreExpected g front (expected_kinds g front) (expected_end g front)

@@ -1,4 +1,4 @@
--- What can stand behind tokens: the tokens with which some text of the grammar goes on, and whether one ends there.
+-- What can stand after tokens: the tokens with which some text of the grammar goes on, and whether one ends there.
 use Rattle.std.specs.Prelude.{◌≡◌, ◌↔◌, Bool, true, List, [], ◌∷◌, ◌++◌}
 use Rattle.ppm_grammar.specs.Rows.{In, Grammar}
 use Rattle.ppm_grammar.specs.Derivation.{Mark, IsText, Begins}
@@ -15,7 +15,7 @@ module _ {T K P V C : Type 0} (g : Grammar T K P V C) where
     pub marks : List (Mark C)
     pub text : IsText g ts value marks
 
-  -- behind the tokens just the tokens of these kinds can stand, and it is told whether a text may end there
+  -- after the tokens just the tokens of these kinds can stand, and it is told whether a text may end there
   pub record AreExpected (front : List T) (kinds : List K) (end : Bool) : Type 0 where
     pub tokens : (t : T) → In (g.kind t) kinds ↔ BeginsText (front ++ t ∷ [])
     pub whole : (end ≡ true) ↔ IsWholeText front

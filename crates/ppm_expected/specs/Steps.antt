@@ -1,5 +1,5 @@
 -- What the machine's functions answer: which row of a part comes, what a token leaves to come, and how far tokens can come.
-use Rattle.std.specs.Prelude.{◌≡◌, ℕ, true, false, List, [], ◌∷◌, ◌++◌, Some}
+use Rattle.std.specs.Prelude.{◌≡◌, ℕ, true, false, List, ◌∷◌, ◌++◌, Some}
 use Rattle.ppm_grammar.specs.Rows.{In}
 use Rattle.ppm_grammar.specs.Derivation.{Due, Within, beginning}
 use Rattle.ppm_grammar.specs.Predictive.{can_start, starts}

@@ -73,5 +73,8 @@ pub fn expected_at_fault(alloc: Global, tokens: &Tokens) -> Result<Expected, NoM
 {
     let stack = after(alloc, tokens.as_slice())?;
     let terminals = first_terminals(alloc, &stack)?;
-    Ok(Expected { terminals, end: can_end(&stack) })
+    Ok(Expected {
+        terminals,
+        end: can_end(&stack),
+    })
 }

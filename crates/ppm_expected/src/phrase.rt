@@ -2,7 +2,7 @@
 use ppm_rows::Level;
 
 /// A part of a text, as the grammar names it.
-#[derive(Clone, Copy, Debug)]
+#[derive(Clone, Copy)]
 pub(crate) enum Phrase {
     Source,
     Declaration,

@@ -1,8 +1,6 @@
-use Rattle.std.proofs.Common.{◌≡◌, Bool, true, List, [], ◌∷◌, refl, sym, subst, ◌∙◌, arith}
-use Rattle.ppm_grammar.specs.Predictive.{can_start, starts}
-use Rattle.ppm_rows.specs.Language.{language}
-use Rattle.ppm_expected.specs.Language.{items_of, rows_of, terminal_of, phrase_of}
-use Rattle.ppm_expected.proofs.ChoiceLemmas.{RowsLeft, all_left, one_less, the_row, part_begins, first_row, none_left, no_rows, next_below}
+use Rattle.std.proofs.Common.{sym, subst, ◌∙◌, arith}
+use Rattle.ppm_expected.specs.Language.{rows_of, terminal_of, phrase_of}
+use Rattle.ppm_expected.proofs.ChoiceLemmas.{RowsLeft, one_less, the_row, part_begins, first_row, none_left, no_rows, next_below}
 use Rattle.ppm_expected.proofs.choice.+choice.Goals as goal
 
 -- at first all rows are left

@@ -1,4 +1,4 @@
-use Rattle.std.proofs.Common.{ℕ, length, ◌*◌, ◌-◌}
+use Rattle.std.proofs.Common.{length, ◌*◌, ◌-◌}
 use Rattle.ppm_rows.specs.Phrases.{phrase_number}
 use Rattle.ppm_expected.specs.Language.{terminal_of, phrase_of, item_of, items_of, rows_of}
 use Rattle.ppm_expected.proofs.ChoiceLemmas.{rank, rank_row, RowsLeft}
