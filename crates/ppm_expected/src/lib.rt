@@ -6,11 +6,14 @@
 #![tactic(auto)]
 
 mod choice;
+mod declarations;
 mod expected;
+mod expressions;
 mod laws;
 mod phrase;
 mod row;
 mod stack;
+mod statements;
 mod terminal;
 
 pub use expected::{Expected, expected_at_fault};

@@ -36,3 +36,6 @@ pub(crate) enum Phrase {
     Operand,
     Index,
 }
+
+/// A whole expression.
+pub(crate) const EXPRESSION: Phrase = Phrase::Operation(Level::Either);
