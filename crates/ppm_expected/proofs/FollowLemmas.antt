@@ -106,8 +106,8 @@ tells all stack seen also s is same same' kinds end = record {
 }
 
 -- as far as the tokens go
-pub goes_on : {ts : List Token} {e : Expected} → Tells ts e → CanGoOn ts e
-goes_on {ts = ts} {e = e} t = record {
+pub goes_farthest : {ts : List Token} {e : Expected} → Tells ts e → CanGoOn ts e
+goes_farthest {ts = ts} {e = e} t = record {
   front = s.reads.front;
   rest = s.rest;
   shape = s.reads.shape;

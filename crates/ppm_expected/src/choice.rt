@@ -36,7 +36,8 @@ fn begins_row(items: &[Item], kind: Terminal) -> bool
 #[cycle(choice)]
 pub(crate) fn row_for(phrase: Phrase, kind: Terminal) -> Option<&'static [Item]>
     ensures begins { is_some result ≡ starts language (phrase_of phrase) (terminal_of kind) }
-    ensures row { IfSome result (λ items. BeginsRow (phrase_of phrase) (terminal_of kind) (items_of items.now)) }
+    ensures row { IfSome result
+        (λ items. BeginsRow (phrase_of phrase) (terminal_of kind) (items_of items.now)) }
 {
     let mut left = rows(phrase);
     'rows: while let Some((row, rest)) = left.split_first() {

@@ -21,7 +21,8 @@ use std::alloc::Global;
 /// What can stand at a place of a text.
 #[derive(Drop)]
 pub struct Expected {
-    /// The kinds of tokens: a name, a number, the keywords, the signs, in the order of their enums and each once.
+    /// The kinds of tokens: a name, a number, the keywords, the signs, in the order of their enums
+    /// and each once.
     pub terminals: Vec<Terminal>,
     /// Whether the text may end there.
     pub end: bool,
@@ -47,7 +48,8 @@ fn after(alloc: Global, tokens: &[Token]) -> Result<Vec<Item>, NoMemory>
 
 /// The kinds of tokens that can come first.
 fn first_terminals(alloc: Global, stack: &[Item]) -> Result<Vec<Terminal>, NoMemory>
-    ensures { IfOk result (λ all. map terminal_of all.items ≡ filter (comes_first language (to_come stack.now)) terminals) }
+    ensures { IfOk result (λ all. map terminal_of all.items
+        ≡ filter (comes_first language (to_come stack.now)) terminals) }
 {
     let mut all = Vec::new(alloc);
     let mut left: &[Terminal] = &TERMINALS;
@@ -62,8 +64,8 @@ fn first_terminals(alloc: Global, stack: &[Item]) -> Result<Vec<Terminal>, NoMem
 
 /// What can stand where the tokens go no further: just the tokens with which some text of the
 /// grammar goes on from those before. At a token that cannot come this is the place of the fault,
-/// and so it is where the tokens end too soon. Limits are not looked at, so with a token that passes
-/// one it may be a later place.
+/// and so it is where the tokens end too soon. Limits are not looked at, so with a token that
+/// passes one it may be a later place.
 pub fn expected_at_fault(alloc: Global, tokens: &Tokens) -> Result<Expected, NoMemory>
     ensures farthest { IfOk result (CanGoOn tokens.now.tokens) }
     ensures unexpected { (place : ℕ) (fault : IsFirstUnexpected language limits tokens.now.tokens place)

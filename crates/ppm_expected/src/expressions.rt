@@ -152,7 +152,8 @@ const FROM_PRODUCT: &[Row] = &[
     },
 ];
 
-/// The rows of what goes on from an operand: nothing, or an operator of the level and the next operand.
+/// The rows of what goes on from an operand: nothing, or an operator of the level and the next
+/// operand.
 pub(crate) fn from_operand(level: Level) -> &'static [Row]
     ensures { rows_of result.now ≡ rows_in (phrases.FromOperand level) }
 {

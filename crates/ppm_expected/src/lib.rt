@@ -1,8 +1,10 @@
 //! What can stand at a place of a text: the tokens with which some text of the grammar goes on.
-//! Model: what is still to come after tokens is a stack of items, by one token of look-ahead (`specs/Machine`).
+//! Model: what is still to come after tokens is a stack of items, by one token of look-ahead
+//! (`specs/Machine`).
 //! Contract: just what some text of the grammar has there, both ways (`specs/Next`).
 //! Stands on `ppm_grammar` and `ppm_rows`.
-//! After the predictive parsers of Lewis and Stearns (LL(1)), whose table has the tokens expected at an error.
+//! After the predictive parsers of Lewis and Stearns (LL(1)), whose table has the tokens expected
+//! at an error.
 #![tactic(auto)]
 
 mod choice;

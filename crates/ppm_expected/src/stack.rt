@@ -53,9 +53,11 @@ fn push_items(stack: &mut Vec<Item>, items: &[Item]) -> Result<(), NoMemory>
     Ok(())
 }
 
-/// What a token of the kind leaves to come, where the item can begin with it and the stack comes after the item.
+/// What a token of the kind leaves to come, where the item can begin with it and the stack comes
+/// after the item.
 fn enter(stack: &mut Vec<Item>, item: Item, kind: Terminal) -> Result<(), NoMemory>
-    ensures { IfOk result (λ _. Enters (item_of item) (terminal_of kind) (to_come stack.old.items) (to_come stack.new.items)) }
+    ensures { IfOk result (λ _. Enters (item_of item) (terminal_of kind)
+        (to_come stack.old.items) (to_come stack.new.items)) }
 {
     match item {
         Item::Take(_) => Ok(()),
@@ -74,7 +76,8 @@ fn enter(stack: &mut Vec<Item>, item: Item, kind: Terminal) -> Result<(), NoMemo
 
 /// What a token of the kind leaves to come, where it can come first.
 pub(crate) fn advance(stack: &mut Vec<Item>, kind: Terminal) -> Result<(), NoMemory>
-    ensures { IfOk result (λ _. Advances (terminal_of kind) (to_come stack.old.items) (to_come stack.new.items)) }
+    ensures { IfOk result (λ _. Advances (terminal_of kind)
+        (to_come stack.old.items) (to_come stack.new.items)) }
 {
     'items: while let Some(item) = stack.pop() {
         if begins(item, kind) {

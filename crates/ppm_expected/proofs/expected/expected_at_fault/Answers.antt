@@ -1,10 +1,10 @@
-use Rattle.ppm_expected.proofs.FollowLemmas.{tells, goes_on, follows_unexpected, follows_ended}
+use Rattle.ppm_expected.proofs.FollowLemmas.{tells, goes_farthest, follows_unexpected, follows_ended}
 use Rattle.ppm_expected.proofs.expected.expected_at_fault.Goals as goal
 
 -- as far as the tokens go
 pub returns-clause-farthest : goal.returns-clause-farthest
 returns-clause-farthest c =
-    goes_on
+    goes_farthest
     (tells c.as_slice.result.now c.in_ok-stack.stack.items c.deref.result.now c.deref-2.result.now c.in_ok-stack.ensures c.as_slice.ensures.value
     c.deref.ensures.value c.deref-2.ensures.value c.in_ok-terminals.ensures c.can_end.ensures)
 
