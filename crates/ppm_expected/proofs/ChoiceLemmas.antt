@@ -5,7 +5,7 @@ use Rattle.ppm_grammar.specs.Rows.{In, first, later, Take, Part}
 use Rattle.ppm_grammar.specs.Predictive.{some, may_be_empty, can_start, starts, IsPredictive}
 use Rattle.ppm_grammar.proofs.ListLemmas.{or_left, number_below}
 use Rattle.ppm_rows.specs.Kinds.{Terminal}
-use Rattle.ppm_rows.specs.Phrases.{Phrase, phrases, phrase_number}
+use Rattle.ppm_rows.specs.Phrases.{Phrase, phrases, all_phrases, phrase_number}
 use Rattle.ppm_rows.specs.Language.{Form, language}
 use Rattle.ppm_rows.specs.Follow.{may_follow}
 use Rattle.ppm_rows.proofs.OneAnswer.{is_predictive_language}
@@ -79,30 +79,34 @@ pub part_begins : {n : Phrase} {k : Terminal} {items : List Piece} {left : List 
     can_start language (starts language) items k ≡ true → true ≡ starts language n k
 part_begins r can = sym (or_left _ _ can) ∙ r.same
 
+-- how many parts are listed from this one on
+abbrev pub height : Phrase → ℕ
+height n = length all_phrases - phrase_number n
+
 -- a measure: a part is above those that its rows begin with
 abbrev pub rank : Piece → ℕ
 rank (Take x) = 0
-rank (Part n) = 3 * (40 - phrase_number n) + 1
+rank (Part n) = 3 * height n + 1
 
 abbrev pub rank_row : List Piece → ℕ
 rank_row [] = 0
 rank_row (x ∷ xs) = rank x + 1
 
 -- so it is with each row
-pub row_below : (n : Phrase) (items : List Piece) → In items (rows_in n) → rank_row items < 3 * (40 - phrase_number n)
+pub row_below : (n : Phrase) (items : List Piece) → In items (rows_in n) → rank_row items < 3 * height n
 row_below n items i = go items (row_with (language.rows n) items i)
   where
-    few : phrase_number n < 39
+    few : phrase_number n < length all_phrases
     few = number_below phrases n
 
-    go : (items : List Piece) → ItemsOf (language.rows n) items → rank_row items < 3 * (40 - phrase_number n)
+    go : (items : List Piece) → ItemsOf (language.rows n) items → rank_row items < 3 * height n
     go [] r = omega (arith, few)
     go (Take x ∷ xs) r = omega (arith, few)
     go (Part m ∷ xs) r = let below = (predictive.solid n m r.row xs r.within r.is).1 in omega (arith, few, below)
 
 -- also with the next that is left
 pub next_below : (n : Phrase) {k : Terminal} {items : List Piece} {left : List (List Piece)} → RowsLeft n k (items ∷ left) →
-    rank_row items < 3 * (40 - phrase_number n)
+    rank_row items < 3 * height n
 next_below n {items = items} r = row_below n items (r.within items first)
 
 -- a row is in the list with its items
@@ -111,7 +115,7 @@ with_row (first {xs = rows}) is = rw (← is) first
 with_row (later i) is = later (with_row i is)
 
 -- the first item of a row is below its part
-pub first_below : (n : Phrase) {k : Terminal} {x : Piece} {xs : List Piece} → BeginsRow n k (x ∷ xs) → rank x < 3 * (40 - phrase_number n)
+pub first_below : (n : Phrase) {k : Terminal} {x : Piece} {xs : List Piece} → BeginsRow n k (x ∷ xs) → rank x < 3 * height n
 first_below n {x = x} {xs = xs} b = omega (arith, row_below n (x ∷ xs) (with_row b.within b.is))
 
 -- no rows are left
