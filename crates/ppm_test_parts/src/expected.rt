@@ -1,5 +1,5 @@
 //! What can stand at the faults of texts, worked out by hand from the grammar of the language.
-use ppm_expected::{Terminal, expected_at_fault};
+use ppm_expected::{Terminal, collects_expected, expected_at_fault};
 use ppm_text::tokens;
 use std::alloc::Global;
 use std::test::Fail;
@@ -75,4 +75,9 @@ fn tells_what_can_stand_in_statements(rt: HostRuntime) -> Result<(), Fail> {
         assert_eq!(rt; told(rt.alloc(), text)?.as_str(), want);
     }
     Ok(())
+}
+
+#[test]
+fn collects_by_every_grammar() {
+    collects_expected::<u8, u8, u8, u8, u8>();
 }
