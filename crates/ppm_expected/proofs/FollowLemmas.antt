@@ -129,7 +129,8 @@ follows_ended {e = e} t h = subst (λ q. CanFollow q e) (front_whole t.stops h) 
 
 -- what is found and what comes first of the kinds that are left is all that can come first
 pub record Collects (stack : List Item) (found left : List Kind) : Type 0 where
-  pub same : map terminal_of found ++ filter (comes_first language (to_come stack)) (map terminal_of left) ≡ filter (comes_first language (to_come stack)) terminals
+  pub same : map terminal_of found ++ filter (comes_first language (to_come stack)) (map terminal_of left)
+      ≡ filter (comes_first language (to_come stack)) terminals
 
 -- at first nothing is found
 pub collects_none : (stack : List Item) (found left : List Kind) → found ≡ [] → map terminal_of left ≡ terminals → Collects stack found left

@@ -14,7 +14,8 @@ use Rattle.ppm_grammar.proofs.TextLemmas.{end_sound, one_value, consumes}
 use Rattle.ppm_grammar.proofs.MovesLemmas.{Moves, here, there, moves_sound, moves_trace, begins_so, they_come, never_cut}
 use Rattle.ppm_grammar.proofs.PredictiveLemmas.{predictive}
 use Rattle.ppm_expected.specs.Next.{BeginsText, IsWholeText, AreExpected}
-use Rattle.ppm_expected.specs.Machine.{items_due, after_move, still, comes_first, may_end, kinds_first, ends_there, expected_kinds, expected_end, CollectsExpected}
+use Rattle.ppm_expected.specs.Machine.{items_due, after_move, still, comes_first, may_end}
+use Rattle.ppm_expected.specs.Machine.{kinds_first, ends_there, expected_kinds, expected_end, CollectsExpected}
 
 -- a part that goes on with its row, is empty, or cannot come
 chosen_there : {K P C : Type 0} (o : Option (Move K P C)) (b : Bool) (st : List (Due K P)) (other : Option (Move K P C)) →

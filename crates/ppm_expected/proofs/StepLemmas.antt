@@ -90,7 +90,8 @@ advances_none k new = record { leaves = λ st m left is. leaves st m left is }
     leaves (Within d x ∷ st) m left is = absurd (cc)
 
 -- a part that is not begun is passed over
-chosen_other : (o : Option TokenMove) (b : Bool) (st : Dues) (other : Option TokenMove) (m : TokenMove) → o ≡ None → chosen o b st other ≡ Some m → other ≡ Some m
+chosen_other : (o : Option TokenMove) (b : Bool) (st : Dues) (other : Option TokenMove) (m : TokenMove) → o ≡ None →
+    chosen o b st other ≡ Some m → other ≡ Some m
 chosen_other None true st other m none is = is
 chosen_other None false st other m none is = cc
 chosen_other (Some n) b st other m none is = cc
