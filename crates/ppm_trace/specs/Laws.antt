@@ -1,7 +1,6 @@
 -- Laws of traces.
 use Rattle.std.specs.Prelude.{◌≡◌, ℕ, List, ◌++◌}
 use Rattle.ppm_core.specs.Situation.{Situation, run_on}
-use Rattle.ppm_marks.specs.declared.mark.Mark.{Mark}
 use Rattle.ppm_marks.specs.declared.shown.Only.{Only}
 use Rattle.ppm_naming.specs.declared.names.Names.{Names}
 use Rattle.ppm_step.specs.declared.turn.Turn.{Turn}
