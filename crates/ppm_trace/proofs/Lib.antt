@@ -5,4 +5,3 @@ pub mod AlongLemmas
 pub mod TellingLemmas
 pub mod OneLemmas
 pub mod TextLemmas
-pub mod ToldLemmas

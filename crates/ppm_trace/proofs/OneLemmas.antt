@@ -1,11 +1,11 @@
 -- One act: it is told, and then made.
-use Rattle.std.proofs.Common.{◌≡◌, ◌∙◌, ◌==◌, ℕ, ◌+◌, ◌*◌, ◌-◌, ◌<◌, ◌≤◌, Bool, true, false, not, ◌&&◌, nat_lt, if◌then◌else◌, List, [], ◌∷◌, ◌++◌, None, ap, arith, refl, subst, sym}
-use Rattle.ppm_choice.specs.Course.{Course, InRound, Listed, behind_act, behind_all, is_made, is_open, loads_behind, processor_of, turn_of, turns_of}
+use Rattle.std.proofs.Common.{◌≡◌, ◌∙◌, ◌==◌, ℕ, ◌+◌, ◌-◌, ◌<◌, ◌≤◌, Bool, true, false, not, ◌&&◌, nat_lt, if◌then◌else◌, [], ◌∷◌, ◌++◌, None, ap, arith, refl, subst, sym}
+use Rattle.ppm_choice.specs.Course.{InRound, Listed, behind_act, behind_all, is_made, loads_behind, processor_of, turn_of, turns_of}
 use Rattle.ppm_core.specs.Acts.{is_done_at}
 use Rattle.ppm_core.specs.Situation.{Situation, finish_in, turned, run_on}
 use Rattle.ppm_core.proofs.RunLemmas.{run_none, run_step}
 use Rattle.ppm_following.proofs.ReadyLemmas.{ready_behind}
-use Rattle.ppm_following.specs.Following.{course, Does, IsReady}
+use Rattle.ppm_following.specs.Following.{course, Does}
 use Rattle.ppm_following.specs.declared.following.Way.{Way}
 use Rattle.ppm_naming.specs.declared.names.Names.{Names}
 use Rattle.ppm_plan.specs.declared.schedule_item.ScheduledAct.{ScheduledAct}
