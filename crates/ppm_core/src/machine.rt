@@ -5,7 +5,7 @@ ghost use Rattle.std.specs.List.{All, sum};
 ghost use Rattle.ppm_cells.specs.Cells.{arrays_at};
 ghost use Rattle.ppm_cells.specs.Ending.{ending_of};
 ghost use Rattle.ppm_core.specs.Acts.{IsTurnAmong, is_done_at};
-ghost use Rattle.ppm_core.specs.Machine.{AreLocals, seen};
+ghost use Rattle.ppm_core.specs.Machine.{seen, AreLocals, AreStores, IsLocalOf};
 ghost use Rattle.ppm_core.specs.Situation.{array_in, finish_in, loaded, run_on, turned};
 ghost use Rattle.ppm_core.specs.Steps.{steady_steps, AreSteady, EndsInWork, GoesNoFurther};
 ghost use Rattle.ppm_step.specs.Locals.{standing_of};
@@ -272,6 +272,16 @@ impl Machine {
         self.locals[processor as usize].next()
     }
 
+    /// A processor's own state.
+    pub fn local(&self, processor: u32) -> &Local
+        requires { processor < self.now.shape.processors }
+        ensures holds { IsLocalOf self.now.shape self.now.code processor result.now }
+        ensures stands { standing_of self.now.shape self.now.code result.now
+            ≡ stand_of (seen self.now).state processor }
+    {
+        &self.locals[processor as usize]
+    }
+
     /// Whether a processor takes no step any more.
     pub fn is_done(&self, processor: u32) -> bool
         requires { processor < self.now.shape.processors }
@@ -316,6 +326,14 @@ impl Machine {
         ensures { result ≡ length self.now.array_lengths }
     {
         self.array_lengths.len()
+    }
+
+    /// The lengths of the arrays, in order.
+    pub fn array_lengths(&self) -> &[u32]
+        ensures value { result.now ≡ self.now.array_lengths }
+        ensures fit { AreStores self.now.shape self.now.array_lengths self.now.words }
+    {
+        &self.array_lengths
     }
 
     /// The words of an array, by its number, which is below that of the arrays.

@@ -1,5 +1,5 @@
 -- Which turns a reader is shown.
-use Rattle.std.specs.Prelude.{ℕ, zero, suc, nat_lt, Bool, true, false, List, length}
+use Rattle.std.specs.Prelude.{ℕ, nat_lt, Bool, true, false, List, length}
 use Rattle.ppm_cells.specs.Memory.{read}
 use Rattle.ppm_cells.specs.declared.cell.Cell.TheVariants.{FinishWord}
 use Rattle.ppm_cells.specs.declared.restart.RestartKind.{RestartKind}
@@ -10,7 +10,7 @@ use Rattle.ppm_marks.specs.Marks.{marks_at}
 use Rattle.ppm_marks.specs.declared.shown.Only.{Only}
 use Rattle.ppm_marks.specs.declared.shown.Only.TheVariants as shows
 use Rattle.ppm_step.specs.Frames.{Rest, Full, Installs}
-use Rattle.ppm_step.specs.Standings.{Standing, IsLost, IsPlaced, IsAt, IsWithin, IsRunning, IsBroken, IsDone}
+use Rattle.ppm_step.specs.Standings.{Standing, IsPlaced, IsAt, IsWithin, IsRunning, IsBroken, IsDone}
 use Rattle.ppm_step.specs.State.{State, stand_of}
 use Rattle.ppm_step.specs.declared.row.Row.{Row}
 use Rattle.ppm_step.specs.declared.row.Row.TheVariants.{Now, Store, Exchange}
