@@ -92,7 +92,8 @@ fn push_begin(
     push_of_row(alloc, text, scene, kind)?;
     push_word(text, "\",\"place\":")?;
     push_number(alloc, text, u64::from(moment.place))?;
-    push_word(text, "}}")
+    push_word(text, "}}")?;
+    Ok(())
 }
 
 /// Appends its end.
@@ -102,7 +103,8 @@ fn push_end(alloc: Global, text: &mut Vec<u8>, moment: Moment) -> Result<(), NoM
 {
     push_word(text, ",\n{\"ph\":\"E\"")?;
     push_time(alloc, text, moment.processor, moment.number + 1)?;
-    push_word(text, "}")
+    push_word(text, "}")?;
+    Ok(())
 }
 
 /// Appends an end of an arrow.
@@ -118,7 +120,8 @@ fn push_flow(alloc: Global, text: &mut Vec<u8>, moment: Moment, flow: Flow) -> R
     push_word(text, "\",\"id\":")?;
     push_number(alloc, text, flow.id())?;
     push_time(alloc, text, moment.processor, moment.number)?;
-    push_word(text, "}")
+    push_word(text, "}")?;
+    Ok(())
 }
 
 /// Appends an end of an arrow, if there is one.
@@ -154,7 +157,8 @@ fn push_instant(
     push_time(alloc, text, moment.processor, moment.number)?;
     push_word(text, ",\"args\":{\"place\":")?;
     push_number(alloc, text, u64::from(moment.place))?;
-    push_word(text, "}}")
+    push_word(text, "}}")?;
+    Ok(())
 }
 
 /// Appends a mark that is a point in time.

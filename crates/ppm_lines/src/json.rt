@@ -19,7 +19,8 @@ fn push_thread(alloc: Global, text: &mut Vec<u8>, processor: u32) -> Result<(), 
     push_number(alloc, text, u64::from(processor))?;
     push_word(text, ",\"args\":{\"name\":\"processor ")?;
     push_number(alloc, text, u64::from(processor))?;
-    push_word(text, "\"}}")
+    push_word(text, "\"}}")?;
+    Ok(())
 }
 
 /// Appends those of all processors.
