@@ -6,6 +6,7 @@ ghost use Rattle.ppm_lines.specs.Line.{row_fields, step_fields, marks as marks_o
 ghost use Rattle.ppm_lines.specs.Texts.{part_text};
 ghost use Rattle.ppm_step.specs.Among.{IsTurnAmong};
 ghost use Rattle.ppm_step.specs.Locals.{IsLocal, standing_of};
+ghost use Rattle.ppm_step.specs.Told.{place_of};
 
 use crate::column::fill;
 use crate::doing::{Doing, doing_of, push_of, row_text};
@@ -63,6 +64,15 @@ fn push_carried(alloc: Global, text: &mut Vec<u8>, place: u32) -> Result<(), NoM
         return push_word_field(text, 2, "-");
     }
     push_number_field(alloc, text, 2, u64::from(place))
+}
+
+/// The place that a processor carries.
+fn carried(scene: &Scene, local: &Local) -> u32
+    ensures { result
+        ≡ place_of (standing_of scene.now.shape scene.now.code local.now) }
+{
+    let _ = scene.shape();
+    local.place()
 }
 
 /// Appends the fields of how many turns came before, of the processor and of its place.
@@ -174,7 +184,7 @@ pub fn push_line(
     ensures { OnOk result (text.new.items
         ≡ text.old.items ++ line_at scene.now turn (standing_of scene.now.shape scene.now.code local.now) number) }
 {
-    push_who(alloc, text, number, turn.processor, local.place())?;
+    push_who(alloc, text, number, turn.processor, carried(scene, local))?;
     push_row(alloc, text, scene, local, turn)?;
     push_step(alloc, text, scene, local, turn)?;
     push_marked(text, scene, local, turn)?;
