@@ -40,6 +40,8 @@ pub enum Answer {
     Listed(Items<u8>),
     /// The state in which the run of the program was stopped has this text.
     Saved(Items<u8>),
+    /// The run of a schedule is told by this text.
+    Traced(Items<u8>),
     /// The text is refused for this reason.
     SourceRefused(Refusal),
     /// The text is the listing of a code without conflicts.

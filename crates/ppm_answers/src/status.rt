@@ -5,8 +5,8 @@ ghost use Rattle.ppm_answers.specs.Statuses.{number_of};
 /// How the program ends, by the number that it hands to its caller.
 #[derive(Clone, Copy, Debug, PartialEq, Eq)]
 pub enum Status {
-    /// The run ended, and its arrays are on out; or the listing of a code is; or `check` or `races`
-    /// accepts a code.
+    /// The run ended, and its arrays are on out; or the listing of a code is, or a trace; or `check`
+    /// or `races` accepts a code.
     Ended = 0,
     /// The run ended by a trap, which is reported on out.
     Trapped = 1,

@@ -13,14 +13,15 @@ use Rattle.ppm_cli.specs.Application.{ppm_application}
 use Rattle.ppm_cli.specs.CommandLine.{Number, OptionRule, processors, turns, room, slots, looks, seed, faults, schedule}
 use Rattle.ppm_cli.specs.CommandLine.{few_processors, after, small_room, few_slots, size, count, capsules, arrays}
 use Rattle.ppm_cli.specs.CommandLine.{copied_room, copied_slots, met, from, acts, runs}
+use Rattle.ppm_cli.specs.CommandLine.{traced_from, traced_acts}
 use Rattle.ppm_cli.specs.Words.{run_options, serial_in, replay_options, resume_options, self_in, self_options, stop_options}
 use Rattle.ppm_cli.specs.Values.{number_in, number_given, value_of_digits, text_given}
 use Rattle.ppm_cli.specs.Words.{command_named, command_in, without_fault, command_of}
 use Rattle.ppm_cli.specs.Values.{takeover_given, idle_given}
 use Rattle.ppm_cli.specs.Words.{with_text, AreReplayed, AreResumed, AreRun, AreSelf, AreStopped, DoPoolsFit, IsInRange, IsLimit, IsOfForm}
 use Rattle.ppm_cli.specs.Values.{fitting_room, room_given}
-use Rattle.ppm_cli.specs.Words.{sweep_options, AreSwept}
-use Rattle.ppm_cli.specs.Values.{swept_takeovers_given}
+use Rattle.ppm_cli.specs.Words.{sweep_options, AreSwept, trace_options, AreTraced}
+use Rattle.ppm_cli.specs.Values.{swept_takeovers_given, traced_lines_given}
 use Rattle.ppm_cli.specs.Words.{by_input, code_in, capsule_limit, with_input}
 use Rattle.ppm_cli.specs.Values.{choice_given, is_case_given}
 use Rattle.ppm_cli.specs.declared.capsules.CapsuleLimit.{CapsuleLimit}
@@ -188,6 +189,24 @@ sweep_are rows =
       z.1,
     ))))))))))))
 
+trace_are : (rows : List Row) → IfSome (trace_options rows) AreTraced
+trace_are rows =
+    bound AreTraced (number_given processors rows) _ (λ p a.
+    bound AreTraced (number_given traced_from rows) _ (λ f b.
+    bound AreTraced (number_given traced_acts rows) _ (λ n c.
+    bound AreTraced (room_given room p rows) _ (λ w d.
+    bound AreTraced (number_given slots rows) _ (λ s e.
+    bound AreTraced (takeover_given rows) _ (λ t g.
+    bound AreTraced (traced_lines_given rows) _ (λ l h.
+    let r = room_fits room _ _ p w rows refl d in (
+      given processors _ _ p rows refl a,
+      given traced_from _ _ f rows refl b,
+      given traced_acts _ _ n rows refl c,
+      r.0,
+      given slots _ _ s rows refl e,
+      r.1,
+    ))))))))
+
 self_are : (rows : List Row) → IfSome (self_options rows) AreSelf
 self_are rows =
     bound AreSelf (number_given few_processors rows) _ (λ p a.
@@ -246,7 +265,9 @@ named_are name rows =
     (with_input_are AreSwept commands.Sweep commands.SweepCase schedule (sweep_options rows) rows (λ o t h. h) (λ o t h. h) (sweep_are rows))
     (either IsInRange (bytes_eq name (codes "ram")) _ _
     (with_text_are AreRun commands.Ram faults (run_options rows) rows (λ o t h. h) (run_are rows))
-    tt)))))))))))
+    (either IsInRange (bytes_eq name (codes "trace")) _ _
+    (with_input_are AreTraced commands.Trace commands.TraceCase schedule (trace_options rows) rows (λ o t h. h) (λ o t h. h) (trace_are rows))
+    tt))))))))))))
 
 -- the options of a command that words give
 pub is_in_range : (words : List Text) (command : Command) → command_of words ≡ Some command → IsInRange command

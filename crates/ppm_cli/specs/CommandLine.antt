@@ -1,4 +1,4 @@
--- The command line as a table of rules: the twelve commands, and their options with ranges and defaults.
+-- The command line as a table of rules: the thirteen commands, and their options with ranges and defaults.
 use Prim.Native.String.{String}
 use Rattle.std.specs.Prelude.{ℕ, Bool, true, false, List, [], ◌∷◌, codes, decimal, map, not, nat_eq}
 use Rattle.clap.specs.Words.{Text}
@@ -127,6 +127,14 @@ acts = number "acts" 1 turn_limit 268435456
 abbrev pub runs : OptionRule
 runs = number "runs" 0 65536 0
 
+-- the acts that are made before the first one that a trace tells
+abbrev pub traced_from : OptionRule
+traced_from = number "from" 0 turn_limit 0
+
+-- the acts that a trace tells at most
+abbrev pub traced_acts : OptionRule
+traced_acts = number "acts" 1 1048576 65536
+
 -- the plan of faults
 abbrev pub faults : OptionRule
 faults = text "faults" "none"
@@ -146,6 +154,10 @@ swept_takeovers = choice "takeover" ("place" ∷ "entry" ∷ "both" ∷ []) "bot
 -- what a processor does that finds no work: it leaves, or it parks
 abbrev pub idle : OptionRule
 idle = choice "idle" ("leave" ∷ "park" ∷ []) "leave"
+
+-- which lines of a trace are written: all, those that end a row, or those with a mark
+abbrev pub only : OptionRule
+only = choice "only" ("turns" ∷ "rows" ∷ "marks" ∷ []) "turns"
 
 -- whether the arrays of a source are written before its code
 abbrev pub arrays : OptionRule
@@ -174,4 +186,6 @@ command_line =
     ∷ command "sweep"
     (processors ∷ turns ∷ copied_room ∷ copied_slots ∷ swept_takeovers ∷ schedule ∷ met ∷ from ∷ acts ∷ runs ∷ seed ∷ capsules ∷ input ∷ [])
     ∷ command "ram" (processors ∷ turns ∷ room ∷ slots ∷ looks ∷ seed ∷ faults ∷ takeover ∷ idle ∷ [])
+    ∷ command "trace"
+    (processors ∷ traced_from ∷ traced_acts ∷ room ∷ slots ∷ takeover ∷ schedule ∷ only ∷ input ∷ [])
     ∷ []

@@ -9,9 +9,11 @@ use Rattle.ppm_words.specs.declared.idle.Idle.TheVariants.{Leave, Park}
 use Rattle.ppm_cells.specs.Limits.{most_pool_words}
 use Rattle.ppm_cells.specs.declared.shape.Takeover.{Takeover}
 use Rattle.ppm_cells.specs.declared.shape.Takeover.TheVariants.{ByPlaces, ByEntries}
-use Rattle.ppm_cli.specs.CommandLine.{Form, Number, Choice, AnyText, OptionRule, is_free_text, takeover, swept_takeovers, idle, input}
+use Rattle.ppm_cli.specs.CommandLine.{Form, Number, Choice, AnyText, OptionRule, is_free_text, takeover, swept_takeovers, idle, input, only}
 use Rattle.ppm_cli.specs.declared.takeover.SweptTakeovers.{SweptTakeovers}
 use Rattle.ppm_cli.specs.declared.takeover.SweptTakeovers.TheVariants as swept
+use Rattle.ppm_cli.specs.declared.trace.TracedLines.{TracedLines}
+use Rattle.ppm_cli.specs.declared.trace.TracedLines.TheVariants as lines
 
 -- the number that decimal digits write; a plus may stand in front
 abbrev pub value_of_digits : Text → ℕ
@@ -64,6 +66,10 @@ swept_takeovers_given rows = choice_given swept_takeovers (swept.ByPlaces ∷ sw
 -- what a processor does that finds no work
 abbrev pub idle_given : List Row → Option Idle
 idle_given rows = choice_given idle (Leave ∷ Park ∷ []) rows
+
+-- which lines of a trace are written
+abbrev pub traced_lines_given : List Row → Option TracedLines
+traced_lines_given rows = choice_given only (lines.Turns ∷ lines.Rows ∷ lines.Marks ∷ []) rows
 
 -- what comes of a value, if there is one: as Rust's `and_then`, the value first
 abbrev pub and_then : {A B : Type 0} → Option A → (A → Option B) → Option B

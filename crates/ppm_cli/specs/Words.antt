@@ -8,7 +8,9 @@ use Rattle.ppm_cli.specs.CommandLine.{Form, Number, OptionRule}
 use Rattle.ppm_cli.specs.CommandLine.{processors, turns, room, slots, looks, seed, faults, schedule}
 use Rattle.ppm_cli.specs.CommandLine.{few_processors, after, small_room, few_slots, size, count, capsules, arrays}
 use Rattle.ppm_cli.specs.CommandLine.{copied_room, copied_slots, met, from, acts, runs}
+use Rattle.ppm_cli.specs.CommandLine.{traced_from, traced_acts}
 use Rattle.ppm_cli.specs.Values.{and_then, choice_given, idle_given, is_case_given, number_given, room_given, swept_takeovers_given, takeover_given, text_given}
+use Rattle.ppm_cli.specs.Values.{traced_lines_given}
 use Rattle.ppm_cli.specs.declared.capsules.CapsuleLimit.{CapsuleLimit}
 use Rattle.ppm_cli.specs.declared.command.Command.{Command}
 use Rattle.ppm_cli.specs.declared.command.Command.TheVariants as commands
@@ -18,6 +20,7 @@ use Rattle.ppm_cli.specs.declared.resume.ResumeOptions.{ResumeOptions}
 use Rattle.ppm_cli.specs.declared.run.RunOptions.{RunOptions}
 use Rattle.ppm_cli.specs.declared.stop.StopOptions.{StopOptions}
 use Rattle.ppm_cli.specs.declared.sweep.SweepOptions.{SweepOptions}
+use Rattle.ppm_cli.specs.declared.trace.TraceOptions.{TraceOptions}
 
 -- a command that has options and a text, if each has a value of its form
 abbrev pub with_text : {O : Type 0} → (O → Text → Command) → OptionRule → Option O → List Row → Option Command
@@ -128,6 +131,22 @@ sweep_options rows =
 abbrev pub sweep_in : List Row → Option Command
 sweep_in rows = with_input commands.Sweep commands.SweepCase schedule (sweep_options rows) rows
 
+-- the options of `trace` but for its schedule, if each has a value of its form
+abbrev pub trace_options : List Row → Option TraceOptions
+trace_options rows =
+    and_then (number_given processors rows) (λ p.
+    and_then (number_given traced_from rows) (λ f.
+    and_then (number_given traced_acts rows) (λ a.
+    and_then (room_given room p rows) (λ w.
+    and_then (number_given slots rows) (λ e.
+    and_then (takeover_given rows) (λ t.
+    and_then (traced_lines_given rows) (λ l.
+    Some (record { processors = p; from = f; acts = a; room = w; slots = e; takeover = t; only = l }))))))))
+
+-- the command `trace` with its options and its schedule, over a source or over a case
+abbrev pub trace_in : List Row → Option Command
+trace_in rows = with_input commands.Trace commands.TraceCase schedule (trace_options rows) rows
+
 -- the options of `self`, if each has a value of its form
 abbrev pub self_options : List Row → Option SelfOptions
 self_options rows =
@@ -172,6 +191,7 @@ command_named name rows =
     else if bytes_eq name (codes "resume") then resume_in rows
     else if bytes_eq name (codes "sweep") then sweep_in rows
     else if bytes_eq name (codes "ram") then ram_in rows
+    else if bytes_eq name (codes "trace") then trace_in rows
     else None
 
 -- the command of the subcommand that was met, with its options
@@ -234,6 +254,12 @@ AreSwept options =
     × IsOfForm acts.form options.acts × IsOfForm runs.form options.runs × IsOfForm seed.form options.seed
     × IsOfForm capsules.form options.capsules × DoPoolsFit options.processors options.room
 
+-- each option of a trace is in its range, and the pools fit
+abbrev pub AreTraced : TraceOptions → Type 0
+AreTraced options =
+    IsOfForm processors.form options.processors × IsOfForm traced_from.form options.from × IsOfForm traced_acts.form options.acts
+    × IsOfForm room.form options.room × IsOfForm slots.form options.slots × DoPoolsFit options.processors options.room
+
 -- the limit of a depth-first run is in its range
 abbrev pub IsLimit : CapsuleLimit → Type 0
 IsLimit limit = IsOfForm capsules.form limit.capsules
@@ -257,3 +283,5 @@ IsInRange (commands.StopCase options _) = AreStopped options
 IsInRange (commands.Sweep options _) = AreSwept options
 IsInRange (commands.SweepCase options _) = AreSwept options
 IsInRange (commands.Ram options _) = AreRun options
+IsInRange (commands.Trace options _) = AreTraced options
+IsInRange (commands.TraceCase options _) = AreTraced options

@@ -13,6 +13,7 @@ use crate::run::{RunOptions, run_from};
 use crate::serial::{SerialOptions, serial_from};
 use crate::stop::{StopOptions, stop_from};
 use crate::sweep::{SweepOptions, sweep_from};
+use crate::trace::{TraceOptions, trace_from};
 use clap::ArgMatches;
 use ppm_words::Items;
 use std::alloc::{AllocError, Global};
@@ -60,6 +61,10 @@ pub enum Command {
     /// To run the RAM of the text that is read, under a plan of faults, of which these are the
     /// bytes.
     Ram(RunOptions, Items<u8>),
+    /// To tell the acts of the source that is read along a schedule, of which these are the bytes.
+    Trace(TraceOptions, Items<u8>),
+    /// To tell the acts of the case that is read along a schedule, of which these are the bytes.
+    TraceCase(TraceOptions, Items<u8>),
 }
 
 /// The command of the subcommand that was met, with its options.
@@ -98,6 +103,7 @@ fn command_named(
         "resume" => resume_from(alloc, matches),
         "sweep" => sweep_from(alloc, matches),
         "ram" => ram_from(alloc, matches),
+        "trace" => trace_from(alloc, matches),
         _ => Ok(None),
     }
 }

@@ -26,6 +26,7 @@ mod stop;
 mod sweep;
 mod table;
 mod takeover;
+mod trace;
 
 pub use capsules::CapsuleLimit;
 pub use command::Command;
@@ -40,3 +41,4 @@ pub use stop::StopOptions;
 pub use sweep::SweepOptions;
 pub use table::{COMMANDS, ChoiceOption, CommandRow, NumberOption, OptionRow, TextOption};
 pub use takeover::SweptTakeovers;
+pub use trace::{TraceOptions, TracedLines};

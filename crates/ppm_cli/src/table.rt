@@ -20,6 +20,9 @@ const MOST_LOOKS: u32 = 1_048_576;
 /// The most acts of a base run that are drawn.
 const MOST_DRAWN: u32 = 65_536;
 
+/// The most acts that are told.
+const MOST_TOLD: u32 = 1_048_576;
+
 /// A command: its name and its options.
 #[derive(Clone, Copy, Debug)]
 pub struct CommandRow {
@@ -225,6 +228,22 @@ pub(crate) const RUNS: NumberOption = NumberOption {
     default: "0",
 };
 
+/// How many acts are made before the first one that is told.
+pub(crate) const TRACED_FROM: NumberOption = NumberOption {
+    name: "from",
+    low: 0,
+    high: TURN_LIMIT,
+    default: "0",
+};
+
+/// How many acts are told at most.
+pub(crate) const TRACED_ACTS: NumberOption = NumberOption {
+    name: "acts",
+    low: 1,
+    high: MOST_TOLD,
+    default: "65536",
+};
+
 /// The plan of faults.
 pub(crate) const FAULTS: TextOption = TextOption {
     name: "faults",
@@ -252,6 +271,13 @@ pub(crate) const IDLE: ChoiceOption = ChoiceOption {
     default: "leave",
 };
 
+/// Which lines of a trace are written.
+pub(crate) const ONLY: ChoiceOption = ChoiceOption {
+    name: "only",
+    words: &["turns", "rows", "marks"],
+    default: "turns",
+};
+
 /// Whether arrays are written before the code.
 pub(crate) const ARRAYS: ChoiceOption = ChoiceOption {
     name: "arrays",
@@ -273,7 +299,7 @@ pub(crate) const SCHEDULE: TextOption = TextOption {
 };
 
 /// The commands, in the order of the help page.
-pub const COMMANDS: [CommandRow; 12] = [
+pub const COMMANDS: [CommandRow; 13] = [
     CommandRow {
         name: "run",
         options: &[
@@ -380,6 +406,20 @@ pub const COMMANDS: [CommandRow; 12] = [
             OptionRow::Text(FAULTS),
             OptionRow::Choice(TAKEOVER),
             OptionRow::Choice(IDLE),
+        ],
+    },
+    CommandRow {
+        name: "trace",
+        options: &[
+            OptionRow::Number(PROCESSORS),
+            OptionRow::Number(TRACED_FROM),
+            OptionRow::Number(TRACED_ACTS),
+            OptionRow::Number(ROOM),
+            OptionRow::Number(SLOTS),
+            OptionRow::Choice(TAKEOVER),
+            OptionRow::Text(SCHEDULE),
+            OptionRow::Choice(ONLY),
+            OptionRow::Choice(INPUT),
         ],
     },
 ];

@@ -21,6 +21,8 @@
 -- What `sweep` of `ppm_sweep` finds of machines is said of replays (`SweepLemmas`), as a replay comes to an outcome exactly where its answer is that
 -- (`ComeLemmas`); the steps of the command stand in `SweepingLemmas`. A text has one answer (`SomeSweep`, `OneSweep`), a difference of a sound code is of a run that
 -- came to no end (`SweepAsCode`), and the rows follow (`OfSweep`, `OfSweepCase`).
+-- What `trace` answers of a code is one text, by the names of its arrays and procedures (`TraceLemmas`), which are listed as the text is gone
+-- through (`TraceNameLemmas`); its laws (`OneTrace`) and its rows (`OfTrace`, `OfTraceCase`) come as those of `stop`.
 
 pub mod OrdersLemmas
 pub mod EndLemmas
@@ -87,6 +89,11 @@ pub mod OneStop
 pub mod OfStop
 pub mod OneStopCase
 pub mod OfStopCase
+pub mod TraceNameLemmas
+pub mod TraceLemmas
+pub mod OneTrace
+pub mod OfTrace
+pub mod OfTraceCase
 pub mod ExampleLemmas
 pub mod ExampleSums
 pub mod OfExample

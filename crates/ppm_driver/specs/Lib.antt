@@ -32,6 +32,11 @@ pub mod Stops
 pub mod StopRows
 pub mod CaseStops
 pub mod CaseStopRows
+pub mod TraceNames
+pub mod Traces
+pub mod TraceRows
+pub mod CaseTraces
+pub mod CaseTraceRows
 pub mod Legs
 pub mod LegsAsCode
 pub mod CompleteLegsAsCode

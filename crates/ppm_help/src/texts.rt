@@ -32,6 +32,7 @@ pub(crate) fn purpose_of(command: &str) -> &'static str {
         "resume" => "fresh processors go on from a saved text, under a plan of faults",
         "sweep" => "whether a replay comes to one end wherever one fault or two are put into it",
         "ram" => "compiles a RAM, and threads run its capsules under a plan of faults",
+        "trace" => "compiles a source, and tells what processors do along a schedule, act by act",
         _ => NO_WORDS,
     }
 }
@@ -51,6 +52,7 @@ pub(crate) fn example_of(command: &str) -> &'static str {
         "resume" => "--faults 0@5s,1@9h < sum.saved",
         "sweep" => "--processors 2 --faults 2 --runs 3 < examples/sum.ppm",
         "ram" => "--processors 2 --faults 0@5s,0@90h < examples/ram/sum.ram",
+        "trace" => { "--processors 3 --only marks --schedule '0*200,1*30,1!h' < examples/sum.ppm" }
         _ => NO_WORDS,
     }
 }
@@ -70,12 +72,13 @@ pub(crate) fn meaning_of(command: &str, option: &str) -> &'static str {
         "count" => "faults that are drawn",
         "seed" => seed_of(command),
         "faults" => faults_of(command),
-        "from" => "the first act before which a fault is put",
-        "acts" => "acts from there on before which one is put",
+        "from" => from_of(command),
+        "acts" => acts_of(command),
         "runs" => "acts of these that are drawn; with 0 all are taken",
         "schedule" => "as 0*9,1>0,1!h: acts, a victim, a hard fault",
         "takeover" => takeover_of(command),
         "idle" => "one that rests makes no more acts, or sleeps",
+        "only" => "all acts, those that end a row, or those with a mark",
         "input" => "what is read; the code of a case runs, sound or not",
         _ => NO_WORDS,
     }
@@ -113,6 +116,22 @@ fn takeover_of(command: &str) -> &'static str {
     match command {
         "sweep" => "under which takeovers there are runs",
         _ => "what others take over of a processor that stopped",
+    }
+}
+
+/// What the first act of a command is.
+fn from_of(command: &str) -> &'static str {
+    match command {
+        "trace" => "acts that are made before the first one that is told",
+        _ => "the first act before which a fault is put",
+    }
+}
+
+/// What the acts of a command are.
+fn acts_of(command: &str) -> &'static str {
+    match command {
+        "trace" => "acts that are told, at most",
+        _ => "acts from there on before which one is put",
     }
 }
 

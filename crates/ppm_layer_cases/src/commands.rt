@@ -2,7 +2,8 @@
 use crate::said::Said;
 use ppm_cells::Takeover;
 use ppm_cli::{
-    Command, ReplayOptions, RunOptions, StopOptions, SweepOptions, SweptTakeovers, read_words,
+    Command, ReplayOptions, RunOptions, StopOptions, SweepOptions, SweptTakeovers, TraceOptions,
+    TracedLines, read_words,
 };
 use ppm_sheets::Fault;
 use ppm_words::Idle;
@@ -22,6 +23,15 @@ fn swept_word(takeover: SweptTakeovers) -> &'static str {
         SweptTakeovers::ByPlaces => "place",
         SweptTakeovers::ByEntries => "entry",
         SweptTakeovers::Both => "both",
+    }
+}
+
+/// The word of the lines of a trace.
+fn lines_word(lines: TracedLines) -> &'static str {
+    match lines {
+        TracedLines::Turns => "turns",
+        TracedLines::Rows => "rows",
+        TracedLines::Marks => "marks",
     }
 }
 
@@ -90,6 +100,16 @@ fn sweep_line(alloc: Global, name: &str, it: &SweepOptions) -> Result<String, Fa
     Ok(line)
 }
 
+/// The line of a command with the options of `trace`.
+fn trace_line(alloc: Global, name: &str, it: &TraceOptions) -> Result<String, Fault> {
+    let (takeover, only) = (takeover_word(it.takeover), lines_word(it.only));
+    let line = format!(in alloc;
+        "{name} processors {} from {} acts {} room {} slots {} takeover {takeover} only {only}",
+        it.processors, it.from, it.acts, it.room, it.slots
+    )?;
+    Ok(line)
+}
+
 /// The line of a command: its name and its options, the plan or the schedule last.
 fn line_of(alloc: Global, command: &Command) -> Result<Vec<u8>, Fault> {
     let mut plan: &[u8] = b"";
@@ -149,6 +169,16 @@ fn line_of(alloc: Global, command: &Command) -> Result<Vec<u8>, Fault> {
             front = " schedule=";
             plan = schedule.as_slice();
             sweep_line(alloc, "sweep of a case", it)?
+        }
+        Command::Trace(it, schedule) => {
+            front = " schedule=";
+            plan = schedule.as_slice();
+            trace_line(alloc, "trace", it)?
+        }
+        Command::TraceCase(it, schedule) => {
+            front = " schedule=";
+            plan = schedule.as_slice();
+            trace_line(alloc, "trace of a case", it)?
         }
         Command::Resume(it, faults) => {
             front = " faults=";

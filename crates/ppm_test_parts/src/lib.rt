@@ -18,6 +18,8 @@ mod join;
 #[cfg(test)]
 mod layout;
 #[cfg(test)]
+mod naming;
+#[cfg(test)]
 mod pieces;
 #[cfg(test)]
 mod ports;

@@ -27,12 +27,14 @@ use Rattle.ppm_driver.specs.CaseReplays.{TextHas as ReplayCaseTextHas}
 use Rattle.ppm_driver.specs.CaseRuns.{TextHas as RunCaseTextHas}
 use Rattle.ppm_driver.specs.CaseStops.{TextReads as StopCaseTextReads}
 use Rattle.ppm_driver.specs.CaseSweeps.{TextHas as SweepCaseTextHas}
+use Rattle.ppm_driver.specs.CaseTraces.{TextHas as TraceCaseTextHas}
 use Rattle.ppm_driver.specs.Examples.{ExampleMay, ExampleTells}
 use Rattle.ppm_driver.specs.RamRuns.{TextHas as RamTextHas}
 use Rattle.ppm_driver.specs.Replays.{TextHas as ReplayTextHas}
 use Rattle.ppm_driver.specs.Resumes.{TextHas as ResumeTextHas}
 use Rattle.ppm_driver.specs.Stops.{TextReads as StopTextReads}
 use Rattle.ppm_driver.specs.Sweeps.{TextHas as SweepTextHas}
+use Rattle.ppm_driver.specs.Traces.{TextHas as TraceTextHas}
 use Rattle.ppm_driver.specs.Runs.{TextHas as RunTextHas}
 use Rattle.ppm_loading.proofs.PlannedLemmas as planned
 use Rattle.ppm_driver.proofs.ResumeLemmas.{untold_source}
@@ -66,6 +68,10 @@ memory_before (Some (commands.Sweep options schedule)) o h =
     planned.memory_before schedule_form schedule options.processors (SweepTextHas options) text_limit o.source h
 memory_before (Some (commands.SweepCase options schedule)) o h =
     planned.memory_before schedule_form schedule options.processors (SweepCaseTextHas options) case_limit o.source h
+memory_before (Some (commands.Trace options schedule)) o h =
+    planned.memory_before schedule_form schedule options.processors (TraceTextHas options) text_limit o.source h
+memory_before (Some (commands.TraceCase options schedule)) o h =
+    planned.memory_before schedule_form schedule options.processors (TraceCaseTextHas options) case_limit o.source h
 memory_before (Some (commands.Ram options plan)) o h =
     planned.memory_before plan_form plan options.processors (RamTextHas options options.processors o.told_before o.told_now) ram_limit o.source h
 memory_before (Some (commands.Example options)) o h = (h, tt)
@@ -109,5 +115,7 @@ told_nothing (Some (commands.ReplayCase options schedule)) o answer lists = refl
 told_nothing (Some (commands.StopCase options schedule)) o answer lists = refl
 told_nothing (Some (commands.Sweep options schedule)) o answer lists = refl
 told_nothing (Some (commands.SweepCase options schedule)) o answer lists = refl
+told_nothing (Some (commands.Trace options schedule)) o answer lists = refl
+told_nothing (Some (commands.TraceCase options schedule)) o answer lists = refl
 told_nothing (Some (commands.Ram options plan)) o answer lists = untold options.processors _ _ answer lists
 told_nothing (Some (commands.Example options)) o answer lists = untold options.processors _ _ answer lists

@@ -41,6 +41,7 @@ use Rattle.ppm_driver.specs.CaseReplays.{TextHas as ReplayCaseTextHas}
 use Rattle.ppm_driver.specs.CaseRuns.{TextHas as RunCaseTextHas}
 use Rattle.ppm_driver.specs.CaseStops.{TextReads as StopCaseTextReads}
 use Rattle.ppm_driver.specs.CaseSweeps.{TextHas as SweepCaseTextHas}
+use Rattle.ppm_driver.specs.CaseTraces.{TextHas as TraceCaseTextHas}
 use Rattle.ppm_driver.specs.RamRuns.{TextHas as RamTextHas}
 use Rattle.ppm_driver.specs.Replays.{TextHas as ReplayTextHas}
 use Rattle.ppm_driver.specs.Resumes.{TextHas as ResumeTextHas}
@@ -48,6 +49,7 @@ use Rattle.ppm_driver.specs.ResumeRows.{RefusesPlan as RefusesResumed}
 use Rattle.ppm_driver.specs.Runs.{TextHas as RunTextHas}
 use Rattle.ppm_driver.specs.Stops.{TextReads as StopTextReads}
 use Rattle.ppm_driver.specs.Sweeps.{TextHas as SweepTextHas}
+use Rattle.ppm_driver.specs.Traces.{TextHas as TraceTextHas}
 use Rattle.ppm_driver.proofs.OfStop as of_stop
 use Rattle.ppm_driver.proofs.OfExample as of_example
 use Rattle.ppm_driver.proofs.OfReplay as of_replay
@@ -65,6 +67,7 @@ use Rattle.ppm_top.specs.Rows.{ReportsFaults, ProgramRows}
 use Rattle.ppm_top.proofs.OfCases as of_cases
 use Rattle.ppm_top.proofs.OfRams as of_rams
 use Rattle.ppm_top.proofs.OfSweeps as of_sweeps
+use Rattle.ppm_top.proofs.OfTraces as of_traces
 use Rattle.ppm_top.proofs.Refusing.{refuses_words}
 use Rattle.ppm_answers.proofs.Delivered as delivered
 use Rattle.ppm_answers.proofs.Judged as judged
@@ -111,6 +114,10 @@ command_reports o (Some (commands.Sweep options schedule)) =
     planned_reports schedule_form schedule options.processors (SweepTextHas options) text_limit o
 command_reports o (Some (commands.SweepCase options schedule)) =
     planned_reports schedule_form schedule options.processors (SweepCaseTextHas options) case_limit o
+command_reports o (Some (commands.Trace options schedule)) =
+    planned_reports schedule_form schedule options.processors (TraceTextHas options) text_limit o
+command_reports o (Some (commands.TraceCase options schedule)) =
+    planned_reports schedule_form schedule options.processors (TraceCaseTextHas options) case_limit o
 command_reports o (Some (commands.Ram options plan)) =
     planned_reports plan_form plan options.processors (RamTextHas options options.processors o.told_before o.told_now) ram_limit o
 command_reports o (Some (commands.Serial options)) = judging_reports text_limit (SerialHas options.turns) o
@@ -189,6 +196,8 @@ program_rows laws words o status a = record {
   replay_case = of_cases.replays_case laws words o status a;
   sweep = of_sweeps.sweeps laws words o status a;
   sweep_case = of_sweeps.sweeps_case laws words o status a;
+  trace = of_traces.traces laws words o status a;
+  trace_case = of_traces.traces_case laws words o status a;
   ram = of_rams.runs_ram laws words o status a;
   resume = λ options plan e. (
     is_in_range words (commands.Resume options plan) e,

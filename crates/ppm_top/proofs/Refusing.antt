@@ -31,6 +31,7 @@ use Rattle.ppm_top.specs.Rows.{HasRefusedPlan, OfPlan, OfSchedule, OfResume, Ref
 use Rattle.ppm_top.proofs.OfCases as of_cases
 use Rattle.ppm_top.proofs.OfRams as of_rams
 use Rattle.ppm_top.proofs.OfSweeps as of_sweeps
+use Rattle.ppm_top.proofs.OfTraces as of_traces
 
 -- an answer of status 3 comes without a command, or with one that names a plan or a schedule
 data IsPlanned (command : Option Command) : Type 0 where
@@ -50,6 +51,8 @@ no_command (Some (commands.Stop options schedule)) o answer h e = inr (BySchedul
 no_command (Some (commands.StopCase options schedule)) o answer h e = inr (BySchedule (commands.StopCase options schedule) _ refl refl)
 no_command (Some (commands.Sweep options schedule)) o answer h e = inr (BySchedule (commands.Sweep options schedule) _ refl refl)
 no_command (Some (commands.SweepCase options schedule)) o answer h e = inr (BySchedule (commands.SweepCase options schedule) _ refl refl)
+no_command (Some (commands.Trace options schedule)) o answer h e = inr (BySchedule (commands.Trace options schedule) _ refl refl)
+no_command (Some (commands.TraceCase options schedule)) o answer h e = inr (BySchedule (commands.TraceCase options schedule) _ refl refl)
 no_command (Some (commands.Ram options plan)) o answer h e = inr (ByPlan (commands.Ram options plan) _ refl refl)
 no_command (Some (commands.Serial options)) o answers.WordsRefused h e = absurd h.2
 no_command (Some commands.Code) o answers.WordsRefused h e = absurd h.2
@@ -127,6 +130,12 @@ module _ (laws : ProgramLaws) (words : List (List ℕ)) (o : Outside) (status : 
     schedule_refused (commands.SweepCase options schedule) orders c is =
         subst (λ (x : Orders). RefusesPlan schedule_form x.bytes x.processors (ports_of o)) (some_is is)
         (of_sweeps.case_sweep_refused laws words o status a options schedule c refused)
+    schedule_refused (commands.Trace options schedule) orders c is =
+        subst (λ (x : Orders). RefusesPlan schedule_form x.bytes x.processors (ports_of o)) (some_is is)
+        (of_traces.trace_refused laws words o status a options schedule c refused)
+    schedule_refused (commands.TraceCase options schedule) orders c is =
+        subst (λ (x : Orders). RefusesPlan schedule_form x.bytes x.processors (ports_of o)) (some_is is)
+        (of_traces.case_trace_refused laws words o status a options schedule c refused)
     schedule_refused command orders c is = cc
 
     -- whichever plan or schedule the words name

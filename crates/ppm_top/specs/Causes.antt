@@ -18,6 +18,7 @@ use Rattle.ppm_driver.specs.CaseReplays.{ReplayCaseMay}
 use Rattle.ppm_driver.specs.CaseRuns.{RunCaseMay, RunCaseTells}
 use Rattle.ppm_driver.specs.CaseStops.{StopCaseMay}
 use Rattle.ppm_driver.specs.CaseSweeps.{SweepCaseMay}
+use Rattle.ppm_driver.specs.CaseTraces.{TraceCaseMay}
 use Rattle.ppm_driver.specs.Examples.{ExampleMay, ExampleTells}
 use Rattle.ppm_driver.specs.RamRuns.{RamMay, RamTells}
 use Rattle.ppm_driver.specs.Replays.{ReplayMay}
@@ -25,6 +26,7 @@ use Rattle.ppm_driver.specs.Resumes.{ResumeMay, ResumeTells}
 use Rattle.ppm_driver.specs.Runs.{RunMay, RunTells}
 use Rattle.ppm_driver.specs.Stops.{StopMay}
 use Rattle.ppm_driver.specs.Sweeps.{SweepMay}
+use Rattle.ppm_driver.specs.Traces.{TraceMay}
 
 -- the answers where the words give no command
 abbrev pub NoCommandMay : Outside → Answer → Type 0
@@ -50,6 +52,8 @@ CommandMay (Some (commands.ReplayCase options schedule)) o answer = ReplayCaseMa
 CommandMay (Some (commands.StopCase options schedule)) o answer = StopCaseMay options schedule o.source answer
 CommandMay (Some (commands.Sweep options schedule)) o answer = SweepMay options schedule o.source answer
 CommandMay (Some (commands.SweepCase options schedule)) o answer = SweepCaseMay options schedule o.source answer
+CommandMay (Some (commands.Trace options schedule)) o answer = TraceMay options schedule o.source answer
+CommandMay (Some (commands.TraceCase options schedule)) o answer = TraceCaseMay options schedule o.source answer
 CommandMay (Some (commands.Ram options plan)) o answer = RamMay options options.processors plan o.told_before o.told_now o.source answer
 CommandMay (Some (commands.Example options)) o answer = IsUnread o.source × ExampleMay options o.told_before o.told_now answer
 
@@ -72,6 +76,8 @@ CommandTells (Some (commands.ReplayCase options schedule)) o = TellsNothing
 CommandTells (Some (commands.StopCase options schedule)) o = TellsNothing
 CommandTells (Some (commands.Sweep options schedule)) o = TellsNothing
 CommandTells (Some (commands.SweepCase options schedule)) o = TellsNothing
+CommandTells (Some (commands.Trace options schedule)) o = TellsNothing
+CommandTells (Some (commands.TraceCase options schedule)) o = TellsNothing
 CommandTells (Some (commands.Ram options plan)) o = RamTells options options.processors plan o.source
 CommandTells (Some (commands.Example options)) o = ExampleTells options
 

@@ -12,6 +12,7 @@ use Rattle.ppm_driver.specs.CaseReplays.{HaveOneCaseAnswer}
 use Rattle.ppm_driver.specs.CaseRuns.{CaseAnswersAreOne, CaseFrontsDecide}
 use Rattle.ppm_driver.specs.CaseStops.{HaveOneStopAnswer}
 use Rattle.ppm_driver.specs.CaseSweeps.{HaveOneCaseAnswer as SweptCasesHaveOneAnswer}
+use Rattle.ppm_driver.specs.CaseTraces.{HaveOneTraceAnswer}
 use Rattle.ppm_driver.specs.CodeReplays.{ReplaysAreAsCode}
 use Rattle.ppm_driver.specs.CodeResumes.{StopsOfCodeLeaveStates}
 use Rattle.ppm_driver.specs.CodeRuns.{AnswersAreAsCode}
@@ -28,6 +29,7 @@ use Rattle.ppm_driver.specs.Runs.{AnswersAreOne, FrontsDecideAnswers}
 use Rattle.ppm_driver.specs.Stops.{HaveOneAnswer as StopsHaveOneAnswer}
 use Rattle.ppm_driver.specs.SweepRows.{SweepsAreAsCode}
 use Rattle.ppm_driver.specs.Sweeps.{HaveOneAnswer as SweepsHaveOneAnswer}
+use Rattle.ppm_driver.specs.Traces.{HaveOneAnswer as TracesHaveOneAnswer}
 
 -- what the crates of the commands show of every text
 pub record ProgramLaws : Type 0 where
@@ -60,6 +62,8 @@ pub record ProgramLaws : Type 0 where
   pub sweeps : SweepsHaveOneAnswer
   pub swept_cases : SweptCasesHaveOneAnswer
   pub swept_codes : SweepsAreAsCode
+  pub traces : TracesHaveOneAnswer
+  pub traced_cases : HaveOneTraceAnswer
   pub coded : ProgramsAreAsCode
   pub ram_runs : AnswersAreAsRams
   pub ram_answers : RamAnswersAreOne

@@ -23,4 +23,6 @@ schedule_of (commands.Stop options schedule) = Some (record { processors = optio
 schedule_of (commands.StopCase options schedule) = Some (record { processors = options.processors; bytes = schedule })
 schedule_of (commands.Sweep options schedule) = Some (record { processors = options.processors; bytes = schedule })
 schedule_of (commands.SweepCase options schedule) = Some (record { processors = options.processors; bytes = schedule })
+schedule_of (commands.Trace options schedule) = Some (record { processors = options.processors; bytes = schedule })
+schedule_of (commands.TraceCase options schedule) = Some (record { processors = options.processors; bytes = schedule })
 schedule_of _ = None

@@ -18,7 +18,8 @@ use Rattle.ppm_cli.specs.declared.resume.ResumeOptions.{ResumeOptions}
 use Rattle.ppm_cli.specs.declared.run.RunOptions.{RunOptions}
 use Rattle.ppm_cli.specs.declared.stop.StopOptions.{StopOptions}
 use Rattle.ppm_cli.specs.declared.sweep.SweepOptions.{SweepOptions}
-use Rattle.ppm_cli.specs.Words.{command_of, AreReplayed, AreResumed, AreRun, AreSelf, AreStopped, AreSwept, IsLimit}
+use Rattle.ppm_cli.specs.declared.trace.TraceOptions.{TraceOptions}
+use Rattle.ppm_cli.specs.Words.{command_of, AreReplayed, AreResumed, AreRun, AreSelf, AreStopped, AreSwept, AreTraced, IsLimit}
 use Rattle.ppm_commands.specs.Case.{CaseRows}
 use Rattle.ppm_commands.specs.Check.{CheckRows}
 use Rattle.ppm_commands.specs.Code.{CodeRows}
@@ -29,6 +30,7 @@ use Rattle.ppm_loading.specs.MachineRows.{RefusesPlan}
 use Rattle.ppm_driver.specs.CaseReplayRows.{ReplayCaseRows}
 use Rattle.ppm_driver.specs.CaseRows.{RunCaseRows}
 use Rattle.ppm_driver.specs.CaseSweepRows.{SweepCaseRows}
+use Rattle.ppm_driver.specs.CaseTraceRows.{TraceCaseRows}
 use Rattle.ppm_driver.specs.ExampleRows.{ExampleRows}
 use Rattle.ppm_driver.specs.RamRows.{RamRows}
 use Rattle.ppm_driver.specs.ReplayRows.{ReplayRows}
@@ -41,6 +43,7 @@ use Rattle.ppm_driver.specs.CaseStopRows.{HasRead as HasCaseRead, StopCaseRows}
 use Rattle.ppm_driver.specs.CodeResumes.{IsTextLeftByCode}
 use Rattle.ppm_driver.specs.StopRows.{HasRead, StopRows}
 use Rattle.ppm_driver.specs.SweepRows.{SweepRows}
+use Rattle.ppm_driver.specs.TraceRows.{TraceRows}
 use Rattle.ppm_plan.specs.Forms.{plan_form, schedule_form}
 use Rattle.ppm_top.specs.Orders.{Orders, plan_of, schedule_of}
 
@@ -100,6 +103,16 @@ SweepsByWords words o status = (options : SweepOptions) (schedule : List ℕ) �
 abbrev pub SweepsCaseByWords : List (List ℕ) → Outside → Status → Type 0
 SweepsCaseByWords words o status = (options : SweepOptions) (schedule : List ℕ) → command_of words ≡ Some (commands.SweepCase options schedule)
     → AreSwept options × SweepCaseRows options schedule (ports_of o) status
+
+-- those of `trace` where they ask for that, with these options, which are in their ranges, and this schedule
+abbrev pub TracesByWords : List (List ℕ) → Outside → Status → Type 0
+TracesByWords words o status = (options : TraceOptions) (schedule : List ℕ) → command_of words ≡ Some (commands.Trace options schedule)
+    → AreTraced options × TraceRows options schedule (ports_of o) status
+
+-- those of `trace` of a case where they ask for that, with these options, which are in their ranges, and this schedule
+abbrev pub TracesCaseByWords : List (List ℕ) → Outside → Status → Type 0
+TracesCaseByWords words o status = (options : TraceOptions) (schedule : List ℕ) → command_of words ≡ Some (commands.TraceCase options schedule)
+    → AreTraced options × TraceCaseRows options schedule (ports_of o) status
 
 -- those of `ram` where they ask for that, with these options, which are in their ranges, and this plan
 abbrev pub RunsRamByWords : List (List ℕ) → Outside → Status → Type 0
@@ -192,6 +205,8 @@ pub record ProgramRows (words : List (List ℕ)) (o : Outside) (status : Status)
   pub replay_case : ReplaysCaseByWords words o status
   pub sweep : SweepsByWords words o status
   pub sweep_case : SweepsCaseByWords words o status
+  pub trace : TracesByWords words o status
+  pub trace_case : TracesCaseByWords words o status
   pub ram : RunsRamByWords words o status
   pub resume : ResumesByWords words o status
   pub stop : StopsByWords words o status

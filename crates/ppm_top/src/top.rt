@@ -16,6 +16,7 @@ use ppm_commands::{
 use ppm_driver::{
     ram_command, replay_case_command, replay_command, resume_command, run_case_command,
     run_command, self_command, stop_case_command, stop_command, sweep_case_command, sweep_command,
+    trace_case_command, trace_command,
 };
 use ppm_ports::{Sink, Source, Watch};
 use ppm_words::NoMemory;
@@ -158,6 +159,22 @@ fn answer_words<R: Threads + Wait + Sync, S: Source, K: Sink, E: Sink, W: Watch>
             alloc,
             options,
             case_base.as_slice(),
+            source,
+            out,
+            err,
+        ),
+        Ok(Some(Command::Trace(options, told))) => trace_command(
+            alloc,
+            options,
+            told.as_slice(),
+            source,
+            out,
+            err,
+        ),
+        Ok(Some(Command::TraceCase(options, case_told))) => trace_case_command(
+            alloc,
+            options,
+            case_told.as_slice(),
             source,
             out,
             err,

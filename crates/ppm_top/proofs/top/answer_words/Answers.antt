@@ -97,6 +97,18 @@ returns-in-Ok-Some-SweepCase-clause-answers g c = by_ports (map string_bytes c.a
     (cc (c.in-Ok-Some-SweepCase.ensures.value, c.in-Ok-Some-SweepCase.field-0-is, c.in-Ok-Some-SweepCase.field-0-0-is)) refl refl
     c.sweep_case_command.ensures.delivers
 
+-- the words ask for a trace, which was answered
+pub returns-in-Ok-Some-Trace-clause-answers : goal.returns-in-Ok-Some-Trace-clause-answers
+returns-in-Ok-Some-Trace-clause-answers g c = by_ports (map string_bytes c.args.words.now) _ _ (Some (commands.Trace _ _))
+    (cc (c.in-Ok-Some-Trace.ensures.value, c.in-Ok-Some-Trace.field-0-is, c.in-Ok-Some-Trace.field-0-0-is)) refl refl
+    c.trace_command.ensures.delivers
+
+-- the words ask for a trace of a case, which was answered
+pub returns-in-Ok-Some-TraceCase-clause-answers : goal.returns-in-Ok-Some-TraceCase-clause-answers
+returns-in-Ok-Some-TraceCase-clause-answers g c = by_ports (map string_bytes c.args.words.now) _ _ (Some (commands.TraceCase _ _))
+    (cc (c.in-Ok-Some-TraceCase.ensures.value, c.in-Ok-Some-TraceCase.field-0-is, c.in-Ok-Some-TraceCase.field-0-0-is)) refl refl
+    c.trace_case_command.ensures.delivers
+
 -- the words ask for a run of a RAM, which was answered
 pub returns-in-Ok-Some-Ram-clause-answers : goal.returns-in-Ok-Some-Ram-clause-answers
 returns-in-Ok-Some-Ram-clause-answers g c = by_command (map string_bytes c.args.words.now) _ _ (Some (commands.Ram _ _))

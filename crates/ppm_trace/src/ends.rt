@@ -1,0 +1,86 @@
+//! The head and the tail of a trace.
+ghost use Rattle.std.specs.Prelude.{◌≡◌, ◌++◌, ◌∷◌, [], OnOk};
+ghost use Rattle.ppm_trace.specs.Trace.{head_text, named, tail_text, takeover_word};
+
+use crate::counts::Counts;
+use ppm_cells::{Shape, Takeover};
+use ppm_naming::{WordKind, push_value};
+use ppm_pieces::push_number;
+use ppm_words::NoMemory;
+use std::alloc::Global;
+
+/// Appends a word.
+fn push_word(text: &mut Vec<u8>, word: &str) -> Result<(), NoMemory>
+    ensures { OnOk result (text.new.items ≡ text.old.items ++ word.now) }
+{
+    text.extend_from_slice(word.as_bytes())?;
+    Ok(())
+}
+
+/// Appends a number with its name.
+fn push_named(alloc: Global, text: &mut Vec<u8>, name: &str, number: u64) -> Result<(), NoMemory>
+    ensures { OnOk result (text.new.items ≡ text.old.items ++ named name.now number) }
+{
+    push_word(text, name)?;
+    push_number(alloc, text, number)?;
+    Ok(())
+}
+
+/// How a takeover is called.
+fn takeover_word(takeover: Takeover) -> &'static str
+    ensures { result.now ≡ takeover_word takeover }
+{
+    match takeover {
+        Takeover::ByPlaces => "place",
+        Takeover::ByEntries => "entry",
+    }
+}
+
+/// Appends the head of a trace from an act on.
+pub(crate) fn push_head(
+    alloc: Global,
+    text: &mut Vec<u8>,
+    shape: &Shape,
+    from: u64,
+) -> Result<(), NoMemory>
+    ensures { OnOk result (text.new.items ≡ text.old.items ++ head_text shape.now from) }
+{
+    push_word(text, "ppm trace 1")?;
+    text.push(b'\n')?;
+    push_named(alloc, text, "processors ", u64::from(shape.processors))?;
+    push_named(alloc, text, " room ", u64::from(shape.room))?;
+    push_named(alloc, text, " slots ", u64::from(shape.slots))?;
+    push_word(text, " takeover ")?;
+    push_word(text, takeover_word(shape.takeover))?;
+    push_named(alloc, text, " from ", from)?;
+    text.push(b'\n')?;
+    push_word(
+        text,
+        "act    who at row    of               step  word               value",
+    )?;
+    text.push(b'\n')?;
+    Ok(())
+}
+
+/// Appends the tail of a trace.
+pub(crate) fn push_tail(
+    alloc: Global,
+    text: &mut Vec<u8>,
+    counts: Counts,
+    finish: u64,
+) -> Result<(), NoMemory>
+    ensures { OnOk result (text.new.items ≡ text.old.items ++ tail_text counts finish) }
+{
+    push_named(alloc, text, "acts ", counts.acts)?;
+    push_named(alloc, text, " forks ", counts.forks)?;
+    push_named(alloc, text, " takes ", counts.takes)?;
+    push_named(alloc, text, " tries ", counts.tries)?;
+    push_named(alloc, text, " won ", counts.won)?;
+    push_named(alloc, text, " soft ", counts.soft)?;
+    push_named(alloc, text, " hard ", counts.hard)?;
+    push_named(alloc, text, " takeovers ", counts.takeovers)?;
+    push_word(text, " finish ")?;
+    push_value(alloc, text, WordKind::Finish, finish)?;
+    text.push(b'\n')?;
+    Ok(())
+}
