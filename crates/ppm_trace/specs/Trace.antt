@@ -52,13 +52,16 @@ takeover_word ByEntries = codes "entry"
 abbrev pub columns : List ℕ
 columns = codes "act    who at row    of               step  word               value"
 
--- the form, the sizes of the machine, and from which act on its run is told
+-- the sizes of the machine
+abbrev pub sizes_text : Shape → List ℕ
+sizes_text s =
+    named (codes "processors ") s.processors ++ named (codes " room ") s.room ++ named (codes " slots ") s.slots
+    ++ codes " takeover " ++ takeover_word s.takeover
+
+-- the form, these sizes, and from which act on the run is told
 abbrev pub head_text : Shape → (from : ℕ) → List ℕ
 head_text s from =
-    codes "ppm trace 1" ++ 10 ∷ []
-    ++ named (codes "processors ") s.processors ++ named (codes " room ") s.room ++ named (codes " slots ") s.slots
-    ++ codes " takeover " ++ takeover_word s.takeover ++ named (codes " from ") from ++ 10 ∷ []
-    ++ columns ++ 10 ∷ []
+    codes "ppm trace 1" ++ 10 ∷ [] ++ sizes_text s ++ named (codes " from ") from ++ 10 ∷ [] ++ columns ++ 10 ∷ []
 
 -- what was counted, and what the finish word says
 abbrev pub tail_text : Counts → (finish : ℕ) → List ℕ

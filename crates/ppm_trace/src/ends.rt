@@ -1,6 +1,7 @@
 //! The head and the tail of a trace.
 ghost use Rattle.std.specs.Prelude.{◌≡◌, ◌++◌, ◌∷◌, [], OnOk};
-ghost use Rattle.ppm_trace.specs.Trace.{head_text, named, tail_text, takeover_word};
+ghost use Rattle.ppm_trace.specs.Trace.{columns, head_text, named, sizes_text, tail_text};
+ghost use Rattle.ppm_trace.specs.Trace.{takeover_word};
 
 use crate::counts::Counts;
 use ppm_cells::{Shape, Takeover};
@@ -36,6 +37,26 @@ fn takeover_word(takeover: Takeover) -> &'static str
     }
 }
 
+/// Appends the sizes of a machine.
+fn push_sizes(alloc: Global, text: &mut Vec<u8>, shape: &Shape) -> Result<(), NoMemory>
+    ensures { OnOk result (text.new.items ≡ text.old.items ++ sizes_text shape.now) }
+{
+    push_named(alloc, text, "processors ", u64::from(shape.processors))?;
+    push_named(alloc, text, " room ", u64::from(shape.room))?;
+    push_named(alloc, text, " slots ", u64::from(shape.slots))?;
+    push_word(text, " takeover ")?;
+    push_word(text, takeover_word(shape.takeover))?;
+    Ok(())
+}
+
+/// Appends the names of the columns.
+fn push_columns(text: &mut Vec<u8>) -> Result<(), NoMemory>
+    ensures { OnOk result (text.new.items ≡ text.old.items ++ columns) }
+{
+    let columns = "act    who at row    of               step  word               value";
+    push_word(text, columns)
+}
+
 /// Appends the head of a trace from an act on.
 pub(crate) fn push_head(
     alloc: Global,
@@ -47,17 +68,10 @@ pub(crate) fn push_head(
 {
     push_word(text, "ppm trace 1")?;
     text.push(b'\n')?;
-    push_named(alloc, text, "processors ", u64::from(shape.processors))?;
-    push_named(alloc, text, " room ", u64::from(shape.room))?;
-    push_named(alloc, text, " slots ", u64::from(shape.slots))?;
-    push_word(text, " takeover ")?;
-    push_word(text, takeover_word(shape.takeover))?;
+    push_sizes(alloc, text, shape)?;
     push_named(alloc, text, " from ", from)?;
     text.push(b'\n')?;
-    push_word(
-        text,
-        "act    who at row    of               step  word               value",
-    )?;
+    push_columns(text)?;
     text.push(b'\n')?;
     Ok(())
 }

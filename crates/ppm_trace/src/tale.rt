@@ -1,11 +1,12 @@
 //! What is told of a turn.
-ghost use Rattle.std.specs.Prelude.{◌≡◌, ◌<◌, ◌≤◌, ◌+◌, ◌^◌, ◌++◌, [], ◌∷◌, OnOk, nat_le};
+ghost use Rattle.std.specs.Prelude.{◌≡◌, ◌<◌, ◌≤◌, ◌+◌, ◌^◌, ◌++◌, [], ◌∷◌, OnOk};
 ghost use Rattle.ppm_core.specs.Machine.{seen};
 ghost use Rattle.ppm_lines.specs.Line.{line_text};
+ghost use Rattle.ppm_marks.specs.Marks.{marks_of};
+ghost use Rattle.ppm_marks.specs.Shown.{is_shown as is_shown_by};
 ghost use Rattle.ppm_step.specs.Among.{IsTurnAmong};
-ghost use Rattle.ppm_trace.specs.Counts.{total};
+ghost use Rattle.ppm_trace.specs.Counts.{counted, total};
 ghost use Rattle.ppm_trace.specs.Telling.{HasTold};
-ghost use Rattle.ppm_trace.specs.Trace.{shown_line, told_counts, is_told};
 
 use crate::counts::Counts;
 use ppm_core::Machine;
@@ -33,7 +34,8 @@ pub struct Tale {
 /// Whether a turn is shown that is told.
 fn is_shown(machine: &Machine, only: Only, turn: Turn) -> bool
     requires { IsTurnAmong (seen machine.now).shape.processors turn }
-    ensures { result ≡ is_shown (seen machine.now).shape (seen machine.now).code only (seen machine.now).state turn }
+    ensures { result
+        ≡ is_shown_by (seen machine.now).shape (seen machine.now).code only (seen machine.now).state turn }
 {
     let _ = machine.array_lengths();
     let shape = machine.shape();
