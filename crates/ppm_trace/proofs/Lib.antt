@@ -4,4 +4,3 @@
 pub mod AlongLemmas
 pub mod TellingLemmas
 pub mod OneLemmas
-pub mod ToldLemmas

@@ -9,10 +9,13 @@
 
 mod counts;
 mod ends;
+mod events;
+mod form;
 mod laws;
 mod tale;
 mod telling;
 mod tracing;
 
 pub use laws::lines_follow_on;
-pub use tracing::trace;
+pub use form::Form;
+pub use tracing::{trace, trace_json};
