@@ -1,13 +1,17 @@
 -- What two lists of turns tell, one after the other.
-use Rattle.std.proofs.Common.{◌≡◌, ◌∙◌, List, [], ◌∷◌, ◌++◌, ℕ, refl, sym, ap}
+use Rattle.std.proofs.Common.{◌≡◌, ◌∙◌, Bool, true, false, ◌&&◌, if◌then◌else◌, List, [], ◌∷◌, ◌++◌, ℕ, refl, sym, ap}
 use Rattle.std.proofs.lemmas.List.{append-nil, append_assoc}
 use Rattle.ppm_core.specs.Situation.{Situation, run_on, turned}
 use Rattle.ppm_core.proofs.RunLemmas.{run_none, run_step}
+use Rattle.ppm_lines.specs.Line.{line_text}
+use Rattle.ppm_marks.specs.Shown.{is_shown}
+use Rattle.ppm_marks.specs.declared.shown.Only.{Only}
 use Rattle.ppm_naming.specs.declared.names.Names.{Names}
 use Rattle.ppm_step.specs.declared.turn.Turn.{Turn}
+use Rattle.ppm_trace.specs.Laws.{thinned_line}
 use Rattle.ppm_trace.specs.Telling.{HasTold}
 use Rattle.ppm_trace.specs.Json.{told_as}
-use Rattle.ppm_trace.specs.Trace.{along_turns, counts_along, told_counts}
+use Rattle.ppm_trace.specs.Trace.{along_turns, counts_along, is_told, shown_line, told_counts}
 use Rattle.ppm_trace.specs.declared.counts.Counts.{Counts}
 use Rattle.ppm_trace.specs.declared.tale.Tale.{Tale}
 use Rattle.ppm_trace.specs.declared.tale.Window.{Window}
@@ -43,3 +47,25 @@ module _ (names : Names) (window : Window) where
         counts = e.counts ∙ ap (λ n. counts_along window.from n (run_on m first) more) d.counts
             ∙ sym (counts_both window.from a.counts m first more);
       }
+
+-- what tells the same of each turn tells the same of all
+along_alike : (one two : Situation → Turn → List ℕ) → ((m : Situation) (turn : Turn) → one m turn ≡ two m turn)
+    → (m : Situation) (turns : List Turn) → along_turns one m turns ≡ along_turns two m turns
+along_alike one two same m [] = refl
+along_alike one two same m (turn ∷ turns) =
+    ap (λ line. line ++ along_turns one (turned m turn) turns) (same m turn)
+    ∙ ap (λ rest. two m turn ++ rest) (along_alike one two same (turned m turn) turns)
+
+-- a line that is told and shown
+thins : (told shows : Bool) (line : List ℕ) → (if told && shows then line else []) ≡ (if shows then (if told && true then line else []) else [])
+thins true true line = refl
+thins true false line = refl
+thins false true line = refl
+thins false false line = refl
+
+pub thinner : (names : Names) (only : Only) (from : ℕ) (m : Situation) (turns : List Turn)
+    → along_turns (shown_line names only from) m turns ≡ along_turns (thinned_line names only from) m turns
+thinner names only from =
+    along_alike (shown_line names only from) (thinned_line names only from)
+    (λ m turn. thins (is_told from m) (is_shown m.shape m.code only m.state turn)
+    (line_text names m.array_lengths m.shape m.code m.turns m.state turn))

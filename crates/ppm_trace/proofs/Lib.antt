@@ -4,3 +4,5 @@
 pub mod AlongLemmas
 pub mod TellingLemmas
 pub mod OneLemmas
+pub mod TextLemmas
+pub mod EventLemmas

@@ -1,11 +1,11 @@
 -- One act: it is told, and then made.
-use Rattle.std.proofs.Common.{◌≡◌, ◌∙◌, ◌==◌, ℕ, ◌+◌, ◌*◌, ◌-◌, ◌<◌, ◌≤◌, Bool, true, false, not, ◌&&◌, nat_lt, if◌then◌else◌, List, [], ◌∷◌, ◌++◌, None, ap, arith, refl, subst, sym}
-use Rattle.ppm_choice.specs.Course.{Course, InRound, Listed, behind_act, behind_all, is_made, is_open, loads_behind, processor_of, turn_of, turns_of}
+use Rattle.std.proofs.Common.{◌≡◌, ◌∙◌, ◌==◌, ℕ, ◌+◌, ◌-◌, ◌<◌, ◌≤◌, Bool, true, false, not, ◌&&◌, nat_lt, if◌then◌else◌, [], ◌∷◌, ◌++◌, None, ap, arith, refl, subst, sym}
+use Rattle.ppm_choice.specs.Course.{InRound, Listed, behind_act, behind_all, is_made, loads_behind, processor_of, turn_of, turns_of}
 use Rattle.ppm_core.specs.Acts.{is_done_at}
 use Rattle.ppm_core.specs.Situation.{Situation, finish_in, turned, run_on}
 use Rattle.ppm_core.proofs.RunLemmas.{run_none, run_step}
 use Rattle.ppm_following.proofs.ReadyLemmas.{ready_behind}
-use Rattle.ppm_following.specs.Following.{course, Does, IsReady}
+use Rattle.ppm_following.specs.Following.{course, Does}
 use Rattle.ppm_following.specs.declared.following.Way.{Way}
 use Rattle.ppm_naming.specs.declared.names.Names.{Names}
 use Rattle.ppm_plan.specs.declared.schedule_item.ScheduledAct.{ScheduledAct}
@@ -29,7 +29,7 @@ is_left left some = grind (arith, some)
 
 -- an act of the list that is made
 module _ (m : Situation) (way : Way) (act : ScheduledAct) (turn : Turn) (some : 0 < way.left)
-  (lives : is_done_at (stand_of m.state (processor_of act)) ≡ false) (turn_is : turn ≡ turn_of m.shape.processors (course m way) act) where
+    (lives : is_done_at (stand_of m.state (processor_of act)) ≡ false) (turn_is : turn ≡ turn_of m.shape.processors (course m way) act) where
   is_made_now : is_made m.shape m.code (course m way) (Listed act) ≡ true
   is_made_now = both_hold (nat_lt 0 way.left) (is_done_at (stand_of m.state (processor_of act))) (is_left way.left some) lives
 
@@ -86,9 +86,9 @@ module _ (processor : ℕ) (m : Situation) (way : Way) (none : finish_in m ≡ 0
   in_round names window a new d =
       let w = course m way in
       let turns : turns_of m.shape m.code w (InRound processor ∷ []) ≡ turns_of m.shape m.code w (Listed act ∷ [])
-          = ap (λ b. (if b then turn_of m.shape.processors w act ∷ [] else []) ++ []) as_listed in
+      = ap (λ b. (if b then turn_of m.shape.processors w act ∷ [] else []) ++ []) as_listed in
       let course_after : behind_all m.shape m.code w (InRound processor ∷ []) ≡ behind_all m.shape m.code w (Listed act ∷ [])
-          = ap (λ b. if b then behind_act m.shape m.code w act else w) as_listed in
+      = ap (λ b. if b then behind_act m.shape m.code w act else w) as_listed in
       record {
         does = record {
           machine = d.does.machine ∙ ap (run_on m) (sym turns);

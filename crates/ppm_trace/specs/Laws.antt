@@ -1,8 +1,9 @@
 -- Laws of traces.
-use Rattle.std.specs.Prelude.{◌≡◌, ℕ, List, ◌++◌}
+use Rattle.std.specs.Prelude.{◌≡◌, ℕ, if◌then◌else◌, List, [], ◌++◌}
 use Rattle.ppm_core.specs.Situation.{Situation, run_on}
-use Rattle.ppm_marks.specs.declared.mark.Mark.{Mark}
+use Rattle.ppm_marks.specs.Shown.{is_shown}
 use Rattle.ppm_marks.specs.declared.shown.Only.{Only}
+use Rattle.ppm_marks.specs.declared.shown.Only.TheVariants.{Turns}
 use Rattle.ppm_naming.specs.declared.names.Names.{Names}
 use Rattle.ppm_step.specs.declared.turn.Turn.{Turn}
 use Rattle.ppm_trace.specs.Trace.{along_turns, counts_along, shown_line}
@@ -18,3 +19,12 @@ LinesFollowOn = (names : Names) (only : Only) (from : ℕ) (m : Situation) (firs
 abbrev pub CountsFollowOn : Type 0
 CountsFollowOn = (from : ℕ) (c : Counts) (m : Situation) (first more : List Turn)
     → counts_along from c m (first ++ more) ≡ counts_along from (counts_along from c m first) (run_on m first) more
+
+-- the line of a turn among all lines, if it is shown
+abbrev pub thinned_line : Names → Only → (from : ℕ) → Situation → Turn → List ℕ
+thinned_line names only from m turn = if is_shown m.shape m.code only m.state turn then shown_line names Turns from m turn else []
+
+-- of rows and of marks the lines are those of all turns that are shown, unchanged and in their order
+abbrev pub ThinnerAreAmong : Type 0
+ThinnerAreAmong = (names : Names) (only : Only) (from : ℕ) (m : Situation) (turns : List Turn)
+    → along_turns (shown_line names only from) m turns ≡ along_turns (thinned_line names only from) m turns

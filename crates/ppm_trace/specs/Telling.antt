@@ -1,5 +1,5 @@
 -- What the calls that tell a run know and say of the machine, of what they count, and of what they have told.
-use Rattle.std.specs.Prelude.{◌≡◌, ℕ, ◌*◌, ◌≤◌, List, ◌++◌}
+use Rattle.std.specs.Prelude.{◌≡◌, ◌*◌, ◌≤◌, List, ◌++◌}
 use Rattle.ppm_choice.specs.Course.{Due, turns_of}
 use Rattle.ppm_core.specs.Situation.{Situation}
 use Rattle.ppm_following.specs.Following.{course, Does, IsReady}

@@ -44,9 +44,9 @@ abbrev pub named : List ℕ → ℕ → List ℕ
 named name n = name ++ decimal n
 
 -- what others take over of a processor that stopped
-abbrev pub takeover_word : Takeover → List ℕ
-takeover_word ByPlaces = codes "place"
-takeover_word ByEntries = codes "entry"
+abbrev pub takeover_text : Takeover → List ℕ
+takeover_text ByPlaces = codes " takeover place"
+takeover_text ByEntries = codes " takeover entry"
 
 -- the names of the columns
 abbrev pub columns : List ℕ
@@ -56,7 +56,7 @@ columns = codes "act    who at row    of               step  word               
 abbrev pub sizes_text : Shape → List ℕ
 sizes_text s =
     named (codes "processors ") s.processors ++ named (codes " room ") s.room ++ named (codes " slots ") s.slots
-    ++ codes " takeover " ++ takeover_word s.takeover
+    ++ takeover_text s.takeover
 
 -- the form, these sizes, and from which act on the run is told
 abbrev pub head_text : Shape → (from : ℕ) → List ℕ

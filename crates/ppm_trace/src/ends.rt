@@ -1,7 +1,7 @@
 //! The head and the tail of a trace.
 ghost use Rattle.std.specs.Prelude.{◌≡◌, ◌++◌, ◌∷◌, [], OnOk};
 ghost use Rattle.ppm_trace.specs.Trace.{columns, head_text, named, sizes_text, tail_text};
-ghost use Rattle.ppm_trace.specs.Trace.{takeover_word};
+ghost use Rattle.ppm_trace.specs.Trace.{takeover_text};
 
 use crate::counts::Counts;
 use ppm_cells::{Shape, Takeover};
@@ -27,13 +27,20 @@ fn push_named(alloc: Global, text: &mut Vec<u8>, name: &str, number: u64) -> Res
     Ok(())
 }
 
-/// How a takeover is called.
-fn takeover_word(takeover: Takeover) -> &'static str
-    ensures { result.now ≡ takeover_word takeover }
+/// Appends a size with its name.
+fn push_size(alloc: Global, text: &mut Vec<u8>, name: &str, size: u32) -> Result<(), NoMemory>
+    ensures { OnOk result (text.new.items ≡ text.old.items ++ named name.now size) }
+{
+    push_named(alloc, text, name, u64::from(size))
+}
+
+/// Appends what others take over of a processor that stopped.
+fn push_takeover(text: &mut Vec<u8>, takeover: Takeover) -> Result<(), NoMemory>
+    ensures { OnOk result (text.new.items ≡ text.old.items ++ takeover_text takeover) }
 {
     match takeover {
-        Takeover::ByPlaces => "place",
-        Takeover::ByEntries => "entry",
+        Takeover::ByPlaces => push_word(text, " takeover place"),
+        Takeover::ByEntries => push_word(text, " takeover entry"),
     }
 }
 
@@ -41,11 +48,10 @@ fn takeover_word(takeover: Takeover) -> &'static str
 fn push_sizes(alloc: Global, text: &mut Vec<u8>, shape: &Shape) -> Result<(), NoMemory>
     ensures { OnOk result (text.new.items ≡ text.old.items ++ sizes_text shape.now) }
 {
-    push_named(alloc, text, "processors ", u64::from(shape.processors))?;
-    push_named(alloc, text, " room ", u64::from(shape.room))?;
-    push_named(alloc, text, " slots ", u64::from(shape.slots))?;
-    push_word(text, " takeover ")?;
-    push_word(text, takeover_word(shape.takeover))?;
+    push_size(alloc, text, "processors ", shape.processors)?;
+    push_size(alloc, text, " room ", shape.room)?;
+    push_size(alloc, text, " slots ", shape.slots)?;
+    push_takeover(text, shape.takeover)?;
     Ok(())
 }
 

@@ -35,7 +35,8 @@ fn push_turn(
         machine.words(),
     );
     let local = machine.local(turn.processor);
-    push_events(alloc, text, &scene, machine.turns(), local, turn)
+    push_events(alloc, text, &scene, machine.turns(), local, turn)?;
+    Ok(())
 }
 
 /// Appends the beginning of the row within which a processor stands.
@@ -72,7 +73,8 @@ fn push_begun_all(
     ensures { OnOk result (text.new.items
         ≡ text.old.items ++ flat_map (begun_of names.now (seen machine.now)) (range_with_len 0 (seen machine.now).shape.processors)) }
 {
-    for processor in 0..machine.processors() {
+    let processors = machine.processors();
+    for processor in 0..processors {
         push_begun_of(alloc, text, machine, names, processor)?;
     }
     Ok(())

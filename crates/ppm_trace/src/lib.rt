@@ -16,6 +16,5 @@ mod tale;
 mod telling;
 mod tracing;
 
-pub use laws::lines_follow_on;
-pub use form::Form;
+pub use laws::{lines_follow_on, thinner_lines_are_among};
 pub use tracing::{trace, trace_json};

@@ -44,7 +44,14 @@ fn is_shown(machine: &Machine, only: Only, turn: Turn) -> bool
     let _ = machine.array_lengths();
     let shape = machine.shape();
     let local = machine.local(turn.processor);
-    is_shown_at(machine.words(), &shape, machine.code(), only, local, turn.act)
+    is_shown_at(
+        machine.words(),
+        &shape,
+        machine.code(),
+        only,
+        local,
+        turn.act,
+    )
 }
 
 /// Appends the line of a turn.

@@ -44,7 +44,7 @@ loop-left-preserved c =
     let now = telling (seen c.loop-left.machine) c.loop-left.way c.loop-left.tale in
     let new = telling (seen c.go_round.new.machine) c.go_round.new.way c.go_round.new.tale in
     let told = subst (λ s. Tells c.args.names.now c.args.window (round s.processors) now new) c.loop-left.invariant.2
-        c.in_ok-go_round.ensures.tells in (
+    c.in_ok-go_round.ensures.tells in (
       goes_on c.args.names.now c.args.window (rounds p c.args.count) (rounds p left) (round p) (rounds p (left - 1))
           (telling (seen c.args.machine.now) c.args.way.now c.args.tale.now) now new (ap (rounds p) more) c.loop-left.invariant.0 told,
       c.in_ok-go_round.ensures.is,
