@@ -9,7 +9,7 @@ use Rattle.ppm_step.specs.declared.turn.Turn.{Turn}
 
 -- by what the scene is, and by where the processor stands
 module _ (scene of_machine : Scene) (local : Local) (standing : Standing) (same : scene ≡ of_machine)
-  (stands : standing_of of_machine.shape of_machine.code local ≡ standing) where
+    (stands : standing_of of_machine.shape of_machine.code local ≡ standing) where
   pub turn_is : (turn : Turn) (n k : ℕ) → n ≡ k
       → events_at scene turn (standing_of scene.shape scene.code local) n ≡ events_at of_machine turn standing k
   turn_is turn n k at =
