@@ -1,2 +1,3 @@
--- How the line is shown: each piece is what its call says, and pieces are joined (`LineLemmas`).
+-- How the texts are shown: each piece is what its call says, and pieces are joined (`LineLemmas` for the line, `TextLemmas` for events).
 pub mod LineLemmas
+pub mod TextLemmas

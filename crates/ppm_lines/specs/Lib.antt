@@ -3,3 +3,5 @@ pub mod Doing
 pub mod Parts
 pub mod Texts
 pub mod Line
+pub mod Flows
+pub mod Events

@@ -9,6 +9,10 @@
 
 mod column;
 mod doing;
+mod edge;
+mod event;
+mod flow;
+mod json;
 mod line;
 mod name;
 mod part;
@@ -17,6 +21,10 @@ mod scene;
 mod value;
 
 pub use doing::Doing;
+pub use edge::Edge;
+pub use event::{Moment, push_begun, push_events};
+pub use flow::Flow;
+pub use json::{push_json_head, push_json_tail};
 pub use line::push_line;
 pub use part::{ForkPart, FramePart, Part};
 pub use scene::Scene;

@@ -21,7 +21,7 @@ pub(crate) fn push_word(text: &mut Vec<u8>, word: &str) -> Result<(), NoMemory>
 }
 
 /// Appends a procedure, if there is one.
-fn push_named(
+pub(crate) fn push_named(
     alloc: Global,
     text: &mut Vec<u8>,
     names: &Names,

@@ -5,3 +5,4 @@ pub mod AlongLemmas
 pub mod TellingLemmas
 pub mod OneLemmas
 pub mod TextLemmas
+pub mod EventLemmas

@@ -9,13 +9,17 @@ use Rattle.ppm_following.proofs.DoesLemmas.{both as does_both, idles as does_idl
 use Rattle.ppm_following.proofs.ListLemmas.{listed_rest}
 use Rattle.ppm_following.specs.Following.{course}
 use Rattle.ppm_following.specs.declared.following.Way.{Way}
+use Rattle.ppm_lines.specs.Events.{json_head, json_tail}
+use Rattle.ppm_marks.specs.declared.shown.Only.{Only}
 use Rattle.ppm_naming.specs.declared.names.Names.{Names}
 use Rattle.ppm_plan.specs.declared.schedule_item.ScheduleItem.{ScheduleItem}
 use Rattle.ppm_step.specs.declared.turn.Turn.{Turn}
 use Rattle.ppm_trace.proofs.AlongLemmas.{none_told, told_both}
 use Rattle.ppm_trace.specs.Counts.{no_counts}
+use Rattle.ppm_trace.specs.Json.{told_events, trace_events}
 use Rattle.ppm_trace.specs.Telling.{telling, HasTold, LeadsTo, Telling, Tells}
 use Rattle.ppm_trace.specs.Trace.{along_turns, counts_along, head_text, shown_line, tail_text, trace_text}
+use Rattle.ppm_trace.specs.declared.form.Form.TheVariants.{Lines, Events}
 use Rattle.ppm_trace.specs.declared.tale.Tale.{Tale}
 use Rattle.ppm_trace.specs.declared.tale.Window.{Window}
 
@@ -103,20 +107,46 @@ module _ (names : Names) (window : Window) where
       both (listed given) (rounds a.machine.shape.processors count) a b c first
       (subst (λ s. Tells names window (rounds s.processors count) b c) (shape_stays first) more)
 
-  -- a head, the whole run, and a tail
-  pub trace_is : (m n : Situation) (way u : Way) (a b : Tale) (given items : List ScheduleItem) (turns : ℕ) (text : List ℕ) → given ≡ items
-      → way ≡ record { loads = replicate 64 0; left = turns } → a.text.items ≡ head_text m.shape window.from → a.counts ≡ no_counts
+  -- the whole run
+  pub whole : (m n : Situation) (way u : Way) (a b : Tale) (given items : List ScheduleItem) (turns : ℕ) → given ≡ items
+      → way ≡ record { loads = replicate 64 0; left = turns }
       → Tells names window (dues_of m.shape.processors given way.left) (telling m way a) (telling n u b)
-      → text ≡ b.text.items ++ tail_text b.counts (finish_in n)
-      → text ≡ trace_text names window.only window.from m (schedule_turns m.shape m.code m.state items turns)
-  trace_is m n way u a b given items turns text same first head zero tells is =
+      → Tells names window (dues_of m.shape.processors items turns) (telling m (record { loads = replicate 64 0; left = turns }) a) (telling n u b)
+  whole m n way u a b given items turns same first tells =
       let p = m.shape.processors in
+      subst (λ v. Tells names window (dues_of p items v.left) (telling m v a) (telling n u b)) first
+      (subst (λ list. Tells names window (dues_of p list way.left) (telling m way a) (telling n u b)) same tells)
+
+module _ (names : Names) (only : Only) (from : ℕ) where
+  abbrev lines : Window
+  lines = record { form = Lines only; from = from }
+
+  -- a head, the lines of the whole run, and a tail
+  pub trace_is : (m n : Situation) (way u : Way) (a b : Tale) (given items : List ScheduleItem) (turns : ℕ) (text : List ℕ) → given ≡ items
+      → way ≡ record { loads = replicate 64 0; left = turns } → a.text.items ≡ head_text m.shape from → a.counts ≡ no_counts
+      → Tells names lines (dues_of m.shape.processors given way.left) (telling m way a) (telling n u b)
+      → text ≡ b.text.items ++ tail_text b.counts (finish_in n)
+      → text ≡ trace_text names only from m (schedule_turns m.shape m.code m.state items turns)
+  trace_is m n way u a b given items turns text same first head zero tells is =
       let all = schedule_turns m.shape m.code m.state items turns in
-      let lines = along_turns (shown_line names window.only window.from) m all in
-      let d = subst (λ v. Tells names window (dues_of p items v.left) (telling m v a) (telling n u b)) first
-      (subst (λ list. Tells names window (dues_of p list way.left) (telling m way a) (telling n u b)) same tells) in
+      let told = along_turns (shown_line names only from) m all in
+      let d = whole names lines m n way u a b given items turns same first tells in
       is
-      ∙ ap (λ front. front ++ tail_text b.counts (finish_in n)) (d.told.text ∙ ap (λ front. front ++ lines) head)
-      ∙ ap (λ c. head_text m.shape window.from ++ lines ++ tail_text c (finish_in n))
-      (d.told.counts ∙ ap (λ c. counts_along window.from c m all) zero)
-      ∙ ap (λ k. head_text m.shape window.from ++ lines ++ tail_text (counts_along window.from no_counts m all) (finish_in k)) d.does.machine
+      ∙ ap (λ front. front ++ tail_text b.counts (finish_in n)) (d.told.text ∙ ap (λ front. front ++ told) head)
+      ∙ ap (λ c. head_text m.shape from ++ told ++ tail_text c (finish_in n)) (d.told.counts ∙ ap (λ c. counts_along from c m all) zero)
+      ∙ ap (λ k. head_text m.shape from ++ told ++ tail_text (counts_along from no_counts m all) (finish_in k)) d.does.machine
+
+module _ (names : Names) (from : ℕ) where
+  abbrev events : Window
+  events = record { form = Events; from = from }
+
+  -- a head, the events of the whole run, and a tail
+  pub events_are : (m n : Situation) (way u : Way) (a b : Tale) (given items : List ScheduleItem) (turns : ℕ) (text : List ℕ) → given ≡ items
+      → way ≡ record { loads = replicate 64 0; left = turns } → a.text.items ≡ json_head m.shape.processors
+      → Tells names events (dues_of m.shape.processors given way.left) (telling m way a) (telling n u b)
+      → text ≡ b.text.items ++ json_tail
+      → text ≡ trace_events names from m (schedule_turns m.shape m.code m.state items turns)
+  events_are m n way u a b given items turns text same first head tells is =
+      let told = along_turns (told_events names from) m (schedule_turns m.shape m.code m.state items turns) in
+      let d = whole names events m n way u a b given items turns same first tells in
+      is ∙ ap (λ front. front ++ json_tail) (d.told.text ∙ ap (λ front. front ++ told) head)

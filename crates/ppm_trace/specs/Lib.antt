@@ -1,4 +1,5 @@
 pub mod Counts
 pub mod Trace
+pub mod Json
 pub mod Telling
 pub mod Laws

@@ -9,10 +9,12 @@
 
 mod counts;
 mod ends;
+mod events;
+mod form;
 mod laws;
 mod tale;
 mod telling;
 mod tracing;
 
 pub use laws::{lines_follow_on, thinner_lines_are_among};
-pub use tracing::trace;
+pub use tracing::{trace, trace_json};

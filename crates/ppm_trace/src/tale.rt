@@ -1,14 +1,18 @@
 //! What is told of a turn.
-ghost use Rattle.std.specs.Prelude.{◌≡◌, ◌<◌, ◌≤◌, ◌+◌, ◌^◌, ◌++◌, [], ◌∷◌, OnOk};
+ghost use Rattle.std.specs.Prelude.{◌≡◌, ◌<◌, ◌≤◌, ◌+◌, ◌^◌, ◌++◌, [], ◌∷◌, OnOk, ℕ};
 ghost use Rattle.ppm_core.specs.Machine.{seen};
 ghost use Rattle.ppm_lines.specs.Line.{line_text};
 ghost use Rattle.ppm_marks.specs.Marks.{marks_of};
 ghost use Rattle.ppm_marks.specs.Shown.{is_shown as is_shown_by};
 ghost use Rattle.ppm_step.specs.Among.{IsTurnAmong};
 ghost use Rattle.ppm_trace.specs.Counts.{counted, total};
+ghost use Rattle.ppm_trace.specs.Json.{written_as};
 ghost use Rattle.ppm_trace.specs.Telling.{HasTold};
+ghost use Rattle.ppm_trace.specs.declared.form.Form.TheVariants.{Lines};
 
 use crate::counts::Counts;
+use crate::events::push_written_events;
+use crate::form::Form;
 use ppm_core::Machine;
 use ppm_lines::{Scene, push_line};
 use ppm_marks::{Only, is_shown_at, marks_at};
@@ -17,10 +21,10 @@ use ppm_step::Turn;
 use ppm_words::NoMemory;
 use std::alloc::Global;
 
-/// What is told of a run: which of its turns are shown, and from which act on.
+/// What is told of a run: in which form, and from which act on.
 #[derive(Clone, Copy, Debug, PartialEq, Eq)]
 pub struct Window {
-    pub only: Only,
+    pub form: Form,
     pub from: u64,
 }
 
@@ -74,6 +78,45 @@ fn push_shown(
     push_line(alloc, text, &scene, machine.turns(), local, turn)
 }
 
+/// Appends the line of a turn, if it is shown.
+fn push_if_shown(
+    alloc: Global,
+    text: &mut Vec<u8>,
+    machine: &Machine,
+    names: &Names,
+    only: Only,
+    turn: Turn,
+) -> Result<(), NoMemory>
+    requires { IsTurnAmong (seen machine.now).shape.processors turn }
+    ensures { (from : ℕ) → OnOk result (text.new.items
+        ≡ text.old.items ++ written_as names.now (Lines only) from (seen machine.now) turn) }
+{
+    if !is_shown(machine, only, turn) {
+        return Ok(());
+    }
+    push_shown(alloc, text, machine, names, turn)
+}
+
+/// Appends what is written of a turn that is told.
+fn push_written(
+    alloc: Global,
+    text: &mut Vec<u8>,
+    machine: &Machine,
+    names: &Names,
+    window: Window,
+    turn: Turn,
+) -> Result<(), NoMemory>
+    requires among { IsTurnAmong (seen machine.now).shape.processors turn }
+    requires turns { (seen machine.now).turns < 2 ^ 62 }
+    ensures { OnOk result (text.new.items
+        ≡ text.old.items ++ written_as names.now window.form window.from (seen machine.now) turn) }
+{
+    match window.form {
+        Form::Lines(only) => push_if_shown(alloc, text, machine, names, only, turn),
+        Form::Events => push_written_events(alloc, text, machine, names, window.from, turn),
+    }
+}
+
 /// Counts a turn with its marks.
 fn count(machine: &Machine, counts: &mut Counts, turn: Turn)
     requires among { IsTurnAmong (seen machine.now).shape.processors turn }
@@ -98,6 +141,7 @@ pub(crate) fn tell(
     turn: Turn,
 ) -> Result<(), NoMemory>
     requires among { IsTurnAmong (seen machine.now).shape.processors turn }
+    requires turns { (seen machine.now).turns < 2 ^ 62 }
     requires few { total tale.old.counts + 3 < 2 ^ 64 }
     ensures told { OnOk result (HasTold names.now window (seen machine.now) (turn
         ∷ []) tale.old tale.new) }
@@ -107,9 +151,6 @@ pub(crate) fn tell(
         return Ok(());
     }
     count(machine, &mut tale.counts, turn);
-    if !is_shown(machine, window.only, turn) {
-        return Ok(());
-    }
-    push_shown(alloc, &mut tale.text, machine, names, turn)?;
+    push_written(alloc, &mut tale.text, machine, names, window, turn)?;
     Ok(())
 }

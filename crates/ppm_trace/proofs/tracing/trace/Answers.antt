@@ -19,7 +19,7 @@ follow_told-requires-clause-is c = record {
 pub returns : goal.returns
 returns c =
     let tale = c.follow_told.new.tale in
-    trace_is c.args.names.now (record { only = c.args.only; from = c.args.from }) (seen c.args.machine.now) (seen c.follow_told.new.machine)
+    trace_is c.args.names.now c.args.only c.args.from (seen c.args.machine.now) (seen c.follow_told.new.machine)
     c.first-way.result c.follow_told.new.way (record { text = c.push_head.new.text; counts = c.none.result }) tale
     c.items.result.now c.args.schedule.now.items (c.args.from + c.args.acts) c.push_tail.new.text.items
     c.items.ensures.items c.first-way.ensures

@@ -1,0 +1,11 @@
+//! In which form a run is told.
+use ppm_marks::Only;
+
+/// In which form a run is told.
+#[derive(Clone, Copy, Debug, PartialEq, Eq)]
+pub enum Form {
+    /// As lines of text, these turns alone.
+    Lines(Only),
+    /// As events of the trace event format.
+    Events,
+}
