@@ -3,5 +3,6 @@
 -- after this, of `rest` from here, is all of `all` from the beginning.
 pub mod AlongLemmas
 pub mod TellingLemmas
+pub mod ForkLemmas
 pub mod OneLemmas
 pub mod TextLemmas
