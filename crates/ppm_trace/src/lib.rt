@@ -16,5 +16,6 @@ mod tale;
 mod telling;
 mod tracing;
 
+pub use form::Form;
 pub use laws::{counts_are_the_machines, lines_follow_on, thinner_lines_are_among};
-pub use tracing::{trace, trace_json};
+pub use tracing::trace;
