@@ -1,10 +1,12 @@
-//! A turn as a line of text: who acts, where it stands, what it does there, and what comes of it.
-//! Model: a line is told from the names of the source, the machine's words before the turn, and
-//! where the processor stands (`specs/Line`); how a word is called, its row tells (`specs/Parts`).
-//! Contract: `push_line` appends exactly the line of the turn, and fails only where memory is
-//! refused.
+//! A turn as a line of text, and as events for a viewer of traces: who acts, where it stands, what
+//! it does there, and what comes of it.
+//! Model: both are told from the names of the source, the machine's words before the turn, and where
+//! the processor stands (`specs/Line`, `specs/Events`); how a word is called, its row tells
+//! (`specs/Parts`).
+//! Contract: `push_line` appends exactly the line of the turn, `push_events` its events, and each
+//! fails only where memory is refused.
 //! Stands on `ppm_naming`, `ppm_marks` and `ppm_step`; `ppm_trace` writes a run by it.
-//! The text form is this project's.
+//! The text form is this project's; the events are those of the trace event format, in JSON.
 #![tactic(auto)]
 
 mod column;
