@@ -19,7 +19,7 @@ use std::alloc::Global;
 
 /// What is told of a run: which of its turns are shown, and from which act on.
 #[derive(Clone, Copy, Debug, PartialEq, Eq)]
-pub struct Window {
+pub struct Excerpt {
     pub only: Only,
     pub from: u64,
 }
@@ -94,20 +94,20 @@ pub(crate) fn tell(
     machine: &Machine,
     tale: &mut Tale,
     names: &Names,
-    window: Window,
+    excerpt: Excerpt,
     turn: Turn,
 ) -> Result<(), NoMemory>
     requires among { IsTurnAmong (seen machine.now).shape.processors turn }
     requires few { total tale.old.counts + 3 < 2 ^ 64 }
-    ensures told { OnOk result (HasTold names.now window (seen machine.now) (turn
+    ensures told { OnOk result (HasTold names.now excerpt (seen machine.now) (turn
         ∷ []) tale.old tale.new) }
     ensures bound { OnOk result (total tale.new.counts ≤ total tale.old.counts + 3) }
 {
-    if machine.turns() < window.from {
+    if machine.turns() < excerpt.from {
         return Ok(());
     }
     count(machine, &mut tale.counts, turn);
-    if !is_shown(machine, window.only, turn) {
+    if !is_shown(machine, excerpt.only, turn) {
         return Ok(());
     }
     push_shown(alloc, &mut tale.text, machine, names, turn)?;

@@ -6,7 +6,7 @@ ghost use Rattle.ppm_trace.specs.Trace.{trace_text};
 
 use crate::counts::Counts;
 use crate::ends::{push_head, push_tail};
-use crate::tale::{Tale, Window};
+use crate::tale::{Excerpt, Tale};
 use crate::telling::follow_told;
 use ppm_core::Machine;
 use ppm_following::Way;
@@ -40,14 +40,14 @@ pub fn trace(
     };
     push_head(alloc, &mut tale.text, &machine.shape(), from)?;
     let mut way = Way::first(from + acts);
-    let window = Window { only, from };
+    let excerpt = Excerpt { only, from };
     follow_told(
         alloc,
         machine,
         &mut way,
         &mut tale,
         names,
-        window,
+        excerpt,
         schedule.items(),
     )?;
     push_tail(alloc, &mut tale.text, tale.counts, machine.finish_word())?;
