@@ -98,8 +98,9 @@ fn trace_json(
     Ok(tale.text)
 }
 
-/// Makes the run of a schedule, and answers its trace in this form: `acts` acts at most are told,
-/// after `from` that are not. `Err` only where memory is refused.
+/// Makes the run of a schedule, of `from` and `acts` acts at most, and answers its trace in this
+/// form: from act `from` on, counted since the machine was loaded. `Err` only where memory is
+/// refused.
 pub fn trace(
     alloc: Global,
     machine: &mut Machine,
