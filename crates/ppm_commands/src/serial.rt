@@ -15,7 +15,6 @@ use ppm_text::TEXT_LIMIT;
 use ppm_tree::Program;
 use ppm_words::{NoMemory, Outcome};
 use std::alloc::Global;
-use std::mem::ManuallyDrop;
 
 /// Runs the text that is read within so many turns of the serial meaning: its arrays or its trap
 /// are written on `out`, its refusal or that it takes more turns on `err`.
@@ -51,13 +50,7 @@ fn text_answer(alloc: Global, turns: u64, text: &[u8]) -> Answer
     ensures { TextMay (SerialHas turns) text.now result }
 {
     match program_of(alloc, text) {
-        Ok(admitted) => {
-            let answer = program_answer(alloc, turns, admitted.program());
-            // The command ends: the system takes back at once what would be given back node by
-            // node.
-            let _admitted = ManuallyDrop::new(admitted);
-            answer
-        }
+        Ok(admitted) => program_answer(alloc, turns, admitted.program()),
         Err(JudgeError::Refused(refusal)) => Answer::SourceRefused(refusal),
         Err(JudgeError::NoMemory) => Answer::NoMemory,
     }

@@ -17,7 +17,7 @@ rest_is item items =
     let one : length (item ∷ items) - 1 ≡ length items = omega arith in
     ap (λ k. take k items) one ∙ take_all (length items) items (le_refl (length items))
 
-listed_rest : (left : List ScheduleItem) (d : ScheduleItem) → 1 ≤ length left
+pub listed_rest : (left : List ScheduleItem) (d : ScheduleItem) → 1 ≤ length left
     → listed left ≡ replicate (get_or left 0 d).times (Listed (get_or left 0 d).act) ++ listed (take (length left - 1) (drop 1 left))
 listed_rest [] d some = absurd (omega (arith, some))
 listed_rest (item ∷ items) d some =

@@ -41,7 +41,7 @@ impl Way {
 }
 
 /// The processor of an act.
-fn processor_of(act: ScheduledAct) -> u32
+pub fn processor_of(act: ScheduledAct) -> u32
     ensures { result ≡ processor_of act }
 {
     match act {
@@ -65,7 +65,7 @@ fn victim_at(processors: u32, processor: u32, j: u64, stated: Option<u32>) -> u3
 
 /// The turn that an act is. A step that loads a holder word as it seeks work is counted.
 #[inline(always)]
-fn turn_of(machine: &Machine, way: &mut Way, act: ScheduledAct) -> Turn
+pub fn turn_of(machine: &Machine, way: &mut Way, act: ScheduledAct) -> Turn
     requires among { IsActAmong (seen machine.now).shape.processors act }
     requires ready { IsReady (seen machine.now) way.old }
     ensures turn { result

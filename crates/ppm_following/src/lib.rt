@@ -9,4 +9,4 @@
 
 mod following;
 
-pub use following::{Way, follow, follow_on, make};
+pub use following::{Way, follow, follow_on, make, processor_of, turn_of};

@@ -23,6 +23,10 @@ field width text = text ++ replicate (width - length text) 32 ++ 32 ∷ []
 abbrev pub carried_text : (place : ℕ) → List ℕ
 carried_text place = if place == unknown_place then codes "-" else decimal place
 
+-- how many turns came before, the processor, and the place that it carries
+abbrev pub who_fields : (number processor place : ℕ) → List ℕ
+who_fields number processor place = field 6 (decimal number) ++ field 3 (112 ∷ decimal processor) ++ field 2 (carried_text place)
+
 module _ (scene : Scene) (turn : Turn) (standing : Standing) where
   -- where the processor stands: its row, and what that is of
   abbrev pub row_fields : List ℕ
@@ -41,11 +45,9 @@ module _ (scene : Scene) (turn : Turn) (standing : Standing) where
   abbrev pub marks : List ℕ
   marks = flat_map mark_text (marks_at scene.shape scene.code scene.words turn.act standing)
 
-  -- the line: how many turns came before, the processor and its place, its row, and what it does there
+  -- the line: who acts, where it stands, and what it does there
   abbrev pub line_at : (number : ℕ) → List ℕ
-  line_at number =
-      field 6 (decimal number) ++ field 3 (112 ∷ decimal turn.processor) ++ field 2 (carried_text (place_of standing))
-      ++ row_fields ++ step_fields ++ marks ++ 10 ∷ []
+  line_at number = who_fields number turn.processor (place_of standing) ++ row_fields ++ step_fields ++ marks ++ 10 ∷ []
 
 -- what the lines of a run are told from, at a state of it
 abbrev pub scene_of : Names → (lengths : List ℕ) → Shape → CodeParts → State → Scene

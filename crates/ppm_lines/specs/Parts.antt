@@ -1,8 +1,8 @@
 -- Which word a turn is about: a cell of the machine, or a part of a frame or of a block by the row that is under way.
-use Rattle.std.specs.Prelude.{ℕ, ◌+◌, ◌-◌, ◌==◌, ◌&&◌, nat_lt, nat_le, if◌then◌else◌, Bool, true, false, Option, Some, None}
+use Rattle.std.specs.Prelude.{ℕ, ◌+◌, ◌-◌, ◌==◌, ◌&&◌, nat_lt, nat_le, if◌then◌else◌, Bool, Option, Some, None}
 use Rattle.ppm_cells.specs.Cells.{address}
 use Rattle.ppm_cells.specs.declared.cell.Cell.{Cell}
-use Rattle.ppm_cells.specs.declared.cell.Cell.TheVariants.{FinishWord, CarryWord, DeadWord, RestartWord, MessageWord, HolderWord, Top, RoomCounter, EntryWord, BlockWord, ArrayWord}
+use Rattle.ppm_cells.specs.declared.cell.Cell.TheVariants.{RoomCounter, BlockWord}
 use Rattle.ppm_cells.specs.declared.link.Link.{Link}
 use Rattle.ppm_cells.specs.declared.link.LinkKind.{LinkKind}
 use Rattle.ppm_cells.specs.declared.link.LinkKind.TheVariants.{Root, Call, Branch, Fork}
@@ -13,7 +13,6 @@ use Rattle.ppm_step.specs.Standings.{Standing, IsLost, IsPlaced, IsAt, IsWithin,
 use Rattle.ppm_step.specs.State.{is_step, seeks_holder}
 use Rattle.ppm_step.specs.declared.ask.Want.{Want}
 use Rattle.ppm_step.specs.declared.ask.Want.TheVariants.{Loads, Stores, Exchanges, Nothing}
-use Rattle.ppm_step.specs.declared.row.Point.{Point}
 use Rattle.ppm_step.specs.declared.row.Point.TheVariants.{Offset, ClosedLink}
 use Rattle.ppm_step.specs.declared.row.Row.{Row}
 use Rattle.ppm_step.specs.declared.row.Row.TheVariants.{Now}
@@ -49,7 +48,7 @@ fork_part offset =
     else (if offset == 3 then RightOutcome
     else RightOffset)))
 
--- a word of a frame that begins there, where it is none below it
+-- a word of the frame that begins there; one below it is elsewhere
 abbrev pub in_frame : (frame at : ℕ) → Part
 in_frame frame at = if nat_lt at frame then Elsewhere at else InFrame frame (frame_part (at - frame))
 
@@ -161,7 +160,7 @@ part_asked scene standing (Stores at word) = part_at scene standing at
 part_asked scene standing (Exchanges at old new) = part_at scene standing at
 part_asked scene standing Nothing = NoWord
 
--- the word step that comes next; a fault comes in place of it, and names no victim
+-- the word step that comes next, or in whose place a fault comes, which names no victim
 abbrev pub victim_of : Act → ℕ
 victim_of (Step victim) = victim
 victim_of Soft = 0

@@ -6,7 +6,9 @@ ghost use Rattle.ppm_lines.specs.Doing.{row_with as row_by, doing_of as doing_by
 ghost use Rattle.ppm_lines.specs.Doing.{row_text as text_of_row, of_row as text_of, of_text};
 ghost use Rattle.ppm_step.specs.Locals.{standing_of};
 
-use crate::name::{push_block, push_branch, push_fork, push_frame, push_place, push_run, push_word};
+use crate::name::{
+    push_block, push_branch, push_fork, push_frame, push_place, push_run, push_word,
+};
 use crate::scene::Scene;
 use ppm_cells::{Cell, Restart, RestartKind};
 use ppm_naming::{push_cell, restart_name};
@@ -79,9 +81,8 @@ fn push_of_row(
     match kind {
         RestartKind::Run { frame, copy } => push_run(alloc, text, scene, frame, copy),
         RestartKind::Bump { block } => push_block(alloc, text, scene, block),
-        RestartKind::Push1 { block }
-        | RestartKind::Push2 { block }
-        | RestartKind::Pop2 { block } => push_fork(alloc, text, block),
+        RestartKind::Push1 { block } | RestartKind::Push2 { block } | RestartKind::Pop2 { block } =>
+            push_fork(alloc, text, block),
         RestartKind::Unwind { frame } => push_frame(alloc, text, scene, frame),
         RestartKind::Arrive { block, side } | RestartKind::Join { block, side } => {
             push_branch(alloc, text, block, side)
@@ -100,7 +101,8 @@ fn push_of_row(
     }
 }
 
-/// Appends what a processor is at is of.
+/// Appends what the row of a processor is of; `-` where it is in no row, or its row has no
+/// subject.
 pub(crate) fn push_of(
     alloc: Global,
     text: &mut Vec<u8>,

@@ -1,11 +1,12 @@
 //! The line of a turn.
 ghost use Rattle.std.specs.Prelude.{◌≡◌, ◌++◌, ◌∷◌, OnOk, decimal};
 ghost use Rattle.ppm_lines.specs.Doing.{of_text};
-ghost use Rattle.ppm_lines.specs.Line.{field, carried_text, line_at};
+ghost use Rattle.ppm_lines.specs.Line.{field, carried_text, who_fields, line_at};
 ghost use Rattle.ppm_lines.specs.Line.{row_fields, step_fields, marks as marks_of};
 ghost use Rattle.ppm_lines.specs.Texts.{part_text};
 ghost use Rattle.ppm_step.specs.Among.{IsTurnAmong};
 ghost use Rattle.ppm_step.specs.Locals.{IsLocal, standing_of};
+ghost use Rattle.ppm_step.specs.Told.{place_of};
 
 use crate::column::fill;
 use crate::doing::{Doing, doing_of, push_of, row_text};
@@ -63,6 +64,30 @@ fn push_carried(alloc: Global, text: &mut Vec<u8>, place: u32) -> Result<(), NoM
         return push_word_field(text, 2, "-");
     }
     push_number_field(alloc, text, 2, u64::from(place))
+}
+
+/// The place that a processor carries.
+fn carried(scene: &Scene, local: &Local) -> u32
+    ensures { result
+        ≡ place_of (standing_of scene.now.shape scene.now.code local.now) }
+{
+    let _ = scene.shape();
+    local.place()
+}
+
+/// Appends the fields of how many turns came before, of the processor and of its place.
+fn push_who(
+    alloc: Global,
+    text: &mut Vec<u8>,
+    number: u64,
+    processor: u32,
+    place: u32,
+) -> Result<(), NoMemory>
+    ensures { OnOk result (text.new.items ≡ text.old.items ++ who_fields number processor place) }
+{
+    push_number_field(alloc, text, 6, number)?;
+    push_processor(alloc, text, processor)?;
+    push_carried(alloc, text, place)
 }
 
 /// Appends the field of what a row is of.
@@ -134,23 +159,12 @@ fn push_step(
 }
 
 /// Appends the marks of a turn.
-fn push_marked(
-    text: &mut Vec<u8>,
-    scene: &Scene,
-    local: &Local,
-    turn: Turn,
-) -> Result<(), NoMemory>
+fn push_marked(text: &mut Vec<u8>, scene: &Scene, local: &Local, turn: Turn) -> Result<(), NoMemory>
     requires { IsLocal scene.now.shape scene.now.code local.now }
     ensures { OnOk result (text.new.items
         ≡ text.old.items ++ marks_of scene.now turn (standing_of scene.now.shape scene.now.code local.now)) }
 {
-    let marks = marks_at(
-        scene.words(),
-        scene.shape(),
-        scene.code(),
-        local,
-        turn.act,
-    );
+    let marks = marks_at(scene.words(), scene.shape(), scene.code(), local, turn.act);
     push_marks(text, marks)
 }
 
@@ -170,9 +184,7 @@ pub fn push_line(
     ensures { OnOk result (text.new.items
         ≡ text.old.items ++ line_at scene.now turn (standing_of scene.now.shape scene.now.code local.now) number) }
 {
-    push_number_field(alloc, text, 6, number)?;
-    push_processor(alloc, text, turn.processor)?;
-    push_carried(alloc, text, local.place())?;
+    push_who(alloc, text, number, turn.processor, carried(scene, local))?;
     push_row(alloc, text, scene, local, turn)?;
     push_step(alloc, text, scene, local, turn)?;
     push_marked(text, scene, local, turn)?;

@@ -144,13 +144,7 @@ fn made_text(found: u64, want: Want) -> &'static str
     match want {
         Want::Loads(_) => "load",
         Want::Stores(..) => "store",
-        Want::Exchanges(_, old, _) => {
-            if found == old {
-                "swap"
-            } else {
-                "miss"
-            }
-        }
+        Want::Exchanges(_, old, _) => { if found == old { "swap" } else { "miss" } }
         Want::Nothing => "-",
     }
 }

@@ -13,7 +13,6 @@ use ppm_regions::{Admitted, RegionError, admit};
 use ppm_text::{TextError, Tokens, tokens};
 use ppm_tree::Program;
 use std::alloc::Global;
-use std::mem::ManuallyDrop;
 use thiserror::Error;
 
 /// Why a text has no program.
@@ -120,14 +119,12 @@ impl From<BoundError> for JudgeError {
     }
 }
 
-/// The program of the tokens, or their fault. What the tokens hold is not given back name by name.
+/// The program of the tokens, or their fault.
 fn parsed(alloc: Global, all: Tokens) -> Result<Program, SyntaxError>
     ensures tree { IfOk result (λ program. HasTree all.tokens (tree_of program)) }
     ensures fault { IfErr result (λ error. IsFault all error) }
 {
-    let program = parse(alloc, &all);
-    let _tokens = ManuallyDrop::new(all);
-    program
+    parse(alloc, &all)
 }
 
 /// The tree of a text within the limits.
@@ -154,8 +151,7 @@ fn admitted_of(alloc: Global, text: &[u8]) -> Result<Admitted, JudgeError>
 
 /// The program of a text, admitted and within the bounds of the compiler, or the one reason for
 /// which it is refused: its bytes are judged first, then its tokens, then names and regions, then
-/// the bounds. Its tokens, and the tree of a text that passes a bound, stay in memory to the end of
-/// the process, where the system takes all back at once.
+/// the bounds.
 pub fn program_of(alloc: Global, text: &[u8]) -> Result<Admitted, JudgeError>
     ensures program { IfOk result (λ a. HasProgram text.now (tree_of a)) }
     ensures refused { IfErr result (MayStop text.now) }
@@ -163,10 +159,6 @@ pub fn program_of(alloc: Global, text: &[u8]) -> Result<Admitted, JudgeError>
     let admitted = admitted_of(alloc, text)?;
     match within_bounds(alloc, admitted.program()) {
         Ok(()) => Ok(admitted),
-        Err(error) => {
-            // Nor is the tree, node by node.
-            let _admitted = ManuallyDrop::new(admitted);
-            Err(JudgeError::from(error))
-        }
+        Err(error) => Err(JudgeError::from(error)),
     }
 }

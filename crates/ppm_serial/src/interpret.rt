@@ -17,13 +17,10 @@ use crate::store::Store;
 use ppm_tree::{Array, ArrayInput, Parameter, Program, Tree};
 use ppm_words::{Items, Name, NamedArray, NoMemory, Outcome};
 use std::alloc::Global;
-use std::mem::ManuallyDrop;
 
 /// The outcome of a program within a number of turns: the arrays in the end or the first trap, or
 /// `NotWithin` exactly where more turns would be spent. The memory that a run takes is that of its
 /// arrays and of the procedures and blocks that are open at a time, however many turns it spends.
-/// The program as it is laid out stays in memory to the end of the process, where the system takes
-/// all back at once.
 pub fn serial(alloc: Global, program: &Program, turns: u64) -> Result<Outcome, NoMemory>
     ensures { IfOk result (λ outcome. Serial (tree_of program.now) turns outcome) }
 {
@@ -35,10 +32,7 @@ pub(crate) fn outcome(alloc: Global, tree: &Tree, turns: u64) -> Result<Outcome,
     ensures { IfOk result (λ outcome. Serial (tree_of tree.now) turns outcome) }
 {
     let code = lay(alloc, tree)?;
-    let outcome = outcome_of(alloc, &code, tree, turns);
-    // Giving it back value by value takes longer than the process has left.
-    let _laid = ManuallyDrop::new(code);
-    outcome
+    outcome_of(alloc, &code, tree, turns)
 }
 
 /// The outcome of a tree that is laid out.

@@ -12,11 +12,15 @@ mod choice;
 #[cfg(test)]
 mod deque;
 #[cfg(test)]
+mod expected;
+#[cfg(test)]
 mod hold;
 #[cfg(test)]
 mod join;
 #[cfg(test)]
 mod layout;
+#[cfg(test)]
+mod naming;
 #[cfg(test)]
 mod pieces;
 #[cfg(test)]

@@ -1,1 +1,4 @@
+pub mod Counts
 pub mod Trace
+pub mod Telling
+pub mod Laws

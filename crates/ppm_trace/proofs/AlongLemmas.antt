@@ -1,0 +1,70 @@
+-- What two lists of turns tell, one after the other.
+use Rattle.std.proofs.Common.{◌≡◌, ◌∙◌, Bool, true, false, ◌&&◌, if◌then◌else◌, List, [], ◌∷◌, ◌++◌, ℕ, refl, sym, ap}
+use Rattle.std.proofs.lemmas.List.{append-nil, append_assoc}
+use Rattle.ppm_core.specs.Situation.{Situation, run_on, turned}
+use Rattle.ppm_core.proofs.RunLemmas.{run_none, run_step}
+use Rattle.ppm_lines.specs.Line.{line_text}
+use Rattle.ppm_marks.specs.Shown.{is_shown}
+use Rattle.ppm_marks.specs.declared.shown.Only.{Only}
+use Rattle.ppm_naming.specs.declared.names.Names.{Names}
+use Rattle.ppm_step.specs.declared.turn.Turn.{Turn}
+use Rattle.ppm_trace.specs.Laws.{thinned_line}
+use Rattle.ppm_trace.specs.Telling.{HasTold}
+use Rattle.ppm_trace.specs.Trace.{along_turns, counts_along, is_told, shown_line, told_counts}
+use Rattle.ppm_trace.specs.declared.counts.Counts.{Counts}
+use Rattle.ppm_trace.specs.declared.tale.Tale.{Tale}
+use Rattle.ppm_trace.specs.declared.tale.Window.{Window}
+
+pub along_both : {X : Type 0} (told : Situation → Turn → List X) (m : Situation) (first more : List Turn)
+    → along_turns told m (first ++ more) ≡ along_turns told m first ++ along_turns told (run_on m first) more
+along_both told m [] more = ap (λ k. along_turns told k more) (run_none m)
+along_both told m (turn ∷ turns) more =
+    ap (λ rest. told m turn ++ rest) (along_both told (turned m turn) turns more)
+    ∙ sym (append_assoc (told m turn) (along_turns told (turned m turn) turns) (along_turns told (run_on (turned m turn) turns) more))
+    ∙ ap (λ k. told m turn ++ along_turns told (turned m turn) turns ++ along_turns told k more) (run_step m turn turns)
+
+pub counts_both : (from : ℕ) (c : Counts) (m : Situation) (first more : List Turn)
+    → counts_along from c m (first ++ more) ≡ counts_along from (counts_along from c m first) (run_on m first) more
+counts_both from c m [] more = ap (λ k. counts_along from c k more) (run_none m)
+counts_both from c m (turn ∷ turns) more =
+    counts_both from (told_counts from c m turn) (turned m turn) turns more
+    ∙ ap (λ k. counts_along from (counts_along from (told_counts from c m turn) (turned m turn) turns) k more) (run_step m turn turns)
+
+module _ (names : Names) (window : Window) where
+  pub none_told : (m : Situation) (tale : Tale) → HasTold names window m [] tale tale
+  none_told m tale = record { text = sym (append-nil tale.text.items); counts = refl }
+
+  pub told_both : (m : Situation) (first more : List Turn) (a b c : Tale) → HasTold names window m first a b
+      → HasTold names window (run_on m first) more b c → HasTold names window m (first ++ more) a c
+  told_both m first more a b c d e =
+      let told = shown_line names window.only window.from in
+      let one = along_turns told m first in
+      let two = along_turns told (run_on m first) more in
+      record {
+        text = e.text ∙ ap (λ text. text ++ two) d.text ∙ append_assoc a.text.items one two
+            ∙ ap (λ rest. a.text.items ++ rest) (sym (along_both told m first more));
+        counts = e.counts ∙ ap (λ n. counts_along window.from n (run_on m first) more) d.counts
+            ∙ sym (counts_both window.from a.counts m first more);
+      }
+
+-- what tells the same of each turn tells the same of all
+along_alike : (one two : Situation → Turn → List ℕ) → ((m : Situation) (turn : Turn) → one m turn ≡ two m turn)
+    → (m : Situation) (turns : List Turn) → along_turns one m turns ≡ along_turns two m turns
+along_alike one two same m [] = refl
+along_alike one two same m (turn ∷ turns) =
+    ap (λ line. line ++ along_turns one (turned m turn) turns) (same m turn)
+    ∙ ap (λ rest. two m turn ++ rest) (along_alike one two same (turned m turn) turns)
+
+-- a line that is told and shown
+thins : (told shows : Bool) (line : List ℕ) → (if told && shows then line else []) ≡ (if shows then (if told && true then line else []) else [])
+thins true true line = refl
+thins true false line = refl
+thins false true line = refl
+thins false false line = refl
+
+pub thinner : (names : Names) (only : Only) (from : ℕ) (m : Situation) (turns : List Turn)
+    → along_turns (shown_line names only from) m turns ≡ along_turns (thinned_line names only from) m turns
+thinner names only from =
+    along_alike (shown_line names only from) (thinned_line names only from)
+    (λ m turn. thins (is_told from m) (is_shown m.shape m.code only m.state turn)
+    (line_text names m.array_lengths m.shape m.code m.turns m.state turn))

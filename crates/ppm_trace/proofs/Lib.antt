@@ -1,0 +1,7 @@
+-- How a run is told. The loops of `src/telling.rt` are those by which `ppm_following` follows a
+-- schedule, without its steps in a row. Each has the invariant `LeadsTo all rest`: whatever is told
+-- after this, of `rest` from here, is all of `all` from the beginning.
+pub mod AlongLemmas
+pub mod TellingLemmas
+pub mod OneLemmas
+pub mod TextLemmas

@@ -1,0 +1,30 @@
+-- Laws of traces.
+use Rattle.std.specs.Prelude.{◌≡◌, ℕ, if◌then◌else◌, List, [], ◌++◌}
+use Rattle.ppm_core.specs.Situation.{Situation, run_on}
+use Rattle.ppm_marks.specs.Shown.{is_shown}
+use Rattle.ppm_marks.specs.declared.shown.Only.{Only}
+use Rattle.ppm_marks.specs.declared.shown.Only.TheVariants.{Turns}
+use Rattle.ppm_naming.specs.declared.names.Names.{Names}
+use Rattle.ppm_step.specs.declared.turn.Turn.{Turn}
+use Rattle.ppm_trace.specs.Trace.{along_turns, counts_along, shown_line}
+use Rattle.ppm_trace.specs.declared.counts.Counts.{Counts}
+
+-- the lines of turns after others are those from the situation that these make
+abbrev pub LinesFollowOn : Type 0
+LinesFollowOn = (names : Names) (only : Only) (from : ℕ) (m : Situation) (first more : List Turn)
+    → along_turns (shown_line names only from) m (first ++ more)
+    ≡ along_turns (shown_line names only from) m first ++ along_turns (shown_line names only from) (run_on m first) more
+
+-- so it is with what is counted
+abbrev pub CountsFollowOn : Type 0
+CountsFollowOn = (from : ℕ) (c : Counts) (m : Situation) (first more : List Turn)
+    → counts_along from c m (first ++ more) ≡ counts_along from (counts_along from c m first) (run_on m first) more
+
+-- the line of a turn among all lines, if it is shown
+abbrev pub thinned_line : Names → Only → (from : ℕ) → Situation → Turn → List ℕ
+thinned_line names only from m turn = if is_shown m.shape m.code only m.state turn then shown_line names Turns from m turn else []
+
+-- of rows and of marks the lines are those of all turns that are shown, unchanged and in their order
+abbrev pub ThinnerAreAmong : Type 0
+ThinnerAreAmong = (names : Names) (only : Only) (from : ℕ) (m : Situation) (turns : List Turn)
+    → along_turns (shown_line names only from) m turns ≡ along_turns (thinned_line names only from) m turns

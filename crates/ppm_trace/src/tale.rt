@@ -1,0 +1,115 @@
+//! What is told of a turn.
+ghost use Rattle.std.specs.Prelude.{◌≡◌, ◌<◌, ◌≤◌, ◌+◌, ◌^◌, ◌++◌, [], ◌∷◌, OnOk};
+ghost use Rattle.ppm_core.specs.Machine.{seen};
+ghost use Rattle.ppm_lines.specs.Line.{line_text};
+ghost use Rattle.ppm_marks.specs.Marks.{marks_of};
+ghost use Rattle.ppm_marks.specs.Shown.{is_shown as is_shown_by};
+ghost use Rattle.ppm_step.specs.Among.{IsTurnAmong};
+ghost use Rattle.ppm_trace.specs.Counts.{counted, total};
+ghost use Rattle.ppm_trace.specs.Telling.{HasTold};
+
+use crate::counts::Counts;
+use ppm_core::Machine;
+use ppm_lines::{Scene, push_line};
+use ppm_marks::{Only, is_shown_at, marks_at};
+use ppm_naming::Names;
+use ppm_step::Turn;
+use ppm_words::NoMemory;
+use std::alloc::Global;
+
+/// What is told of a run: which of its turns are shown, and from which act on.
+#[derive(Clone, Copy, Debug, PartialEq, Eq)]
+pub struct Window {
+    pub only: Only,
+    pub from: u64,
+}
+
+/// What was told so far.
+#[derive(Debug, Drop)]
+pub struct Tale {
+    pub text: Vec<u8>,
+    pub counts: Counts,
+}
+
+/// Whether a turn is shown that is told.
+fn is_shown(machine: &Machine, only: Only, turn: Turn) -> bool
+    requires { IsTurnAmong (seen machine.now).shape.processors turn }
+    ensures { result
+        ≡ is_shown_by (seen machine.now).shape (seen machine.now).code only (seen machine.now).state turn }
+{
+    let _ = machine.array_lengths();
+    let shape = machine.shape();
+    let local = machine.local(turn.processor);
+    is_shown_at(
+        machine.words(),
+        &shape,
+        machine.code(),
+        only,
+        local,
+        turn.act,
+    )
+}
+
+/// Appends the line of a turn.
+fn push_shown(
+    alloc: Global,
+    text: &mut Vec<u8>,
+    machine: &Machine,
+    names: &Names,
+    turn: Turn,
+) -> Result<(), NoMemory>
+    requires { IsTurnAmong (seen machine.now).shape.processors turn }
+    ensures { OnOk result (text.new.items
+        ≡ text.old.items ++ line_text names.now (seen machine.now).array_lengths (seen machine.now).shape (seen machine.now).code (seen machine.now).turns (seen machine.now).state turn) }
+{
+    let shape = machine.shape();
+    let scene = Scene::new(
+        names,
+        machine.array_lengths(),
+        &shape,
+        machine.code(),
+        machine.words(),
+    );
+    let local = machine.local(turn.processor);
+    push_line(alloc, text, &scene, machine.turns(), local, turn)
+}
+
+/// Counts a turn with its marks.
+fn count(machine: &Machine, counts: &mut Counts, turn: Turn)
+    requires among { IsTurnAmong (seen machine.now).shape.processors turn }
+    requires few { total counts.old + 3 < 2 ^ 64 }
+    ensures value { counts.new
+        ≡ counted counts.old (marks_of (seen machine.now).shape (seen machine.now).code (seen machine.now).state turn) }
+    ensures bound { total counts.new ≤ total counts.old + 3 }
+{
+    let _ = machine.array_lengths();
+    let shape = machine.shape();
+    let local = machine.local(turn.processor);
+    counts.count(marks_at(machine.words(), &shape, machine.code(), local, turn.act));
+}
+
+/// Tells a turn of a machine that is not made yet.
+pub(crate) fn tell(
+    alloc: Global,
+    machine: &Machine,
+    tale: &mut Tale,
+    names: &Names,
+    window: Window,
+    turn: Turn,
+) -> Result<(), NoMemory>
+    requires among { IsTurnAmong (seen machine.now).shape.processors turn }
+    requires few { total tale.old.counts + 3 < 2 ^ 64 }
+    ensures told { OnOk result (HasTold names.now window (seen machine.now) (turn
+        ∷ []) tale.old tale.new) }
+    ensures bound { OnOk result (total tale.new.counts ≤ total tale.old.counts + 3) }
+{
+    if machine.turns() < window.from {
+        return Ok(());
+    }
+    count(machine, &mut tale.counts, turn);
+    if !is_shown(machine, window.only, turn) {
+        return Ok(());
+    }
+    push_shown(alloc, &mut tale.text, machine, names, turn)?;
+    Ok(())
+}

@@ -1,0 +1,55 @@
+//! A trace.
+ghost use Rattle.std.specs.Prelude.{◌≡◌, ◌≤◌, ◌+◌, ◌^◌, IfOk};
+ghost use Rattle.ppm_choice.specs.Schedules.{schedule_turns};
+ghost use Rattle.ppm_core.specs.Machine.{seen};
+ghost use Rattle.ppm_trace.specs.Trace.{trace_text};
+
+use crate::counts::Counts;
+use crate::ends::{push_head, push_tail};
+use crate::tale::{Tale, Window};
+use crate::telling::follow_told;
+use ppm_core::Machine;
+use ppm_following::Way;
+use ppm_marks::Only;
+use ppm_naming::Names;
+use ppm_plan::Schedule;
+use ppm_words::NoMemory;
+use std::alloc::Global;
+
+/// Makes the run of a schedule, and answers its trace: `acts` acts at most are told, after `from`
+/// that are not. `Err` only where memory is refused.
+pub fn trace(
+    alloc: Global,
+    machine: &mut Machine,
+    schedule: &Schedule,
+    names: &Names,
+    only: Only,
+    from: u64,
+    acts: u64,
+) -> Result<Vec<u8>, NoMemory>
+    requires processors { schedule.now.processors ≡ (seen machine.old).shape.processors }
+    requires acts { from + acts ≤ 2 ^ 40 }
+    requires few { (seen machine.old).turns ≤ 2 ^ 61 }
+    ensures { IfOk result (λ text. text.items
+        ≡ trace_text names.now only from (seen machine.old)
+        (schedule_turns (seen machine.old).shape (seen machine.old).code (seen machine.old).state schedule.now.items (from + acts))) }
+{
+    let mut tale = Tale {
+        text: Vec::new(alloc),
+        counts: Counts::none(),
+    };
+    push_head(alloc, &mut tale.text, &machine.shape(), from)?;
+    let mut way = Way::first(from + acts);
+    let window = Window { only, from };
+    follow_told(
+        alloc,
+        machine,
+        &mut way,
+        &mut tale,
+        names,
+        window,
+        schedule.items(),
+    )?;
+    push_tail(alloc, &mut tale.text, tale.counts, machine.finish_word())?;
+    Ok(tale.text)
+}
