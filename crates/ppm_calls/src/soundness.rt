@@ -1,0 +1,72 @@
+//! Whether a code is sound with its input, by three calls.
+ghost use Rattle.std.specs.Prelude.{◌≤◌, ◌^◌, MatchResult};
+ghost use Rattle.ppm_depth.specs.Start.{NamesArrays};
+ghost use Rattle.ppm_calls.specs.Soundness.{IsDoubt, IsSoundRun};
+
+use ppm_code::Code;
+use ppm_depth::{DepthRun, depth_first};
+use ppm_races::{Race, Verdict, races};
+use ppm_war::{Conflict, UntidyStore, check, untidy};
+use ppm_words::{Input, NoMemory};
+use std::alloc::Global;
+use thiserror::Error;
+
+/// Why a code is not known to be sound with its input.
+#[derive(Clone, Copy, Debug, PartialEq, Eq, Error)]
+pub enum Doubt {
+    /// A capsule has a conflict; this is the first.
+    #[error("a conflict in capsule {}", .0.capsule)]
+    Conflicts(Conflict),
+    /// A store into a new block is not tidy; this is the first.
+    #[error("an untidy store in capsule {}", .0.capsule)]
+    Untidy(UntidyStore),
+    /// Two branches of a fork meet on an array word that one of them writes; this is the first race
+    /// of the depth-first run.
+    #[error("a race on array word {}", .0.word)]
+    Races(Race),
+    /// The depth-first run takes more capsules.
+    #[error("more capsules")]
+    NotWithin,
+    /// Memory was refused.
+    #[error("out of memory")]
+    NoMemory,
+}
+
+impl From<NoMemory> for Doubt {
+    ghost use Rattle.std.specs.Prelude.{◌≡◌};
+    ghost use Rattle.ppm_calls.specs.declared.soundness.Doubt.TheVariants as doubts;
+
+    ghost from_gives = { λ _ doubt. doubt ≡ doubts.NoMemory };
+
+    fn from(_: NoMemory) -> Self {
+        Doubt::NoMemory
+    }
+}
+
+/// The depth-first run of a code that is sound with its input, if that run takes at most so many
+/// capsules. Of a sound code each run on processors that comes to a result comes to that of this
+/// one.
+pub fn sound_run(
+    alloc: Global,
+    code: &Code,
+    input: &Input,
+    capsules: u64,
+) -> Result<DepthRun, Doubt>
+    requires names { NamesArrays code.now input.now }
+    requires few { capsules ≤ 2 ^ 40 }
+    ensures { MatchResult result (IsSoundRun code.now input.now capsules) (IsDoubt code.now input.now capsules) }
+{
+    if let Err(conflict) = check(code) {
+        return Err(Doubt::Conflicts(conflict));
+    }
+    if let Some(store) = untidy(code) {
+        return Err(Doubt::Untidy(store));
+    }
+    // Races are sought of a tidy code alone, and so is its run made.
+    let run = depth_first(alloc, code, input, capsules)?;
+    match races(alloc, code, input, capsules)? {
+        Verdict::Calm(_) => Ok(run),
+        Verdict::Races(race) => Err(Doubt::Races(race)),
+        Verdict::NotWithin => Err(Doubt::NotWithin),
+    }
+}

@@ -1,0 +1,46 @@
+//! A machine that is turned by hand.
+ghost use Rattle.std.specs.Prelude.{◌≡◌, ◌≤◌, ◌^◌, IfOk};
+ghost use Rattle.ppm_words.specs.Inputs.{value_count};
+ghost use Rattle.ppm_depth.specs.Start.{NamesArrays};
+ghost use Rattle.ppm_core.specs.Machine.{seen};
+ghost use Rattle.ppm_calls.specs.Turns.{HasTakenTurns};
+
+use ppm_cells::Shape;
+use ppm_code::Code;
+use ppm_core::{Act, Machine, Turn};
+use ppm_layout::image;
+use ppm_words::{Input, NoMemory};
+use std::alloc::Global;
+
+/// The machine of a code and its input, after its processors have made one step each in turn,
+/// again and again: `most` steps in all, or fewer where the finish word is set before. Where a
+/// processor looks for work, it looks at the place of the next one.
+pub fn take_turns(
+    alloc: Global,
+    code: Code,
+    input: &Input,
+    shape: Shape,
+    most: u64,
+) -> Result<Machine, NoMemory>
+    requires arrays { shape.arrays ≡ value_count input.now }
+    requires names { NamesArrays code input.now }
+    requires few { most ≤ 2 ^ 62 }
+    ensures { IfOk result (λ machine. HasTakenTurns code input.now shape most (seen machine)) }
+{
+    // Processor 0 has the root of the code at its place; the others look for work.
+    let words = image(alloc, &code, input, shape, 0)?;
+    let mut machine = Machine::load(alloc, words, code)?;
+    let processors = u64::from(machine.processors());
+    for number in 0..most {
+        if machine.finish_word() != 0 {
+            return Ok(machine);
+        }
+        let processor = (number % processors) as u32;
+        let victim = ((number + 1) % processors) as u32;
+        machine.turn(Turn {
+            processor,
+            act: Act::Step { victim },
+        });
+    }
+    Ok(machine)
+}
