@@ -1,12 +1,11 @@
 -- The counter keeps the rules of a code.
-use Rattle.std.proofs.Common.{◌≡◌, ◌<◌, ◌≤◌, ℕ, zero, suc, List, [], ◌∷◌, refl, arith, Some, pos}
+use Rattle.std.proofs.Common.{◌<◌, ◌≤◌, ℕ, zero, suc, [], ◌∷◌, refl, arith, pos}
 use Rattle.std.proofs.lemmas.List.Elements.{All-from_recursion}
 use Rattle.std.specs.Prelude.{slice_get, IfSome}
 use Rattle.ppm_words.specs.Limits.{array_limit}
-use Rattle.ppm_code.specs.declared.act.End.{End}
 use Rattle.ppm_code.specs.declared.act.End.TheVariants.{Next, Finish}
 use Rattle.ppm_code.specs.declared.code.Procedure.{Procedure}
-use Rattle.ppm_code.specs.declared.instr.Instr.TheVariants.{Add, Const, Ends, Get, LoadSlot, Put, StoreCur}
+use Rattle.ppm_code.specs.declared.instr.Instr.TheVariants.{Add, Const, Get, LoadSlot, Put, StoreCur}
 use Rattle.ppm_code.specs.Limits.{slot_limit}
 use Rattle.ppm_code.specs.Code.{IsCode, IsCapsule, IsCapsuleOf, Fits}
 use Rattle.ppm_code.proofs.NumberedLemmas.{each_numbered}

@@ -1,9 +1,8 @@
 -- What recorders have after a run that ended.
-use Rattle.std.proofs.Common.{◌≡◌, ◌∙◌, ◌<◌, ◌≤◌, ℕ, zero, suc, List, [], ◌∷◌, length, map, replicate, get_or, slice_get, Option, Some, None, refl, sym, ap, subst, arith}
+use Rattle.std.proofs.Common.{◌≡◌, ◌∙◌, ◌<◌, ◌≤◌, ℕ, zero, suc, List, [], ◌∷◌, length, map, replicate, get_or, slice_get, Option, Some, None, refl, ap, subst, arith}
 use Rattle.ppm_words.specs.declared.event.Event.{Event}
 use Rattle.ppm_ports.specs.Outside.{Outside}
 use Rattle.ppm_ports.specs.Told.{AppendsList, KeepsList}
-use Rattle.ppm_answers.specs.declared.status.Status.{Status}
 use Rattle.ppm_answers.specs.declared.status.Status.TheVariants.{Ended}
 use Rattle.ppm_answers.specs.Texts.{arrays_text}
 use Rattle.std.specs.Io.KnownBytes.{Appends}

@@ -1,5 +1,5 @@
 -- Two runs of a code within one limit.
-use Rattle.std.proofs.Common.{◌⊎◌, ℕ, List, arith, inl, inr}
+use Rattle.std.proofs.Common.{ℕ, List, arith, inl, inr}
 use Rattle.ppm_words.specs.declared.named_array.NamedArray.{NamedArray}
 use Rattle.ppm_code.specs.declared.code.CodeParts.{CodeParts}
 use Rattle.ppm_depth.specs.declared.depth.DepthRun.{DepthRun}

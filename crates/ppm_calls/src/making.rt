@@ -1,28 +1,35 @@
-//! A code that is made in memory.
+//! A code that is made in memory, with its input.
 ghost use Rattle.std.specs.Prelude.{◌≡◌, ◌<◌, IfOk};
 ghost use Rattle.ppm_cut_code.specs.Layout.{register as register_of};
-ghost use Rattle.ppm_calls.specs.Counter.{add_instrs, counter_code, read_instrs};
+ghost use Rattle.ppm_calls.specs.Counter.{add_instrs, counter_code, counter_input, read_instrs};
 
+use ppm_case::Case;
 use ppm_code::{Capsule, Code, CodeParts, End, Instr, Procedure, Register};
-use ppm_words::{Items, NoMemory};
+use ppm_words::{Input, Items, Name, NamedArray, NoMemory};
 use std::alloc::Global;
 
-/// A code that adds 1 to the first value of the first array. One capsule reads the value and stores
-/// it into a slot of its frame, and another one adds 1 and writes it back: so each may be stopped
-/// and begun again. It traps at line 1 where the array is empty, and at line 2 where the sum would
-/// overflow.
-pub fn counter(alloc: Global) -> Result<Code, NoMemory>
-    ensures { IfOk result (λ code. code ≡ counter_code) }
+/// A code that adds 1 to the first value of its array, with an array that has this value alone. One
+/// capsule reads the value and stores it into a slot of its frame; the other one adds 1 and writes
+/// it back. So each may be stopped and begun again.
+pub fn counter(alloc: Global, value: i64) -> Result<Case, NoMemory>
+    ensures code { IfOk result (λ case. case.code ≡ counter_code) }
+    ensures input { IfOk result (λ case. case.input ≡ counter_input value) }
 {
     let reading = reading(alloc)?;
     let adding = adding(alloc)?;
     let procedure = Procedure { slots: 2, entry: 0 };
-    Ok(Code::from_parts(CodeParts {
+    let code = Code::from_parts(CodeParts {
         root: 0,
         arrays: Items::from_vec(vec![in alloc; 0]?),
         procedures: Items::from_vec(vec![in alloc; procedure]?),
         capsules: Items::from_vec(vec![in alloc; reading, adding]?),
-    }))
+    });
+    let array = NamedArray {
+        name: Name::from_bytes(vec![in alloc; b'c']?),
+        values: Items::from_vec(vec![in alloc; value]?),
+    };
+    let input = Input::from_vec(vec![in alloc; array]?);
+    Ok(Case { code, input })
 }
 
 /// The capsule that reads.

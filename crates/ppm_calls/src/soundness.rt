@@ -1,17 +1,16 @@
-//! Whether a code is sound with its input, by three calls.
+//! Whether a case is sound.
 ghost use Rattle.std.specs.Prelude.{◌≤◌, ◌^◌, MatchResult};
-ghost use Rattle.ppm_depth.specs.Start.{NamesArrays};
 ghost use Rattle.ppm_calls.specs.Soundness.{IsDoubt, IsSoundRun};
 
-use ppm_code::Code;
+use ppm_case::Case;
 use ppm_depth::{DepthRun, depth_first};
 use ppm_races::{Race, Verdict, races};
 use ppm_war::{Conflict, UntidyStore, check, untidy};
-use ppm_words::{Input, NoMemory};
+use ppm_words::NoMemory;
 use std::alloc::Global;
 use thiserror::Error;
 
-/// Why a code is not known to be sound with its input.
+/// Why a case is not known to be sound.
 #[derive(Clone, Copy, Debug, PartialEq, Eq, Error)]
 pub enum Doubt {
     /// A capsule has a conflict; this is the first.
@@ -43,28 +42,22 @@ impl From<NoMemory> for Doubt {
     }
 }
 
-/// The depth-first run of a code that is sound with its input, if that run takes at most so many
-/// capsules. Of a sound code each run on processors that comes to a result comes to that of this
-/// one.
-pub fn sound_run(
-    alloc: Global,
-    code: &Code,
-    input: &Input,
-    capsules: u64,
-) -> Result<DepthRun, Doubt>
-    requires names { NamesArrays code.now input.now }
+/// The depth-first run of a case that is sound, if this run takes at most so many capsules. Each run
+/// of a sound case that comes to a result comes to the result of this one.
+pub fn sound_run(alloc: Global, case: &Case, capsules: u64) -> Result<DepthRun, Doubt>
     requires few { capsules ≤ 2 ^ 40 }
-    ensures { MatchResult result (IsSoundRun code.now input.now capsules) (IsDoubt code.now input.now capsules) }
+    ensures { MatchResult result (IsSoundRun case.now.code case.now.input capsules)
+        (IsDoubt case.now.code case.now.input capsules) }
 {
-    if let Err(conflict) = check(code) {
+    if let Err(conflict) = check(&case.code) {
         return Err(Doubt::Conflicts(conflict));
     }
-    if let Some(store) = untidy(code) {
+    if let Some(store) = untidy(&case.code) {
         return Err(Doubt::Untidy(store));
     }
     // Races are sought of a tidy code alone, and so is its run made.
-    let run = depth_first(alloc, code, input, capsules)?;
-    match races(alloc, code, input, capsules)? {
+    let run = depth_first(alloc, &case.code, &case.input, capsules)?;
+    match races(alloc, &case.code, &case.input, capsules)? {
         Verdict::Calm(_) => Ok(run),
         Verdict::Races(race) => Err(Doubt::Races(race)),
         Verdict::NotWithin => Err(Doubt::NotWithin),

@@ -1,35 +1,27 @@
 //! A machine that is turned by hand.
 ghost use Rattle.std.specs.Prelude.{◌≡◌, ◌≤◌, ◌^◌, IfOk};
 ghost use Rattle.ppm_words.specs.Inputs.{value_count};
-ghost use Rattle.ppm_depth.specs.Start.{NamesArrays};
 ghost use Rattle.ppm_core.specs.Machine.{seen};
 ghost use Rattle.ppm_calls.specs.Turns.{HasTakenTurns};
 
+use ppm_case::Case;
 use ppm_cells::Shape;
-use ppm_code::Code;
 use ppm_core::{Act, Machine, Turn};
 use ppm_layout::image;
-use ppm_words::{Input, NoMemory};
+use ppm_words::NoMemory;
 use std::alloc::Global;
 
-/// The machine of a code and its input, after its processors have made one step each in turn,
+/// The machine of a case, after its processors have made one step each in turn,
 /// again and again: `most` steps in all, or fewer where the finish word is set before. Where a
 /// processor looks for work, it looks at the place of the next one.
-pub fn take_turns(
-    alloc: Global,
-    code: Code,
-    input: &Input,
-    shape: Shape,
-    most: u64,
-) -> Result<Machine, NoMemory>
-    requires arrays { shape.arrays ≡ value_count input.now }
-    requires names { NamesArrays code input.now }
+pub fn take_turns(alloc: Global, case: Case, shape: Shape, most: u64) -> Result<Machine, NoMemory>
+    requires arrays { shape.arrays ≡ value_count case.input }
     requires few { most ≤ 2 ^ 62 }
-    ensures { IfOk result (λ machine. HasTakenTurns code input.now shape most (seen machine)) }
+    ensures { IfOk result (λ machine. HasTakenTurns case.code case.input shape most (seen machine)) }
 {
     // Processor 0 has the root of the code at its place; the others look for work.
-    let words = image(alloc, &code, input, shape, 0)?;
-    let mut machine = Machine::load(alloc, words, code)?;
+    let words = image(alloc, &case.code, &case.input, shape, 0)?;
+    let mut machine = Machine::load(alloc, words, case.code)?;
     let processors = u64::from(machine.processors());
     for number in 0..most {
         if machine.finish_word() != 0 {

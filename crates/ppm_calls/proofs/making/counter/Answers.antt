@@ -2,8 +2,8 @@ use Rattle.ppm_calls.proofs.CounterLemmas.{counter_is_code}
 use Rattle.ppm_calls.proofs.making.counter.Goals as goal
 
 -- it keeps the rules of a code
-pub from_parts-requires : goal.from_parts-requires
-from_parts-requires c =
+pub from_parts-code-requires : goal.from_parts-code-requires
+from_parts-code-requires c =
     rw (
       c.from_vec.ensures,
       c.in_ok-vec.ensures.items,

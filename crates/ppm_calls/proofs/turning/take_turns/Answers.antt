@@ -8,7 +8,7 @@ use Rattle.ppm_calls.proofs.turning.take_turns.Goals as goal
 pub returns-then-finish_word-ne0 : goal.returns-then-finish_word-ne0
 returns-then-finish_word-ne0 c =
     let now = c.loop-number.invariant in
-    has_taken c.args.code c.args.input.now c.args.shape c.args.most c.in_ok-words.words c.in_ok-words.ensures.image
+    has_taken c.args.case.code c.args.case.input c.args.shape c.args.most c.in_ok-words.words c.in_ok-words.ensures.image
     (seen c.in_ok-machine.machine) (seen c.loop-number.machine) c.in_ok-machine.ensures c.from-processors.result c.loop-number.number
     (c.from-processors.ensures ∙ c.processors.ensures.value) now.0 now.1 c.loop-number.auto.number-end
     (λ unset. absurd (c.if-finish_word-ne0.true (c.finish_word.ensures ∙ unset)))
@@ -30,6 +30,6 @@ pub returns : goal.returns
 returns c =
     let now = c.loop-number.invariant in
     let all : c.loop-number.number ≡ c.args.most = omega (arith, c.loop-number-test.false, c.loop-number.auto.number-end) in
-    has_taken c.args.code c.args.input.now c.args.shape c.args.most c.in_ok-words.words c.in_ok-words.ensures.image
+    has_taken c.args.case.code c.args.case.input c.args.shape c.args.most c.in_ok-words.words c.in_ok-words.ensures.image
     (seen c.in_ok-machine.machine) (seen c.loop-number.machine) c.in_ok-machine.ensures c.from-processors.result c.loop-number.number
     (c.from-processors.ensures ∙ c.processors.ensures.value) now.0 now.1 c.loop-number.auto.number-end (λ unset. all)
