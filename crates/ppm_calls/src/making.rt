@@ -1,5 +1,5 @@
 //! A code that is made in memory, with its input.
-ghost use Rattle.std.specs.Prelude.{◌≡◌, ◌<◌, IfOk};
+ghost use Rattle.std.specs.Prelude.{◌≡◌, IfOk};
 ghost use Rattle.ppm_cut_code.specs.Layout.{register as register_of};
 ghost use Rattle.ppm_calls.specs.Counter.{add_instrs, counter_code, counter_input, read_instrs};
 

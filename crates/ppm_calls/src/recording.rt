@@ -30,8 +30,8 @@ pub struct Recorded {
     pub watch: Vec<Recorder>,
 }
 
-/// Runs a source on threads under a plan of faults, and records each event. It may never return, as
-/// `run_command` may not.
+/// Runs a source on threads under a plan of faults, and records each event. As `run_command`, it may
+/// never return.
 pub fn record_run<R: Threads + Wait + Sync>(
     rt: &R,
     alloc: Global,

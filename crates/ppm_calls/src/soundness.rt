@@ -55,7 +55,7 @@ pub fn sound_run(alloc: Global, case: &Case, capsules: u64) -> Result<DepthRun, 
     if let Some(store) = untidy(&case.code) {
         return Err(Doubt::Untidy(store));
     }
-    // Races are sought of a tidy code alone, and so is its run made.
+    // Both calls ask for a code that is tidy, as this one now is known to be.
     let run = depth_first(alloc, &case.code, &case.input, capsules)?;
     match races(alloc, &case.code, &case.input, capsules)? {
         Verdict::Calm(_) => Ok(run),

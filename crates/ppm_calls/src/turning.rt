@@ -11,9 +11,9 @@ use ppm_layout::image;
 use ppm_words::NoMemory;
 use std::alloc::Global;
 
-/// The machine of a case, after its processors have made one step each in turn,
-/// again and again: `most` steps in all, or fewer where the finish word is set before. Where a
-/// processor looks for work, it looks at the place of the next one.
+/// The machine of a case after its processors have made steps in turn, from processor 0 on: so many
+/// steps in all, or fewer where the finish word is set before. Where a processor looks for work, it
+/// looks at the place of the next one.
 pub fn take_turns(alloc: Global, case: Case, shape: Shape, most: u64) -> Result<Machine, NoMemory>
     requires arrays { shape.arrays ≡ value_count case.input }
     requires few { most ≤ 2 ^ 62 }
