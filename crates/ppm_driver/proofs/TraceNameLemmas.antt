@@ -32,7 +32,7 @@ mutual
   statement_named layout h (tree.While e block) = block_named layout h block
   statement_named layout h (tree.Split line r e x y block) = block_named (with_parts layout x y) h block
   statement_named layout h (tree.Each i x r block) =
-      ap (λ xs. _ ∷ xs) (block_named (x.name ∷ i.name ∷ caught layout block) (suc h) block)
+      ap (λ xs. name.EachOf r.line ∷ xs) (block_named (x.name ∷ i.name ∷ caught layout block) (suc h) block)
   statement_named layout h (tree.Let x e) = refl
   statement_named layout h (tree.Assign x e) = refl
   statement_named layout h (tree.Put x index e) = refl
@@ -47,7 +47,7 @@ mutual
 
 texts_named : (h : ℕ) (procedures : List Procedure) → named (texts_from h procedures) ≡ text_names procedures
 texts_named h [] = refl
-texts_named h (p ∷ procedures) = ap (λ xs. _ ∷ xs) (texts_named (hidden_behind_block p.body h) procedures)
+texts_named h (p ∷ procedures) = ap (λ xs. name.Named p.name.name ∷ xs) (texts_named (hidden_behind_block p.body h) procedures)
 
 hidden_named : (h : ℕ) (procedures : List Procedure) → named (hidden_from h procedures) ≡ all_hidden_names procedures
 hidden_named h [] = refl

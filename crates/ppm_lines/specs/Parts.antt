@@ -48,7 +48,7 @@ fork_part offset =
     else (if offset == 3 then RightOutcome
     else RightOffset)))
 
--- a word of a frame that begins there, where it is none below it
+-- a word of the frame that begins there; one below it is elsewhere
 abbrev pub in_frame : (frame at : ℕ) → Part
 in_frame frame at = if nat_lt at frame then Elsewhere at else InFrame frame (frame_part (at - frame))
 
@@ -160,7 +160,7 @@ part_asked scene standing (Stores at word) = part_at scene standing at
 part_asked scene standing (Exchanges at old new) = part_at scene standing at
 part_asked scene standing Nothing = NoWord
 
--- the word step that comes next; a fault comes in place of it, and names no victim
+-- the word step that comes next, or in whose place a fault comes, which names no victim
 abbrev pub victim_of : Act → ℕ
 victim_of (Step victim) = victim
 victim_of Soft = 0

@@ -101,7 +101,8 @@ pub(crate) fn push_of_row(
     }
 }
 
-/// Appends what a processor is at is of.
+/// Appends what the row of a processor is of; `-` where it is in no row, or its row has no
+/// subject.
 pub(crate) fn push_of(
     alloc: Global,
     text: &mut Vec<u8>,

@@ -152,7 +152,7 @@ fn victim_of(act: Act) -> u32
     }
 }
 
-/// The word step that comes next, or that a fault came in place of.
+/// The word step that comes next, or in whose place a fault comes.
 pub(crate) fn coming(scene: &Scene, local: &Local, turn: Turn) -> Want
     requires local { IsLocal scene.now.shape scene.now.code local.now }
     requires own { local.now.own ≡ turn.processor }
@@ -186,7 +186,7 @@ fn seeks_holder(local: &Local) -> bool
     }
 }
 
-/// The word of a turn whose word step is this one, or has to be.
+/// The word of a turn: that of its word step, or of the one in whose place a fault comes.
 pub(crate) fn part_of(scene: &Scene, local: &Local, turn: Turn) -> Part
     requires local { IsLocal scene.now.shape scene.now.code local.now }
     requires own { local.now.own ≡ turn.processor }

@@ -12,6 +12,8 @@ mod choice;
 #[cfg(test)]
 mod deque;
 #[cfg(test)]
+mod expected;
+#[cfg(test)]
 mod hold;
 #[cfg(test)]
 mod join;

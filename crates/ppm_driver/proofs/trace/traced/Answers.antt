@@ -1,6 +1,7 @@
 use Rattle.std.proofs.Common.{List, sym, subst}
 use Rattle.ppm_words.specs.declared.named_array.NamedArray.{NamedArray}
 use Rattle.ppm_code.specs.declared.code.CodeParts.{CodeParts}
+use Rattle.ppm_cut_code.specs.Routines.{code_of}
 use Rattle.ppm_depth.specs.Start.{NamesArrays}
 use Rattle.ppm_tree.specs.Tree.{tree_of}
 use Rattle.ppm_tree.specs.Program.{initial_arrays}
@@ -20,6 +21,6 @@ returns c =
     let told = answers.Traced c.in_ok-text.text.items in
     let options = c.args.options in
     let items = c.args.schedule.now.items in
-    subst (λ (n : Names). CodeHas options n items _ (initial_arrays (tree_of c.args.program.now)) told) c.in_ok-names.ensures
+    subst (λ (n : Names). CodeHas options n items (code_of (tree_of c.args.program.now)) (initial_arrays (tree_of c.args.program.now)) told) c.in_ok-names.ensures
     (subst (λ (k : CodeParts). CodeHas options c.in_ok-names.names items k (initial_arrays (tree_of c.args.program.now)) told) c.in_ok-code.ensures.code
     (subst (λ (l : List NamedArray). CodeHas options c.in_ok-names.names items c.in_ok-code.code l told) c.input.ensures.value c.in_ok-text.ensures))
