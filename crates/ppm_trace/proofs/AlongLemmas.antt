@@ -14,7 +14,7 @@ use Rattle.ppm_trace.specs.Json.{told_as}
 use Rattle.ppm_trace.specs.Trace.{along_turns, counts_along, is_told, shown_line, told_counts}
 use Rattle.ppm_trace.specs.declared.counts.Counts.{Counts}
 use Rattle.ppm_trace.specs.declared.tale.Tale.{Tale}
-use Rattle.ppm_trace.specs.declared.tale.Window.{Window}
+use Rattle.ppm_trace.specs.declared.tale.Excerpt.{Excerpt}
 
 pub along_both : {X : Type 0} (told : Situation → Turn → List X) (m : Situation) (first more : List Turn)
     → along_turns told m (first ++ more) ≡ along_turns told m first ++ along_turns told (run_on m first) more
@@ -31,21 +31,21 @@ counts_both from c m (turn ∷ turns) more =
     counts_both from (told_counts from c m turn) (turned m turn) turns more
     ∙ ap (λ k. counts_along from (counts_along from (told_counts from c m turn) (turned m turn) turns) k more) (run_step m turn turns)
 
-module _ (names : Names) (window : Window) where
-  pub none_told : (m : Situation) (tale : Tale) → HasTold names window m [] tale tale
+module _ (names : Names) (excerpt : Excerpt) where
+  pub none_told : (m : Situation) (tale : Tale) → HasTold names excerpt m [] tale tale
   none_told m tale = record { text = sym (append-nil tale.text.items); counts = refl }
 
-  pub told_both : (m : Situation) (first more : List Turn) (a b c : Tale) → HasTold names window m first a b
-      → HasTold names window (run_on m first) more b c → HasTold names window m (first ++ more) a c
+  pub told_both : (m : Situation) (first more : List Turn) (a b c : Tale) → HasTold names excerpt m first a b
+      → HasTold names excerpt (run_on m first) more b c → HasTold names excerpt m (first ++ more) a c
   told_both m first more a b c d e =
-      let told = told_as names window.form window.from in
+      let told = told_as names excerpt.form excerpt.from in
       let one = along_turns told m first in
       let two = along_turns told (run_on m first) more in
       record {
         text = e.text ∙ ap (λ text. text ++ two) d.text ∙ append_assoc a.text.items one two
             ∙ ap (λ rest. a.text.items ++ rest) (sym (along_both told m first more));
-        counts = e.counts ∙ ap (λ n. counts_along window.from n (run_on m first) more) d.counts
-            ∙ sym (counts_both window.from a.counts m first more);
+        counts = e.counts ∙ ap (λ n. counts_along excerpt.from n (run_on m first) more) d.counts
+            ∙ sym (counts_both excerpt.from a.counts m first more);
       }
 
 -- what tells the same of each turn tells the same of all

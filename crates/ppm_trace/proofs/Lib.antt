@@ -3,6 +3,8 @@
 -- after this, of `rest` from here, is all of `all` from the beginning.
 pub mod AlongLemmas
 pub mod TellingLemmas
+pub mod MarkLemmas
+pub mod ForkLemmas
 pub mod OneLemmas
 pub mod TextLemmas
 pub mod EventLemmas

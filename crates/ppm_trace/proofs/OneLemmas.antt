@@ -1,5 +1,6 @@
 -- One act: it is told, and then made.
-use Rattle.std.proofs.Common.{◌≡◌, ◌∙◌, ◌==◌, ℕ, ◌+◌, ◌-◌, ◌<◌, ◌≤◌, Bool, true, false, not, ◌&&◌, nat_lt, if◌then◌else◌, [], ◌∷◌, ◌++◌, None, ap, arith, refl, subst, sym}
+use Rattle.std.proofs.Common.{◌≡◌, ◌∙◌, ◌==◌, ℕ, ◌+◌, ◌-◌, ◌<◌, ◌≤◌, Bool, true, false, not}
+use Rattle.std.proofs.Common.{◌&&◌, nat_lt, if◌then◌else◌, [], ◌∷◌, ◌++◌, None, ap, arith, refl, subst, sym}
 use Rattle.ppm_choice.specs.Course.{InRound, Listed, behind_act, behind_all, is_made, loads_behind, processor_of, turn_of, turns_of}
 use Rattle.ppm_core.specs.Acts.{is_done_at}
 use Rattle.ppm_core.specs.Situation.{Situation, finish_in, turned, run_on}
@@ -15,7 +16,7 @@ use Rattle.ppm_step.specs.declared.turn.Turn.{Turn}
 use Rattle.ppm_trace.specs.Counts.{total}
 use Rattle.ppm_trace.specs.Telling.{telling, HasTold, IsTelling, Telling, Tells}
 use Rattle.ppm_trace.specs.declared.tale.Tale.{Tale}
-use Rattle.ppm_trace.specs.declared.tale.Window.{Window}
+use Rattle.ppm_trace.specs.declared.tale.Excerpt.{Excerpt}
 
 -- a test that holds, and one that fails
 both_hold : (a b : Bool) → a ≡ true → b ≡ false → (a && true && not b) ≡ true
@@ -52,12 +53,12 @@ module _ (m : Situation) (way : Way) (act : ScheduledAct) (turn : Turn) (some : 
       course_path = λ i. record { state = state_path i; loads = loads i; left = ap (λ n. n - 1) left i }
 
   -- it is told as it is made
-  pub tells_one : (names : Names) (window : Window) (m' : Situation) (v : Way) (a b : Tale)
-      → v.loads ≡ loads_behind (course m way) act → v.left ≡ way.left → m' ≡ turned m turn → HasTold names window m (turn ∷ []) a b
-      → Tells names window (Listed act ∷ []) (telling m way a) (telling m' (record { loads = v.loads; left = v.left - 1 }) b)
-  tells_one names window m' v a b loads left is told = record {
+  pub tells_one : (names : Names) (excerpt : Excerpt) (m' : Situation) (v : Way) (a b : Tale)
+      → v.loads ≡ loads_behind (course m way) act → v.left ≡ way.left → m' ≡ turned m turn → HasTold names excerpt m (turn ∷ []) a b
+      → Tells names excerpt (Listed act ∷ []) (telling m way a) (telling m' (record { loads = v.loads; left = v.left - 1 }) b)
+  tells_one names excerpt m' v a b loads left is told = record {
     does = does_one m' v loads left is;
-    told = subst (λ turns. HasTold names window m turns a b) (sym turns_one) told;
+    told = subst (λ turns. HasTold names excerpt m turns a b) (sym turns_one) told;
   }
 
 -- there is room for what it counts
@@ -81,9 +82,9 @@ module _ (processor : ℕ) (m : Situation) (way : Way) (none : finish_in m ≡ 0
   as_listed : is_made m.shape m.code (course m way) (InRound processor) ≡ is_made m.shape m.code (course m way) (Listed act)
   as_listed = ap (λ word. nat_lt 0 way.left && (word == 0) && not (is_done_at (stand_of m.state processor))) none
 
-  pub in_round : (names : Names) (window : Window) (a : Tale) (new : Telling) → Tells names window (Listed act ∷ []) (telling m way a) new
-      → Tells names window (InRound processor ∷ []) (telling m way a) new
-  in_round names window a new d =
+  pub in_round : (names : Names) (excerpt : Excerpt) (a : Tale) (new : Telling) → Tells names excerpt (Listed act ∷ []) (telling m way a) new
+      → Tells names excerpt (InRound processor ∷ []) (telling m way a) new
+  in_round names excerpt a new d =
       let w = course m way in
       let turns : turns_of m.shape m.code w (InRound processor ∷ []) ≡ turns_of m.shape m.code w (Listed act ∷ [])
       = ap (λ b. (if b then turn_of m.shape.processors w act ∷ [] else []) ++ []) as_listed in
@@ -94,5 +95,5 @@ module _ (processor : ℕ) (m : Situation) (way : Way) (none : finish_in m ≡ 0
           machine = d.does.machine ∙ ap (run_on m) (sym turns);
           course_is = d.does.course_is ∙ sym course_after;
         };
-        told = subst (λ ts. HasTold names window m ts a new.tale) (sym turns) d.told;
+        told = subst (λ ts. HasTold names excerpt m ts a new.tale) (sym turns) d.told;
       }

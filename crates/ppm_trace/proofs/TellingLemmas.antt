@@ -21,37 +21,37 @@ use Rattle.ppm_trace.specs.Telling.{telling, HasTold, LeadsTo, Telling, Tells}
 use Rattle.ppm_trace.specs.Trace.{along_turns, counts_along, head_text, shown_line, tail_text, trace_text}
 use Rattle.ppm_trace.specs.declared.form.Form.TheVariants.{Lines, Events}
 use Rattle.ppm_trace.specs.declared.tale.Tale.{Tale}
-use Rattle.ppm_trace.specs.declared.tale.Window.{Window}
+use Rattle.ppm_trace.specs.declared.tale.Excerpt.{Excerpt}
 
 -- the turns of what is due
 abbrev turns_at : Telling → List Due → List Turn
 turns_at t dues = turns_of t.machine.shape t.machine.code (course t.machine t.way) dues
 
-module _ (names : Names) (window : Window) where
-  pub idles : (dues : List Due) (a : Telling) → Idle a.machine.shape a.machine.code (course a.machine a.way) dues → Tells names window dues a a
+module _ (names : Names) (excerpt : Excerpt) where
+  pub idles : (dues : List Due) (a : Telling) → Idle a.machine.shape a.machine.code (course a.machine a.way) dues → Tells names excerpt dues a a
   idles dues a idle = record {
     does = does_idle idle;
-    told = subst (λ turns. HasTold names window a.machine turns a.tale a.tale) (sym idle.turns) (none_told names window a.machine a.tale);
+    told = subst (λ turns. HasTold names excerpt a.machine turns a.tale a.tale) (sym idle.turns) (none_told names excerpt a.machine a.tale);
   }
 
-  pub nothing : (a : Telling) → Tells names window [] a a
-  nothing a = record { does = does_nothing; told = none_told names window a.machine a.tale }
+  pub nothing : (a : Telling) → Tells names excerpt [] a a
+  nothing a = record { does = does_nothing; told = none_told names excerpt a.machine a.tale }
 
   -- the shape and the code stay
-  pub shape_stays : {dues : List Due} {a b : Telling} → Tells names window dues a b → b.machine.shape ≡ a.machine.shape
+  pub shape_stays : {dues : List Due} {a b : Telling} → Tells names excerpt dues a b → b.machine.shape ≡ a.machine.shape
   shape_stays d = ap (λ k. k.shape) d.does.machine
 
   -- what was told after these turns, as what follows on them
   told_after : (m n : Situation) (w v : Course) (turns : List Turn) (more : List Due) (b c : Tale) → n ≡ run_on m turns → v ≡ w
-      → HasTold names window n (turns_of n.shape n.code v more) b c
-      → HasTold names window (run_on m turns) (turns_of m.shape m.code w more) b c
+      → HasTold names excerpt n (turns_of n.shape n.code v more) b c
+      → HasTold names excerpt (run_on m turns) (turns_of m.shape m.code w more) b c
   told_after m n w v turns more b c is at told =
-      subst (λ u. HasTold names window (run_on m turns) (turns_of m.shape m.code u more) b c) at
-      (subst (λ k. HasTold names window k (turns_of k.shape k.code v more) b c) is told)
+      subst (λ u. HasTold names excerpt (run_on m turns) (turns_of m.shape m.code u more) b c) at
+      (subst (λ k. HasTold names excerpt k (turns_of k.shape k.code v more) b c) is told)
 
   -- one list and then another
   pub both : (first more : List Due) (a b c : Telling)
-      → Tells names window first a b → Tells names window more b c → Tells names window (first ++ more) a c
+      → Tells names excerpt first a b → Tells names excerpt more b c → Tells names excerpt (first ++ more) a c
   both first more a b c d e =
       let m = a.machine in
       let w = course m a.way in
@@ -59,66 +59,66 @@ module _ (names : Names) (window : Window) where
       let two = turns_of m.shape m.code (behind_all m.shape m.code w first) more in
       record {
         does = does_both first more d.does e.does;
-        told = subst (λ turns. HasTold names window m turns a.tale c.tale) (sym (turns_of_both m.shape m.code w first more))
-            (told_both names window m one two a.tale b.tale c.tale d.told
+        told = subst (λ turns. HasTold names excerpt m turns a.tale c.tale) (sym (turns_of_both m.shape m.code w first more))
+            (told_both names excerpt m one two a.tale b.tale c.tale d.told
             (told_after m b.machine (behind_all m.shape m.code w first) (course b.machine b.way) one more b.tale c.tale d.does.machine
             d.does.course_is e.told));
       }
 
   -- loops: what is left at their beginning is all
-  pub begins : (dues : List Due) (a : Telling) → LeadsTo names window dues dues a a
+  pub begins : (dues : List Due) (a : Telling) → LeadsTo names excerpt dues dues a a
   begins dues a new d = d
 
   -- a first part was told
   pub goes_on : (dues whole first rest : List Due) (a b c : Telling)
-      → whole ≡ first ++ rest → LeadsTo names window dues whole a b → Tells names window first b c → LeadsTo names window dues rest a c
+      → whole ≡ first ++ rest → LeadsTo names excerpt dues whole a b → Tells names excerpt first b c → LeadsTo names excerpt dues rest a c
   goes_on dues whole first rest a b c is l d new e =
-      l new (subst (λ all. Tells names window all b new) (sym is) (both first rest b c new d e))
+      l new (subst (λ all. Tells names excerpt all b new) (sym is) (both first rest b c new d e))
 
   -- no more is made
   pub ends : (dues rest : List Due) (a b : Telling)
-      → LeadsTo names window dues rest a b → Idle b.machine.shape b.machine.code (course b.machine b.way) rest → Tells names window dues a b
+      → LeadsTo names excerpt dues rest a b → Idle b.machine.shape b.machine.code (course b.machine b.way) rest → Tells names excerpt dues a b
   ends dues rest a b l idle = l b (idles rest b idle)
 
   -- nothing is left
-  pub ends_by : (dues rest : List Due) (a b : Telling) → rest ≡ [] → LeadsTo names window dues rest a b → Tells names window dues a b
-  ends_by dues rest a b is l = l b (subst (λ all. Tells names window all b b) (sym is) (nothing b))
+  pub ends_by : (dues rest : List Due) (a b : Telling) → rest ≡ [] → LeadsTo names excerpt dues rest a b → Tells names excerpt dues a b
+  ends_by dues rest a b is l = l b (subst (λ all. Tells names excerpt all b b) (sym is) (nothing b))
 
   -- one item was told
   pub one_item : (items left : List ScheduleItem) (d : ScheduleItem) (a b c : Telling) → 1 ≤ length left
-      → LeadsTo names window (listed items) (listed left) a b
-      → Tells names window (replicate (get_or left 0 d).times (Listed (get_or left 0 d).act)) b c
-      → LeadsTo names window (listed items) (listed (take (length left - 1) (drop 1 left))) a c
+      → LeadsTo names excerpt (listed items) (listed left) a b
+      → Tells names excerpt (replicate (get_or left 0 d).times (Listed (get_or left 0 d).act)) b c
+      → LeadsTo names excerpt (listed items) (listed (take (length left - 1) (drop 1 left))) a c
   one_item items left d a b c some =
       goes_on (listed items) (listed left) (replicate (get_or left 0 d).times (Listed (get_or left 0 d).act))
       (listed (take (length left - 1) (drop 1 left))) a b c (listed_rest left d some)
 
   -- no item is left
   pub no_item : (items left : List ScheduleItem) (a b : Telling) → length left < 1
-      → LeadsTo names window (listed items) (listed left) a b → Tells names window (listed items) a b
+      → LeadsTo names excerpt (listed items) (listed left) a b → Tells names excerpt (listed items) a b
   no_item items [] a b none l = ends_by (listed items) [] a b refl l
   no_item items (item ∷ left) a b none l = absurd (omega (arith, none))
 
   -- the list, and then the rounds
-  pub list_and_rounds : (given : List ScheduleItem) (count : ℕ) (a b c : Telling) → Tells names window (listed given) a b
-      → Tells names window (rounds b.machine.shape.processors count) b c
-      → Tells names window (dues_of a.machine.shape.processors given count) a c
+  pub list_and_rounds : (given : List ScheduleItem) (count : ℕ) (a b c : Telling) → Tells names excerpt (listed given) a b
+      → Tells names excerpt (rounds b.machine.shape.processors count) b c
+      → Tells names excerpt (dues_of a.machine.shape.processors given count) a c
   list_and_rounds given count a b c first more =
       both (listed given) (rounds a.machine.shape.processors count) a b c first
-      (subst (λ s. Tells names window (rounds s.processors count) b c) (shape_stays first) more)
+      (subst (λ s. Tells names excerpt (rounds s.processors count) b c) (shape_stays first) more)
 
   -- the whole run
   pub whole : (m n : Situation) (way u : Way) (a b : Tale) (given items : List ScheduleItem) (turns : ℕ) → given ≡ items
       → way ≡ record { loads = replicate 64 0; left = turns }
-      → Tells names window (dues_of m.shape.processors given way.left) (telling m way a) (telling n u b)
-      → Tells names window (dues_of m.shape.processors items turns) (telling m (record { loads = replicate 64 0; left = turns }) a) (telling n u b)
+      → Tells names excerpt (dues_of m.shape.processors given way.left) (telling m way a) (telling n u b)
+      → Tells names excerpt (dues_of m.shape.processors items turns) (telling m (record { loads = replicate 64 0; left = turns }) a) (telling n u b)
   whole m n way u a b given items turns same first tells =
       let p = m.shape.processors in
-      subst (λ v. Tells names window (dues_of p items v.left) (telling m v a) (telling n u b)) first
-      (subst (λ list. Tells names window (dues_of p list way.left) (telling m way a) (telling n u b)) same tells)
+      subst (λ v. Tells names excerpt (dues_of p items v.left) (telling m v a) (telling n u b)) first
+      (subst (λ list. Tells names excerpt (dues_of p list way.left) (telling m way a) (telling n u b)) same tells)
 
 module _ (names : Names) (only : Only) (from : ℕ) where
-  abbrev lines : Window
+  abbrev lines : Excerpt
   lines = record { form = Lines only; from = from }
 
   -- a head, the lines of the whole run, and a tail
@@ -137,7 +137,7 @@ module _ (names : Names) (only : Only) (from : ℕ) where
       ∙ ap (λ k. head_text m.shape from ++ told ++ tail_text (counts_along from no_counts m all) (finish_in k)) d.does.machine
 
 module _ (names : Names) (from : ℕ) where
-  abbrev events : Window
+  abbrev events : Excerpt
   events = record { form = Events; from = from }
 
   -- a head, the events of the whole run, and a tail

@@ -1,11 +1,12 @@
 -- Laws of traces.
-use Rattle.std.specs.Prelude.{◌≡◌, ℕ, if◌then◌else◌, List, [], ◌++◌}
+use Rattle.std.specs.Prelude.{◌≡◌, ℕ, ◌+◌, ◌≤◌, if◌then◌else◌, List, [], ◌++◌}
 use Rattle.ppm_core.specs.Situation.{Situation, run_on}
 use Rattle.ppm_marks.specs.Shown.{is_shown}
 use Rattle.ppm_marks.specs.declared.shown.Only.{Only}
 use Rattle.ppm_marks.specs.declared.shown.Only.TheVariants.{Turns}
 use Rattle.ppm_naming.specs.declared.names.Names.{Names}
 use Rattle.ppm_step.specs.declared.turn.Turn.{Turn}
+use Rattle.ppm_trace.specs.Counts.{no_counts}
 use Rattle.ppm_trace.specs.Trace.{along_turns, counts_along, shown_line}
 use Rattle.ppm_trace.specs.declared.counts.Counts.{Counts}
 
@@ -28,3 +29,9 @@ thinned_line names only from m turn = if is_shown m.shape m.code only m.state tu
 abbrev pub ThinnerAreAmong : Type 0
 ThinnerAreAmong = (names : Names) (only : Only) (from : ℕ) (m : Situation) (turns : List Turn)
     → along_turns (shown_line names only from) m turns ≡ along_turns (thinned_line names only from) m turns
+
+-- where no act of the run comes before the first one that is told, the forks and takes of the tail are those that the machine counts
+abbrev pub CountsAreTheMachines : Type 0
+CountsAreTheMachines = (from : ℕ) (m : Situation) (turns : List Turn) → from ≤ m.turns
+    → ((run_on m turns).forks ≡ m.forks + (counts_along from no_counts m turns).forks)
+    × ((run_on m turns).takes ≡ m.takes + (counts_along from no_counts m turns).takes)

@@ -10,7 +10,7 @@ use Rattle.ppm_trace.specs.Counts.{total}
 use Rattle.ppm_trace.specs.Json.{told_as}
 use Rattle.ppm_trace.specs.Trace.{along_turns, counts_along}
 use Rattle.ppm_trace.specs.declared.tale.Tale.{Tale}
-use Rattle.ppm_trace.specs.declared.tale.Window.{Window}
+use Rattle.ppm_trace.specs.declared.tale.Excerpt.{Excerpt}
 
 -- a run that is told: the machine, what is counted along the run, and what was told so far
 pub record Telling : Type 0 where
@@ -27,15 +27,15 @@ pub record IsTelling (t : Telling) : Type 0 where
   pub few : total t.tale.counts ≤ 3 * t.machine.turns
 
 -- these turns were told, and nothing else
-pub record HasTold (names : Names) (window : Window) (m : Situation) (turns : List Turn) (old new : Tale) : Type 0 where
-  pub text : new.text.items ≡ old.text.items ++ along_turns (told_as names window.form window.from) m turns
-  pub counts : new.counts ≡ counts_along window.from old.counts m turns
+pub record HasTold (names : Names) (excerpt : Excerpt) (m : Situation) (turns : List Turn) (old new : Tale) : Type 0 where
+  pub text : new.text.items ≡ old.text.items ++ along_turns (told_as names excerpt.form excerpt.from) m turns
+  pub counts : new.counts ≡ counts_along excerpt.from old.counts m turns
 
 -- this was done and told
-pub record Tells (names : Names) (window : Window) (dues : List Due) (old new : Telling) : Type 0 where
+pub record Tells (names : Names) (excerpt : Excerpt) (dues : List Due) (old new : Telling) : Type 0 where
   pub does : Does dues old.machine old.way new.machine new.way
-  pub told : HasTold names window old.machine (turns_of old.machine.shape old.machine.code (course old.machine old.way) dues) old.tale new.tale
+  pub told : HasTold names excerpt old.machine (turns_of old.machine.shape old.machine.code (course old.machine old.way) dues) old.tale new.tale
 
 -- whatever is told after these, it is as all of it told before
-abbrev pub LeadsTo : (names : Names) (window : Window) (dues rest : List Due) → (old now : Telling) → Type 0
-LeadsTo names window dues rest old now = (new : Telling) → Tells names window rest now new → Tells names window dues old new
+abbrev pub LeadsTo : (names : Names) (excerpt : Excerpt) (dues rest : List Due) → (old now : Telling) → Type 0
+LeadsTo names excerpt dues rest old now = (new : Telling) → Tells names excerpt rest now new → Tells names excerpt dues old new

@@ -17,5 +17,5 @@ mod tale;
 mod telling;
 mod tracing;
 
-pub use laws::{lines_follow_on, thinner_lines_are_among};
+pub use laws::{counts_are_the_machines, lines_follow_on, thinner_lines_are_among};
 pub use tracing::{trace, trace_json};

@@ -23,7 +23,7 @@ use std::alloc::Global;
 
 /// What is told of a run: in which form, and from which act on.
 #[derive(Clone, Copy, Debug, PartialEq, Eq)]
-pub struct Window {
+pub struct Excerpt {
     pub form: Form,
     pub from: u64,
 }
@@ -103,17 +103,17 @@ fn push_written(
     text: &mut Vec<u8>,
     machine: &Machine,
     names: &Names,
-    window: Window,
+    excerpt: Excerpt,
     turn: Turn,
 ) -> Result<(), NoMemory>
     requires among { IsTurnAmong (seen machine.now).shape.processors turn }
     requires turns { (seen machine.now).turns < 2 ^ 62 }
     ensures { OnOk result (text.new.items
-        ≡ text.old.items ++ written_as names.now window.form window.from (seen machine.now) turn) }
+        ≡ text.old.items ++ written_as names.now excerpt.form excerpt.from (seen machine.now) turn) }
 {
-    match window.form {
+    match excerpt.form {
         Form::Lines(only) => push_if_shown(alloc, text, machine, names, only, turn),
-        Form::Events => push_written_events(alloc, text, machine, names, window.from, turn),
+        Form::Events => push_written_events(alloc, text, machine, names, excerpt.from, turn),
     }
 }
 
@@ -137,20 +137,20 @@ pub(crate) fn tell(
     machine: &Machine,
     tale: &mut Tale,
     names: &Names,
-    window: Window,
+    excerpt: Excerpt,
     turn: Turn,
 ) -> Result<(), NoMemory>
     requires among { IsTurnAmong (seen machine.now).shape.processors turn }
     requires turns { (seen machine.now).turns < 2 ^ 62 }
     requires few { total tale.old.counts + 3 < 2 ^ 64 }
-    ensures told { OnOk result (HasTold names.now window (seen machine.now) (turn
+    ensures told { OnOk result (HasTold names.now excerpt (seen machine.now) (turn
         ∷ []) tale.old tale.new) }
     ensures bound { OnOk result (total tale.new.counts ≤ total tale.old.counts + 3) }
 {
-    if machine.turns() < window.from {
+    if machine.turns() < excerpt.from {
         return Ok(());
     }
     count(machine, &mut tale.counts, turn);
-    push_written(alloc, &mut tale.text, machine, names, window, turn)?;
+    push_written(alloc, &mut tale.text, machine, names, excerpt, turn)?;
     Ok(())
 }

@@ -9,7 +9,7 @@ ghost use Rattle.ppm_plan.specs.Schedules.{IsActAmong, IsItemAmong};
 ghost use Rattle.ppm_step.specs.State.{stand_of};
 ghost use Rattle.ppm_trace.specs.Telling.{telling, IsTelling, Tells};
 
-use crate::tale::{Tale, Window, tell};
+use crate::tale::{Excerpt, Tale, tell};
 use ppm_core::Machine;
 use ppm_following::{Way, processor_of, turn_of};
 use ppm_naming::Names;
@@ -24,19 +24,19 @@ fn tell_and_make(
     way: &mut Way,
     tale: &mut Tale,
     names: &Names,
-    window: Window,
+    excerpt: Excerpt,
     act: ScheduledAct,
 ) -> Result<(), NoMemory>
     requires among { IsActAmong (seen machine.old).shape.processors act }
     requires is { IsTelling (telling (seen machine.old) way.old tale.old) }
     requires left { 0 < way.old.left }
     requires lives { is_done_at (stand_of (seen machine.old).state (processor_of act)) ≡ false }
-    ensures tells { OnOk result (Tells names.now window (Listed act
+    ensures tells { OnOk result (Tells names.now excerpt (Listed act
         ∷ []) (telling (seen machine.old) way.old tale.old) (telling (seen machine.new) way.new tale.new)) }
     ensures is { OnOk result (IsTelling (telling (seen machine.new) way.new tale.new)) }
 {
     let turn = turn_of(machine, way, act);
-    tell(alloc, machine, tale, names, window, turn)?;
+    tell(alloc, machine, tale, names, excerpt, turn)?;
     machine.turn(turn);
     way.left -= 1;
     Ok(())
@@ -49,12 +49,12 @@ fn repeat(
     way: &mut Way,
     tale: &mut Tale,
     names: &Names,
-    window: Window,
+    excerpt: Excerpt,
     item: ScheduleItem,
 ) -> Result<(), NoMemory>
     requires among { IsActAmong (seen machine.old).shape.processors item.act }
     requires is { IsTelling (telling (seen machine.old) way.old tale.old) }
-    ensures tells { OnOk result (Tells names.now window (replicate item.times (Listed item.act))
+    ensures tells { OnOk result (Tells names.now excerpt (replicate item.times (Listed item.act))
         (telling (seen machine.old) way.old tale.old) (telling (seen machine.new) way.new tale.new)) }
     ensures is { OnOk result (IsTelling (telling (seen machine.new) way.new tale.new)) }
 {
@@ -67,7 +67,7 @@ fn repeat(
         if machine.is_done(processor) {
             return Ok(());
         }
-        tell_and_make(alloc, machine, way, tale, names, window, item.act)?;
+        tell_and_make(alloc, machine, way, tale, names, excerpt, item.act)?;
         left -= 1;
     }
     Ok(())
@@ -80,18 +80,18 @@ fn list(
     way: &mut Way,
     tale: &mut Tale,
     names: &Names,
-    window: Window,
+    excerpt: Excerpt,
     items: &[ScheduleItem],
 ) -> Result<(), NoMemory>
     requires among { All (IsItemAmong (seen machine.old).shape.processors) items.now }
     requires is { IsTelling (telling (seen machine.old) way.old tale.old) }
-    ensures tells { OnOk result (Tells names.now window (listed items.now)
+    ensures tells { OnOk result (Tells names.now excerpt (listed items.now)
         (telling (seen machine.old) way.old tale.old) (telling (seen machine.new) way.new tale.new)) }
     ensures is { OnOk result (IsTelling (telling (seen machine.new) way.new tale.new)) }
 {
     let mut left = items;
     while let [item, rest @ ..] = left {
-        repeat(alloc, machine, way, tale, names, window, *item)?;
+        repeat(alloc, machine, way, tale, names, excerpt, *item)?;
         left = rest;
     }
     Ok(())
@@ -104,12 +104,12 @@ fn step(
     way: &mut Way,
     tale: &mut Tale,
     names: &Names,
-    window: Window,
+    excerpt: Excerpt,
     processor: u32,
 ) -> Result<(), NoMemory>
     requires among { processor < (seen machine.old).shape.processors }
     requires is { IsTelling (telling (seen machine.old) way.old tale.old) }
-    ensures tells { OnOk result (Tells names.now window (InRound processor
+    ensures tells { OnOk result (Tells names.now excerpt (InRound processor
         ∷ []) (telling (seen machine.old) way.old tale.old) (telling (seen machine.new) way.new tale.new)) }
     ensures is { OnOk result (IsTelling (telling (seen machine.new) way.new tale.new)) }
 {
@@ -126,7 +126,7 @@ fn step(
         processor,
         victim: None,
     };
-    tell_and_make(alloc, machine, way, tale, names, window, act)
+    tell_and_make(alloc, machine, way, tale, names, excerpt, act)
 }
 
 /// Lets each processor make a step, from 0, and tells it.
@@ -136,17 +136,17 @@ fn go_round(
     way: &mut Way,
     tale: &mut Tale,
     names: &Names,
-    window: Window,
+    excerpt: Excerpt,
 ) -> Result<(), NoMemory>
     requires is { IsTelling (telling (seen machine.old) way.old tale.old) }
-    ensures tells { OnOk result (Tells names.now window (round (seen machine.old).shape.processors)
+    ensures tells { OnOk result (Tells names.now excerpt (round (seen machine.old).shape.processors)
         (telling (seen machine.old) way.old tale.old) (telling (seen machine.new) way.new tale.new)) }
     ensures is { OnOk result (IsTelling (telling (seen machine.new) way.new tale.new)) }
 {
     let processors = machine.processors();
     let mut processor = 0;
     while processor < processors {
-        step(alloc, machine, way, tale, names, window, processor)?;
+        step(alloc, machine, way, tale, names, excerpt, processor)?;
         processor += 1;
     }
     Ok(())
@@ -159,11 +159,11 @@ fn go_on(
     way: &mut Way,
     tale: &mut Tale,
     names: &Names,
-    window: Window,
+    excerpt: Excerpt,
     count: u64,
 ) -> Result<(), NoMemory>
     requires is { IsTelling (telling (seen machine.old) way.old tale.old) }
-    ensures tells { OnOk result (Tells names.now window (rounds (seen machine.old).shape.processors count)
+    ensures tells { OnOk result (Tells names.now excerpt (rounds (seen machine.old).shape.processors count)
         (telling (seen machine.old) way.old tale.old) (telling (seen machine.new) way.new tale.new)) }
 {
     let mut left = count;
@@ -174,7 +174,7 @@ fn go_on(
         if machine.finish_word() != 0 {
             return Ok(());
         }
-        go_round(alloc, machine, way, tale, names, window)?;
+        go_round(alloc, machine, way, tale, names, excerpt)?;
         left -= 1;
     }
     Ok(())
@@ -188,16 +188,16 @@ pub(crate) fn follow_told(
     way: &mut Way,
     tale: &mut Tale,
     names: &Names,
-    window: Window,
+    excerpt: Excerpt,
     items: &[ScheduleItem],
 ) -> Result<(), NoMemory>
     requires among { All (IsItemAmong (seen machine.old).shape.processors) items.now }
     requires is { IsTelling (telling (seen machine.old) way.old tale.old) }
-    ensures tells { OnOk result (Tells names.now window (dues_of (seen machine.old).shape.processors items.now way.old.left)
+    ensures tells { OnOk result (Tells names.now excerpt (dues_of (seen machine.old).shape.processors items.now way.old.left)
         (telling (seen machine.old) way.old tale.old) (telling (seen machine.new) way.new tale.new)) }
 {
     let rounds = way.left;
-    list(alloc, machine, way, tale, names, window, items)?;
-    go_on(alloc, machine, way, tale, names, window, rounds)?;
+    list(alloc, machine, way, tale, names, excerpt, items)?;
+    go_on(alloc, machine, way, tale, names, excerpt, rounds)?;
     Ok(())
 }

@@ -8,7 +8,7 @@ ghost use Rattle.ppm_trace.specs.Trace.{trace_text};
 use crate::counts::Counts;
 use crate::ends::{push_head, push_tail};
 use crate::form::Form;
-use crate::tale::{Tale, Window};
+use crate::tale::{Excerpt, Tale};
 use crate::telling::follow_told;
 use ppm_core::Machine;
 use ppm_following::Way;
@@ -43,7 +43,7 @@ pub fn trace(
     };
     push_head(alloc, &mut tale.text, &machine.shape(), from)?;
     let mut way = Way::first(from + acts);
-    let window = Window {
+    let excerpt = Excerpt {
         form: Form::Lines(only),
         from,
     };
@@ -53,7 +53,7 @@ pub fn trace(
         &mut way,
         &mut tale,
         names,
-        window,
+        excerpt,
         schedule.items(),
     )?;
     push_tail(alloc, &mut tale.text, tale.counts, machine.finish_word())?;
@@ -83,7 +83,7 @@ pub fn trace_json(
     };
     push_json_head(alloc, &mut tale.text, machine.processors())?;
     let mut way = Way::first(from + acts);
-    let window = Window {
+    let excerpt = Excerpt {
         form: Form::Events,
         from,
     };
@@ -93,7 +93,7 @@ pub fn trace_json(
         &mut way,
         &mut tale,
         names,
-        window,
+        excerpt,
         schedule.items(),
     )?;
     push_json_tail(&mut tale.text)?;

@@ -6,7 +6,7 @@ use Rattle.ppm_trace.proofs.telling.follow_told.Goals as goal
 -- the list, and after it the rounds
 pub returns : goal.returns
 returns c = record {
-  tells = list_and_rounds c.args.names.now c.args.window c.args.items.now c.args.way.now.left
+  tells = list_and_rounds c.args.names.now c.args.excerpt c.args.items.now c.args.way.now.left
       (telling (seen c.args.machine.now) c.args.way.now c.args.tale.now)
       (telling (seen c.list.new.machine) c.list.new.way c.list.new.tale)
       (telling (seen c.go_on.new.machine) c.go_on.new.way c.go_on.new.tale)

@@ -15,7 +15,7 @@ returns-then-way-eq0 c =
     let w = course m c.loop-left.way in
     let p = (seen c.args.machine.now).shape.processors in
     record {
-      tells = ends c.args.names.now c.args.window (rounds p c.args.count) (rounds p c.loop-left.left)
+      tells = ends c.args.names.now c.args.excerpt (rounds p c.args.count) (rounds p c.loop-left.left)
           (telling (seen c.args.machine.now) c.args.way.now c.args.tale.now) (telling m c.loop-left.way c.loop-left.tale)
           c.loop-left.invariant.0
           (all_rounds m.shape m.code w (λ k. none_left m.shape m.code w (InRound k) c.if-way-eq0.true) p c.loop-left.left);
@@ -28,7 +28,7 @@ returns-then-finish_word-ne0 c =
     let w = course m c.loop-left.way in
     let p = (seen c.args.machine.now).shape.processors in
     record {
-      tells = ends c.args.names.now c.args.window (rounds p c.args.count) (rounds p c.loop-left.left)
+      tells = ends c.args.names.now c.args.excerpt (rounds p c.args.count) (rounds p c.loop-left.left)
           (telling (seen c.args.machine.now) c.args.way.now c.args.tale.now) (telling m c.loop-left.way c.loop-left.tale)
           c.loop-left.invariant.0
           (all_rounds m.shape m.code w
@@ -43,12 +43,12 @@ loop-left-preserved c =
     let more : left ≡ suc (left - 1) = omega (arith, c.loop-left-test.true) in
     let now = telling (seen c.loop-left.machine) c.loop-left.way c.loop-left.tale in
     let new = telling (seen c.go_round.new.machine) c.go_round.new.way c.go_round.new.tale in
-    let told = subst (λ s. Tells c.args.names.now c.args.window (round s.processors) now new) c.loop-left.invariant.2
+    let told = subst (λ s. Tells c.args.names.now c.args.excerpt (round s.processors) now new) c.loop-left.invariant.2
     c.in_ok-go_round.ensures.tells in (
-      goes_on c.args.names.now c.args.window (rounds p c.args.count) (rounds p left) (round p) (rounds p (left - 1))
+      goes_on c.args.names.now c.args.excerpt (rounds p c.args.count) (rounds p left) (round p) (rounds p (left - 1))
           (telling (seen c.args.machine.now) c.args.way.now c.args.tale.now) now new (ap (rounds p) more) c.loop-left.invariant.0 told,
       c.in_ok-go_round.ensures.is,
-      shape_stays c.args.names.now c.args.window c.in_ok-go_round.ensures.tells ∙ c.loop-left.invariant.2,
+      shape_stays c.args.names.now c.args.excerpt c.in_ok-go_round.ensures.tells ∙ c.loop-left.invariant.2,
     )
 
 -- all rounds
@@ -57,7 +57,7 @@ returns c =
     let p = (seen c.args.machine.now).shape.processors in
     let none : c.loop-left.left ≡ 0 = omega (arith, c.loop-left-test.false) in
     record {
-      tells = ends_by c.args.names.now c.args.window (rounds p c.args.count) (rounds p c.loop-left.left)
+      tells = ends_by c.args.names.now c.args.excerpt (rounds p c.args.count) (rounds p c.loop-left.left)
           (telling (seen c.args.machine.now) c.args.way.now c.args.tale.now) (telling (seen c.loop-left.machine) c.loop-left.way c.loop-left.tale)
           (ap (rounds p) none) c.loop-left.invariant.0;
     }

@@ -9,7 +9,7 @@ use Rattle.ppm_trace.proofs.telling.go_round.Given as goal
 -- what is left, after what was told, is all
 abbrev pub invariant-loop-processor : goal.invariant-loop-processor
 invariant-loop-processor l =
-    LeadsTo l.names l.window (round (seen l.initial.machine).shape.processors)
+    LeadsTo l.names l.excerpt (round (seen l.initial.machine).shape.processors)
     (map InRound (range_with_len l.processor (l.processors - l.processor)))
     (telling (seen l.initial.machine) l.initial.way l.initial.tale) (telling (seen l.machine) l.way l.tale)
     × IsTelling (telling (seen l.machine) l.way l.tale)

@@ -15,7 +15,7 @@ returns-then-way-eq0-clause-tells c =
     let m = seen c.loop-left.machine in
     let w = course m c.loop-left.way in
     let due = Listed c.args.item.act in
-    ends c.args.names.now c.args.window (replicate c.args.item.times due) (replicate c.loop-left.left due)
+    ends c.args.names.now c.args.excerpt (replicate c.args.item.times due) (replicate c.loop-left.left due)
     (telling (seen c.args.machine.now) c.args.way.now c.args.tale.now) (telling m c.loop-left.way c.loop-left.tale)
     c.loop-left.invariant.0 (all_same m.shape m.code w due c.loop-left.left (none_left m.shape m.code w due c.if-way-eq0.true))
 
@@ -27,7 +27,7 @@ returns-then-is_done-clause-tells c =
     let due = Listed c.args.item.act in
     let same = ap (λ p. is_done_at (stand_of m.state p)) c.processor_of-processor.ensures in
     let over = sym same ∙ sym c.is_done.ensures ∙ c.if-is_done.true in
-    ends c.args.names.now c.args.window (replicate c.args.item.times due) (replicate c.loop-left.left due)
+    ends c.args.names.now c.args.excerpt (replicate c.args.item.times due) (replicate c.loop-left.left due)
     (telling (seen c.args.machine.now) c.args.way.now c.args.tale.now) (telling m c.loop-left.way c.loop-left.tale)
     c.loop-left.invariant.0 (all_same m.shape m.code w due c.loop-left.left (is_over m.shape m.code w due over))
 
@@ -37,13 +37,13 @@ loop-left-preserved c =
     let due = Listed c.args.item.act in
     let left = c.loop-left.left in
     let more : left ≡ suc (left - 1) = omega (arith, c.loop-left-test.true) in (
-      goes_on c.args.names.now c.args.window (replicate c.args.item.times due) (replicate left due) (due ∷ []) (replicate (left - 1) due)
+      goes_on c.args.names.now c.args.excerpt (replicate c.args.item.times due) (replicate left due) (due ∷ []) (replicate (left - 1) due)
           (telling (seen c.args.machine.now) c.args.way.now c.args.tale.now)
           (telling (seen c.loop-left.machine) c.loop-left.way c.loop-left.tale)
           (telling (seen c.tell_and_make.new.machine) c.tell_and_make.new.way c.tell_and_make.new.tale)
           (ap (λ n. replicate n due) more) c.loop-left.invariant.0 c.in_ok-tell_and_make.ensures.tells,
       c.in_ok-tell_and_make.ensures.is,
-      shape_stays c.args.names.now c.args.window c.in_ok-tell_and_make.ensures.tells ∙ c.loop-left.invariant.2,
+      shape_stays c.args.names.now c.args.excerpt c.in_ok-tell_and_make.ensures.tells ∙ c.loop-left.invariant.2,
     )
 
 -- all of them
@@ -51,6 +51,6 @@ pub returns-clause-tells : goal.returns-clause-tells
 returns-clause-tells c =
     let due = Listed c.args.item.act in
     let none : c.loop-left.left ≡ 0 = omega (arith, c.loop-left-test.false) in
-    ends_by c.args.names.now c.args.window (replicate c.args.item.times due) (replicate c.loop-left.left due)
+    ends_by c.args.names.now c.args.excerpt (replicate c.args.item.times due) (replicate c.loop-left.left due)
     (telling (seen c.args.machine.now) c.args.way.now c.args.tale.now) (telling (seen c.loop-left.machine) c.loop-left.way c.loop-left.tale)
     (ap (λ n. replicate n due) none) c.loop-left.invariant.0

@@ -7,7 +7,7 @@ use Rattle.ppm_trace.proofs.telling.repeat.Given as goal
 -- what is left, after what was told, is all
 abbrev pub invariant-loop-left : goal.invariant-loop-left
 invariant-loop-left l =
-    LeadsTo l.names l.window (replicate l.item.times (Listed l.item.act)) (replicate l.left (Listed l.item.act))
+    LeadsTo l.names l.excerpt (replicate l.item.times (Listed l.item.act)) (replicate l.left (Listed l.item.act))
     (telling (seen l.initial.machine) l.initial.way l.initial.tale) (telling (seen l.machine) l.way l.tale)
     × IsTelling (telling (seen l.machine) l.way l.tale)
     × ((seen l.machine).shape ≡ (seen l.initial.machine).shape)
