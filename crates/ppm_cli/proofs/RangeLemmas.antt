@@ -21,7 +21,7 @@ use Rattle.ppm_cli.specs.Values.{takeover_given, idle_given}
 use Rattle.ppm_cli.specs.Words.{with_text, AreReplayed, AreResumed, AreRun, AreSelf, AreStopped, DoPoolsFit, IsInRange, IsLimit, IsOfForm}
 use Rattle.ppm_cli.specs.Values.{fitting_room, room_given}
 use Rattle.ppm_cli.specs.Words.{sweep_options, AreSwept, trace_options, AreTraced}
-use Rattle.ppm_cli.specs.Values.{swept_takeovers_given, traced_lines_given}
+use Rattle.ppm_cli.specs.Values.{swept_takeovers_given, traced_form_given, traced_lines_given}
 use Rattle.ppm_cli.specs.Words.{by_input, code_in, capsule_limit, with_input}
 use Rattle.ppm_cli.specs.Values.{choice_given, is_case_given}
 use Rattle.ppm_cli.specs.declared.capsules.CapsuleLimit.{CapsuleLimit}
@@ -197,6 +197,7 @@ trace_are rows =
     bound AreTraced (room_given room p rows) _ (λ w d.
     bound AreTraced (number_given slots rows) _ (λ s e.
     bound AreTraced (takeover_given rows) _ (λ t g.
+    bound AreTraced (traced_form_given rows) _ (λ m i.
     bound AreTraced (traced_lines_given rows) _ (λ l h.
     let r = room_fits room _ _ p w rows refl d in (
       given processors _ _ p rows refl a,
@@ -205,7 +206,7 @@ trace_are rows =
       r.0,
       given slots _ _ s rows refl e,
       r.1,
-    ))))))))
+    )))))))))
 
 self_are : (rows : List Row) → IfSome (self_options rows) AreSelf
 self_are rows =

@@ -155,6 +155,10 @@ swept_takeovers = choice "takeover" ("place" ∷ "entry" ∷ "both" ∷ []) "bot
 abbrev pub idle : OptionRule
 idle = choice "idle" ("leave" ∷ "park" ∷ []) "leave"
 
+-- the form of a trace: lines of text, or events in JSON for a viewer
+abbrev pub traced_form : OptionRule
+traced_form = choice "form" ("text" ∷ "json" ∷ []) "text"
+
 -- which lines of a trace are written: all, those that end a row, or those with a mark
 abbrev pub only : OptionRule
 only = choice "only" ("turns" ∷ "rows" ∷ "marks" ∷ []) "turns"
@@ -187,5 +191,5 @@ command_line =
     (processors ∷ turns ∷ copied_room ∷ copied_slots ∷ swept_takeovers ∷ schedule ∷ met ∷ from ∷ acts ∷ runs ∷ seed ∷ capsules ∷ input ∷ [])
     ∷ command "ram" (processors ∷ turns ∷ room ∷ slots ∷ looks ∷ seed ∷ faults ∷ takeover ∷ idle ∷ [])
     ∷ command "trace"
-    (processors ∷ traced_from ∷ traced_acts ∷ room ∷ slots ∷ takeover ∷ schedule ∷ only ∷ input ∷ [])
+    (processors ∷ traced_from ∷ traced_acts ∷ room ∷ slots ∷ takeover ∷ schedule ∷ traced_form ∷ only ∷ input ∷ [])
     ∷ []

@@ -9,9 +9,11 @@ use Rattle.ppm_words.specs.declared.idle.Idle.TheVariants.{Leave, Park}
 use Rattle.ppm_cells.specs.Limits.{most_pool_words}
 use Rattle.ppm_cells.specs.declared.shape.Takeover.{Takeover}
 use Rattle.ppm_cells.specs.declared.shape.Takeover.TheVariants.{ByPlaces, ByEntries}
-use Rattle.ppm_cli.specs.CommandLine.{Form, Number, Choice, AnyText, OptionRule, is_free_text, takeover, swept_takeovers, idle, input, only}
+use Rattle.ppm_cli.specs.CommandLine.{Form, Number, Choice, AnyText, OptionRule, is_free_text, takeover, swept_takeovers, idle, input, traced_form, only}
 use Rattle.ppm_cli.specs.declared.takeover.SweptTakeovers.{SweptTakeovers}
 use Rattle.ppm_cli.specs.declared.takeover.SweptTakeovers.TheVariants as swept
+use Rattle.ppm_cli.specs.declared.trace.TracedForm.{TracedForm}
+use Rattle.ppm_cli.specs.declared.trace.TracedForm.TheVariants as forms
 use Rattle.ppm_cli.specs.declared.trace.TracedLines.{TracedLines}
 use Rattle.ppm_cli.specs.declared.trace.TracedLines.TheVariants as lines
 
@@ -66,6 +68,10 @@ swept_takeovers_given rows = choice_given swept_takeovers (swept.ByPlaces ∷ sw
 -- what a processor does that finds no work
 abbrev pub idle_given : List Row → Option Idle
 idle_given rows = choice_given idle (Leave ∷ Park ∷ []) rows
+
+-- the form of a trace
+abbrev pub traced_form_given : List Row → Option TracedForm
+traced_form_given rows = choice_given traced_form (forms.Text ∷ forms.Json ∷ []) rows
 
 -- which lines of a trace are written
 abbrev pub traced_lines_given : List Row → Option TracedLines

@@ -10,7 +10,7 @@ use Rattle.ppm_cli.specs.CommandLine.{few_processors, after, small_room, few_slo
 use Rattle.ppm_cli.specs.CommandLine.{copied_room, copied_slots, met, from, acts, runs}
 use Rattle.ppm_cli.specs.CommandLine.{traced_from, traced_acts}
 use Rattle.ppm_cli.specs.Values.{and_then, choice_given, idle_given, is_case_given, number_given, room_given, swept_takeovers_given, takeover_given, text_given}
-use Rattle.ppm_cli.specs.Values.{traced_lines_given}
+use Rattle.ppm_cli.specs.Values.{traced_form_given, traced_lines_given}
 use Rattle.ppm_cli.specs.declared.capsules.CapsuleLimit.{CapsuleLimit}
 use Rattle.ppm_cli.specs.declared.command.Command.{Command}
 use Rattle.ppm_cli.specs.declared.command.Command.TheVariants as commands
@@ -140,8 +140,9 @@ trace_options rows =
     and_then (room_given room p rows) (λ w.
     and_then (number_given slots rows) (λ e.
     and_then (takeover_given rows) (λ t.
+    and_then (traced_form_given rows) (λ m.
     and_then (traced_lines_given rows) (λ l.
-    Some (record { processors = p; from = f; acts = a; room = w; slots = e; takeover = t; only = l }))))))))
+    Some (record { processors = p; from = f; acts = a; room = w; slots = e; takeover = t; form = m; only = l })))))))))
 
 -- the command `trace` with its options and its schedule, over a source or over a case
 abbrev pub trace_in : List Row → Option Command

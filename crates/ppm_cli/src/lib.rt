@@ -41,4 +41,4 @@ pub use stop::StopOptions;
 pub use sweep::SweepOptions;
 pub use table::{COMMANDS, ChoiceOption, CommandRow, NumberOption, OptionRow, TextOption};
 pub use takeover::SweptTakeovers;
-pub use trace::{TraceOptions, TracedLines};
+pub use trace::{TraceOptions, TracedForm, TracedLines};

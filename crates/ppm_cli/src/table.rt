@@ -271,6 +271,13 @@ pub(crate) const IDLE: ChoiceOption = ChoiceOption {
     default: "leave",
 };
 
+/// The form of a trace.
+pub(crate) const TRACED_FORM: ChoiceOption = ChoiceOption {
+    name: "form",
+    words: &["text", "json"],
+    default: "text",
+};
+
 /// Which lines of a trace are written.
 pub(crate) const ONLY: ChoiceOption = ChoiceOption {
     name: "only",
@@ -418,6 +425,7 @@ pub const COMMANDS: [CommandRow; 13] = [
             OptionRow::Number(SLOTS),
             OptionRow::Choice(TAKEOVER),
             OptionRow::Text(SCHEDULE),
+            OptionRow::Choice(TRACED_FORM),
             OptionRow::Choice(ONLY),
             OptionRow::Choice(INPUT),
         ],

@@ -2,7 +2,7 @@
 ghost use Rattle.std.specs.Prelude.{◌≡◌, IfOk, IfSome};
 ghost use Rattle.clap.specs.Words.{found_of, rows_of};
 ghost use Rattle.ppm_cli.specs.declared.command.Command.TheVariants as commands;
-ghost use Rattle.ppm_cli.specs.Values.{traced_lines_given};
+ghost use Rattle.ppm_cli.specs.Values.{traced_form_given, traced_lines_given};
 ghost use Rattle.ppm_cli.specs.Words.{AreTraced, IsInRange, by_input, trace_in};
 ghost use Rattle.ppm_cli.specs.Words.{trace_options as options_in};
 
@@ -10,12 +10,23 @@ use crate::command::Command;
 use crate::getters::{bytes_of, choice_of, number_of};
 use crate::input::is_case;
 use crate::room::room_of;
-use crate::table::{ONLY, PROCESSORS, ROOM, SCHEDULE, SLOTS, TRACED_ACTS, TRACED_FROM};
+use crate::table::{
+    ONLY, PROCESSORS, ROOM, SCHEDULE, SLOTS, TRACED_ACTS, TRACED_FORM, TRACED_FROM,
+};
 use crate::takeover::takeover_of;
 use clap::ArgMatches;
 use ppm_cells::Takeover;
 use ppm_words::Items;
 use std::alloc::{AllocError, Global};
+
+/// The form of a trace.
+#[derive(Clone, Copy, Debug, PartialEq, Eq)]
+pub enum TracedForm {
+    /// Lines of text.
+    Text,
+    /// Events in JSON, for a viewer of traces.
+    Json,
+}
 
 /// Which lines of a trace are written.
 #[derive(Clone, Copy, Debug, PartialEq, Eq)]
@@ -45,7 +56,9 @@ pub struct TraceOptions {
     pub slots: u32,
     /// What is taken over of a processor that stopped for ever: its place by default.
     pub takeover: Takeover,
-    /// Which lines are written: those of all acts by default.
+    /// The form: lines of text by default.
+    pub form: TracedForm,
+    /// Which lines are written, where the form is text: those of all acts by default.
     pub only: TracedLines,
 }
 
@@ -94,6 +107,7 @@ fn trace_options(matches: &ArgMatches<'_>) -> Option<TraceOptions>
     let room = room_of(matches, ROOM, processors)?;
     let slots = number_of(matches, SLOTS)?;
     let takeover = takeover_of(matches)?;
+    let form = traced_form_of(matches)?;
     let only = traced_lines_of(matches)?;
     Some(TraceOptions {
         processors,
@@ -102,8 +116,16 @@ fn trace_options(matches: &ArgMatches<'_>) -> Option<TraceOptions>
         room,
         slots,
         takeover,
+        form,
         only,
     })
+}
+
+/// The form of a trace, if the matches name it by one of the two words: `text` or `json`.
+fn traced_form_of(matches: &ArgMatches<'_>) -> Option<TracedForm>
+    ensures { result ≡ traced_form_given (rows_of (found_of matches.now)) }
+{
+    choice_of(matches, TRACED_FORM, &[TracedForm::Text, TracedForm::Json])
 }
 
 /// Which lines of a trace are written, if the matches name them by one of the three words: `turns`,

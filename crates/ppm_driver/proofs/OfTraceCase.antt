@@ -1,5 +1,5 @@
 -- The rows of `trace` of a case.
-use Rattle.std.proofs.Common.{◌≡◌, ℕ, List, inl, inr, subst}
+use Rattle.std.proofs.Common.{ℕ, List, inl, inr, subst}
 use Rattle.ppm_ports.specs.Ports.{Port}
 use Rattle.ppm_ports.specs.Outside.{Ports}
 use Rattle.ppm_case.specs.Rules.{case_limit}

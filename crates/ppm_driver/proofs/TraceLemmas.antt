@@ -17,11 +17,11 @@ use Rattle.ppm_loading.specs.declared.loading.Sizes.{Sizes}
 use Rattle.ppm_loading.specs.Loading.{AreSizes, OpensRun}
 use Rattle.ppm_loading.proofs.CaseLemmas.{AreCaseKinds}
 use Rattle.ppm_loading.proofs.ProgramLemmas.{AreKinds}
-use Rattle.ppm_marks.specs.declared.shown.Only.{Only}
 use Rattle.ppm_naming.specs.declared.names.Names.{Names}
-use Rattle.ppm_trace.specs.Trace.{trace_text}
+use Rattle.ppm_trace.specs.Json.{trace_as}
+use Rattle.ppm_trace.specs.declared.form.Form.{Form}
 use Rattle.ppm_driver.specs.TraceNames.{case_names, program_names}
-use Rattle.ppm_driver.specs.Traces.{sizes_of, only_of, turns_by, text_of, CodeHas, ProgramHas}
+use Rattle.ppm_driver.specs.Traces.{sizes_of, form_of, turns_by, text_of, CodeHas, ProgramHas}
 use Rattle.ppm_driver.specs.CaseTraces.{CaseHas}
 
 -- options in their ranges say sizes that a machine may have
@@ -61,15 +61,15 @@ module _ (options : TraceOptions) (items : List ScheduleItem) where
 
   module _ (names : Names) (code : CodeParts) (input : List NamedArray) (keeper : ℕ) (start : Situation) (spared : IsKeeper schedule_form items keeper) where
     -- what is told of the turns of the schedule is the code's answer
-    pub code_tells : (sizes : Sizes) (only : Only) (text : List ℕ) → sizes ≡ sizes_of options → only ≡ only_of options.only
-        → OpensRun sizes code input keeper start → text ≡ trace_text names only options.from start (turns_by options items start)
+    pub code_tells : (sizes : Sizes) (form : Form) (text : List ℕ) → sizes ≡ sizes_of options → form ≡ form_of options
+        → OpensRun sizes code input keeper start → text ≡ trace_as names form options.from start (turns_by options items start)
         → CodeHas options names items code input (answers.Traced text)
-    code_tells sizes only text is_sizes is_only opens told = record {
+    code_tells sizes form text is_sizes is_form opens told = record {
       keeper = keeper;
       spared = spared;
       start = start;
       opens = subst (λ (z : Sizes). OpensRun z code input keeper start) is_sizes opens;
-      tells = ap (λ x. answers.Traced x) (told ∙ ap (λ (o : Only). trace_text names o options.from start (turns_by options items start)) is_only);
+      tells = ap (λ x. answers.Traced x) (told ∙ ap (λ (f : Form). trace_as names f options.from start (turns_by options items start)) is_form);
     }
 
     -- there is one, where a machine opens

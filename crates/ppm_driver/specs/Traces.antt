@@ -16,6 +16,8 @@ use Rattle.ppm_answers.specs.declared.answer.Answer.{Answer}
 use Rattle.ppm_answers.specs.declared.answer.Answer.TheVariants as answers
 use Rattle.ppm_answers.specs.Reading.{AreOne, FrontsDecide}
 use Rattle.ppm_cli.specs.declared.trace.TraceOptions.{TraceOptions}
+use Rattle.ppm_cli.specs.declared.trace.TracedForm.{TracedForm}
+use Rattle.ppm_cli.specs.declared.trace.TracedForm.TheVariants as forms
 use Rattle.ppm_cli.specs.declared.trace.TracedLines.{TracedLines}
 use Rattle.ppm_cli.specs.declared.trace.TracedLines.TheVariants as asked
 use Rattle.ppm_cli.specs.Words.{AreTraced}
@@ -27,7 +29,9 @@ use Rattle.ppm_choice.specs.Schedules.{schedule_turns}
 use Rattle.ppm_marks.specs.declared.shown.Only.{Only}
 use Rattle.ppm_marks.specs.declared.shown.Only.TheVariants as shown
 use Rattle.ppm_naming.specs.declared.names.Names.{Names}
-use Rattle.ppm_trace.specs.Trace.{trace_text}
+use Rattle.ppm_trace.specs.declared.form.Form.{Form}
+use Rattle.ppm_trace.specs.declared.form.Form.TheVariants.{Lines, Events}
+use Rattle.ppm_trace.specs.Json.{trace_as}
 use Rattle.ppm_driver.specs.TraceNames.{program_names}
 
 -- the machine's sizes, as the options say them
@@ -40,13 +44,21 @@ only_of asked.Turns = shown.Turns
 only_of asked.Rows = shown.Rows
 only_of asked.Marks = shown.Marks
 
+-- the form in which a run is told, as the options say it
+abbrev pub form_by : TracedForm → TracedLines → Form
+form_by forms.Text lines = Lines (only_of lines)
+form_by forms.Json lines = Events
+
+abbrev pub form_of : TraceOptions → Form
+form_of o = form_by o.form o.only
+
 -- the turns that a schedule says, from this machine, of so many acts at most as are not told and as are told
 abbrev pub turns_by : TraceOptions → List ScheduleItem → Situation → List Turn
 turns_by options items m = schedule_turns m.shape m.code m.state items (options.from + options.acts)
 
 -- what is told of the turns of a schedule, from this machine
 abbrev pub text_of : TraceOptions → Names → List ScheduleItem → Situation → List ℕ
-text_of options names items m = trace_text names (only_of options.only) options.from m (turns_by options items m)
+text_of options names items m = trace_as names (form_of options) options.from m (turns_by options items m)
 
 -- The answer of a code on an input by the items of a schedule, with these names of its arrays and procedures: what is told of the turns that these say,
 -- whatever the run comes to. The run is from the machine with which a run of the code on these arrays begins, with the schedule's keeper.

@@ -8,14 +8,15 @@ ghost use Rattle.ppm_depth.specs.Start.{NamesArrays};
 ghost use Rattle.ppm_tree.specs.Tree.{tree_of};
 ghost use Rattle.ppm_cut_bounds.specs.Bounds.{IsWithinBounds};
 ghost use Rattle.ppm_driver.specs.Traces.{CodeHas, ProgramHas, TraceMay};
-ghost use Rattle.ppm_driver.specs.Traces.{only_of as only_in, sizes_of as sizes_in};
+ghost use Rattle.ppm_driver.specs.Traces.{form_of as form_in, only_of as only_in};
+ghost use Rattle.ppm_driver.specs.Traces.{sizes_of as sizes_in};
 ghost use Rattle.ppm_driver.specs.TraceRows.{IsTraced};
 
 use crate::one_trace::traces_have_one_answer;
 use crate::orders::read_task;
 use crate::trace_names::program_names;
 use ppm_answers::{Answer, Status, deliver};
-use ppm_cli::{TraceOptions, TracedLines};
+use ppm_cli::{TraceOptions, TracedForm, TracedLines};
 use ppm_code::Code;
 use ppm_loading::{Sizes, load_code, program_code};
 use ppm_marks::Only;
@@ -23,7 +24,7 @@ use ppm_naming::Names;
 use ppm_plan::{Schedule, have_one_answer as schedules_have_one_answer};
 use ppm_ports::{Sink, Source};
 use ppm_regions::Admitted;
-use ppm_trace::trace;
+use ppm_trace::{Form, trace};
 use ppm_words::{Input, Items, NoMemory};
 use std::alloc::Global;
 
@@ -103,13 +104,13 @@ pub(crate) fn traced_code(
     ensures { IfOk result (λ text. CodeHas options names.now schedule.now.items code input.now (answers.Traced text.items)) }
 {
     let mut machine = load_code(alloc, sizes_of(options), code, input, schedule.keeper())?;
-    let only = only_of(options.only);
+    let form = form_of(options);
     let text = trace(
         alloc,
         &mut machine,
         schedule,
         names,
-        only,
+        form,
         options.from,
         options.acts,
     )?;
@@ -125,6 +126,16 @@ fn sizes_of(options: TraceOptions) -> Sizes
         room: options.room,
         slots: options.slots,
         takeover: options.takeover,
+    }
+}
+
+/// The form in which a run is told, as the options say it.
+fn form_of(options: TraceOptions) -> Form
+    ensures { result ≡ form_in options }
+{
+    match options.form {
+        TracedForm::Text => Form::Lines(only_of(options.only)),
+        TracedForm::Json => Form::Events,
     }
 }
 

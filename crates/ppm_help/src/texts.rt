@@ -78,7 +78,8 @@ pub(crate) fn meaning_of(command: &str, option: &str) -> &'static str {
         "schedule" => "as 0*9,1>0,1!h: acts, a victim, a hard fault",
         "takeover" => takeover_of(command),
         "idle" => "one that rests makes no more acts, or sleeps",
-        "only" => "all acts, those that end a row, or those with a mark",
+        "form" => "lines, or events for a viewer of traces",
+        "only" => "lines: all, those that end a row, or those with a mark",
         "input" => "what is read; the code of a case runs, sound or not",
         _ => NO_WORDS,
     }

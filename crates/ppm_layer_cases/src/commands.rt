@@ -3,7 +3,7 @@ use crate::said::Said;
 use ppm_cells::Takeover;
 use ppm_cli::{
     Command, ReplayOptions, RunOptions, StopOptions, SweepOptions, SweptTakeovers, TraceOptions,
-    TracedLines, read_words,
+    TracedForm, TracedLines, read_words,
 };
 use ppm_sheets::Fault;
 use ppm_words::Idle;
@@ -23,6 +23,14 @@ fn swept_word(takeover: SweptTakeovers) -> &'static str {
         SweptTakeovers::ByPlaces => "place",
         SweptTakeovers::ByEntries => "entry",
         SweptTakeovers::Both => "both",
+    }
+}
+
+/// The word of the form of a trace.
+fn form_word(form: TracedForm) -> &'static str {
+    match form {
+        TracedForm::Text => "text",
+        TracedForm::Json => "json",
     }
 }
 
@@ -102,9 +110,10 @@ fn sweep_line(alloc: Global, name: &str, it: &SweepOptions) -> Result<String, Fa
 
 /// The line of a command with the options of `trace`.
 fn trace_line(alloc: Global, name: &str, it: &TraceOptions) -> Result<String, Fault> {
-    let (takeover, only) = (takeover_word(it.takeover), lines_word(it.only));
+    let (takeover, form) = (takeover_word(it.takeover), form_word(it.form));
+    let only = lines_word(it.only);
     let line = format!(in alloc;
-        "{name} processors {} from {} acts {} room {} slots {} takeover {takeover} only {only}",
+        "{name} processors {} from {} acts {} room {} slots {} takeover {takeover} form {form} only {only}",
         it.processors, it.from, it.acts, it.room, it.slots
     )?;
     Ok(line)

@@ -125,7 +125,7 @@ part_in scene place at (Check victim slot) = Elsewhere at
 part_in scene place at (Take victim dead) = Elsewhere at
 part_in scene place at (Take2 victim) = Elsewhere at
 
--- two loads of a thief tell what they are of
+-- two loads name their block themselves
 abbrev pub part_sought : Row → Option Part
 part_sought (Now (Load (Offset block bottom))) = Some (InFork block RightOffset)
 part_sought (Now (Load (ClosedLink block))) = Some (LinkAt block)

@@ -18,7 +18,7 @@ use ppm_cells::Cell;
 use ppm_naming::addressed;
 use ppm_step::{Act, Local, Point, Row, Stand, Then, Turn, Want};
 
-/// The word that a load of a thief is of.
+/// The word that a load is of, where it names its block itself.
 fn point_sought(point: &Point) -> Option<Part>
     ensures { result ≡ sought_by (Now (Load point.now)) }
 {
@@ -182,7 +182,13 @@ fn seeks_holder(local: &Local) -> bool
             row: Row::Now(Then::Load(Point::SeekHolder)),
             ..
         } => true,
-        _ => false,
+        Stand::Lost
+        | Stand::Placed { .. }
+        | Stand::At { .. }
+        | Stand::Within { .. }
+        | Stand::Runs(_)
+        | Stand::Broken { .. }
+        | Stand::Done => false,
     }
 }
 

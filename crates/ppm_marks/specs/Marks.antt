@@ -91,7 +91,7 @@ join_marks (Fork block) = mark.Fork ∷ []
 join_marks (Begin block frame bottom) = mark.Take ∷ mark.Inline ∷ []
 join_marks _ = []
 
--- Take2: the bid stands, or another one's does
+-- Take2: the bid stands, or is given up
 abbrev pub bid_marks : Then → List Mark
 bid_marks (Move place) = mark.Carries ∷ []
 bid_marks (Install restart) = mark.Outbid ∷ []

@@ -51,7 +51,7 @@ rest_ends Full = true
 rest_ends _ = false
 
 module _ (s : Shape) (code : CodeParts) (words : List ℕ) where
-  -- a step after which the processor is within no row any more
+  -- a step that ends a row, and a load of the finish word that finds one
   abbrev pub step_ends : Standing → Bool
   step_ends (IsAt place restart) = nat_lt 0 (read s words FinishWord)
   step_ends (IsWithin seat row) = row_ends seat row

@@ -3,7 +3,7 @@
 //! whether an exchange is made (`specs/Marks`).
 //! Contract: `marks_at` gives exactly these marks, `is_shown_at` whether a reader is shown the turn,
 //! and `push_marks` writes them; no mark needs where the processor stands after the turn.
-//! Stands on `ppm_step`; `ppm_lines` writes marks behind the line of a turn, `ppm_trace` counts
+//! Stands on `ppm_step`; `ppm_lines` writes marks at the end of a turn's line, `ppm_trace` counts
 //! them. The words of the marks are this project's.
 #![tactic(auto)]
 

@@ -24,7 +24,8 @@ pub enum Mark {
     Won,
     /// A thief goes on with the strand of a closed place.
     Heir,
-    /// A thief seeks again: another one has what it was after.
+    /// A thief seeks again: it did not get what it was after, or the closed place has nothing to go
+    /// on with.
     Lost,
     /// The restart word is stored with which a right branch begins.
     Take,
@@ -38,7 +39,7 @@ pub enum Mark {
     Bid,
     /// Its bid stands: from here on it carries that place.
     Carries,
-    /// Another one's bid stands.
+    /// It gives its bid up.
     Outbid,
     /// A soft fault.
     Soft,

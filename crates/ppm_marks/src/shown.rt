@@ -16,8 +16,8 @@ use ppm_step::{Act, Local, Row, Running, Seat, Stage, Stand, Then};
 pub enum Only {
     /// All turns.
     Turns,
-    /// Those after which a processor is within no row any more, but for looks of Seek that find
-    /// nothing; and the loads of restart words.
+    /// Those that end a row, but for looks of Seek that find nothing; faults; and the loads of
+    /// restart words.
     Rows,
     /// Those with a mark.
     Marks,

@@ -7,7 +7,7 @@ use Rattle.ppm_lines.specs.Line.{line_text}
 use Rattle.ppm_marks.specs.Shown.{is_shown}
 use Rattle.ppm_naming.specs.declared.names.Names.{Names}
 use Rattle.ppm_step.specs.declared.turn.Turn.{Turn}
-use Rattle.ppm_trace.specs.Trace.{along_turns, is_told, shown_line}
+use Rattle.ppm_trace.specs.Trace.{along_turns, is_told, shown_line, trace_text}
 use Rattle.ppm_trace.specs.declared.form.Form.{Form}
 use Rattle.ppm_trace.specs.declared.form.Form.TheVariants.{Lines, Events}
 
@@ -42,3 +42,8 @@ written_as names Events from m turn = written_events names from m turn
 abbrev pub told_as : Names → Form → (from : ℕ) → Situation → Turn → List ℕ
 told_as names (Lines only) from = shown_line names only from
 told_as names Events from = told_events names from
+
+-- the trace of turns in a form
+abbrev pub trace_as : Names → Form → (from : ℕ) → Situation → List Turn → List ℕ
+trace_as names (Lines only) from m turns = trace_text names only from m turns
+trace_as names Events from m turns = trace_events names from m turns

@@ -2,7 +2,7 @@
 ghost use Rattle.std.specs.Prelude.{◌≡◌, ◌≤◌, ◌+◌, ◌^◌, IfOk};
 ghost use Rattle.ppm_choice.specs.Schedules.{schedule_turns};
 ghost use Rattle.ppm_core.specs.Machine.{seen};
-ghost use Rattle.ppm_trace.specs.Json.{trace_events};
+ghost use Rattle.ppm_trace.specs.Json.{trace_as, trace_events};
 ghost use Rattle.ppm_trace.specs.Trace.{trace_text};
 
 use crate::counts::Counts;
@@ -19,9 +19,8 @@ use ppm_plan::Schedule;
 use ppm_words::NoMemory;
 use std::alloc::Global;
 
-/// Makes the run of a schedule, and answers its trace: `acts` acts at most are told, after `from`
-/// that are not. `Err` only where memory is refused.
-pub fn trace(
+/// The trace of a run as lines: a line for each act that is told and shown.
+fn trace_lines(
     alloc: Global,
     machine: &mut Machine,
     schedule: &Schedule,
@@ -60,9 +59,8 @@ pub fn trace(
     Ok(tale.text)
 }
 
-/// Makes the run of a schedule, and answers its trace in the trace event format: the events of
-/// `acts` acts at most, after `from` of which none is told. `Err` only where memory is refused.
-pub fn trace_json(
+/// The trace of a run in the trace event format: the events of each act that is told.
+fn trace_json(
     alloc: Global,
     machine: &mut Machine,
     schedule: &Schedule,
@@ -98,4 +96,29 @@ pub fn trace_json(
     )?;
     push_json_tail(&mut tale.text)?;
     Ok(tale.text)
+}
+
+/// Makes the run of a schedule, of `from` and `acts` acts at most, and answers its trace in this
+/// form: from act `from` on, counted since the machine was loaded. `Err` only where memory is
+/// refused.
+pub fn trace(
+    alloc: Global,
+    machine: &mut Machine,
+    schedule: &Schedule,
+    names: &Names,
+    form: Form,
+    from: u64,
+    acts: u64,
+) -> Result<Vec<u8>, NoMemory>
+    requires processors { schedule.now.processors ≡ (seen machine.old).shape.processors }
+    requires acts { from + acts ≤ 2 ^ 40 }
+    requires few { (seen machine.old).turns ≤ 2 ^ 61 }
+    ensures { IfOk result (λ text. text.items
+        ≡ trace_as names.now form from (seen machine.old)
+        (schedule_turns (seen machine.old).shape (seen machine.old).code (seen machine.old).state schedule.now.items (from + acts))) }
+{
+    match form {
+        Form::Lines(only) => trace_lines(alloc, machine, schedule, names, only, from, acts),
+        Form::Events => trace_json(alloc, machine, schedule, names, from, acts),
+    }
 }

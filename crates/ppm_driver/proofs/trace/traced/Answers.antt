@@ -18,9 +18,10 @@ traced_code-requires-clause-arrays c =
 -- what is told of its code's run, by the program's names
 pub returns : goal.returns
 returns c =
-    let told = answers.Traced c.in_ok-text.text.items in
     let options = c.args.options in
     let items = c.args.schedule.now.items in
-    subst (λ (n : Names). CodeHas options n items (code_of (tree_of c.args.program.now)) (initial_arrays (tree_of c.args.program.now)) told) c.in_ok-names.ensures
-    (subst (λ (k : CodeParts). CodeHas options c.in_ok-names.names items k (initial_arrays (tree_of c.args.program.now)) told) c.in_ok-code.ensures.code
+    let t = tree_of c.args.program.now in
+    let told = answers.Traced c.in_ok-text.text.items in
+    subst (λ (n : Names). CodeHas options n items (code_of t) (initial_arrays t) told) c.in_ok-names.ensures
+    (subst (λ (k : CodeParts). CodeHas options c.in_ok-names.names items k (initial_arrays t) told) c.in_ok-code.ensures.code
     (subst (λ (l : List NamedArray). CodeHas options c.in_ok-names.names items c.in_ok-code.code l told) c.input.ensures.value c.in_ok-text.ensures))

@@ -5,7 +5,7 @@ use Rattle.ppm_following.specs.Following.{IsReady}
 use Rattle.ppm_trace.proofs.TellingLemmas.{trace_is}
 use Rattle.ppm_trace.specs.Counts.{total}
 use Rattle.ppm_trace.specs.Trace.{head_text, tail_text}
-use Rattle.ppm_trace.proofs.tracing.trace.Goals as goal
+use Rattle.ppm_trace.proofs.tracing.trace_lines.Goals as goal
 
 -- nothing is counted yet, and the turns are few
 pub follow_told-requires-clause-is : goal.follow_told-requires-clause-is

@@ -1,0 +1,13 @@
+use Rattle.std.proofs.Common.{refl}
+use Rattle.ppm_calls.proofs.making.reading.Goals as goal
+
+-- these are its instructions
+pub returns : goal.returns
+returns c =
+    rw (
+      c.from_vec.ensures,
+      c.in_ok-instrs.ensures.items,
+      c.register-region.ensures,
+      c.register-index.ensures,
+      c.register-word.ensures,
+    ) refl

@@ -1,0 +1,5 @@
+pub mod Turns
+pub mod Counter
+pub mod Soundness
+pub mod Records
+pub mod Follows

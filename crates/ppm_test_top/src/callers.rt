@@ -1,0 +1,110 @@
+//! The callers of `ppm_calls`, each once, on the counter and on a sum by halves.
+ghost use Rattle.std.specs.Prelude.{◌≡◌, IfOk};
+ghost use Rattle.ppm_words.specs.Inputs.{value_count};
+ghost use Rattle.ppm_cli.specs.Words.{AreRun};
+
+use crate::sources::SUM;
+use ppm_answers::Status;
+use ppm_calls::{counter, follow_schedule, record_run, sound_run, take_turns};
+use ppm_case::Case;
+use ppm_cells::{Ending, Finish, Shape, Takeover};
+use ppm_cli::RunOptions;
+use ppm_loading::Sizes;
+use ppm_plan::read_schedule;
+use ppm_words::{Idle, Outcome};
+use std::alloc::Global;
+use std::test::Fail;
+
+/// The counter at 41.
+fn forty_one(alloc: Global) -> Result<Case, Fail>
+    ensures { IfOk result (λ case. value_count case.input ≡ 1) }
+{
+    Ok(counter(alloc, 41).map_err(|_| "memory")?)
+}
+
+#[test]
+fn a_counter_is_turned_by_hand(rt: HostRuntime) -> Result<(), Fail> {
+    let alloc = rt.alloc();
+    let case = forty_one(alloc)?;
+    let shape = Shape::new(2, 64, 2, 1).ok_or("within the limits")?;
+    let machine = take_turns(alloc, case, shape, 1000).map_err(|_| "memory")?;
+    assert_eq!(rt; machine.outcome(), Ending::With(Finish::Ended));
+    assert_eq!(rt; machine.arrays(), 1);
+    if machine.arrays() == 1 {
+        assert!(rt; machine.array(0) == [42].as_slice());
+    }
+    // The finish word is set before so many.
+    assert!(rt; machine.turns() < 1000);
+    Ok(())
+}
+
+#[test]
+fn a_counter_is_sound(rt: HostRuntime) -> Result<(), Fail> {
+    let alloc = rt.alloc();
+    let case = forty_one(alloc)?;
+    let run = sound_run(alloc, &case, 1000).map_err(|_| "sound")?;
+    assert_eq!(rt; run.capsules, 2);
+    let Outcome::Ended(arrays) = run.outcome else {
+        return Err("an end")?;
+    };
+    let first = arrays.as_slice().first().ok_or("an array")?;
+    assert!(rt; first.values.as_slice() == [42].as_slice());
+    Ok(())
+}
+
+#[test]
+fn a_counter_follows_a_schedule(rt: HostRuntime) -> Result<(), Fail> {
+    let alloc = rt.alloc();
+    let case = forty_one(alloc)?;
+    let sizes = Sizes {
+        processors: 2,
+        room: 64,
+        slots: 2,
+        takeover: Takeover::ByPlaces,
+    };
+    // Processor 0 dies after nine acts, and processor 1 goes on.
+    let schedule = read_schedule(alloc, b"0*9,0!h", 2).map_err(|_| "no schedule")?;
+    let followed = follow_schedule(alloc, sizes, case, &schedule, 1000).map_err(|_| "memory")?;
+    assert_eq!(rt; followed.ending, Ending::With(Finish::Ended));
+    let first = followed.arrays.first().ok_or("an array")?;
+    assert!(rt; first.as_slice() == [42].as_slice());
+    Ok(())
+}
+
+/// Two processors, as options.
+fn two() -> RunOptions
+    ensures { AreRun result }
+{
+    RunOptions {
+        processors: 2,
+        turns: 100_000,
+        room: 256,
+        slots: 16,
+        looks: 1000,
+        seed: 1,
+        takeover: Takeover::ByPlaces,
+        idle: Idle::Leave,
+    }
+}
+
+#[test]
+fn a_sum_is_recorded(rt: HostRuntime) -> Result<(), Fail> {
+    let alloc = rt.alloc();
+    let source = SUM.as_bytes().to_vec(alloc)?;
+    let run = record_run(&rt, alloc, two(), b"0@5s,1@9h", source).map_err(|_| "memory")?;
+    assert_eq!(rt; run.status, Status::Ended);
+    assert!(rt; run.out.bytes() == b"a 10 2 7 4\n".as_slice());
+    // Processor 1 dies at its act 9, so it made at most ten; the run has no others.
+    let mut number = 0u32;
+    for recorder in &run.watch {
+        let told = recorder.events().len();
+        match number {
+            0 => assert!(rt; told > 0),
+            1 => assert!(rt; told <= 10),
+            _ => assert_eq!(rt; told, 0, "watcher {number}"),
+        }
+        number = number.saturating_add(1);
+    }
+    assert_eq!(rt; number, 64);
+    Ok(())
+}
