@@ -10,7 +10,7 @@ use Rattle.ppm_step.specs.declared.turn.Turn.{Turn}
 use Rattle.ppm_trace.specs.Counts.{all_marked, counted, marked, no_counts}
 use Rattle.ppm_trace.specs.Trace.{counts_along, is_told, told_counts}
 use Rattle.ppm_trace.specs.declared.counts.Counts.{Counts}
-use Rattle.ppm_trace.proofs.MarkLemmas.{none, of_act, of_mark, of_marks, marks_both, Both}
+use Rattle.ppm_trace.proofs.MarkLemmas.{of_act, of_mark, of_marks, marks_both, Both}
 
 -- counts with so many more
 record Adds (c after : Counts) (more : Both) : Type 0 where

@@ -1,5 +1,3 @@
-use Rattle.std.proofs.Common.{◌∙◌, ◌++◌, ap}
-use Rattle.std.specs.List.{flat_map, range_with_len}
 use Rattle.ppm_core.specs.Machine.{seen}
 use Rattle.ppm_lines.proofs.TextLemmas.{next}
 use Rattle.ppm_trace.specs.Json.{begun_of}
