@@ -1,4 +1,4 @@
-//! The laws on where a run ends are there to be called.
+//! The laws on where a run ends, and on its trace, are there to be called.
 use ppm_advance::{advancing_trees_are_ready, trees_advance};
 use ppm_ends::{
     beside_keeps_with_stores, capsules_show, ends_show, ends_split, fork_is_shown,
@@ -30,6 +30,9 @@ use ppm_slots::{frames_stay_trim, writes_are_slots};
 use ppm_tickets::{
     entries_change_lawfully, heirs_follow, heirs_see, images_open, in_every_run,
     in_every_run_by_entries, places_stay_home, resumes, turns_follow,
+};
+use ppm_trace::{
+    counts_are_the_machines, lines_follow_on, thinner_lines_are_among, windows_are_parts,
 };
 
 #[test]
@@ -155,4 +158,12 @@ fn the_laws_of_progress_are_called() {
     somebody_works();
     work_turns_come_soon();
     single_facts_allow_stuck_pieces();
+}
+
+#[test]
+fn the_laws_of_traces_are_called() {
+    lines_follow_on();
+    thinner_lines_are_among();
+    counts_are_the_machines();
+    windows_are_parts();
 }

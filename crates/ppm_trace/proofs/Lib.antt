@@ -2,6 +2,7 @@
 -- schedule, without its steps in a row. Each has the invariant `LeadsTo all rest`: whatever is told
 -- after this, of `rest` from here, is all of `all` from the beginning.
 pub mod AlongLemmas
+pub mod WindowLemmas
 pub mod TellingLemmas
 pub mod MarkLemmas
 pub mod ForkLemmas

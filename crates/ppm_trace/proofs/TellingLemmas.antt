@@ -117,8 +117,15 @@ module _ (names : Names) (excerpt : Excerpt) where
       subst (λ v. Tells names excerpt (dues_of p items v.left) (telling m v a) (telling n u b)) first
       (subst (λ list. Tells names excerpt (dues_of p list way.left) (telling m way a) (telling n u b)) same tells)
 
+  -- the machine is as the turns of the whole run make it
+  pub run_is : (m n : Situation) (way u : Way) (a b : Tale) (given items : List ScheduleItem) (turns : ℕ) → given ≡ items
+      → way ≡ record { loads = replicate 64 0; left = turns }
+      → Tells names excerpt (dues_of m.shape.processors given way.left) (telling m way a) (telling n u b)
+      → n ≡ run_on m (schedule_turns m.shape m.code m.state items turns)
+  run_is m n way u a b given items turns same first tells = (whole m n way u a b given items turns same first tells).does.machine
+
 module _ (names : Names) (only : Only) (from : ℕ) where
-  abbrev lines : Excerpt
+  abbrev pub lines : Excerpt
   lines = record { form = Lines only; from = from }
 
   -- a head, the lines of the whole run, and a tail
@@ -137,7 +144,7 @@ module _ (names : Names) (only : Only) (from : ℕ) where
       ∙ ap (λ k. head_text m.shape from ++ told ++ tail_text (counts_along from no_counts m all) (finish_in k)) d.does.machine
 
 module _ (names : Names) (from : ℕ) where
-  abbrev events : Excerpt
+  abbrev pub events : Excerpt
   events = record { form = Events; from = from }
 
   -- a head, the events of the whole run, and a tail

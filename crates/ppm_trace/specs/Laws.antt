@@ -1,5 +1,5 @@
 -- Laws of traces.
-use Rattle.std.specs.Prelude.{◌≡◌, ℕ, ◌+◌, ◌≤◌, if◌then◌else◌, List, [], ◌++◌}
+use Rattle.std.specs.Prelude.{◌≡◌, ℕ, ◌+◌, ◌≤◌, if◌then◌else◌, List, [], ◌++◌, length}
 use Rattle.ppm_core.specs.Situation.{Situation, run_on}
 use Rattle.ppm_marks.specs.Shown.{is_shown}
 use Rattle.ppm_marks.specs.declared.shown.Only.{Only}
@@ -35,3 +35,8 @@ abbrev pub CountsAreTheMachines : Type 0
 CountsAreTheMachines = (from : ℕ) (m : Situation) (turns : List Turn) → from ≤ m.turns
     → ((run_on m turns).forks ≡ m.forks + (counts_along from no_counts m turns).forks)
     × ((run_on m turns).takes ≡ m.takes + (counts_along from no_counts m turns).takes)
+
+-- what is told from an act on is a part of the whole: the lines of the turns that come from that act on
+abbrev pub WindowsAreParts : Type 0
+WindowsAreParts = (names : Names) (only : Only) (from : ℕ) (m : Situation) (first more : List Turn) → m.turns + length first ≡ from
+    → along_turns (shown_line names only from) m (first ++ more) ≡ along_turns (shown_line names only 0) (run_on m first) more

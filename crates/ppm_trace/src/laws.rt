@@ -1,6 +1,6 @@
 //! Laws of traces, each in a function with no body.
 ghost use Rattle.ppm_trace.specs.Laws.{CountsAreTheMachines, CountsFollowOn, LinesFollowOn};
-ghost use Rattle.ppm_trace.specs.Laws.{ThinnerAreAmong};
+ghost use Rattle.ppm_trace.specs.Laws.{ThinnerAreAmong, WindowsAreParts};
 
 /// The lines of turns after others are those from the situation that these make, and so is what is
 /// counted.
@@ -12,6 +12,12 @@ pub fn lines_follow_on()
 /// The lines of rows and those of marks are lines of all turns, unchanged and in their order.
 pub fn thinner_lines_are_among()
     ensures law { ThinnerAreAmong }
+{}
+
+/// What is told of a run from an act on is a part of the whole: the lines of the turns that come
+/// from that act on.
+pub fn windows_are_parts()
+    ensures law { WindowsAreParts }
 {}
 
 /// Where no act of a run comes before the first one that is told, the forks and takes of the tail

@@ -18,5 +18,7 @@ mod telling;
 mod tracing;
 
 pub use form::Form;
-pub use laws::{counts_are_the_machines, lines_follow_on, thinner_lines_are_among};
+pub use laws::{
+    counts_are_the_machines, lines_follow_on, thinner_lines_are_among, windows_are_parts,
+};
 pub use tracing::trace;

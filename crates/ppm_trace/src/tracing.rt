@@ -1,7 +1,8 @@
 //! A trace.
-ghost use Rattle.std.specs.Prelude.{◌≡◌, ◌≤◌, ◌+◌, ◌^◌, IfOk};
+ghost use Rattle.std.specs.Prelude.{◌≡◌, ◌≤◌, ◌+◌, ◌^◌, IfOk, OnOk};
 ghost use Rattle.ppm_choice.specs.Schedules.{schedule_turns};
 ghost use Rattle.ppm_core.specs.Machine.{seen};
+ghost use Rattle.ppm_core.specs.Situation.{run_on};
 ghost use Rattle.ppm_trace.specs.Json.{trace_as, trace_events};
 ghost use Rattle.ppm_trace.specs.Trace.{trace_text};
 
@@ -32,8 +33,10 @@ fn trace_lines(
     requires processors { schedule.now.processors ≡ (seen machine.old).shape.processors }
     requires acts { from + acts ≤ 2 ^ 40 }
     requires few { (seen machine.old).turns ≤ 2 ^ 61 }
-    ensures { IfOk result (λ text. text.items
+    ensures text { IfOk result (λ text. text.items
         ≡ trace_text names.now only from (seen machine.old)
+        (schedule_turns (seen machine.old).shape (seen machine.old).code (seen machine.old).state schedule.now.items (from + acts))) }
+    ensures made { OnOk result (seen machine.new ≡ run_on (seen machine.old)
         (schedule_turns (seen machine.old).shape (seen machine.old).code (seen machine.old).state schedule.now.items (from + acts))) }
 {
     let mut tale = Tale {
@@ -71,8 +74,10 @@ fn trace_json(
     requires processors { schedule.now.processors ≡ (seen machine.old).shape.processors }
     requires acts { from + acts ≤ 2 ^ 40 }
     requires few { (seen machine.old).turns ≤ 2 ^ 61 }
-    ensures { IfOk result (λ text. text.items
+    ensures text { IfOk result (λ text. text.items
         ≡ trace_events names.now from (seen machine.old)
+        (schedule_turns (seen machine.old).shape (seen machine.old).code (seen machine.old).state schedule.now.items (from + acts))) }
+    ensures made { OnOk result (seen machine.new ≡ run_on (seen machine.old)
         (schedule_turns (seen machine.old).shape (seen machine.old).code (seen machine.old).state schedule.now.items (from + acts))) }
 {
     let mut tale = Tale {
@@ -113,8 +118,10 @@ pub fn trace(
     requires processors { schedule.now.processors ≡ (seen machine.old).shape.processors }
     requires acts { from + acts ≤ 2 ^ 40 }
     requires few { (seen machine.old).turns ≤ 2 ^ 61 }
-    ensures { IfOk result (λ text. text.items
+    ensures text { IfOk result (λ text. text.items
         ≡ trace_as names.now form from (seen machine.old)
+        (schedule_turns (seen machine.old).shape (seen machine.old).code (seen machine.old).state schedule.now.items (from + acts))) }
+    ensures made { OnOk result (seen machine.new ≡ run_on (seen machine.old)
         (schedule_turns (seen machine.old).shape (seen machine.old).code (seen machine.old).state schedule.now.items (from + acts))) }
 {
     match form {
