@@ -209,13 +209,7 @@ fn label_height(source: u32, target: u32) -> u64
 }
 
 /// Appends that number.
-fn push_place(
-    alloc: Global,
-    text: &mut Vec<u8>,
-    x: u64,
-    y: u64,
-    place: u32,
-) -> Result<(), NoMemory>
+fn push_place(alloc: Global, text: &mut Vec<u8>, x: u64, y: u64, place: u32) -> Result<(), NoMemory>
     requires { x ≤ 2 ^ 62 }
     ensures { OnOk result (text.new.items ≡ text.old.items ++ place_label x y place) }
 {

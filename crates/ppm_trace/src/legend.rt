@@ -10,23 +10,53 @@ use std::alloc::Global;
 
 /// What the other colours and the marks are.
 const KEY: [Markup; 18] = [
-    Fixed("<rect class=\"sched\" x=\"0\" y=\"5050\" width=\"1600\" height=\"1200\"/><text class=\"t\" x=\"2000\" y=\"6100\">fork and join</text>\n"),
-    Fixed("<rect class=\"steal\" x=\"12200\" y=\"5050\" width=\"1600\" height=\"1200\"/><text class=\"t\" x=\"14200\" y=\"6100\">stealing</text>\n"),
-    Fixed("<rect class=\"over\" x=\"21500\" y=\"5050\" width=\"1600\" height=\"1200\"/><text class=\"t\" x=\"23500\" y=\"6100\">taking over</text>\n"),
-    Fixed("<rect class=\"seek\" x=\"32800\" y=\"5050\" width=\"1600\" height=\"1200\"/><text class=\"t\" x=\"34800\" y=\"6100\">looking for work</text>\n"),
-    Fixed("<rect class=\"back\" x=\"47600\" y=\"5050\" width=\"1600\" height=\"1200\"/><text class=\"t\" x=\"49600\" y=\"6100\">finding its place</text>\n"),
+    Fixed(
+        "<rect class=\"sched\" x=\"0\" y=\"5050\" width=\"1600\" height=\"1200\"/><text class=\"t\" x=\"2000\" y=\"6100\">fork and join</text>\n",
+    ),
+    Fixed(
+        "<rect class=\"steal\" x=\"12200\" y=\"5050\" width=\"1600\" height=\"1200\"/><text class=\"t\" x=\"14200\" y=\"6100\">stealing</text>\n",
+    ),
+    Fixed(
+        "<rect class=\"over\" x=\"21500\" y=\"5050\" width=\"1600\" height=\"1200\"/><text class=\"t\" x=\"23500\" y=\"6100\">taking over</text>\n",
+    ),
+    Fixed(
+        "<rect class=\"seek\" x=\"32800\" y=\"5050\" width=\"1600\" height=\"1200\"/><text class=\"t\" x=\"34800\" y=\"6100\">looking for work</text>\n",
+    ),
+    Fixed(
+        "<rect class=\"back\" x=\"47600\" y=\"5050\" width=\"1600\" height=\"1200\"/><text class=\"t\" x=\"49600\" y=\"6100\">finding its place</text>\n",
+    ),
     Fixed("<text class=\"t u\" x=\"62400\" y=\"6100\">empty: not scheduled, or done</text>\n"),
-    Fixed("<path class=\"f\" d=\"M800 8150l-420 -750h840z\"/><text class=\"t\" x=\"2000\" y=\"8200\">fork</text>\n"),
-    Fixed("<circle class=\"y\" cx=\"7000\" cy=\"7750\" r=\"330\"/><text class=\"t\" x=\"8200\" y=\"8200\">first at its join</text>\n"),
-    Fixed("<circle class=\"z\" cx=\"20500\" cy=\"7750\" r=\"390\"/><text class=\"t\" x=\"21700\" y=\"8200\">last, goes on</text>\n"),
-    Fixed("<path class=\"a\" d=\"M32000 7750h1100\"/><circle class=\"q\" cx=\"32000\" cy=\"7750\" r=\"340\"/>"),
-    Fixed("<path class=\"q\" d=\"M33900 7750l-800 -450v900z\"/><text class=\"t\" x=\"34600\" y=\"8200\">theft</text>\n"),
-    Fixed("<path class=\"a\" d=\"M40000 7450l600 600m0 -600l-600 600\"/><text class=\"t\" x=\"41200\" y=\"8200\">theft lost</text>\n"),
-    Fixed("<path class=\"x\" d=\"M49500 7200l1100 1100m0 -1100l-1100 1100\"/><text class=\"t\" x=\"51200\" y=\"8200\">soft fault</text>\n"),
-    Fixed("<path class=\"x\" d=\"M59500 7200l1100 1100m0 -1100l-1100 1100\"/><path class=\"d\" d=\"M60800 7750h1300\"/>"),
+    Fixed(
+        "<path class=\"f\" d=\"M800 8150l-420 -750h840z\"/><text class=\"t\" x=\"2000\" y=\"8200\">fork</text>\n",
+    ),
+    Fixed(
+        "<circle class=\"y\" cx=\"7000\" cy=\"7750\" r=\"330\"/><text class=\"t\" x=\"8200\" y=\"8200\">first at its join</text>\n",
+    ),
+    Fixed(
+        "<circle class=\"z\" cx=\"20500\" cy=\"7750\" r=\"390\"/><text class=\"t\" x=\"21700\" y=\"8200\">last, goes on</text>\n",
+    ),
+    Fixed(
+        "<path class=\"a\" d=\"M32000 7750h1100\"/><circle class=\"q\" cx=\"32000\" cy=\"7750\" r=\"340\"/>",
+    ),
+    Fixed(
+        "<path class=\"q\" d=\"M33900 7750l-800 -450v900z\"/><text class=\"t\" x=\"34600\" y=\"8200\">theft</text>\n",
+    ),
+    Fixed(
+        "<path class=\"a\" d=\"M40000 7450l600 600m0 -600l-600 600\"/><text class=\"t\" x=\"41200\" y=\"8200\">theft lost</text>\n",
+    ),
+    Fixed(
+        "<path class=\"x\" d=\"M49500 7200l1100 1100m0 -1100l-1100 1100\"/><text class=\"t\" x=\"51200\" y=\"8200\">soft fault</text>\n",
+    ),
+    Fixed(
+        "<path class=\"x\" d=\"M59500 7200l1100 1100m0 -1100l-1100 1100\"/><path class=\"d\" d=\"M60800 7750h1300\"/>",
+    ),
     Fixed("<text class=\"t\" x=\"62500\" y=\"8200\">hard fault</text>\n"),
-    Fixed("<path class=\"o\" d=\"M71500 7750h1300\"/><circle class=\"r\" cx=\"71500\" cy=\"7750\" r=\"340\"/>"),
-    Fixed("<path class=\"r\" d=\"M73400 7750l-800 -450v900z\"/><text class=\"t\" x=\"74100\" y=\"8200\">takeover</text>\n"),
+    Fixed(
+        "<path class=\"o\" d=\"M71500 7750h1300\"/><circle class=\"r\" cx=\"71500\" cy=\"7750\" r=\"340\"/>",
+    ),
+    Fixed(
+        "<path class=\"r\" d=\"M73400 7750l-800 -450v900z\"/><text class=\"t\" x=\"74100\" y=\"8200\">takeover</text>\n",
+    ),
     Fixed("</g>\n</svg>\n"),
 ];
 

@@ -58,11 +58,7 @@ fn push_digits(text: &mut Vec<u8>, digits: &[u8]) -> Result<(), NoMemory>
 }
 
 /// Appends a number in decimal, its digits in threes.
-pub(crate) fn push_grouped(
-    alloc: Global,
-    text: &mut Vec<u8>,
-    number: u64,
-) -> Result<(), NoMemory>
+pub(crate) fn push_grouped(alloc: Global, text: &mut Vec<u8>, number: u64) -> Result<(), NoMemory>
     ensures { OnOk result (text.new.items ≡ text.old.items ++ in_threes (decimal number)) }
 {
     let digits = number.to_string(alloc)?;

@@ -200,7 +200,14 @@ pub(crate) fn picture(
 {
     let canvas = canvas_of(shape.processors, from, tale.strokes.len());
     let mut text = Vec::new(alloc);
-    push_top(alloc, &mut text, canvas, shape.takeover, tale.counts, finish)?;
+    push_top(
+        alloc,
+        &mut text,
+        canvas,
+        shape.takeover,
+        tale.counts,
+        finish,
+    )?;
     push_middle(alloc, &mut text, canvas, tale)?;
     push_legend(alloc, &mut text, canvas.bottom(), names)?;
     Ok(text)

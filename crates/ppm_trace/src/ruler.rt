@@ -80,11 +80,7 @@ fn push_ticks(
 }
 
 /// Appends the ruler.
-pub(crate) fn push_ruler(
-    alloc: Global,
-    text: &mut Vec<u8>,
-    canvas: Canvas,
-) -> Result<(), NoMemory>
+pub(crate) fn push_ruler(alloc: Global, text: &mut Vec<u8>, canvas: Canvas) -> Result<(), NoMemory>
     requires canvas { IsCanvas canvas }
     ensures { OnOk result (text.new.items ≡ text.old.items ++ ruler_text canvas) }
 {
@@ -115,11 +111,7 @@ fn push_lane(alloc: Global, text: &mut Vec<u8>, processor: u32) -> Result<(), No
 }
 
 /// Appends all lanes.
-pub(crate) fn push_lanes(
-    alloc: Global,
-    text: &mut Vec<u8>,
-    processors: u32,
-) -> Result<(), NoMemory>
+pub(crate) fn push_lanes(alloc: Global, text: &mut Vec<u8>, processors: u32) -> Result<(), NoMemory>
     ensures { OnOk result (text.new.items ≡ text.old.items ++ lanes_text processors) }
 {
     for processor in 0..processors {
