@@ -110,7 +110,7 @@ impl<'a> Scene<'a> {
     }
 
     /// The word at an address; 0 past the last one.
-    pub(crate) fn word_at(&self, at: u64) -> u64
+    pub fn word_at(&self, at: u64) -> u64
         ensures { result ≡ scenes.word_at self.now at }
     {
         match self.words.get(at as usize) {
@@ -120,7 +120,7 @@ impl<'a> Scene<'a> {
     }
 
     /// The procedure of a frame, by its number.
-    pub(crate) fn procedure_of(&self, frame: u32) -> Option<u32>
+    pub fn procedure_of(&self, frame: u32) -> Option<u32>
         ensures { result ≡ scenes.procedure_of self.now frame }
     {
         let number = self.word_at(u64::from(frame) + 2);
@@ -132,7 +132,7 @@ impl<'a> Scene<'a> {
     }
 
     /// How many words a frame has.
-    pub(crate) fn size_of(&self, frame: u32) -> u64
+    pub fn size_of(&self, frame: u32) -> u64
         ensures value { result ≡ scenes.size_of self.now frame }
         ensures bound { result < 2 ^ 34 }
     {
@@ -147,14 +147,14 @@ impl<'a> Scene<'a> {
     }
 
     /// The link of a frame or a block, where its first word is one.
-    pub(crate) fn link_at(&self, block: u32) -> Option<Link>
+    pub fn link_at(&self, block: u32) -> Option<Link>
         ensures { result ≡ scenes.link_at self.now block }
     {
         Link::unpack(self.word_at(u64::from(block)))
     }
 
     /// Whether a block is one of a fork.
-    pub(crate) fn is_fork_block(&self, block: u32) -> bool
+    pub fn is_fork_block(&self, block: u32) -> bool
         ensures { result ≡ scenes.is_fork_block self.now block }
     {
         is_fork_link(self.link_at(block))

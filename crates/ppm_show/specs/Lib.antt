@@ -1,0 +1,5 @@
+pub mod Names
+pub mod Routes
+pub mod Subjects
+pub mod Lines
+pub mod Show
