@@ -30,6 +30,5 @@ pub use flow::Flow;
 pub use json::{push_json_head, push_json_tail};
 pub use line::push_line;
 pub use name::{push_branch, push_fork, push_frame, push_place, push_run};
-pub use part::{ForkPart, FramePart, Part, fork_part, frame_part};
+pub use part::{ForkPart, FramePart, Part};
 pub use scene::Scene;
-pub use value::{fork_part_kind, frame_part_kind};

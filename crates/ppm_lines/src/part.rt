@@ -55,7 +55,7 @@ pub enum Part {
 }
 
 /// The word of a frame this far from its first one.
-pub fn frame_part(offset: u32) -> FramePart
+pub(crate) fn frame_part(offset: u32) -> FramePart
     ensures { result ≡ frame_part_at offset }
 {
     match offset {
@@ -70,7 +70,7 @@ pub fn frame_part(offset: u32) -> FramePart
 }
 
 /// The word of a fork block this far from its first one, before its frames.
-pub fn fork_part(offset: u32) -> ForkPart
+pub(crate) fn fork_part(offset: u32) -> ForkPart
     ensures { result ≡ fork_part_at offset }
 {
     match offset {

@@ -23,7 +23,7 @@ use ppm_words::NoMemory;
 use std::alloc::Global;
 
 /// How a word of a frame is written.
-pub fn frame_part_kind(part: FramePart) -> WordKind
+fn frame_part_kind(part: FramePart) -> WordKind
     ensures { result ≡ frame_kind part }
 {
     match part {
@@ -35,7 +35,7 @@ pub fn frame_part_kind(part: FramePart) -> WordKind
 }
 
 /// How a word of a fork block is written.
-pub fn fork_part_kind(part: ForkPart) -> WordKind
+fn fork_part_kind(part: ForkPart) -> WordKind
     ensures { result ≡ fork_kind part }
 {
     match part {

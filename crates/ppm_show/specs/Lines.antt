@@ -31,7 +31,7 @@ cell_line scene word cell =
 
 -- the line of an array word: its name and its number
 abbrev pub element_line : Scene → (word : ℕ) → Cell → List ℕ
-element_line scene word cell = field 18 (cell_text scene.names scene.lengths cell) ++ value_text kind.Signed word ++ 10 ∷ []
+element_line scene word cell = cell_text scene.names scene.lengths cell ++ 32 ∷ value_text kind.Signed word ++ 10 ∷ []
 
 -- whether an entry has a line: it is not empty
 abbrev pub is_entry_filled : Option Entry → Bool

@@ -6,10 +6,15 @@ use Rattle.ppm_cells.specs.declared.shape.Shape.{Shape}
 use Rattle.ppm_lines.specs.Scene.{Scene}
 use Rattle.ppm_show.specs.Lines.{line_at, named_value}
 
+-- a size with its name
+abbrev pub size_text : (name : List ℕ) (size : ℕ) → List ℕ
+size_text name size = name ++ decimal size
+
 -- the form's version, and the machine's sizes
 abbrev pub sizes_text : Shape → List ℕ
 sizes_text s =
-    codes "ppm show 1\nprocessors " ++ decimal s.processors ++ codes " room " ++ decimal s.room ++ codes " slots " ++ decimal s.slots ++ codes "\n"
+    codes "ppm show 1\n" ++ size_text (codes "processors ") s.processors ++ size_text (codes " room ") s.room ++ size_text (codes " slots ") s.slots
+    ++ codes "\n"
 
 -- the names of the fields
 abbrev pub fields_text : List ℕ

@@ -1,27 +1,51 @@
 //! Lines of frames and of fork blocks.
 ghost use Rattle.std.specs.Prelude.{◌≡◌, ◌++◌, ◌<◌, ◌^◌, OnOk};
+ghost use Rattle.ppm_lines.specs.Parts.{fork_part, frame_part};
 ghost use Rattle.ppm_lines.specs.Scene.{word_at};
+ghost use Rattle.ppm_lines.specs.Texts.{fork_part_kind, frame_part_kind};
 ghost use Rattle.ppm_naming.specs.Values.{value_text};
 ghost use Rattle.ppm_naming.specs.declared.kind.WordKind.TheVariants.{Link};
 ghost use Rattle.ppm_show.specs.Lines.{block_line as line_of_block, block_name, inner_kind as kind_inside};
 ghost use Rattle.ppm_show.specs.Lines.{inner_size as size_inside, inner_text, inner_texts, named_value};
 
 use crate::subject::push_link_subject;
-use ppm_lines::{
-    Scene, fill, fork_part, fork_part_kind, frame_part, frame_part_kind, push_fork, push_frame,
-};
+use ppm_lines::{Scene, fill, push_fork, push_frame};
 use ppm_naming::{WordKind, push_value};
 use ppm_words::NoMemory;
 use std::alloc::Global;
 
-/// How a word of a frame or of a fork block is written.
-fn inner_kind(is_fork: bool, offset: u32) -> WordKind
+/// How a word of a frame is written, this far from its first one.
+fn frame_kind(offset: u64) -> WordKind
+    ensures { result ≡ frame_part_kind (frame_part offset) }
+{
+    match offset {
+        0 => WordKind::Link,
+        1 => WordKind::Finish,
+        2 | 3 | 5 => WordKind::Number,
+        _ => WordKind::Signed,
+    }
+}
+
+/// How a word of a fork block is.
+fn fork_kind(offset: u64) -> WordKind
+    ensures { result ≡ fork_part_kind (fork_part offset) }
+{
+    match offset {
+        0 => WordKind::Link,
+        1 => WordKind::Order,
+        2 | 3 => WordKind::Finish,
+        _ => WordKind::Number,
+    }
+}
+
+/// How a word of a frame or of a fork block is.
+fn inner_kind(is_fork: bool, offset: u64) -> WordKind
     ensures { result ≡ kind_inside is_fork offset }
 {
     if is_fork {
-        fork_part_kind(fork_part(offset))
+        fork_kind(offset)
     } else {
-        frame_part_kind(frame_part(offset))
+        frame_kind(offset)
     }
 }
 
@@ -40,12 +64,13 @@ fn push_inner(
     scene: &Scene,
     at: u32,
     is_fork: bool,
-    offset: u32,
+    offset: u64,
 ) -> Result<(), NoMemory>
+    requires { offset < 2 ^ 34 }
     ensures { OnOk result (text.new.items ≡ text.old.items ++ inner_text scene.now at is_fork offset) }
 {
     text.push(b' ')?;
-    let word = scene.word_at(u64::from(at) + u64::from(offset));
+    let word = scene.word_at(u64::from(at) + offset);
     push_value(alloc, text, inner_kind(is_fork, offset), word)
 }
 
@@ -60,7 +85,7 @@ fn push_inners(
     ensures { OnOk result (text.new.items ≡ text.old.items ++ inner_texts scene.now at is_fork) }
 {
     for offset in 1..inner_size(scene, at, is_fork) {
-        push_inner(alloc, text, scene, at, is_fork, offset as u32)?;
+        push_inner(alloc, text, scene, at, is_fork, offset)?;
     }
     Ok(())
 }

@@ -63,7 +63,8 @@ pub(crate) fn push_element_line(
 ) -> Result<(), NoMemory>
     ensures { OnOk result (text.new.items ≡ text.old.items ++ element_line scene.now word cell) }
 {
-    push_name(alloc, text, scene, cell)?;
+    push_cell(alloc, text, scene.names(), scene.lengths(), cell)?;
+    text.push(b' ')?;
     push_value(alloc, text, WordKind::Signed, word)?;
     text.push(b'\n')?;
     Ok(())

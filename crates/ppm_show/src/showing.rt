@@ -5,7 +5,7 @@ ghost use Rattle.ppm_cells.specs.Cells.{word_count};
 ghost use Rattle.ppm_show.specs.Lines.{line_at};
 ghost use Rattle.ppm_show.specs.Names.{scene_of};
 ghost use Rattle.ppm_show.specs.Routes.{marks_of, shown_blocks};
-ghost use Rattle.ppm_show.specs.Show.{fields_text, show_text, sizes_text};
+ghost use Rattle.ppm_show.specs.Show.{fields_text, show_text, size_text, sizes_text};
 
 use crate::block::push_block_line;
 use crate::cell::{push_cell_line, push_element_line, push_entry_line};
@@ -14,23 +14,31 @@ use crate::names::saved_names;
 use crate::subject::push_word;
 use ppm_cells::{Cell, Shape};
 use ppm_lines::{Scene, fill};
-use ppm_naming::addressed;
+use ppm_naming::{addressed, addresses_name_cells};
 use ppm_pieces::push_number;
 use ppm_saved::Saved;
 use ppm_words::NoMemory;
 use std::alloc::Global;
 
+/// Appends a size with its name.
+fn push_size(alloc: Global, text: &mut Vec<u8>, name: &str, size: u32) -> Result<(), NoMemory>
+    ensures { OnOk result (text.new.items ≡ text.old.items ++ size_text name.now size) }
+{
+    push_word(text, name)?;
+    push_number(alloc, text, u64::from(size))?;
+    Ok(())
+}
+
 /// Appends the form's version and the machine's sizes.
 fn push_sizes(alloc: Global, text: &mut Vec<u8>, shape: &Shape) -> Result<(), NoMemory>
     ensures { OnOk result (text.new.items ≡ text.old.items ++ sizes_text shape.now) }
 {
-    push_word(text, "ppm show 1\nprocessors ")?;
-    push_number(alloc, text, u64::from(shape.processors))?;
-    push_word(text, " room ")?;
-    push_number(alloc, text, u64::from(shape.room))?;
-    push_word(text, " slots ")?;
-    push_number(alloc, text, u64::from(shape.slots))?;
-    push_word(text, "\n")
+    push_word(text, "ppm show 1\n")?;
+    push_size(alloc, text, "processors ", shape.processors)?;
+    push_size(alloc, text, " room ", shape.room)?;
+    push_size(alloc, text, " slots ", shape.slots)?;
+    push_word(text, "\n")?;
+    Ok(())
 }
 
 /// Appends the names of the fields.
@@ -58,6 +66,8 @@ fn push_line_at(
     requires marks { marks.now ≡ marks_of scene.now (shown_blocks scene.now) }
     ensures { OnOk result (text.new.items ≡ text.old.items ++ line_at scene.now at) }
 {
+    // The cell at an address is one of the shape's, by this law; the call does nothing.
+    addresses_name_cells();
     let word = scene.word_at(u64::from(at));
     let cell = addressed(scene.shape(), at);
     match cell {
