@@ -77,12 +77,12 @@ abbrev pub block_line : Scene → (at : ℕ) → List ℕ
 block_line scene at = block_line_as scene at (is_fork_block scene at)
 
 -- the line of a cell, if it has one; most words of a pool have none
-abbrev pub line_of : Scene → (word : ℕ) → Cell → List ℕ
-line_of scene word (EntryWord place slot) = entry_line scene word place slot
-line_of scene word (BlockWord at) = if is_shown_block scene at then block_line scene at else []
-line_of scene word (ArrayWord index) = element_line scene word (ArrayWord index)
-line_of scene word cell = cell_line scene word cell
+abbrev pub line_of : Scene → (at word : ℕ) → Cell → List ℕ
+line_of scene at word (EntryWord place slot) = entry_line scene word place slot
+line_of scene at word (BlockWord block) = if is_shown_block scene at then block_line scene at else []
+line_of scene at word (ArrayWord index) = element_line scene word (ArrayWord index)
+line_of scene at word cell = cell_line scene word cell
 
 -- the line of an address
 abbrev pub line_at : Scene → (at : ℕ) → List ℕ
-line_at scene at = line_of scene (word_at scene at) (addressed scene.shape at)
+line_at scene at = line_of scene at (word_at scene at) (addressed scene.shape at)

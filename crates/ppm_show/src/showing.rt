@@ -1,7 +1,8 @@
 //! The text of a saved state.
 ghost use Rattle.std.specs.Prelude.{◌≡◌, ◌++◌, ◌<◌, IfOk, OnOk};
 ghost use Rattle.std.specs.List.{flat_map, range_with_len};
-ghost use Rattle.ppm_cells.specs.Cells.{word_count};
+ghost use Rattle.ppm_cells.specs.Cells.{IsCell, word_count};
+ghost use Rattle.ppm_naming.specs.Addresses.{addressed as cell_of};
 ghost use Rattle.ppm_show.specs.Lines.{line_at};
 ghost use Rattle.ppm_show.specs.Names.{scene_of};
 ghost use Rattle.ppm_show.specs.Routes.{marks_of, shown_blocks};
@@ -54,6 +55,17 @@ fn push_fields(text: &mut Vec<u8>) -> Result<(), NoMemory>
     push_word(text, "of\n")
 }
 
+/// The cell that has this address.
+fn cell_at(scene: &Scene, at: u32) -> Cell
+    requires { at < word_count scene.now.shape }
+    ensures value { result ≡ cell_of scene.now.shape at }
+    ensures there { IsCell scene.now.shape result }
+{
+    // The cell at an address is one of the shape's, by this law; the call does nothing.
+    addresses_name_cells();
+    addressed(scene.shape(), at)
+}
+
 /// Appends the line of an address, if it has one.
 fn push_line_at(
     alloc: Global,
@@ -66,15 +78,13 @@ fn push_line_at(
     requires marks { marks.now ≡ marks_of scene.now (shown_blocks scene.now) }
     ensures { OnOk result (text.new.items ≡ text.old.items ++ line_at scene.now at) }
 {
-    // The cell at an address is one of the shape's, by this law; the call does nothing.
-    addresses_name_cells();
     let word = scene.word_at(u64::from(at));
-    let cell = addressed(scene.shape(), at);
+    let cell = cell_at(scene, at);
     match cell {
         Cell::EntryWord { place, slot } => push_entry_line(alloc, text, scene, word, place, slot),
-        Cell::BlockWord { address } => {
-            if marks[address as usize] {
-                push_block_line(alloc, text, scene, address)
+        Cell::BlockWord { .. } => {
+            if marks[at as usize] {
+                push_block_line(alloc, text, scene, at)
             } else {
                 Ok(())
             }

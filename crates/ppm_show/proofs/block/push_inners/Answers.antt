@@ -6,4 +6,4 @@ use Rattle.ppm_show.proofs.block.push_inners.Goals as goal
 pub loop-offset-preserved : goal.loop-offset-preserved
 loop-offset-preserved c =
     next_from_one (inner_text c.args.scene.now c.args.at c.args.is_fork) c.args.text.now.items c.loop-offset.text.items c.push_inner.new.text.items
-    c.loop-offset.offset (omega (arith, c.loop-offset.auto.number-begin)) c.loop-offset.invariant c.in_ok-push_inner.ensures
+    c.loop-offset.offset (c.loop-offset.auto.offset) c.loop-offset.invariant c.in_ok-push_inner.ensures
