@@ -1,0 +1,6 @@
+mod DoomLemmas
+mod FillLemmas
+mod OrderLemmas
+mod OriginLemmas
+mod PathLemmas
+mod TurnLemmas

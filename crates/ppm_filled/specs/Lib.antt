@@ -1,0 +1,3 @@
+pub mod Correct
+pub mod Filled
+pub mod Racing

@@ -1,0 +1,14 @@
+//! Which capsules of a code may be stopped anywhere and begun again though strands race, as far as
+//! paths tell: those that are ordered and filled.
+//! Model: the strands of a code as those of `ppm_unseen` (`specs/Racing`), and paths through
+//! instructions (`specs/Filled`).
+//! Contract: a code whose paths are filled and have no conflict has capsules that are ordered and
+//! filled.
+//! Stands on `ppm_code` and `ppm_unseen`.
+//! After the capsules with compare-and-modify of Blelloch et al., SPAA 2018; the conditions are
+//! this project's.
+#![tactic(auto)]
+
+mod laws;
+
+pub use laws::filled_paths_are_filled;
