@@ -1,5 +1,5 @@
 -- The strands of a code as strands that may race: their capsules over own and shared words.
-use Rattle.std.proofs.Common.{◌≡◌, ℕ, ◌==◌, Bool, true, false, cond, List, [], ◌∷◌, Option, None, refl, ap, subst}
+use Rattle.std.proofs.Common.{◌≡◌, ℕ, ◌==◌, Bool, true, false, cond, List, [], ◌∷◌, ◌++◌, Option, None, refl, ap, subst}
 use Rattle.std.proofs.lemmas.Bool.{eq-eqb, eqb-true}
 use Rattle.ppm_strands.specs.Tree.{Tree, Strand, Call as Calling, Fork as Forking, Over, Words}
 use Rattle.ppm_capsules.specs.Capsule.{Capsule, Reads, Writes, Asks, Ends, Equality, Memory, is_in}
@@ -99,13 +99,24 @@ own_word_is_self (OfEnd k) = end_word_is_self k
 abbrev pub own_words : Equality OwnWord
 own_words = record { same = same_own_word; is_one = own_word_is_one; is_self = own_word_is_self }
 
--- what a capsule may store of the block that it builds: slots, one by one, and the rest by its end
+-- what an end stores of a new block
+abbrev pub built_by_end : End → List OwnWord
+built_by_end (Next capsule) = []
+built_by_end Finish = []
+built_by_end (Trap trap line) = []
+built_by_end (Call callee capsule to) = OfEnd (OfCall callee) ∷ []
+built_by_end (Fork left right capsule left_to right_to) = OfEnd (OfFork left right) ∷ []
+
+-- what an instruction stores of it: a slot, or all that an end does
+abbrev pub built_by_one : Instr → List OwnWord
+built_by_one (StoreNew o a) = OfBlock o ∷ []
+built_by_one (Ending e) = built_by_end e
+built_by_one i = []
+
+-- what a capsule may store of the block that it builds
 abbrev pub built_by : List Instr → List OwnWord
 built_by [] = []
-built_by (StoreNew o a ∷ is) = OfBlock o ∷ built_by is
-built_by (Ending (Call callee capsule to) ∷ is) = OfEnd (OfCall callee) ∷ built_by is
-built_by (Ending (Fork left right capsule left_to right_to) ∷ is) = OfEnd (OfFork left right) ∷ built_by is
-built_by (i ∷ is) = built_by is
+built_by (i ∷ is) = built_by_one i ++ built_by is
 
 -- where a strand is: at a capsule of the code, or over since a branch of it trapped
 pub data Place : Type 0 where
