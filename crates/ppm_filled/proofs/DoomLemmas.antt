@@ -2,17 +2,14 @@
 use Rattle.std.proofs.Common.{◌≡◌, ◌≤◌, ◌<◌, ℕ, zero, suc, ◌+◌, max, Bool, true, false, cond, List, [], ◌∷◌, length, Option, Some, None}
 use Rattle.std.proofs.Common.{◌⊎◌, inl, inr, refl, sym, ap, ◌∙◌, subst, arith, slice_set, slice_index}
 use Rattle.std.specs.Prelude.{slice_get, ℤ, ◌==◌, ◌+ℤ◌, ◌-ℤ◌, ◌*ℤ◌, int_div, int_rem, int_lt, int_le, if◌then◌else◌}
-use Rattle.std.proofs.lemmas.Bool.{cond-false, cond-true}
 use Rattle.std.proofs.lemmas.List.{get_or-set_other}
 use Rattle.ppm_words.specs.TwosComplement.{value_of, word_of}
 use Rattle.ppm_words.specs.declared.trap.Trap.{Trap}
 use Rattle.ppm_words.specs.declared.trap.Trap.TheVariants.{Overflow, DivZero, Split}
-use Rattle.ppm_capsules.specs.Capsule.{Capsule, Memory, In, is_in, Ends}
+use Rattle.ppm_capsules.specs.Capsule.{Capsule, Memory, In, is_in}
 use Rattle.ppm_capsules.specs.Equalities.{numbers}
-use Rattle.ppm_capsules.specs.Strand.{Own, New as NewWord, Shared}
 use Rattle.ppm_capsules.proofs.LocationLemmas.{decide}
 use Rattle.ppm_unseen.specs.Capsule.{Capsule as Racing, Loads as LoadsOwn, Keeps, Reads as FindsShared, Changes, Ends as Stopping}
-use Rattle.ppm_code.specs.declared.location.FrameWord.{FrameWord}
 use Rattle.ppm_code.specs.declared.location.FrameWord.TheVariants.{Slot as SlotWord, Value as ValueWord}
 use Rattle.ppm_code.specs.declared.location.Location.TheVariants.{Frame, New as NewLocation, Array as ArrayWord}
 use Rattle.ppm_code.specs.declared.act.End.{End}
@@ -29,13 +26,13 @@ use Rattle.ppm_code.specs.declared.instr.Instr.TheVariants.{Const, Move, Add, Su
 use Rattle.ppm_code.specs.declared.instr.Instr.TheVariants.{LoadSlot, StoreCur, Give, Get, Put, BranchZero, BranchNonZero, Room as RoomFor, StoreNew, Ends as Ending}
 use Rattle.ppm_code.specs.Acts.{does, held, at_element, element_of, length_of, traps, whole, divided, quotient_of, remainder_of, cut_left_of, cut_right_of, is_zero, fits}
 use Rattle.ppm_code.specs.Capsules.{capsule_from, at_act}
-use Rattle.ppm_code.specs.Locations.{Where, location_of}
-use Rattle.ppm_code.specs.Paths.{may, GoesTo, Path, Any, Follows}
+use Rattle.ppm_code.specs.Locations.{Where}
+use Rattle.ppm_code.specs.Paths.{may, GoesTo, Follows}
 use Rattle.ppm_code.proofs.CapsuleLemmas.{at_instr}
 use Rattle.ppm_code.proofs.FollowLemmas.{acts_follow}
-use Rattle.ppm_filled.specs.Racing.{OwnWord, OfFrame, OfBlock, OfEnd, OfTrap, Exit, Of, Tells, own_words, racing, ending, dropping, built_by}
-use Rattle.ppm_filled.specs.Filled.{operands_of, target_of, may_trap, IsHung, Hangs, Takes as TakesMark, Stays, Parts, GoesOn, Mark, Word, Way}
-use Rattle.ppm_filled.proofs.PathLemmas.{one, forward, there}
+use Rattle.ppm_filled.specs.Racing.{OwnWord, OfFrame, OfBlock, Exit, Of, Tells, own_words, racing, ending, built_by}
+use Rattle.ppm_filled.specs.Filled.{operands_of, target_of, may_trap, IsHung, Hangs, Takes as TakesMark, Stays, Parts, GoesOn, Word, Way}
+use Rattle.ppm_filled.proofs.PathLemmas.{forward, there}
 use Rattle.ppm_filled.proofs.TurnLemmas.{Turn, Halts, Fails, Works, Asks, Branches, Takes, Finds, Fills, Builds, Puts, turn, from, is_trap_end, none_there}
 
 -- whether a strand is over by a trap of its own
@@ -416,8 +413,8 @@ module _ (words : ℕ) (is : List Instr) (o : Memory OwnWord) (none_hung : (at :
         ≡ doom o w (racing (built_by is) (at_act (λ t l. capsule_from words 0 t is l) (at + 1) (does words i h) h))
     instr_alike i e = elim (operands_alike at g h alike (operands_of i)) [
       | inl same ↦
-        same_act at g rec h w alike i e (may i) (does words i g) refl (acts_follow words i g) (does_sets words i g)
-        ∙ ap (λ (b : Act). doom o w (racing (built_by is) (at_act (λ t l. capsule_from words 0 t is l) (at + 1) b h))) (does_alike words i g h same)
+          same_act at g rec h w alike i e (may i) (does words i g) refl (acts_follow words i g) (does_sets words i g)
+          ∙ ap (λ (b : Act). doom o w (racing (built_by is) (at_act (λ t l. capsule_from words 0 t is l) (at + 1) b h))) (does_alike words i g h same)
       | inr some ↦ hung_act i e some.0 some.2 some.1
     ]
 

@@ -1,17 +1,16 @@
 -- A capsule without a conflict whose paths are filled keeps the same own words, whatever it reads.
-use Rattle.std.proofs.Common.{◌≡◌, ◌≤◌, ◌<◌, ℕ, zero, suc, ◌+◌, Bool, true, false, cond, List, [], ◌∷◌, length, Option, Some, None}
+use Rattle.std.proofs.Common.{◌≡◌, ◌≤◌, ◌<◌, ℕ, ◌+◌, Bool, true, false, cond, List, [], ◌∷◌, length, Option, Some, None}
 use Rattle.std.proofs.Common.{◌⊎◌, inl, inr, refl, sym, ap, ◌∙◌, subst, arith, slice_set}
 use Rattle.std.specs.Prelude.{slice_get}
 use Rattle.std.proofs.lemmas.Bool.{cond-false, cond-true}
 use Rattle.ppm_capsules.specs.Capsule.{Memory, In, is_in}
 use Rattle.ppm_capsules.specs.Strand.{Own}
 use Rattle.ppm_capsules.proofs.LocationLemmas.{decide, in_or_not}
-use Rattle.ppm_unseen.specs.Capsule.{Capsule as Racing, Loads as LoadsOwn, Keeps, Reads as FindsShared, Changes, Ends as Stopping}
+use Rattle.ppm_unseen.specs.Capsule.{Capsule as Racing, Loads as LoadsOwn, Ends as Stopping}
 use Rattle.ppm_unseen.specs.Conditions.{FillsPast}
 use Rattle.ppm_code.specs.declared.class.Class.{Class}
-use Rattle.ppm_code.specs.declared.class.Class.TheVariants.{Slot, New, Value, Room, Array}
-use Rattle.ppm_code.specs.declared.class.May.{May}
-use Rattle.ppm_code.specs.declared.class.May.TheVariants.{Work, Read, Write, Branch, Stop}
+use Rattle.ppm_code.specs.declared.class.Class.TheVariants.{Slot, New, Room, Array}
+use Rattle.ppm_code.specs.declared.class.May.TheVariants.{Work, Read, Write, Branch}
 use Rattle.ppm_code.specs.declared.location.FrameWord.{FrameWord}
 use Rattle.ppm_code.specs.declared.location.FrameWord.TheVariants.{Slot as SlotWord, Value as ValueWord}
 use Rattle.ppm_code.specs.declared.act.End.{End}
@@ -20,8 +19,8 @@ use Rattle.ppm_code.specs.declared.register.Register.{Register}
 use Rattle.ppm_code.specs.declared.instr.Instr.{Instr}
 use Rattle.ppm_code.specs.Paths.{may, class_of, Does, GoesTo, Path, Here, Any, Exposes, HasNoConflict}
 use Rattle.ppm_filled.specs.Racing.{OwnWord, OfFrame, OfBlock, OfEnd, EndWord, OfTrap, OfCall, OfFork, Exit, Of, own_words, ending, dropping, built_by}
-use Rattle.ppm_filled.specs.Filled.{builds_by, builder_in, builder_at, IsStop, IsFind, IsReload, IsFilledOnPaths, IsOfFrame, target_of, Hangs, Word, Finds as FindsMark}
-use Rattle.ppm_filled.proofs.PathLemmas.{append, any, exposes, one, forward, there}
+use Rattle.ppm_filled.specs.Filled.{builds_by, builder_in, builder_at, IsStop, IsFind, IsFilledOnPaths, IsOfFrame, target_of, Finds as FindsMark}
+use Rattle.ppm_filled.proofs.PathLemmas.{append, exposes, one, forward, there}
 use Rattle.ppm_filled.proofs.TurnLemmas.{Turn, Halts, Fails, Works, Asks, Branches, Takes, Finds, Fills, Builds, Puts, turn, from, is_trap_end}
 use Rattle.ppm_filled.proofs.DoomLemmas.{last, last_has, doom, doom_is_last, doom_at_end, finds_alike}
 use Rattle.ppm_filled.proofs.OriginLemmas.{class_in, frame_class, block_class, no_array, text_has, has_dropped, doom_dropped}
@@ -328,13 +327,16 @@ module _ (words : ℕ) (is : List Instr) (o : Memory OwnWord) (free : HasNoConfl
 
       opening : (b : EndWord) → builder_at is at ≡ Some b → (OfEnd b ∷ w ≡ final) ⊎ Since at w
           → (out (OfEnd b) ≡ true) × ((x : OwnWord) → out x ≡ true → In x (OfEnd b ∷ w))
-      opening b here_b phase = (is_out (OfEnd b) (built_is_final at b none here_b), λ x is_it. elim phase [
-        | inl h ↦ subst (λ (k : List OwnWord). In x k) (sym h) (of_out x is_it)
-        | inr s ↦ elim (all_kept at w stop f s x (of_out x is_it)) [
-          | inl j ↦ inr j
-          | inr r ↦ inl (r.1 ∙ ap OfEnd (one_some r.0 b (sym r.2 ∙ here_b)))
-        ]
-      ])
+      opening b here_b phase = (
+        is_out (OfEnd b) (built_is_final at b none here_b),
+        λ x is_it. elim phase [
+          | inl h ↦ subst (λ (k : List OwnWord). In x k) (sym h) (of_out x is_it)
+          | inr s ↦ elim (all_kept at w stop f s x (of_out x is_it)) [
+            | inl j ↦ inr j
+            | inr r ↦ inl (r.1 ∙ ap OfEnd (one_some r.0 b (sym r.2 ∙ here_b)))
+          ]
+        ],
+      )
 
       by : (e : End) → is_trap_end e ≡ false → builder_at is at ≡ builds_by e → Phase at w (ending (built_by is) e)
           → FillsPast out o w (ending (built_by is) e)
@@ -453,25 +455,30 @@ module _ (words : ℕ) (is : List Instr) (o : Memory OwnWord) (free : HasNoConfl
         → FillsPast out o w (LoadsOwn (OfFrame (SlotWord s)) go)
     takes i d s e m target goes h phase = elim (in_or_not own_words (OfFrame (SlotWord s)) w) [
       | inl j ↦
-        let h0 = sym (cond-true (is_in own_words (OfFrame (SlotWord s)) w) (doom o w (go 0)) (doom o w (go (o (OfFrame (SlotWord s))))) j.1) ∙ h in
-        inr (j.0, λ v. rec (at + 1) (slice_set g d.index v) (omega arith) (there is at i e) w
-          (facts_on at (at + 1) w i e goes (read_stores_none i (Slot s) m) f)
-          (found_fate at w i d g e goes (read_stores_none i (Slot s) m) target (reload j.0) f v h0)
-          (found_phase at w i d g e goes (read_stores_none i (Slot s) m) target (reload j.0) f v h0 (elim phase [
-            | inl same ↦ inl (sym (cond-true (is_in own_words (OfFrame (SlotWord s)) w) (last o w (go 0)) (last o w (go (o (OfFrame (SlotWord s))))) j.1) ∙ same)
-            | inr c ↦ inr c
-          ])))
+          let h0 = sym (cond-true (is_in own_words (OfFrame (SlotWord s)) w) (doom o w (go 0)) (doom o w (go (o (OfFrame (SlotWord s))))) j.1) ∙ h in
+          inr (
+            j.0,
+            λ v. rec (at + 1) (slice_set g d.index v) (omega arith) (there is at i e) w
+                (facts_on at (at + 1) w i e goes (read_stores_none i (Slot s) m) f)
+                (found_fate at w i d g e goes (read_stores_none i (Slot s) m) target (reload j.0) f v h0)
+                (found_phase at w i d g e goes (read_stores_none i (Slot s) m) target (reload j.0) f v h0 (elim phase [
+                  | inl same ↦ inl (sym (cond-true (is_in own_words (OfFrame (SlotWord s)) w) (last o w (go 0)) (last o w (go (o (OfFrame (SlotWord s))))) j.1) ∙ same)
+                  | inr c ↦ inr c
+                ])),
+          )
       | inr ne ↦
-        let h0 = sym (cond-false (is_in own_words (OfFrame (SlotWord s)) w) (doom o w (go 0)) (doom o w (go (o (OfFrame (SlotWord s))))) ne.1) ∙ h in
-        let phase0 : (last o w (go (o (OfFrame (SlotWord s)))) ≡ final) ⊎ Since at w = elim phase [
-          | inl same ↦ inl (sym (cond-false (is_in own_words (OfFrame (SlotWord s)) w) (last o w (go 0)) (last o w (go (o (OfFrame (SlotWord s))))) ne.1) ∙ same)
-          | inr c ↦ inr c
-        ] in
-        inl (not_out (OfFrame (SlotWord s))
-            (not_final at w (slice_set g d.index (o (OfFrame (SlotWord s)))) (SlotWord s) i e m goes ne.0 f h0 phase0),
-          rec (at + 1) (slice_set g d.index (o (OfFrame (SlotWord s)))) (omega arith) (there is at i e) w
-          (facts_on at (at + 1) w i e goes (read_stores_none i (Slot s) m) f) h0
-          (phase_on at (at + 1) w (go (o (OfFrame (SlotWord s)))) i e goes (read_stores_none i (Slot s) m) phase0))
+          let h0 = sym (cond-false (is_in own_words (OfFrame (SlotWord s)) w) (doom o w (go 0)) (doom o w (go (o (OfFrame (SlotWord s))))) ne.1) ∙ h in
+          let phase0 : (last o w (go (o (OfFrame (SlotWord s)))) ≡ final) ⊎ Since at w = elim phase [
+            | inl same ↦ inl (sym (cond-false (is_in own_words (OfFrame (SlotWord s)) w) (last o w (go 0)) (last o w (go (o (OfFrame (SlotWord s))))) ne.1) ∙ same)
+            | inr c ↦ inr c
+          ] in
+          inl (
+            not_out (OfFrame (SlotWord s))
+                (not_final at w (slice_set g d.index (o (OfFrame (SlotWord s)))) (SlotWord s) i e m goes ne.0 f h0 phase0),
+            rec (at + 1) (slice_set g d.index (o (OfFrame (SlotWord s)))) (omega arith) (there is at i e) w
+                (facts_on at (at + 1) w i e goes (read_stores_none i (Slot s) m) f) h0
+                (phase_on at (at + 1) w (go (o (OfFrame (SlotWord s)))) i e goes (read_stores_none i (Slot s) m) phase0),
+          )
     ]
       where
         go : ℕ → Racing OwnWord Exit
@@ -484,9 +491,11 @@ module _ (words : ℕ) (is : List Instr) (o : Memory OwnWord) (free : HasNoConfl
     fills_turn : {c : Racing OwnWord Exit} → Turn words is at g c → doom o w c ≡ fate → Phase at w c → FillsPast out o w c
     fills_turn (Halts e t stop same) h phase = fills_end at w e t stop same (sym h ∙ doom_at_end o w (built_by is) e t) f phase
     fills_turn (Fails i t l e may_fail) h phase = elim phase [
-      | inl same ↦ (is_out (OfEnd OfTrap) (subst (λ (k : List OwnWord). In (OfEnd OfTrap) k) same
-          (last_has o (OfEnd OfTrap) (OfEnd OfTrap ∷ w) (dropping (built_by is) (Stopping (Of (Trapping t l)))) (inl refl))),
-        fills_dropped (OfEnd OfTrap ∷ w) (built_by is) (Of (Trapping t l)) same)
+      | inl same ↦ (
+        is_out (OfEnd OfTrap) (subst (λ (k : List OwnWord). In (OfEnd OfTrap) k) same
+            (last_has o (OfEnd OfTrap) (OfEnd OfTrap ∷ w) (dropping (built_by is) (Stopping (Of (Trapping t l)))) (inl refl))),
+        fills_dropped (OfEnd OfTrap ∷ w) (built_by is) (Of (Trapping t l)) same,
+      )
       | inr s ↦ absurd (none_is_not_some (sym s.none ∙ sym h ∙ doom_dropped o (OfEnd OfTrap ∷ w) (built_by is) (Of (Trapping t l)) refl))
     ]
     fills_turn (Works i d v e m goes) h phase = rec (at + 1) (slice_set g d.index v) (omega arith) (there is at i e) w
@@ -505,19 +514,23 @@ module _ (words : ℕ) (is : List Instr) (o : Memory OwnWord) (free : HasNoConfl
         (found_fate at w i d g e goes (read_stores_none i Array m) target finds f v h)
         (found_phase at w i d g e goes (read_stores_none i Array m) target finds f v h phase)
     fills_turn (Fills i k v e m goes) h phase =
-        let in_final = kept_frame at w k i (from words is (at + 1) g) e m f phase in
-        (is_out (OfFrame k) in_final, rec (at + 1) g (omega arith) (there is at i e) (OfFrame k ∷ w)
-          (facts_kept at w i (OfFrame k) e m goes (λ x z. frame_class x k z) in_final f) h (elim phase [
-            | inl same ↦ inl same
-            | inr s ↦ inr (since_kept at w i (OfFrame k) e m goes (λ x z. frame_class x k z) s)
-          ]))
+        let in_final = kept_frame at w k i (from words is (at + 1) g) e m f phase in (
+          is_out (OfFrame k) in_final,
+          rec (at + 1) g (omega arith) (there is at i e) (OfFrame k ∷ w)
+              (facts_kept at w i (OfFrame k) e m goes (λ x z. frame_class x k z) in_final f) h (elim phase [
+                | inl same ↦ inl same
+                | inr s ↦ inr (since_kept at w i (OfFrame k) e m goes (λ x z. frame_class x k z) s)
+              ]),
+        )
     fills_turn (Builds i n v e m goes) h phase =
-        let in_final = kept_block at w n i (from words is (at + 1) g) e m f phase in
-        (is_out (OfBlock n) in_final, rec (at + 1) g (omega arith) (there is at i e) (OfBlock n ∷ w)
-          (facts_kept at w i (OfBlock n) e m goes (λ x z. block_class x n z) in_final f) h (elim phase [
-            | inl same ↦ inl same
-            | inr s ↦ inr (since_kept at w i (OfBlock n) e m goes (λ x z. block_class x n z) s)
-          ]))
+        let in_final = kept_block at w n i (from words is (at + 1) g) e m f phase in (
+          is_out (OfBlock n) in_final,
+          rec (at + 1) g (omega arith) (there is at i e) (OfBlock n ∷ w)
+              (facts_kept at w i (OfBlock n) e m goes (λ x z. block_class x n z) in_final f) h (elim phase [
+                | inl same ↦ inl same
+                | inr s ↦ inr (since_kept at w i (OfBlock n) e m goes (λ x z. block_class x n z) s)
+              ]),
+        )
     fills_turn (Puts i a v e m goes) h phase = rec (at + 1) g (omega arith) (there is at i e) w
         (facts_on at (at + 1) w i e goes (put_stores_none i m) f) h (phase_on at (at + 1) w (from words is (at + 1) g) i e goes (put_stores_none i m) phase)
 

@@ -1,16 +1,15 @@
 -- Code without a conflict on its paths makes its changes before its reads.
-use Rattle.std.proofs.Common.{◌≡◌, ◌≤◌, ◌<◌, ℕ, ◌+◌, List, [], ◌∷◌, length, Some, refl, sym, ap, subst, arith, slice_set}
+use Rattle.std.proofs.Common.{◌≡◌, ◌≤◌, ◌<◌, ℕ, ◌+◌, List, [], ◌∷◌, length, Some, refl, arith, slice_set}
 use Rattle.std.specs.Prelude.{slice_get}
-use Rattle.ppm_unseen.specs.Capsule.{Capsule as Racing, Loads, Keeps, Reads as FindsShared, Changes}
+use Rattle.ppm_unseen.specs.Capsule.{Capsule as Racing}
 use Rattle.ppm_unseen.specs.Conditions.{IsOrdered, HasNoChange}
 use Rattle.ppm_code.specs.declared.act.End.{End}
 use Rattle.ppm_code.specs.declared.act.End.TheVariants.{Next, Finish, Trap as Trapping, Call, Fork}
-use Rattle.ppm_code.specs.declared.class.May.{May}
 use Rattle.ppm_code.specs.declared.class.Class.TheVariants.{Array}
-use Rattle.ppm_code.specs.declared.class.May.TheVariants.{Read, Write}
+use Rattle.ppm_code.specs.declared.class.May.TheVariants.{Read}
 use Rattle.ppm_code.specs.declared.instr.Instr.{Instr}
-use Rattle.ppm_code.specs.Paths.{may, Does, GoesTo, Path, Here, Any, IsExposed, HasNoConflict}
-use Rattle.ppm_filled.specs.Racing.{OwnWord, Exit, Of, ending, dropping, built_by}
+use Rattle.ppm_code.specs.Paths.{may, Does, GoesTo, Path, Here, Any, HasNoConflict}
+use Rattle.ppm_filled.specs.Racing.{OwnWord, Exit, ending, dropping, built_by}
 use Rattle.ppm_filled.proofs.PathLemmas.{append, weaken, one, forward, there}
 use Rattle.ppm_filled.proofs.TurnLemmas.{Turn, Halts, Fails, Works, Asks, Branches, Takes, Finds, Fills, Builds, Puts, turn, from}
 

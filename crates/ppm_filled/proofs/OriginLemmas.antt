@@ -1,15 +1,15 @@
 -- Where the words come from that a capsule keeps, and where it stops without a word.
-use Rattle.std.proofs.Common.{◌≡◌, ◌≤◌, ◌<◌, ℕ, zero, suc, ◌+◌, Bool, true, false, cond, List, [], ◌∷◌, ◌++◌, length, Option, Some, None}
+use Rattle.std.proofs.Common.{◌≡◌, ◌≤◌, ◌<◌, ℕ, suc, ◌+◌, Bool, true, false, cond, List, [], ◌∷◌, ◌++◌, length, Option, Some, None}
 use Rattle.std.proofs.Common.{◌⊎◌, inl, inr, refl, sym, ap, ◌∙◌, subst, arith, slice_set}
 use Rattle.std.specs.Prelude.{slice_get}
 use Rattle.ppm_capsules.specs.Capsule.{Memory, In, is_in}
 use Rattle.ppm_capsules.specs.Strand.{Own}
 use Rattle.ppm_capsules.proofs.LocationLemmas.{decide}
-use Rattle.ppm_unseen.specs.Capsule.{Capsule as Racing, Loads as LoadsOwn, Keeps, Reads as FindsShared, Changes, Ends as Stopping}
+use Rattle.ppm_unseen.specs.Capsule.{Capsule as Racing, Ends as Stopping}
 use Rattle.ppm_code.specs.declared.class.Class.{Class}
-use Rattle.ppm_code.specs.declared.class.Class.TheVariants.{Slot, New, Value, Room, Array}
+use Rattle.ppm_code.specs.declared.class.Class.TheVariants.{Slot, New, Room, Array}
 use Rattle.ppm_code.specs.declared.class.May.{May}
-use Rattle.ppm_code.specs.declared.class.May.TheVariants.{Work, Read, Write, Branch, Stop}
+use Rattle.ppm_code.specs.declared.class.May.TheVariants.{Work, Read, Write, Branch}
 use Rattle.ppm_code.specs.declared.location.FrameWord.{FrameWord}
 use Rattle.ppm_code.specs.declared.location.FrameWord.TheVariants.{Slot as SlotWord, Value as ValueWord}
 use Rattle.ppm_code.specs.declared.act.End.{End}
@@ -19,10 +19,10 @@ use Rattle.ppm_code.specs.declared.instr.Instr.TheVariants.{Const, Move, Add, Su
 use Rattle.ppm_code.specs.declared.instr.Instr.TheVariants.{LoadSlot, StoreCur, Give, Get, Put, BranchZero, BranchNonZero, Room as RoomFor, StoreNew, Ends as Ending}
 use Rattle.ppm_code.specs.Paths.{may, class_of, Does, GoesTo, Path, Here, Any, Exposes}
 use Rattle.ppm_filled.specs.Racing.{OwnWord, OfFrame, OfBlock, OfEnd, EndWord, OfTrap, OfCall, OfFork, Exit, Of, own_words, ending, dropping, built_by, built_by_one}
-use Rattle.ppm_filled.specs.Filled.{builds_by, built_in, builder_in, builder_at, IsStop}
+use Rattle.ppm_filled.specs.Filled.{builds_by, built_in, builder_at, IsStop}
 use Rattle.ppm_filled.proofs.PathLemmas.{append, exposes, one, forward, there}
 use Rattle.ppm_filled.proofs.TurnLemmas.{Turn, Halts, Fails, Works, Asks, Branches, Takes, Finds, Fills, Builds, Puts, turn, from, is_trap_end}
-use Rattle.ppm_filled.proofs.DoomLemmas.{either, last, last_has, doom, traps_at}
+use Rattle.ppm_filled.proofs.DoomLemmas.{last, last_has, doom, traps_at}
 
 -- the class of an own word; what ends store has none of its own
 abbrev pub class_in : OwnWord → Class

@@ -5,9 +5,9 @@ use Rattle.std.proofs.lemmas.Option.{slice_get_within}
 use Rattle.ppm_code.specs.declared.class.Class.{Class}
 use Rattle.ppm_code.specs.declared.class.Class.TheVariants.{Slot, New, Value, Room, Array}
 use Rattle.ppm_code.specs.declared.class.May.{May}
-use Rattle.ppm_code.specs.declared.class.May.TheVariants.{Work, Read, Write, Branch, Stop}
+use Rattle.ppm_code.specs.declared.class.May.TheVariants.{Write}
 use Rattle.ppm_code.specs.declared.instr.Instr.{Instr}
-use Rattle.ppm_code.specs.Paths.{may, Does, GoesTo, Path, Here, Then, Any, Exposes}
+use Rattle.ppm_code.specs.Paths.{may, GoesTo, Path, Here, Then, Any, Exposes}
 
 module _ {is : List Instr} {q : May → Type 0} where
   -- one path after another

@@ -1,5 +1,5 @@
 -- What a capsule that may race does at a place: each instruction by what it may do.
-use Rattle.std.proofs.Common.{◌≡◌, ◌≤◌, ℕ, zero, suc, ◌+◌, max, Bool, true, false, cond, List, [], ◌∷◌, length, Option, Some, None}
+use Rattle.std.proofs.Common.{◌≡◌, ◌≤◌, ℕ, zero, suc, ◌+◌, max, Bool, true, false, cond, List, [], ◌∷◌, Option, Some, None}
 use Rattle.std.proofs.Common.{inl, inr, refl, sym, ap, subst, arith, slice_set}
 use Rattle.std.specs.Prelude.{slice_get, ℤ, ◌==◌, ◌+ℤ◌, ◌-ℤ◌, ◌*ℤ◌, int_div, int_rem}
 use Rattle.ppm_words.specs.declared.trap.Trap.{Trap}
@@ -7,17 +7,15 @@ use Rattle.ppm_words.specs.declared.trap.Trap.TheVariants.{Overflow, DivZero, Sp
 use Rattle.ppm_words.specs.TwosComplement.{value_of, word_of}
 use Rattle.ppm_capsules.specs.Capsule.{Capsule, Ends}
 use Rattle.ppm_unseen.specs.Capsule.{Capsule as Racing, Loads as LoadsOwn, Keeps, Reads as FindsShared, Changes, constant}
-use Rattle.ppm_code.specs.declared.class.Class.{Class}
-use Rattle.ppm_code.specs.declared.class.Class.TheVariants.{Slot, New, Value, Room, Array}
-use Rattle.ppm_code.specs.declared.class.May.TheVariants.{Work, Read, Write, Branch, Stop}
+use Rattle.ppm_code.specs.declared.class.Class.TheVariants.{Slot, New, Room, Array}
+use Rattle.ppm_code.specs.declared.class.May.TheVariants.{Work, Read, Write, Branch}
 use Rattle.ppm_code.specs.declared.location.FrameWord.{FrameWord}
 use Rattle.ppm_code.specs.declared.location.FrameWord.TheVariants.{Slot as SlotWord, Value as ValueWord}
 use Rattle.ppm_code.specs.declared.location.Location.TheVariants.{Array as ArrayWord}
 use Rattle.ppm_code.specs.declared.act.End.{End}
 use Rattle.ppm_code.specs.declared.act.End.TheVariants.{Next, Finish, Trap as Trapping, Call, Fork}
 use Rattle.ppm_code.specs.declared.act.Act.{Act}
-use Rattle.ppm_code.specs.declared.act.Act.TheVariants.{Sets, Passes, Jumps, Steps, Ends as Stops}
-use Rattle.ppm_code.specs.declared.act.Step.{Step}
+use Rattle.ppm_code.specs.declared.act.Act.TheVariants.{Sets, Passes, Jumps, Ends as Stops}
 use Rattle.ppm_code.specs.declared.act.Step.TheVariants.{Loads, Stores}
 use Rattle.ppm_code.specs.declared.register.Register.{Register}
 use Rattle.ppm_code.specs.declared.instr.Instr.{Instr}
@@ -29,8 +27,8 @@ use Rattle.ppm_code.specs.Locations.{Where}
 use Rattle.ppm_code.specs.Paths.{may, GoesTo, class_of}
 use Rattle.ppm_code.proofs.CapsuleLemmas.{at_instr}
 use Rattle.ppm_capsules.specs.Strand.{Own}
-use Rattle.ppm_filled.specs.Racing.{OwnWord, OfFrame, OfBlock, OfEnd, EndWord, Exit, racing, ending, built_by}
-use Rattle.ppm_filled.specs.Filled.{operands_of, target_of, may_trap, is_stop, builds_by, built_in, builder_in, IsStop, builder_at}
+use Rattle.ppm_filled.specs.Racing.{OwnWord, OfFrame, OfBlock, Exit, racing, ending, built_by}
+use Rattle.ppm_filled.specs.Filled.{target_of, may_trap, is_stop, builds_by, builder_in, IsStop, builder_at}
 
 -- where no instruction stands a capsule ends
 pub none_there : (words here skip : ℕ) (is : List Instr) (g : List ℕ) → slice_get is skip ≡ None

@@ -103,6 +103,11 @@ IsOfFrame (New o) = ⊥
 IsOfFrame Room = ⊥
 IsOfFrame Array = ⊥
 
+-- what comes of a find: the word in the register with a number, or which way a path went
+pub data Mark : Type 0 where
+  Word : ℕ → Mark
+  Way : Mark
+
 module _ (is : List Instr) where
   -- a path is over at a place other than by a trap: an end stands there, or no instruction does
   abbrev pub IsStop : ℕ → Type 0
@@ -148,11 +153,6 @@ module _ (is : List Instr) where
     pub stops : IsStop stop
     pub another : builder_at stop ≡ builder_at other → ⊥
     pub some : (b : EndWord) × (builder_at other ≡ Some b)
-
-  -- what comes of a find: the word in the register with a number, or which way a path went
-  pub data Mark : Type 0 where
-    Word : ℕ → Mark
-    Way : Mark
 
   -- on some path to a place this comes of a find
   pub data Hangs : (at : ℕ) → Mark → Type 0 where

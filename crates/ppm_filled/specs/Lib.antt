@@ -1,3 +1,4 @@
 pub mod Correct
 pub mod Filled
 pub mod Racing
+pub mod Sample

@@ -1,7 +1,7 @@
 -- The strands of a code as strands that may race: their capsules over own and shared words.
-use Rattle.std.proofs.Common.{◌≡◌, ℕ, ◌==◌, Bool, true, false, cond, List, [], ◌∷◌, ◌++◌, Option, None, refl, ap, subst}
+use Rattle.std.proofs.Common.{◌≡◌, ℕ, ◌==◌, Bool, true, false, cond, List, [], ◌∷◌, ◌++◌, None, refl, ap, subst}
 use Rattle.std.proofs.lemmas.Bool.{eq-eqb, eqb-true}
-use Rattle.ppm_strands.specs.Tree.{Tree, Strand, Call as Calling, Fork as Forking, Over, Words}
+use Rattle.ppm_strands.specs.Tree.{Tree, Strand, Over, Words}
 use Rattle.ppm_capsules.specs.Capsule.{Capsule, Reads, Writes, Asks, Ends, Equality, Memory, is_in}
 use Rattle.ppm_capsules.specs.Strand.{Frame, Own, New, Shared}
 use Rattle.ppm_unseen.specs.Capsule.{Code, Next as Opened, GoesOn, Forks, Closes, constant}
@@ -17,7 +17,7 @@ use Rattle.ppm_code.specs.declared.instr.Instr.TheVariants.{StoreNew, Ends as En
 use Rattle.ppm_code.specs.Capsules.{capsule_of}
 use Rattle.ppm_code.specs.Locations.{Where, same_frame_word, frame_word_is_one, frame_word_is_self}
 use Rattle.ppm_code.specs.Sizes.{slots_of, left_at, right_at}
-use Rattle.ppm_code.specs.Strands.{Result, Gave, Trapped, Point, at_capsule, built, entry_of, instrs_of, is_trap, kept, resume}
+use Rattle.ppm_code.specs.Strands.{Result, Gave, Trapped, Point, at_capsule, built, entry_of, instrs_of, kept, resume}
 
 -- what an end stores of its strand's own, all together: the outcome of a trap, or the words of a new block beside its slots
 pub data EndWord : Type 0 where
@@ -188,7 +188,7 @@ module _ (code : CodeParts) where
       (standing (frame_words_in own) (record { capsule = capsule; left_to = None; to = to }))
   opening (Fork left right capsule left_to right_to) own =
       Forks (beginning left (built (slots_of code left) left_at (block_in own))
-        ∷ beginning right (built (slots_of code right) (right_at code left) (block_in own)) ∷ [])
+      ∷ beginning right (built (slots_of code right) (right_at code left) (block_in own)) ∷ [])
       (standing (frame_words_in own) (record { capsule = capsule; left_to = left_to; to = right_to }))
 
   abbrev pub exit_opens : Exit → Memory OwnWord → Opened OwnWord Place Result

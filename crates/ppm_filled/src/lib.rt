@@ -2,13 +2,15 @@
 //! paths tell: those that are ordered and filled.
 //! Model: the strands of a code as those of `ppm_unseen` (`specs/Racing`), and paths through
 //! instructions (`specs/Filled`).
-//! Contract: a code whose paths are filled and have no conflict has capsules that are ordered and
-//! filled.
-//! Stands on `ppm_code` and `ppm_unseen`.
+//! Contract: laws alone; a code whose paths are filled and have no conflict has capsules that are
+//! ordered and filled, and its faults are invisible where what they do stands.
+//! Stands on `ppm_code` and `ppm_unseen`; no crate stands on it.
 //! After the capsules with compare-and-modify of Blelloch et al., SPAA 2018; the conditions are
 //! this project's.
 #![tactic(auto)]
 
 mod laws;
 
-pub use laws::filled_paths_are_filled;
+pub use laws::{
+    a_racy_read_is_filled, faults_of_filled_paths_are_invisible, filled_paths_are_filled,
+};

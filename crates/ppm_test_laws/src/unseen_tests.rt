@@ -1,4 +1,7 @@
 //! The laws of strands that may race are there to be called.
+use ppm_filled::{
+    a_racy_read_is_filled, faults_of_filled_paths_are_invisible, filled_paths_are_filled,
+};
 use ppm_unseen::{
     calm_writes_stand, each_condition_is_needed, faults_are_invisible,
     racing_claims_are_restartable, runs_are_histories,
@@ -11,4 +14,7 @@ fn the_laws_of_races_are_called() {
     calm_writes_stand::<u8, u8, u8, u8>();
     each_condition_is_needed();
     racing_claims_are_restartable();
+    filled_paths_are_filled();
+    faults_of_filled_paths_are_invisible();
+    a_racy_read_is_filled();
 }
