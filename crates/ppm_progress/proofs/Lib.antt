@@ -6,6 +6,9 @@
 -- `UnhurtRuns`, `WorkRuns`; over legs `LegRuns`), and its processor makes a work turn soon (`SoonLemmas`). A place that has won a job goes by
 -- rows that find it taken in its name (`ThiefRows`); each step lessens how many come before the work turn (`HeightLemmas`, `ThiefLemmas`). That the
 -- other facts of a state are not enough is `StuckLemmas`.
+-- Who works takes part in the next lap, at its own place; so each lap has a work turn, and work turns are bounded (`LapLemmas`). In a round of a replay
+-- each processor makes a step, as long as the finish word is 0 and acts are left (`RoundLemmas`); so thirteen rounds are a lap. Rounds undo nothing, so
+-- what is undone is by faults of the list (`ReplayLemmas`).
 
 pub mod NoteLemmas
 pub mod WriteLemmas
@@ -28,3 +31,7 @@ pub mod ThiefRows
 pub mod HeightLemmas
 pub mod ThiefLemmas
 pub mod StuckLemmas
+pub mod ListLemmas
+pub mod LapLemmas
+pub mod RoundLemmas
+pub mod ReplayLemmas

@@ -1,4 +1,4 @@
--- By places, without hard faults: a processor whose place has won a job begins it, and makes a work turn within thirteen of its own steps.
+-- Without hard faults a processor whose place has won a job begins it, and makes a work turn within thirteen of its own steps.
 use Rattle.std.proofs.Common.{◌≡◌, ◌≢◌, ◌⊎◌, ◌≤◌, ◌<◌, ◌+◌, if◌then◌else◌, ℕ, Bool, true, false, List, [], ◌∷◌, ◌++◌, Option, Some, None, inl, inr, refl, sym}
 use Rattle.std.proofs.Common.{ap, ◌∙◌, subst, arith}
 use Rattle.std.specs.List.{AllByRecursion}
@@ -14,7 +14,6 @@ use Rattle.ppm_cells.specs.declared.restart.Restart.{Restart}
 use Rattle.ppm_cells.specs.declared.restart.RestartKind.{RestartKind}
 use Rattle.ppm_cells.specs.declared.restart.RestartKind.TheVariants.{Steal, Check}
 use Rattle.ppm_cells.specs.declared.shape.Shape.{Shape}
-use Rattle.ppm_cells.specs.declared.shape.Takeover.TheVariants.{ByPlaces}
 use Rattle.ppm_capsules.specs.Strand.{Frame}
 use Rattle.ppm_code.specs.Strands.{Point, Result}
 use Rattle.ppm_code.specs.declared.code.CodeParts.{CodeParts}
@@ -100,7 +99,7 @@ message_same s code words act x now c apart wrote = by wrote
     by (Changed v i old new is fits law was e) = elsewhere (cells.EntryWord v i) _ is (λ z. cc) e
 
 module _ (s : Shape) (code : CodeParts) (fair : IsFair code) (root : Tree (Frame FrameWord Point) Result) (input : Words)
-    (ws : List ℕ) (fit : AreWordsOf s ws) (c : ℕ) (there : c < s.processors) (places : s.takeover ≡ ByPlaces) where
+    (ws : List ℕ) (fit : AreWordsOf s ws) (c : ℕ) (there : c < s.processors) where
   module _ (state : RunState) (h : ℕ → Home) (f tk : List ℕ) (t : Skeleton) (now : IsUnhurt s code root input state h f tk t)
       (v i o r : ℕ) (won : Won s state.words c v i o r) where
     abbrev K : ℕ → RestartKind
@@ -309,7 +308,7 @@ module _ (s : Shape) (code : CodeParts) (fair : IsFair code) (root : Tree (Frame
       own_step first on none (IsWithin seat row) e live sees = elim won.kind [
         | inl steal ↦ steal_step seat row e sees.2 steal
             (steal_row s (spots.with_restarts m K (spots.bottoms s state.words)) seat row v i (own_kind seat row e ∙ steal) sees.1)
-        | inr check ↦ check_step seat row e sees.2 (check_row s places (spots.with_restarts m K (spots.bottoms s state.words)) seat row v i o r
+        | inr check ↦ check_step seat row e sees.2 (check_row s (spots.with_restarts m K (spots.bottoms s state.words)) seat row v i o r
             (ap (λ (q : ℕ). m (Message q)) (sym (own_at seat row e)) ∙ won.message) (won.entry ∙ ap (Taken (o + 1)) (own_at seat row e))
             (own_kind seat row e ∙ check) sees.1)
       ]
@@ -366,7 +365,7 @@ steals_won s words c r (Check v i) e wins = (v, i, wins.0, record { kind = inr e
 steals_won s words c r _ e wins = absurd wins
 
 pub works_within_13 : WorksWithin13
-works_within_13 code input s keeper im places fair opens calm first more among_first among_more hurts_first hurts_more c there at_work steps many =
+works_within_13 code input s keeper im fair opens calm first more among_first among_more hurts_first hurts_more c there at_work steps many =
     let root = root_strand code input in
     let arrays = arrays_at (view s im.words) in
     let from = opening im.words s.processors in
@@ -385,7 +384,7 @@ works_within_13 code input s keeper im places fair opens calm first more among_f
       | inr steals ↦
           let few = height_few (spots.kinds s state.words c) (stand_of state c) in
           let won = steals_won s state.words c steals.0 (spots.kinds s state.words c) refl steals.1 in
-          thief_soon s code fair root arrays im.words fit c there places more first state refl hurts_first h f tk a.0 a.1 won.0 won.1 won.2 steals.0 won.3
+          thief_soon s code fair root arrays im.words fit c there more first state refl hurts_first h f tk a.0 a.1 won.0 won.1 won.2 steals.0 won.3
           among_more hurts_more steps (omega (arith, few, many))
     ] in
     elim all [

@@ -11,8 +11,12 @@ use Rattle.ppm_cells.specs.declared.shape.Shape.{Shape}
 use Rattle.ppm_cells.specs.declared.shape.Takeover.{Takeover}
 use Rattle.ppm_cells.specs.declared.shape.Takeover.TheVariants.{ByPlaces, ByEntries}
 use Rattle.ppm_code.specs.declared.code.CodeParts.{CodeParts}
+use Rattle.ppm_layout.specs.Correct.{Opens}
 use Rattle.ppm_layout.specs.Root.{root_strand}
+use Rattle.ppm_layout.specs.declared.images.Image.{Image}
+use Rattle.ppm_strands.specs.Calm.{Calm}
 use Rattle.ppm_strands.specs.Tree.{Words, Tree}
+use Rattle.ppm_words.specs.declared.named_array.NamedArray.{NamedArray}
 use Rattle.ppm_capsules.specs.Strand.{Frame}
 use Rattle.ppm_code.specs.Strands.{Point, Result}
 use Rattle.ppm_code.specs.declared.location.FrameWord.{FrameWord}
@@ -22,7 +26,7 @@ use Rattle.ppm_step.specs.Laws.{reached}
 use Rattle.ppm_step.specs.Standings.{Standing, IsLost, IsPlaced, IsAt, IsWithin, IsRunning, IsBroken, IsDone}
 use Rattle.ppm_step.specs.State.{stand_of, opening, is_work, is_done_at, next_of, before_row}
 use Rattle.ppm_step.specs.State.{before_kind, step_of}
-use Rattle.ppm_step.specs.declared.turn.Next.TheVariants.{Work, Look, Done}
+use Rattle.ppm_step.specs.declared.turn.Next.TheVariants.{Work, Look, Seek as Seeks, Done}
 use Rattle.ppm_step.specs.declared.turn.Turn.{Turn}
 use Rattle.ppm_tickets.specs.Along.{homes, forked as forked_in, taken as taken_in}
 use Rattle.ppm_tickets.specs.Homes.{Home, Unborn}
@@ -31,7 +35,7 @@ use Rattle.ppm_tickets.specs.View as spots
 use Rattle.ppm_tickets.specs.Words.{Word, Number, Spot}
 use Rattle.ppm_frames.specs.Views.{view}
 use Rattle.ppm_frames.specs.Seen.{arrays_at}
-use Rattle.ppm_kept.specs.Running.{IsFair}
+use Rattle.ppm_kept.specs.Running.{IsFair, strands}
 use Rattle.ppm_runs.proofs.SeekLemmas.{seekers_are_idle}
 use Rattle.ppm_runs.proofs.StandLemmas.{kinds_same}
 use Rattle.ppm_progress.specs.Works.{IsAtWork, SomePlaceIsAtWork, Works, HurtsNone, SomebodyWorks, AllIdleIsOver}
@@ -120,15 +124,22 @@ not_done (IsWithin seat row) live done = step_not_done seat.restart.kind done
 not_done (IsRunning seat rest) live done = absurd (let e : Work ≡ Done = done in cc)
 not_done (IsBroken p) live done = absurd (let e : Look ≡ Done = done in cc)
 
+-- so who works doesn't
+pub workers_seek_not : (code : CodeParts) (input : List NamedArray) (s : Shape) (keeper : ℕ) (im : Image) → IsFair code → Opens code input s keeper im
+    → Calm (strands s code) (root_strand code input) (arrays_at (view s im.words))
+    → (turns : List Turn) → AllByRecursion (IsTurnAmong s.processors) turns
+    → (c : ℕ) → Works s (reached s code im.words turns) c → next_of (stand_of (reached s code im.words turns) c) ≡ Seeks → ⊥
+workers_seek_not code input s keeper im fair opens calm turns among c works seeks =
+    let now = (reached s code im.words turns).words in
+    let is = seekers_are_idle code input s keeper im fair opens calm turns among c seeks in
+    let place : works.place ≡ is.place = ap number_of (sym works.carried ∙ is.carried) in
+    let kind : spots.kinds s now works.place ≡ Seek = ap (spots.kinds s now) place ∙ sym (kinds_same s now is.place) ∙ is.seeks in
+    seeking_works (spots.view s now) works.place _ works.at_work kind
+
 pub all_idle_is_over : AllIdleIsOver
 all_idle_is_over code input s keeper im fair opens calm turns among none idle unset =
     let a = somebody_works code input s keeper im fair opens calm turns among none unset in
     elim (idle a.0 a.1.there) [
       | inr done ↦ not_done (stand_of (reached s code im.words turns) a.0) a.1.not_done done
-      | inl seeks ↦
-          let is = seekers_are_idle code input s keeper im fair opens calm turns among a.0 seeks in
-          let place : a.1.place ≡ is.place = ap number_of (sym a.1.carried ∙ is.carried) in
-          let kind : spots.kinds s (reached s code im.words turns).words a.1.place ≡ Seek =
-          ap (spots.kinds s (reached s code im.words turns).words) place ∙ sym (kinds_same s (reached s code im.words turns).words is.place) ∙ is.seeks in
-          seeking_works (spots.view s (reached s code im.words turns).words) a.1.place _ a.1.at_work kind
+      | inl seeks ↦ workers_seek_not code input s keeper im fair opens calm turns among a.0 a.1 seeks
     ]

@@ -1,7 +1,10 @@
+pub mod Enough
 pub mod Fresh
 pub mod Idle
+pub mod Laps
 pub mod Legs
 pub mod Ready
+pub mod Replays
 pub mod Soon
 pub mod Stuck
 pub mod Works

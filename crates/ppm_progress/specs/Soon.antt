@@ -6,7 +6,6 @@ use Rattle.ppm_words.specs.declared.named_array.NamedArray.{NamedArray}
 use Rattle.ppm_cells.specs.Memory.{read}
 use Rattle.ppm_cells.specs.declared.cell.Cell.TheVariants.{FinishWord}
 use Rattle.ppm_cells.specs.declared.shape.Shape.{Shape}
-use Rattle.ppm_cells.specs.declared.shape.Takeover.TheVariants.{ByPlaces}
 use Rattle.ppm_code.specs.declared.code.CodeParts.{CodeParts}
 use Rattle.ppm_layout.specs.Correct.{Opens}
 use Rattle.ppm_layout.specs.Root.{root_strand}
@@ -44,11 +43,10 @@ WorksSoon = (code : CodeParts) (input : List NamedArray) (s : Shape) (keeper : �
     → (has (along s code work_of (reached s code image.words first) more) c ≡ true)
     ⊎ (read s (reached s code image.words (first ++ more)).words FinishWord ≢ 0)
 
--- By places, without hard faults: if the own place of processor c is at work, also where it has won a job that it has still to begin, and then c makes thirteen steps, no
--- fault among them, one of these is a work turn, or the finish word isn't 0 after these turns.
+-- Of thirteen steps that holds also where that place has won a job that it has still to begin.
 abbrev pub WorksWithin13 : Type 0
 WorksWithin13 = (code : CodeParts) (input : List NamedArray) (s : Shape) (keeper : ℕ) (image : Image)
-    → s.takeover ≡ ByPlaces → IsFair code → Opens code input s keeper image
+    → IsFair code → Opens code input s keeper image
     → Calm (strands s code) (root_strand code input) (arrays_at (view s image.words))
     → (first more : List Turn) → AllByRecursion (IsTurnAmong s.processors) first → AllByRecursion (IsTurnAmong s.processors) more
     → AllByRecursion HurtsNone first → AllByRecursion HurtsNone more

@@ -47,7 +47,7 @@ pub fn somebody_works()
 
 /// With either takeover, without hard faults: a processor whose own place is at a kind of work
 /// makes a work turn within four of its own steps, whatever others do, or the finish word is set
-/// meanwhile. By places it does so within thirteen where the place has won a job.
+/// meanwhile. It does so within thirteen where the place has won a job.
 pub fn work_turns_come_soon()
     ensures law { WorksSoon }
     ensures thieves { WorksWithin13 }

@@ -16,8 +16,8 @@ use ppm_kept::{
 use ppm_listing::listings_tell_codes;
 use ppm_paces::{capsules_are_short, looks_are_free, rows_are_paid, rows_keep_pace};
 use ppm_progress::{
-    idle_deques_are_empty, left_comes_later, single_facts_allow_stuck_pieces, somebody_works,
-    something_is_ready, work_turns_come_soon,
+    idle_deques_are_empty, left_comes_later, replays_end, runs_end_fairly,
+    single_facts_allow_stuck_pieces, somebody_works, something_is_ready, work_turns_come_soon,
 };
 use ppm_runs::{
     births_follow, heirs_lead, joints_stay, legs_come_to, nothing_breaks, nothing_breaks_over_legs,
@@ -158,6 +158,8 @@ fn the_laws_of_progress_are_called() {
     somebody_works();
     work_turns_come_soon();
     single_facts_allow_stuck_pieces();
+    runs_end_fairly();
+    replays_end();
 }
 
 #[test]

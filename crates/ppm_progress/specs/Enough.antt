@@ -1,0 +1,22 @@
+-- How many acts are enough for the replay of a schedule without hard faults.
+use Rattle.std.specs.Prelude.{◌+◌, ◌*◌, ℕ, List, [], ◌∷◌, length}
+use Rattle.ppm_plan.specs.declared.fault.Fault.TheVariants as faults
+use Rattle.ppm_plan.specs.declared.schedule_item.ScheduledAct.{ScheduledAct}
+use Rattle.ppm_plan.specs.declared.schedule_item.ScheduledAct.TheVariants as scheduled
+
+-- no act of the list is a hard fault
+abbrev pub SparesAll : ScheduledAct → Type 0
+SparesAll (scheduled.Step processor victim) = Unit {0}
+SparesAll (scheduled.Fails processor faults.Soft) = Unit {0}
+SparesAll (scheduled.Fails processor faults.Hard) = ⊥
+
+-- how many faults these acts are
+abbrev pub faults_of : List ScheduledAct → ℕ
+faults_of [] = 0
+faults_of (scheduled.Step processor victim ∷ acts) = faults_of acts
+faults_of (scheduled.Fails processor fault ∷ acts) = 1 + faults_of acts
+
+-- So many acts are enough for a schedule of these acts: those of its list, and then thirteen rounds of the processors for each lap. Laps there are
+-- 218 for each capsule of the depth-first run, 171 for each fault of the list, and 7.
+abbrev pub enough_acts : (acts : List ScheduledAct) (processors capsules : ℕ) → ℕ
+enough_acts acts processors capsules = length acts + 13 * processors * (218 * capsules + 171 * faults_of acts + 7)
