@@ -22,8 +22,8 @@ mod place;
 mod scene;
 mod value;
 
-pub use doing::Doing;
-pub use edge::Edge;
+pub use doing::{Doing, doing_of};
+pub use edge::{Edge, edge_of};
 pub use event::{Moment, push_begun, push_events};
 pub use flow::Flow;
 pub use json::{push_json_head, push_json_tail};
