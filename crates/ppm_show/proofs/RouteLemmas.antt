@@ -1,0 +1,46 @@
+-- What a scene adds: past its words nothing leads anywhere, and there are no branches.
+use Rattle.std.proofs.Common.{◌≡◌, ◌∙◌, ◌≤◌, ◌+◌, ℕ, List, [], ◌∷◌, Bool, true, false, ◌×◌, length, replicate, Option, Some, None, sym, ap, subst, refl, arith}
+use Rattle.std.specs.List.{slice_get}
+use Rattle.std.specs.Prelude.{if◌then◌else◌, slice_index}
+use Rattle.std.proofs.lemmas.Bool.{false≢true}
+use Rattle.std.proofs.lemmas.List.{get_or_past}
+use Rattle.std.proofs.lemmas.Option.{none-some, slice_get-get_or}
+use Rattle.ppm_cells.specs.Cells.{word_count}
+use Rattle.ppm_cells.specs.Link.{link_of}
+use Rattle.ppm_lines.specs.Scene.{Scene, word_at, link_at, is_fork_block, is_fork_link}
+use Rattle.ppm_show.specs.Paths.{path, is_in, AreMoreMarked, IsClosed, is_unset, to_mark}
+use Rattle.ppm_show.specs.Routes.{branches, end_of_link, leads_to, left_branch, right_branch}
+use Rattle.ppm_show.proofs.MarkLemmas.{some_is}
+use Rattle.ppm_show.proofs.PathLemmas.{EndsPast, IsDone}
+
+-- past the words there is no link
+no_link : (scene : Scene) → length scene.words ≡ word_count scene.shape → (at : ℕ) → word_count scene.shape ≤ at → link_at scene at ≡ None
+no_link scene count at past = ap link_of (get_or_past scene.words at 0 (omega (arith, count, past)))
+
+-- so nothing leads anywhere
+pub ends_past : (scene : Scene) → length scene.words ≡ word_count scene.shape → (ms : List Bool) → length ms ≡ word_count scene.shape
+    → EndsPast (leads_to scene) ms
+ends_past scene count ms long at past = ap end_of_link (no_link scene count at (omega (arith, long, past)))
+
+-- and there are no branches
+pub no_branches : (scene : Scene) → length scene.words ≡ word_count scene.shape → (at : ℕ) → word_count scene.shape ≤ at → branches scene at ≡ []
+no_branches scene count at past =
+    ap (λ link. if is_fork_link link then (left_branch scene at ++ right_branch scene at) else []) (no_link scene count at past)
+
+-- what has still to be marked is there, and is not set
+pub to_mark_is : (ms : List Bool) (from : Option ℕ) (at : ℕ) → to_mark ms from ≡ Some at → (from ≡ Some at) × (slice_get ms at ≡ Some false)
+to_mark_is ms None at is = absurd (none-some at is)
+to_mark_is ms (Some here) at is = by (slice_get ms here) refl
+  where
+    by : (o : Option Bool) → slice_get ms here ≡ o → (Some here ≡ Some at) × (slice_get ms at ≡ Some false)
+    by None e = absurd (none-some at (sym (ap (λ m. if is_unset m then Some here else None) e) ∙ is))
+    by (Some true) e = absurd (none-some at (sym (ap (λ m. if is_unset m then Some here else None) e) ∙ is))
+    by (Some false) e =
+        let same = sym (ap (λ m. if is_unset m then Some here else None) e) ∙ is in
+        (same, ap (slice_get ms) (sym (some_is same)) ∙ e)
+
+-- where nothing has to be marked, it is
+pub to_mark_none : (ms : List Bool) (from : Option ℕ) → to_mark ms from ≡ None → IsDone ms from
+to_mark_none ms None is at no_such unset = none-some at no_such
+to_mark_none ms (Some here) is at same unset =
+    none-some here (sym is ∙ ap (λ m. if is_unset m then Some here else None) (ap (slice_get ms) (some_is same) ∙ unset))
