@@ -1,6 +1,9 @@
 -- A text has one answer where it is shown.
 use Rattle.std.proofs.Common.{◌≡◌, ◌<◌, ◌+◌, ℕ, List, ◌++◌, length, length-append, refl, sym, ◌∙◌, ap, subst, arith}
-use Rattle.ppm_lines.specs.Scene.{Scene}
+use Rattle.ppm_cells.specs.declared.shape.Shape.{Shape}
+use Rattle.ppm_code.specs.declared.code.CodeParts.{CodeParts}
+use Rattle.ppm_saved.specs.Names.{lengths_of}
+use Rattle.ppm_saved.specs.declared.names.NamedLength.{NamedLength}
 use Rattle.ppm_saved_reader.specs.declared.saved_error.Fault.{Fault}
 use Rattle.ppm_saved_reader.specs.declared.saved_error.Fault.TheVariants as fault
 use Rattle.ppm_saved_reader.specs.declared.saved_error.SavedError.{SavedError}
@@ -25,7 +28,7 @@ module _ (law : FaultsTellSavedTexts) where
   same_lines : (text a b : List ℕ) → IsShownBy text a → IsShownBy text b → a ≡ b
   same_lines text a b h k =
       let same = law.one_state text h.shape k.shape h.arrays k.arrays h.code k.code h.words k.words h.saved k.saved in
-      h.tells ∙ (λ i. show_text (scene_of (same.0 i) (same.1 i) (same.2 i) (same.3 i))) ∙ sym k.tells
+      h.tells ∙ (λ i. show_text (scene_of (same.0 i) (same.1 i) (lengths_of (same.1 i)) (same.2 i) (same.3 i))) ∙ sym k.tells
 
   -- the text of a state has no fault
   not_both : (text shown : List ℕ) (r : SavedRefusal) → IsShownBy text shown → IsUnsaved text r → ⊥
@@ -73,7 +76,7 @@ module _ (law : FaultsTellSavedTexts) where
   some text unfaulted =
       let z = law.covers text (λ f line wrong. unfaulted (record { number = fault_number f; line = line })
           (record { rule = f; wrong = wrong; number = refl })) in
-      (show_text (scene_of z.shape z.arrays z.code z.words),
+      (show_text (scene_of z.shape z.arrays (lengths_of z.arrays) z.code z.words),
       record { shape = z.shape; arrays = z.arrays; code = z.code; words = z.words; saved = z.is; tells = refl })
 
   pub have_one_answer : HaveOneAnswer
@@ -89,8 +92,9 @@ refused_may text (error.BadCode line) h = record { rule = fault.BadCode; wrong =
 refused_may text (error.WrongCount line) h = record { rule = fault.WrongCount; wrong = h; number = refl }
 
 -- that of the text of a state
-pub state_may : (text : List ℕ) → (shape : _) (arrays : _) (code : _) (words : _) → IsSavedText text shape arrays code words → (a : Answer)
-    → SceneMay (scene_of shape arrays code words) a → TextMay ShowHas text a
+pub state_may : (text : List ℕ) (shape : Shape) (arrays : List NamedLength) (code : CodeParts) (words : List ℕ)
+    → IsSavedText text shape arrays code words → (a : Answer) → SceneMay (scene_of shape arrays (lengths_of arrays) code words) a
+    → TextMay ShowHas text a
 state_may text shape arrays code words saved (answers.Shown shown) h =
     record { shape = shape; arrays = arrays; code = code; words = words; saved = saved; tells = h }
 state_may text shape arrays code words saved answers.NoMemory h = tt

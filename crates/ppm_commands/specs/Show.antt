@@ -5,6 +5,7 @@ use Rattle.ppm_ports.specs.Outside.{Ports}
 use Rattle.ppm_cells.specs.declared.shape.Shape.{Shape}
 use Rattle.ppm_code.specs.declared.code.CodeParts.{CodeParts}
 use Rattle.ppm_lines.specs.Scene.{Scene}
+use Rattle.ppm_saved.specs.Names.{lengths_of}
 use Rattle.ppm_saved.specs.declared.names.NamedLength.{NamedLength}
 use Rattle.ppm_saved_reader.specs.declared.saved_error.Fault.{Fault}
 use Rattle.ppm_saved_reader.specs.declared.saved_error.SavedError.{SavedError}
@@ -30,7 +31,7 @@ pub record IsShownBy (text shown : List ℕ) : Type 0 where
   pub code : CodeParts
   pub words : List ℕ
   pub saved : IsSavedText text shape arrays code words
-  pub tells : shown ≡ show_text (scene_of shape arrays code words)
+  pub tells : shown ≡ show_text (scene_of shape arrays (lengths_of arrays) code words)
 
 -- the text is that of no state, for this fault of its first wrong line
 pub record IsUnsaved (text : List ℕ) (r : SavedRefusal) : Type 0 where

@@ -57,7 +57,7 @@ fn text_answer(alloc: Global, text: &[u8]) -> Answer
 
 /// What `show` says of a state.
 fn state_answer(alloc: Global, saved: &Saved) -> Answer
-    ensures { SceneMay (scene_of saved.now.shape saved.now.names saved.now.code saved.now.words) result }
+    ensures { SceneMay (scene_of saved.now.shape saved.now.names saved.now.lengths saved.now.code saved.now.words) result }
 {
     match show(alloc, saved) {
         Ok(text) => Answer::Shown(Items::from_vec(text)),

@@ -36,10 +36,6 @@ range_marked f n old now new before more =
     subst (λ p. AreMoreMarked p old new) (flat_map_more f [] (range_with_len 0 n) n ∙ ap (flat_map f) (sym (range_more n)))
     (more_after (flat_map f (range_with_len 0 n)) (f n) old now new before more)
 
--- those of one that has none
-pub none_marked : (xs : List ℕ) (ms : List Bool) → xs ≡ [] → AreMoreMarked xs ms ms
-none_marked xs ms none = subst (λ p. AreMoreMarked p ms ms) (sym none) (no_more ms)
-
 -- what is marked of nothing marked before
 pub mark_at : (xs : List ℕ) (n : ℕ) (ms : List Bool) → AreMoreMarked xs (replicate n false) ms → (at : ℕ) → at < n → slice_get ms at ≡ Some (is_in xs at)
 mark_at xs n ms more at within =
@@ -125,6 +121,16 @@ is_in_lists f (x ∷ xs) at =
 abbrev pub list_if : (xs : List ℕ) (f : ℕ → List ℕ) (x : ℕ) → List ℕ
 list_if xs f x = cond (is_in xs x) (f x) []
 
+-- where it passes, its list is marked
+pub if_marked : (xs : List ℕ) (f : ℕ → List ℕ) (at : ℕ) (old new : List Bool) → is_in xs at ≡ true → AreMoreMarked (f at) old new
+    → AreMoreMarked (list_if xs f at) old new
+if_marked xs f at old new passes more = subst (λ b. AreMoreMarked (cond b (f at) []) old new) (sym passes) more
+
+-- and nothing else
+pub if_unmarked : (xs : List ℕ) (f : ℕ → List ℕ) (at : ℕ) (ms : List Bool) → is_in xs at ≡ false → AreMoreMarked (list_if xs f at) ms ms
+if_unmarked xs f at ms fails = subst (λ b. AreMoreMarked (cond b (f at) []) ms ms) (sym fails) (no_more ms)
+
+-- whether an address is in such a list
 is_in_if : (b : Bool) (ys : List ℕ) (at : ℕ) → is_in (cond b ys []) at ≡ (b && is_in ys at)
 is_in_if true ys at = refl
 is_in_if false ys at = refl

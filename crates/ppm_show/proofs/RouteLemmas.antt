@@ -1,11 +1,14 @@
 -- What a scene adds: past its words nothing leads anywhere, and there are no branches.
-use Rattle.std.proofs.Common.{◌≡◌, ◌∙◌, ◌≤◌, ◌+◌, ℕ, List, [], ◌∷◌, Bool, true, false, ◌×◌, length, replicate, Option, Some, None, sym, ap, subst, refl, arith}
+use Rattle.std.proofs.Common.{◌≡◌, ◌∙◌, ◌<◌, ◌≤◌, ◌+◌, ℕ, List, [], ◌∷◌, Bool, true, false, length, replicate, Option, Some, None, sym, ap, subst, refl, arith}
 use Rattle.std.specs.List.{slice_get}
 use Rattle.std.specs.Prelude.{if◌then◌else◌, slice_index}
 use Rattle.std.proofs.lemmas.Bool.{false≢true}
 use Rattle.std.proofs.lemmas.List.{get_or_past}
-use Rattle.std.proofs.lemmas.Option.{none-some, slice_get-get_or}
+use Rattle.std.proofs.lemmas.List.{get_or-replicate, length-replicate}
+use Rattle.std.proofs.lemmas.Option.{none-some, get_or_from_slice_get, slice_get_within}
 use Rattle.ppm_cells.specs.Cells.{word_count}
+use Rattle.ppm_cells.specs.Exact.{unpacked}
+use Rattle.ppm_cells.specs.Fields.{bits}
 use Rattle.ppm_cells.specs.Link.{link_of}
 use Rattle.ppm_lines.specs.Scene.{Scene, word_at, link_at, is_fork_block, is_fork_link}
 use Rattle.ppm_show.specs.Paths.{path, is_in, AreMoreMarked, IsClosed, is_unset, to_mark}
@@ -13,14 +16,19 @@ use Rattle.ppm_show.specs.Routes.{branches, end_of_link, leads_to, left_branch, 
 use Rattle.ppm_show.proofs.MarkLemmas.{some_is}
 use Rattle.ppm_show.proofs.PathLemmas.{EndsPast, IsDone}
 
+-- 0 is no link
+unlinked : link_of 0 ≡ None
+unfolding unpacked bits
+unlinked = refl
+
 -- past the words there is no link
 no_link : (scene : Scene) → length scene.words ≡ word_count scene.shape → (at : ℕ) → word_count scene.shape ≤ at → link_at scene at ≡ None
-no_link scene count at past = ap link_of (get_or_past scene.words at 0 (omega (arith, count, past)))
+no_link scene count at past = ap link_of (get_or_past scene.words at 0 (subst (λ n. n ≤ at) (sym count) past)) ∙ unlinked
 
 -- so nothing leads anywhere
 pub ends_past : (scene : Scene) → length scene.words ≡ word_count scene.shape → (ms : List Bool) → length ms ≡ word_count scene.shape
     → EndsPast (leads_to scene) ms
-ends_past scene count ms long at past = ap end_of_link (no_link scene count at (omega (arith, long, past)))
+ends_past scene count ms long at past = ap end_of_link (no_link scene count at (subst (λ n. n ≤ at) long past))
 
 -- and there are no branches
 pub no_branches : (scene : Scene) → length scene.words ≡ word_count scene.shape → (at : ℕ) → word_count scene.shape ≤ at → branches scene at ≡ []
@@ -44,3 +52,10 @@ pub to_mark_none : (ms : List Bool) (from : Option ℕ) → to_mark ms from ≡ 
 to_mark_none ms None is at no_such unset = none-some at no_such
 to_mark_none ms (Some here) is at same unset =
     none-some here (sym is ∙ ap (λ m. if is_unset m then Some here else None) (ap (slice_get ms) (some_is same) ∙ unset))
+
+-- where nothing is marked, all that is marked leads on
+pub none_closed : (next : ℕ → Option ℕ) (n : ℕ) → IsClosed next (replicate n false)
+none_closed next n at to set leads within = absurd (false≢true (sym (get_or-replicate n at false false inside) ∙ get_or_from_slice_get (replicate n false) at true false set))
+  where
+    inside : at < n
+    inside = let below = slice_get_within (replicate n false) at true set in omega (arith, below, length-replicate n false)

@@ -6,7 +6,6 @@ use Rattle.ppm_code.specs.declared.code.CodeParts.{CodeParts}
 use Rattle.ppm_lines.specs.Scene.{Scene}
 use Rattle.ppm_naming.specs.declared.names.Names.{Names}
 use Rattle.ppm_naming.specs.declared.names.ProcedureName.TheVariants.{Numbered}
-use Rattle.ppm_saved.specs.Names.{lengths_of}
 use Rattle.ppm_saved.specs.declared.names.NamedLength.{NamedLength}
 
 -- arrays have the names that the state tells, and procedures have numbers alone
@@ -17,10 +16,10 @@ saved_names arrays code = record {
 }
 
 -- a saved state with its names
-abbrev pub scene_of : Shape → List NamedLength → CodeParts → (words : List ℕ) → Scene
-scene_of shape arrays code words = record {
+abbrev pub scene_of : Shape → List NamedLength → (lengths : List ℕ) → CodeParts → (words : List ℕ) → Scene
+scene_of shape arrays lengths code words = record {
   names = saved_names arrays code;
-  lengths = lengths_of arrays;
+  lengths = lengths;
   shape = shape;
   code = code;
   words = words;

@@ -45,7 +45,6 @@ fn to_mark(marks: &[bool], from: Option<u32>) -> Option<u32>
 }
 
 /// Marks a route, as far as it isn't marked: what is marked has the rest of its route marked too.
-#[tactic(none)]
 fn mark_route(marks: &mut Vec<bool>, scene: &Scene, from: Option<u32>)
     requires count { length marks.old.items ≡ word_count scene.now.shape }
     requires closed { IsClosed (end_leads_to scene.now) marks.old.items }
@@ -63,7 +62,6 @@ fn mark_route(marks: &mut Vec<bool>, scene: &Scene, from: Option<u32>)
 }
 
 /// The marks of all that lies on a route.
-#[tactic(none)]
 fn route_marks(alloc: Global, scene: &Scene) -> Result<Vec<bool>, NoMemory>
     ensures { IfOk result (λ marks. AreMoreMarked (on_routes scene.now)
         (replicate (word_count scene.now.shape) false) marks.items) }
@@ -93,7 +91,6 @@ fn mark_branches(marks: &mut Vec<bool>, scene: &Scene, block: u32)
 }
 
 /// The marks of all frames and fork blocks that are shown.
-#[tactic(none)]
 pub(crate) fn shown_marks(alloc: Global, scene: &Scene) -> Result<Vec<bool>, NoMemory>
     ensures { IfOk result (λ marks. marks.items ≡ marks_of scene.now (shown_blocks scene.now)) }
 {

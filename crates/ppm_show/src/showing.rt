@@ -120,7 +120,7 @@ fn scene_text(alloc: Global, scene: &Scene) -> Result<Vec<u8>, NoMemory>
 /// only where memory is refused, which is taken in proportion to the words and the text.
 pub fn show(alloc: Global, saved: &Saved) -> Result<Vec<u8>, NoMemory>
     ensures { IfOk result (λ text. text.items
-        ≡ show_text (scene_of saved.now.shape saved.now.names saved.now.code saved.now.words)) }
+        ≡ show_text (scene_of saved.now.shape saved.now.names saved.now.lengths saved.now.code saved.now.words)) }
 {
     let names = saved_names(alloc, saved.names.as_slice(), &saved.code)?;
     let scene = Scene::new(
