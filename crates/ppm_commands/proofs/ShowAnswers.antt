@@ -75,9 +75,10 @@ module _ (law : FaultsTellSavedTexts) where
   some : (text : List ℕ) → ((r : SavedRefusal) → ¬ IsUnsaved text r) → (shown : List ℕ) × IsShownBy text shown
   some text unfaulted =
       let z = law.covers text (λ f line wrong. unfaulted (record { number = fault_number f; line = line })
-          (record { rule = f; wrong = wrong; number = refl })) in
-      (show_text (scene_of z.shape z.arrays (lengths_of z.arrays) z.code z.words),
-      record { shape = z.shape; arrays = z.arrays; code = z.code; words = z.words; saved = z.is; tells = refl })
+      (record { rule = f; wrong = wrong; number = refl })) in (
+        show_text (scene_of z.shape z.arrays (lengths_of z.arrays) z.code z.words),
+        record { shape = z.shape; arrays = z.arrays; code = z.code; words = z.words; saved = z.is; tells = refl },
+      )
 
   pub have_one_answer : HaveOneAnswer
   have_one_answer = record { one = one; front = front; some = some }

@@ -157,3 +157,9 @@ all_are f xs n on ms none first second =
         list_any-append (λ b. eqb b at) xs (flat_map (list_if xs f) (range_with_len 0 n))
         ∙ ap (λ t. is_in xs at || t) (same_lists f xs n none at)
         ∙ sym (list_any-append (λ b. eqb b at) xs (flat_map f xs))
+
+-- the mark of an address, where each has the one that says whether it is in the list
+pub mark_of : (xs : List ℕ) (n at : ℕ) → at < n → slice_get (map (is_in xs) (range_with_len 0 n)) at ≡ Some (is_in xs at)
+mark_of xs n at below =
+    slice_get-get_or (map (is_in xs) (range_with_len 0 n)) at false (omega (arith, below, length-map-range_with_len (is_in xs) 0 n))
+    ∙ ap Some (get_or-map-range_with_len (is_in xs) 0 n at at false below (omega arith))

@@ -95,9 +95,9 @@ no_more ms = record { count = refl; marks = λ at. same (slice_get ms at) }
 -- more, and then more
 pub more_after : (xs ys : List ℕ) (a b c : List Bool) → AreMoreMarked xs a b → AreMoreMarked ys b c → AreMoreMarked (xs ++ ys) a c
 more_after xs ys a b c first second = record {
-    count = second.count ∙ first.count;
-    marks = λ at. second.marks at ∙ ap (option_map (Marked ys at)) (first.marks at) ∙ both at (slice_get a at);
-  }
+  count = second.count ∙ first.count;
+  marks = λ at. second.marks at ∙ ap (option_map (Marked ys at)) (first.marks at) ∙ both at (slice_get a at);
+}
   where
     joined : (x y was : Bool) → ((was || x) || y) ≡ (was || (x || y))
     joined x y true = refl

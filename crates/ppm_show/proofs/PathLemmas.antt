@@ -67,24 +67,24 @@ pub record IsMarkedTo (next : ℕ → Option ℕ) (from : Option ℕ) (old new :
 -- at its beginning
 pub path_begins : (next : ℕ → Option ℕ) (from : Option ℕ) (old : List Bool) → IsClosed next old → IsMarkedTo next from old old from 0
 path_begins next from old closed = record {
-    so_far = no_more old;
-    rest = λ k. let is : 0 + k ≡ k = omega arith in ap (λ n. path next n from) is;
-    closed = λ at to set leads within. inl (closed at to set leads within);
-    set = omega arith;
-  }
+  so_far = no_more old;
+  rest = λ k. let is : 0 + k ≡ k = omega arith in ap (λ n. path next n from) is;
+  closed = λ at to set leads within. inl (closed at to set leads within);
+  set = omega arith;
+}
 
 -- a step more: what is here is marked
 pub path_goes_on : (next : ℕ → Option ℕ) (from : Option ℕ) (old marks new : List Bool) (here steps : ℕ) → IsMarkedTo next from old marks (Some here) steps
     → slice_get marks here ≡ Some false → AreMoreMarked (here ∷ []) marks new → IsMarkedTo next from old new (next here) (steps + 1)
 path_goes_on next from old marks new here steps is unset more = record {
-    so_far = subst (λ p. AreMoreMarked p old new) (sym one) (more_after (path next steps from) (here ∷ []) old marks new is.so_far more);
-    rest = λ k.
-        let count : steps + 1 + k ≡ steps + suc k = omega arith in
-        ap (λ n. path next n from) count ∙ is.rest (suc k) ∙ sym (append_assoc (path next steps from) (here ∷ []) (path next k (next here)))
-        ∙ ap (λ p. p ++ path next k (next here)) (sym one);
-    closed = λ at to set leads within. closed_by at to leads within (marked_cases (here ∷ []) marks new more at set);
-    set = let one_more = one_set here marks new more unset in let before = is.set in omega (arith, one_more, before);
-  }
+  so_far = subst (λ p. AreMoreMarked p old new) (sym one) (more_after (path next steps from) (here ∷ []) old marks new is.so_far more);
+  rest = λ k.
+      let count : steps + 1 + k ≡ steps + suc k = omega arith in
+      ap (λ n. path next n from) count ∙ is.rest (suc k) ∙ sym (append_assoc (path next steps from) (here ∷ []) (path next k (next here)))
+      ∙ ap (λ p. p ++ path next k (next here)) (sym one);
+  closed = λ at to set leads within. closed_by at to leads within (marked_cases (here ∷ []) marks new more at set);
+  set = let one_more = one_set here marks new more unset in let before = is.set in omega (arith, one_more, before);
+}
   where
     one : path next (steps + 1) from ≡ path next steps from ++ here ∷ []
     one = is.rest 1
@@ -124,10 +124,10 @@ closed_at next from old new here steps is done at to set leads within = by (is.c
 pub path_is_over : (next : ℕ → Option ℕ) (count : ℕ) (from : Option ℕ) (old new : List Bool) (here : Option ℕ) (steps : ℕ)
     → IsMarkedTo next from old new here steps → EndsPast next new → steps ≤ count → IsDone new here → IsMarkedWhole next count from old new
 path_is_over next count from old new here steps is ends within done = record {
-    closed = closed;
-    marked = subst (λ p. AreMoreMarked p old new) (sym whole)
-        (more_after (path next steps from) rest old new new is.so_far (marked_before rest new (unset_apart next new closed ends (count - steps) here done)));
-  }
+  closed = closed;
+  marked = subst (λ p. AreMoreMarked p old new) (sym whole)
+      (more_after (path next steps from) rest old new new is.so_far (marked_before rest new (unset_apart next new closed ends (count - steps) here done)));
+}
   where
     closed : IsClosed next new
     closed = closed_at next from old new here steps is done
@@ -144,6 +144,6 @@ path_is_over next count from old new here steps is ends within done = record {
 pub path_is_all : (next : ℕ → Option ℕ) (count : ℕ) (from : Option ℕ) (old new : List Bool) (here : Option ℕ)
     → IsMarkedTo next from old new here count → length new ≡ count → IsMarkedWhole next count from old new
 path_is_all next count from old new here is long = record {
-    closed = λ at to set leads within. all_set new (let before = is.set in omega (arith, before, long)) to within;
-    marked = is.so_far;
-  }
+  closed = λ at to set leads within. all_set new (let before = is.set in omega (arith, before, long)) to within;
+  marked = is.so_far;
+}

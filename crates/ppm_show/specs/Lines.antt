@@ -76,10 +76,14 @@ block_line_as scene at is_fork =
 abbrev pub block_line : Scene → (at : ℕ) → List ℕ
 block_line scene at = block_line_as scene at (is_fork_block scene at)
 
--- the line of a cell, if it has one; most words of a pool have none
+-- the line of a frame or fork block, if it is shown; most words of a pool begin none that is
+abbrev pub shown_block_line : Scene → (at : ℕ) → List ℕ
+shown_block_line scene at = if is_shown_block scene at then block_line scene at else []
+
+-- the line of a cell, if it has one
 abbrev pub line_of : Scene → (at word : ℕ) → Cell → List ℕ
 line_of scene at word (EntryWord place slot) = entry_line scene word place slot
-line_of scene at word (BlockWord block) = if is_shown_block scene at then block_line scene at else []
+line_of scene at word (BlockWord block) = shown_block_line scene at
 line_of scene at word (ArrayWord index) = element_line scene word (ArrayWord index)
 line_of scene at word cell = cell_line scene word cell
 

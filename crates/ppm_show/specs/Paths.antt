@@ -31,3 +31,8 @@ is_unset (Some is_marked) = not is_marked
 abbrev pub to_mark : List Bool → (from : Option ℕ) → Option ℕ
 to_mark marks None = None
 to_mark marks (Some at) = if is_unset (slice_get marks at) then Some at else None
+
+-- whether there is such a mark that is set
+abbrev pub is_set : Option Bool → Bool
+is_set None = false
+is_set (Some is_marked) = is_marked

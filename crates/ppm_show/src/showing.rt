@@ -1,10 +1,11 @@
 //! The text of a saved state.
-ghost use Rattle.std.specs.Prelude.{◌≡◌, ◌++◌, ◌<◌, IfOk, OnOk};
+ghost use Rattle.std.specs.Prelude.{◌≡◌, ◌++◌, ◌<◌, IfOk, OnOk, slice_get};
 ghost use Rattle.std.specs.List.{flat_map, range_with_len};
 ghost use Rattle.ppm_cells.specs.Cells.{IsCell, word_count};
 ghost use Rattle.ppm_naming.specs.Addresses.{addressed as cell_of};
-ghost use Rattle.ppm_show.specs.Lines.{line_at};
+ghost use Rattle.ppm_show.specs.Lines.{line_at, shown_block_line};
 ghost use Rattle.ppm_show.specs.Names.{scene_of};
+ghost use Rattle.ppm_show.specs.Paths.{is_set};
 ghost use Rattle.ppm_show.specs.Routes.{marks_of, shown_blocks};
 ghost use Rattle.ppm_show.specs.Show.{fields_text, show_text, size_text, sizes_text};
 
@@ -66,6 +67,35 @@ fn cell_at(scene: &Scene, at: u32) -> Cell
     addressed(scene.shape(), at)
 }
 
+/// Whether it is marked.
+fn is_marked(marks: &[bool], at: u32) -> bool
+    ensures { result ≡ is_set (slice_get marks.now at) }
+{
+    match marks.get(at as usize) {
+        None => false,
+        Some(is_marked) => *is_marked,
+    }
+}
+
+/// Appends the line of the frame or fork block that begins there, if it is shown.
+fn push_shown_block(
+    alloc: Global,
+    text: &mut Vec<u8>,
+    scene: &Scene,
+    marks: &[bool],
+    at: u32,
+) -> Result<(), NoMemory>
+    requires at { at < word_count scene.now.shape }
+    requires marks { marks.now ≡ marks_of scene.now (shown_blocks scene.now) }
+    ensures { OnOk result (text.new.items ≡ text.old.items ++ shown_block_line scene.now at) }
+{
+    if is_marked(marks, at) {
+        push_block_line(alloc, text, scene, at)
+    } else {
+        Ok(())
+    }
+}
+
 /// Appends the line of an address, if it has one.
 fn push_line_at(
     alloc: Global,
@@ -82,13 +112,7 @@ fn push_line_at(
     let cell = cell_at(scene, at);
     match cell {
         Cell::EntryWord { place, slot } => push_entry_line(alloc, text, scene, word, place, slot),
-        Cell::BlockWord { .. } => {
-            if marks[at as usize] {
-                push_block_line(alloc, text, scene, at)
-            } else {
-                Ok(())
-            }
-        }
+        Cell::BlockWord { .. } => push_shown_block(alloc, text, scene, marks, at),
         Cell::ArrayWord { .. } => push_element_line(alloc, text, scene, word, cell),
         Cell::FinishWord
         | Cell::CarryWord { .. }

@@ -1,4 +1,4 @@
-use Rattle.std.proofs.Common.{◌≡◌, ◌∙◌, ◌≤◌, ◌+◌, ℕ, List, Option, Some, None, length, sym, ap, subst, arith}
+use Rattle.std.proofs.Common.{◌≡◌, ◌∙◌, ◌≤◌, ◌+◌, ℕ, List, [], ◌∷◌, Option, Some, None, length, sym, ap, subst, arith}
 use Rattle.ppm_cells.specs.Cells.{word_count}
 use Rattle.ppm_show.specs.Paths.{AreMoreMarked, to_mark as still_to_mark}
 use Rattle.ppm_show.specs.Routes.{leads_to}
@@ -21,7 +21,8 @@ loop-step-preserved c =
     let here = to_mark_is marks c.loop-step.next c.in-Some.at (sym asked) in
     let before = subst (λ (o : Option ℕ). IsMarkedTo next c.args.from old marks o c.loop-step.step) here.0 c.loop-step.invariant in
     subst (λ (o : Option ℕ). IsMarkedTo next c.args.from old c.mark.new.marks.items o (c.loop-step.step + 1)) (sym c.leads_to-next.ensures)
-    (path_goes_on next c.args.from old marks c.mark.new.marks.items c.in-Some.at c.loop-step.step before here.1 c.mark.ensures)
+    (path_goes_on next c.args.from old marks c.mark.new.marks.items c.in-Some.at c.loop-step.step before here.1
+    (subst (λ n. AreMoreMarked (n ∷ []) marks c.mark.new.marks.items) c.from.ensures c.mark.ensures))
 
 -- the route has come to its end, or to what was marked before
 over : (c : goal.In_default) → IsMarkedWhole (leads_to c.args.scene.now) (word_count c.args.scene.now.shape) c.args.from c.args.marks.now.items c.loop-step.marks.items

@@ -15,9 +15,10 @@ loop-at-init c =
     let count = word_count c.args.scene.now.shape in
     let next = leads_to c.args.scene.now in
     let made : c.in_ok-marks.marks.items ≡ replicate count false =
-    c.in_ok-marks.ensures.items_if_clones_equal (λ y e. cc) ∙ ap (λ n. replicate n false) c.word_count-count.ensures.value in
-    (subst (λ (ms : List Bool). AreMoreMarked [] (replicate count false) ms) (sym made) (no_more (replicate count false)),
-    subst (λ (ms : List Bool). IsClosed next ms) (sym made) (none_closed next count))
+    c.in_ok-marks.ensures.items_if_clones_equal (λ y e. cc) ∙ ap (λ n. replicate n false) c.word_count-count.ensures.value in (
+      subst (λ (ms : List Bool). AreMoreMarked [] (replicate count false) ms) (sym made) (no_more (replicate count false)),
+      subst (λ (ms : List Bool). IsClosed next ms) (sym made) (none_closed next count),
+    )
 
 -- there are as many marks as words
 pub mark_route-requires-clause-count : goal.mark_route-requires-clause-count
@@ -28,9 +29,11 @@ pub loop-at-preserved : goal.loop-at-preserved
 loop-at-preserved c =
     let s = c.args.scene.now in
     let marks = c.loop-at.marks.items in
-    let now = c.mark_route.new.marks.items in
-    (range_marked (λ at. route s (begun_at s at)) c.loop-at.at (replicate (word_count s.shape) false) marks now c.loop-at.invariant.0
-    (subst (λ (from : Option ℕ). AreMoreMarked (route s from) marks now) c.begun_at.ensures c.mark_route.ensures.marked), c.mark_route.ensures.closed)
+    let now = c.mark_route.new.marks.items in (
+      range_marked (λ at. route s (begun_at s at)) c.loop-at.at (replicate (word_count s.shape) false) marks now c.loop-at.invariant.0
+          (subst (λ (from : Option ℕ). AreMoreMarked (route s from) marks now) c.begun_at.ensures c.mark_route.ensures.marked),
+      c.mark_route.ensures.closed,
+    )
 
 -- all are marked
 pub returns : goal.returns

@@ -36,11 +36,11 @@ loop-at-preserved c =
     let is : c.index.result.now ≡ is_in xs at =
     c.index.ensures ∙ get_or_from_slice_get on at (is_in xs at) c.index.result.now (mark_at xs (word_count s.shape) on c.in_ok-on_route.ensures at below) in
     elim c.if-index.branch [
-      then-index w ↦ subst (λ (v : Vec Bool Global). AreMoreMarked (flat_map (list_if xs (branches s)) (range_with_len 0 (at + 1))) on v.items) (sym w.marks-is)
+      | then-index w ↦ subst (λ (v : Vec Bool Global). AreMoreMarked (flat_map (list_if xs (branches s)) (range_with_len 0 (at + 1))) on v.items) (sym w.marks-is)
           (range_marked (list_if xs (branches s)) at on now w.mark_branches.new.marks.items c.loop-at.invariant
           (if_marked xs (branches s) at now w.mark_branches.new.marks.items (sym is ∙ w.if-index.true) w.mark_branches.ensures))
-    | else-index w ↦ subst (λ (v : Vec Bool Global). AreMoreMarked (flat_map (list_if xs (branches s)) (range_with_len 0 (at + 1))) on v.items) (sym w.marks-is)
-        (range_marked (list_if xs (branches s)) at on now now c.loop-at.invariant (if_unmarked xs (branches s) at now (sym is ∙ w.if-index.false)))
+      | else-index w ↦ subst (λ (v : Vec Bool Global). AreMoreMarked (flat_map (list_if xs (branches s)) (range_with_len 0 (at + 1))) on v.items) (sym w.marks-is)
+          (range_marked (list_if xs (branches s)) at on now now c.loop-at.invariant (if_unmarked xs (branches s) at now (sym is ∙ w.if-index.false)))
     ]
 
 -- all are marked
@@ -50,6 +50,6 @@ returns c =
     let on = c.in_ok-on_route.on_route.items in
     let ended : c.loop-at.at ≡ c.word_count-at-end.result = omega (arith, c.loop-at-test.false, c.loop-at.auto.at-end) in
     let whole = subst (λ n. AreMoreMarked (flat_map (list_if (on_routes s) (branches s)) (range_with_len 0 n)) on c.loop-at.marks.items)
-        (ended ∙ c.word_count-at-end.ensures.value) c.loop-at.invariant in
+    (ended ∙ c.word_count-at-end.ensures.value) c.loop-at.invariant in
     all_are (branches s) (on_routes s) (word_count s.shape) on c.loop-at.marks.items (λ at past. no_branches s c.word_count-at-end.ensures.words at past)
     c.in_ok-on_route.ensures whole
