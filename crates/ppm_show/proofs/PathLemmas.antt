@@ -1,6 +1,6 @@
 -- A path while it is marked: all marks but the last one are closed, the path is what is marked and the rest from here on, and at least as many marks
 -- are set as steps were made. So a path that meets a mark is marked whole, and one that makes as many steps as there are marks has set them all.
-use Rattle.std.proofs.Common.{◌≡◌, ◌∙◌, ◌<◌, ◌≤◌, ◌+◌, ◌-◌, ℕ, zero, suc, List, [], ◌∷◌, ◌++◌, Bool, true, false, ◌||◌, ◌⊎◌, inl, inr, length, get_or, Option, Some, None, sym, ap, subst, refl, eqb, arith}
+use Rattle.std.proofs.Common.{◌≡◌, ◌∙◌, ◌<◌, ◌≤◌, ◌+◌, ◌-◌, ℕ, zero, suc, List, [], ◌∷◌, ◌++◌, Bool, true, false, ◌⊎◌, inl, inr, length, get_or, Option, Some, None, sym, ap, subst, refl, eqb, arith}
 use Rattle.std.specs.List.{slice_get}
 use Rattle.std.proofs.lemmas.Bool.{false≢true, ne_eqb, eqb-true, or_cases, or_from, cases_lt}
 use Rattle.std.proofs.lemmas.List.{append_assoc}

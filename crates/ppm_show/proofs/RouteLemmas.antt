@@ -1,7 +1,7 @@
 -- What a scene adds: past its words nothing leads anywhere, and there are no branches.
-use Rattle.std.proofs.Common.{◌≡◌, ◌∙◌, ◌<◌, ◌≤◌, ◌+◌, ℕ, List, [], ◌∷◌, ◌++◌, Bool, true, false, length, replicate, Option, Some, None, sym, ap, subst, refl, arith}
+use Rattle.std.proofs.Common.{◌≡◌, ◌∙◌, ◌<◌, ◌≤◌, ℕ, List, [], ◌++◌, Bool, true, false, length, replicate, Option, Some, None, sym, ap, subst, refl, arith}
 use Rattle.std.specs.List.{slice_get}
-use Rattle.std.specs.Prelude.{if◌then◌else◌, slice_index}
+use Rattle.std.specs.Prelude.{if◌then◌else◌}
 use Rattle.std.proofs.lemmas.Bool.{false≢true}
 use Rattle.std.proofs.lemmas.List.{get_or_past}
 use Rattle.std.proofs.lemmas.List.{get_or-replicate, length-replicate}
@@ -10,8 +10,8 @@ use Rattle.ppm_cells.specs.Cells.{word_count}
 use Rattle.ppm_cells.specs.Exact.{unpacked}
 use Rattle.ppm_cells.specs.Fields.{bits}
 use Rattle.ppm_cells.specs.Link.{link_of}
-use Rattle.ppm_lines.specs.Scene.{Scene, word_at, link_at, is_fork_block, is_fork_link}
-use Rattle.ppm_show.specs.Paths.{path, is_in, AreMoreMarked, IsClosed, is_unset, to_mark}
+use Rattle.ppm_lines.specs.Scene.{Scene, link_at, is_fork_link}
+use Rattle.ppm_show.specs.Paths.{IsClosed, is_unset, to_mark}
 use Rattle.ppm_show.specs.Routes.{branches, end_of_link, leads_to, left_branch, right_branch}
 use Rattle.ppm_show.proofs.MarkLemmas.{some_is}
 use Rattle.ppm_show.proofs.PathLemmas.{EndsPast, IsDone}

@@ -1,4 +1,4 @@
-use Rattle.std.proofs.Common.{◌≡◌, ◌∙◌, ◌≤◌, ◌+◌, ℕ, List, [], ◌∷◌, Option, Some, None, length, sym, ap, subst, arith}
+use Rattle.std.proofs.Common.{◌≡◌, ◌∙◌, ◌≤◌, ◌+◌, ℕ, [], ◌∷◌, Option, Some, None, length, sym, ap, subst, arith}
 use Rattle.ppm_cells.specs.Cells.{word_count}
 use Rattle.ppm_show.specs.Paths.{AreMoreMarked, to_mark as still_to_mark}
 use Rattle.ppm_show.specs.Routes.{leads_to}

@@ -1,4 +1,4 @@
-use Rattle.std.proofs.Common.{◌≡◌, ◌∙◌, ℕ, Option, Bool, true, false, List, [], refl, sym, ap, subst, arith, replicate}
+use Rattle.std.proofs.Common.{◌≡◌, ◌∙◌, ℕ, Option, Bool, false, List, [], sym, ap, subst, arith, replicate}
 use Rattle.std.proofs.lemmas.List.{length-replicate}
 use Rattle.std.specs.List.{flat_map, range_with_len}
 use Rattle.ppm_cells.specs.Cells.{word_count}
