@@ -39,7 +39,7 @@ pub fault_makes_8 : (out err : Port) (answer : Answer) (status : Status) → Del
 fault_makes_8 out err answer status d f =
     elim (own_or_fault out err answer status d) [ inl e ↦ e | inr w ↦ absurd (f w.out_takes.1 w.err_takes.1) ]
 
--- but for arrays, traps, sums, counts, listings, saved states, traces and `ok`, an answer has no text on out
+-- but for arrays, traps, sums, counts, listings, saved states in digits and in words, traces and `ok`, an answer has no text on out
 no_text : (answer : Answer) (status : Status) → status ≡ status_of answer → status ≢ statuses.Ended → status ≢ statuses.Trapped →
     out_text answer ≡ []
 no_text (answers.Ended arrays) status e n m = absurd (n e)
@@ -50,6 +50,7 @@ no_text (answers.Summed sums) status e n m = absurd (n e)
 no_text (answers.Listed listing) status e n m = absurd (n e)
 no_text (answers.Saved text) status e n m = absurd (n e)
 no_text (answers.Traced text) status e n m = absurd (n e)
+no_text (answers.Shown text) status e n m = absurd (n e)
 no_text answers.Accepted status e n m = absurd (n e)
 no_text (answers.Counted arrays counts) status e n m = absurd (n e)
 no_text (answers.TrappedAfter t line counts) status e n m = absurd (m e)

@@ -96,6 +96,7 @@ TellsOfRun Tells (answers.Summed sums) before now = Tells (answers.Summed sums) 
 TellsOfRun Tells (answers.Listed listing) before now = Tells (answers.Listed listing) before now
 TellsOfRun Tells (answers.Saved text) before now = Tells (answers.Saved text) before now
 TellsOfRun Tells (answers.Traced text) before now = Tells (answers.Traced text) before now
+TellsOfRun Tells (answers.Shown text) before now = Tells (answers.Shown text) before now
 TellsOfRun Tells answers.Accepted before now = Tells answers.Accepted before now
 TellsOfRun Tells (answers.Counted arrays counts) before now = Tells (answers.Counted arrays counts) before now
 TellsOfRun Tells (answers.TrappedAfter t line counts) before now = Tells (answers.TrappedAfter t line counts) before now

@@ -20,6 +20,7 @@ status_of (answers.Summed sums) = statuses.Ended
 status_of (answers.Listed listing) = statuses.Ended
 status_of (answers.Saved text) = statuses.Ended
 status_of (answers.Traced text) = statuses.Ended
+status_of (answers.Shown text) = statuses.Ended
 status_of (answers.SourceRefused r) = statuses.SourceRefused
 status_of answers.Accepted = statuses.Ended
 status_of (answers.Conflicting c) = statuses.CodeRefused

@@ -42,6 +42,8 @@ pub enum Answer {
     Saved(Items<u8>),
     /// The run of a schedule is told by this text.
     Traced(Items<u8>),
+    /// The state of the saved text is told by this text.
+    Shown(Items<u8>),
     /// The text is refused for this reason.
     SourceRefused(Refusal),
     /// The text is the listing of a code without conflicts.

@@ -65,6 +65,7 @@ fn own_status(answer: &Answer) -> Status
         Answer::Broken(_) => Status::Broken,
         Answer::SourceRefused(_) => Status::SourceRefused,
         Answer::Summed(_) | Answer::Listed(_) | Answer::Saved(_) => Status::Ended,
+        Answer::Shown(_) => Status::Ended,
         Answer::Accepted | Answer::Sound(_) | Answer::Swept(_) | Answer::Traced(_) => Status::Ended,
         Answer::Differs(_) => Status::Differs,
         Answer::Conflicting(_) | Answer::ListingRefused(_) => Status::CodeRefused,

@@ -137,6 +137,10 @@ pub fn texts_of(alloc: Global, answer: &Answer) -> Result<(Text, Text), AllocErr
             CowSlice::Owned(text.as_slice().to_vec(alloc)?),
             CowSlice::Borrowed(none),
         )),
+        Answer::Shown(text) => Ok((
+            CowSlice::Owned(text.as_slice().to_vec(alloc)?),
+            CowSlice::Borrowed(none),
+        )),
         Answer::Accepted => Ok((CowSlice::Borrowed(ACCEPTED), CowSlice::Borrowed(none))),
         Answer::Conflicting(conflict) => Ok((
             CowSlice::Borrowed(none),

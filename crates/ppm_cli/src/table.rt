@@ -306,7 +306,7 @@ pub(crate) const SCHEDULE: TextOption = TextOption {
 };
 
 /// The commands, in the order of the help page.
-pub const COMMANDS: [CommandRow; 13] = [
+pub const COMMANDS: [CommandRow; 14] = [
     CommandRow {
         name: "run",
         options: &[
@@ -429,5 +429,9 @@ pub const COMMANDS: [CommandRow; 13] = [
             OptionRow::Choice(ONLY),
             OptionRow::Choice(INPUT),
         ],
+    },
+    CommandRow {
+        name: "show",
+        options: &[],
     },
 ];

@@ -10,6 +10,8 @@ pub mod FaithfulLemmas
 pub mod CodeRows
 pub mod SerialAnswers
 pub mod SerialRows
+pub mod ShowAnswers
+pub mod ShowRows
 pub mod CaseAnswers
 pub mod DepthAnswers
 pub mod DepthRows

@@ -5,3 +5,4 @@ pub mod Case
 pub mod Depth
 pub mod Races
 pub mod Serial
+pub mod Show

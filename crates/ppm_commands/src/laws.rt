@@ -6,6 +6,7 @@ ghost use Rattle.ppm_commands.specs.Code.{CodesAreFaithful, HaveOneAnswer as Cod
 ghost use Rattle.ppm_commands.specs.Depth.{HaveOneAnswer as DepthRunsHaveOneAnswer};
 ghost use Rattle.ppm_commands.specs.Races.{HaveOneAnswer as CasesHaveOneAnswer};
 ghost use Rattle.ppm_commands.specs.Serial.{HaveOneAnswer as OutcomesHaveOneAnswer};
+ghost use Rattle.ppm_commands.specs.Show.{HaveOneAnswer as SavedTextsHaveOneAnswer};
 
 use ppm_case::{faults_tell_cases, written_cases_are_read};
 use ppm_cut_code::keeps_the_rules;
@@ -16,6 +17,7 @@ use ppm_listing_reader::faults_tell_listings;
 use ppm_program::have_one_answer as have_one_program;
 use ppm_races::{verdicts_are_one, verdicts_are_there};
 use ppm_rows::trees_are_within;
+use ppm_saved_reader::faults_tell_saved_texts;
 use ppm_tree::{have_one_end, none_is_stuck, spend_their_turns};
 
 /// Where it is checked, a text has one answer: its first fault, its code's first conflict, or that
@@ -25,6 +27,15 @@ pub fn listings_have_one_answer()
 {
     // The law rests on this one; the call does nothing.
     faults_tell_listings();
+}
+
+/// Where its state is shown, a text has one answer: its fault, or the lines of its state; and a text
+/// that is too long is refused as its front is.
+pub fn saved_texts_have_one_answer()
+    ensures law { SavedTextsHaveOneAnswer }
+{
+    // The law rests on this one; the call does nothing.
+    faults_tell_saved_texts();
 }
 
 /// Where its code is listed, a text has one answer: it is refused for one reason, or its program

@@ -44,8 +44,8 @@ fn meaning_of(status: Status) -> &'static str {
             "ended: the arrays, and of `replay` its forks and takes, of `depth` its counts; of `code`\n       \
              the listing or the case; of `check` the line `ok`, of `races` the line `sound: ..`, of\n       \
              `sweep` the line `ok: R runs, M met, A acts`, and with more than 0 `, L left out`;\n       \
-             of `stop` the saved text (docs/SAVED.md); of `trace` the trace (docs/TRACE.md); of `self`\n       \
-             `size n forks g sum s last l`"
+             of `stop` the saved text (docs/SAVED.md); of `trace` the trace (docs/TRACE.md); of `show`\n       \
+             the state's lines (docs/SHOW.md); of `self` `size n forks g sum s last l`"
         }
         Status::Trapped => {
             "trapped: `trap K line N`, K being overflow, divzero, index or split; of `replay`\n       \
@@ -81,7 +81,7 @@ fn meaning_of(status: Status) -> &'static str {
              `races` or `sweep` within --capsules"
         }
         Status::SavedRefused => {
-            "saved text refused by `resume`: the fault and its line (docs/SAVED.md)"
+            "saved text refused by `resume` or `show`: the fault and its line (docs/SAVED.md)"
         }
         Status::Broken => {
             "saved words broken: place P, of `resume`, or of a case that isn't sound: the machine\n       \

@@ -12,8 +12,9 @@ Ppm: a small fork-join language, its capsules, and the machine that runs them wh
 
 Input is standard input alone: a source (docs/LANGUAGE.md), of `check` a listing, of `depth`,
 `races` and wherever `--input case` stands a case, which is arrays and a listing (docs/CODE.md),
-of `resume` a saved text (docs/SAVED.md), of `ram` a RAM (docs/RAM.md), of `self` nothing. A source
-and a RAM have at most 1,048,576 bytes, a listing and a case 536,870,912, a saved text 671,088,640.
+of `resume` and `show` a saved text (docs/SAVED.md), of `ram` a RAM (docs/RAM.md), of `self`
+nothing. A source and a RAM have at most 1,048,576 bytes, a listing and a case 536,870,912, a saved
+text 671,088,640.
 An option is given as `--turns 5` or `--turns=5`, at most once. A value never begins with `-`.
 ";
 
@@ -33,6 +34,7 @@ pub(crate) fn purpose_of(command: &str) -> &'static str {
         "sweep" => "whether a replay comes to one end wherever one fault or two are put into it",
         "ram" => "compiles a RAM, and threads run its capsules under a plan of faults",
         "trace" => "compiles a source, and tells what processors do along a schedule, act by act",
+        "show" => "tells in words the state of a saved text: what runs, what waits, and the arrays",
         _ => NO_WORDS,
     }
 }
@@ -52,6 +54,7 @@ pub(crate) fn example_of(command: &str) -> &'static str {
         "resume" => "--faults 0@5s,1@9h < sum.saved",
         "sweep" => "--processors 2 --faults 2 --runs 3 < examples/sum.ppm",
         "ram" => "--processors 2 --faults 0@5s,0@90h < examples/ram/sum.ram",
+        "show" => "< sum.saved",
         "trace" => { "--processors 3 --only marks --schedule '0*200,1*30,1!h' < examples/sum.ppm" }
         _ => NO_WORDS,
     }

@@ -143,6 +143,7 @@ fn line_of(alloc: Global, command: &Command) -> Result<Vec<u8>, Fault> {
         Command::Code => String::from_str(alloc, "code")?,
         Command::CodeCase => String::from_str(alloc, "code with arrays")?,
         Command::Check => String::from_str(alloc, "check")?,
+        Command::Show => String::from_str(alloc, "show")?,
         Command::Depth(it) => format!(in alloc; "depth capsules {}", it.capsules)?,
         Command::Races(it) => format!(in alloc; "races capsules {}", it.capsules)?,
         Command::Replay(it, schedule) => {

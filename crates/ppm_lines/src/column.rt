@@ -16,7 +16,7 @@ fn push_blanks(text: &mut Vec<u8>, count: usize) -> Result<(), NoMemory>
 
 /// Fills a field up to its width, and appends one blank more. The text of the field is what stands
 /// from `start` on.
-pub(crate) fn fill(text: &mut Vec<u8>, start: usize, width: usize) -> Result<(), NoMemory>
+pub fn fill(text: &mut Vec<u8>, start: usize, width: usize) -> Result<(), NoMemory>
     requires { start ≤ length text.old.items }
     ensures { (front words : List ℕ) → text.old.items ≡ front ++ words → start ≡ length front
         → OnOk result (text.new.items ≡ front ++ field width words) }

@@ -70,7 +70,7 @@ pub(crate) fn row_text(doing: Doing) -> &'static str
 }
 
 /// Appends what a row is of.
-pub(crate) fn push_of_row(
+pub fn push_of_row(
     alloc: Global,
     text: &mut Vec<u8>,
     scene: &Scene,

@@ -22,11 +22,12 @@ mod place;
 mod scene;
 mod value;
 
-pub use doing::{Doing, doing_of};
+pub use doing::{Doing, doing_of, push_of_row};
 pub use edge::{Edge, edge_of};
 pub use event::{Moment, push_begun, push_events};
 pub use flow::Flow;
 pub use json::{push_json_head, push_json_tail};
 pub use line::push_line;
+pub use name::{push_branch, push_fork, push_frame, push_place, push_run};
 pub use part::{ForkPart, FramePart, Part};
 pub use scene::Scene;

@@ -36,7 +36,7 @@ pub(crate) fn push_named(
 }
 
 /// Appends the name of a frame.
-pub(crate) fn push_frame(
+pub fn push_frame(
     alloc: Global,
     text: &mut Vec<u8>,
     scene: &Scene,
@@ -51,7 +51,7 @@ pub(crate) fn push_frame(
 }
 
 /// Appends the name of a fork block.
-pub(crate) fn push_fork(alloc: Global, text: &mut Vec<u8>, block: u32) -> Result<(), NoMemory>
+pub fn push_fork(alloc: Global, text: &mut Vec<u8>, block: u32) -> Result<(), NoMemory>
     ensures { OnOk result (text.new.items ≡ text.old.items ++ fork_text block) }
 {
     push_word(text, "fork@")?;
@@ -69,7 +69,7 @@ fn push_call(alloc: Global, text: &mut Vec<u8>, block: u32) -> Result<(), NoMemo
 }
 
 /// Appends a frame, and the capsule with which it goes on.
-pub(crate) fn push_run(
+pub fn push_run(
     alloc: Global,
     text: &mut Vec<u8>,
     scene: &Scene,
@@ -101,7 +101,7 @@ pub(crate) fn push_block(
 }
 
 /// Appends a branch of a fork block.
-pub(crate) fn push_branch(
+pub fn push_branch(
     alloc: Global,
     text: &mut Vec<u8>,
     block: u32,
@@ -115,7 +115,7 @@ pub(crate) fn push_branch(
 }
 
 /// Appends the name of a place.
-pub(crate) fn push_place(alloc: Global, text: &mut Vec<u8>, place: u32) -> Result<(), NoMemory>
+pub fn push_place(alloc: Global, text: &mut Vec<u8>, place: u32) -> Result<(), NoMemory>
     ensures { OnOk result (text.new.items ≡ text.old.items ++ place_text place) }
 {
     push_word(text, "place.")?;

@@ -49,7 +49,8 @@ fn is_fork_link(link: Option<Link>) -> bool
 }
 
 impl<'a> Scene<'a> {
-    ghost use Rattle.std.specs.Prelude.{◌≡◌, ◌<◌, ◌^◌};
+    ghost use Rattle.std.specs.Prelude.{◌≡◌, ◌<◌, ◌≤◌, ◌^◌};
+    ghost use Rattle.ppm_cells.specs.Cells.{word_count};
     ghost use Rattle.ppm_cells.specs.Memory.{AreWordsOf};
     ghost use Rattle.ppm_lines.specs.Scene as scenes;
 
@@ -109,6 +110,15 @@ impl<'a> Scene<'a> {
         self.words
     }
 
+    /// How many words there are.
+    pub fn word_count(&self) -> u32
+        ensures value { result ≡ word_count self.now.shape }
+        ensures bound { result ≤ 75497921 }
+        ensures words { AreWordsOf self.now.shape self.now.words }
+    {
+        self.shape.word_count()
+    }
+
     /// The word at an address; 0 past the last one.
     pub fn word_at(&self, at: u64) -> u64
         ensures { result ≡ scenes.word_at self.now at }
@@ -132,7 +142,7 @@ impl<'a> Scene<'a> {
     }
 
     /// How many words a frame has.
-    pub(crate) fn size_of(&self, frame: u32) -> u64
+    pub fn size_of(&self, frame: u32) -> u64
         ensures value { result ≡ scenes.size_of self.now frame }
         ensures bound { result < 2 ^ 34 }
     {
@@ -147,7 +157,7 @@ impl<'a> Scene<'a> {
     }
 
     /// The link of a frame or a block, where its first word is one.
-    pub(crate) fn link_at(&self, block: u32) -> Option<Link>
+    pub fn link_at(&self, block: u32) -> Option<Link>
         ensures { result ≡ scenes.link_at self.now block }
     {
         Link::unpack(self.word_at(u64::from(block)))

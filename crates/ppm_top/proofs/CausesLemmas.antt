@@ -19,6 +19,7 @@ use Rattle.ppm_commands.specs.Code.{CodeReads}
 use Rattle.ppm_commands.specs.Depth.{DepthHas}
 use Rattle.ppm_commands.specs.Races.{RacesHas}
 use Rattle.ppm_commands.specs.Serial.{SerialHas}
+use Rattle.ppm_commands.specs.Show.{ShowHas}
 use Rattle.ppm_cli.specs.Words.{command_of}
 use Rattle.ppm_top.specs.Causes.{CommandMay, CommandTells, IsAnswered}
 use Rattle.ppm_plan.specs.Forms.{plan_form, schedule_form}
@@ -50,6 +51,7 @@ memory_before (Some (commands.Serial options)) o h = judged.memory_before text_l
 memory_before (Some commands.Code) o h = judged.memory_before text_limit CodeReads o.source h
 memory_before (Some commands.CodeCase) o h = judged.memory_before text_limit CaseReads o.source h
 memory_before (Some commands.Check) o h = judged.memory_before listing_limit CheckHas o.source h
+memory_before (Some commands.Show) o h = judged.memory_before saved_limit ShowHas o.source h
 memory_before (Some (commands.Depth limit)) o h = judged.memory_before case_limit (DepthHas limit.capsules) o.source h
 memory_before (Some (commands.Races limit)) o h = judged.memory_before case_limit (RacesHas limit.capsules) o.source h
 memory_before (Some (commands.Replay options schedule)) o h =
@@ -105,6 +107,7 @@ told_nothing (Some (commands.Serial options)) o answer lists = refl
 told_nothing (Some commands.Code) o answer lists = refl
 told_nothing (Some commands.CodeCase) o answer lists = refl
 told_nothing (Some commands.Check) o answer lists = refl
+told_nothing (Some commands.Show) o answer lists = refl
 told_nothing (Some (commands.Depth limit)) o answer lists = refl
 told_nothing (Some (commands.Races limit)) o answer lists = refl
 told_nothing (Some (commands.Replay options schedule)) o answer lists = refl

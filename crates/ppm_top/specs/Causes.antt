@@ -14,6 +14,7 @@ use Rattle.ppm_commands.specs.Code.{CodeMay}
 use Rattle.ppm_commands.specs.Depth.{DepthMay}
 use Rattle.ppm_commands.specs.Races.{RacesMay}
 use Rattle.ppm_commands.specs.Serial.{SerialMay}
+use Rattle.ppm_commands.specs.Show.{ShowMay}
 use Rattle.ppm_driver.specs.CaseReplays.{ReplayCaseMay}
 use Rattle.ppm_driver.specs.CaseRuns.{RunCaseMay, RunCaseTells}
 use Rattle.ppm_driver.specs.CaseStops.{StopCaseMay}
@@ -42,6 +43,7 @@ CommandMay (Some (commands.Serial options)) o answer = SerialMay options.turns o
 CommandMay (Some commands.Code) o answer = CodeMay o.source answer
 CommandMay (Some commands.CodeCase) o answer = CaseMay o.source answer
 CommandMay (Some commands.Check) o answer = CheckMay o.source answer
+CommandMay (Some commands.Show) o answer = ShowMay o.source answer
 CommandMay (Some (commands.Depth limit)) o answer = DepthMay limit.capsules o.source answer
 CommandMay (Some (commands.Races limit)) o answer = RacesMay limit.capsules o.source answer
 CommandMay (Some (commands.Replay options schedule)) o answer = ReplayMay options schedule o.source answer
@@ -66,6 +68,7 @@ CommandTells (Some (commands.Serial options)) o = TellsNothing
 CommandTells (Some commands.Code) o = TellsNothing
 CommandTells (Some commands.CodeCase) o = TellsNothing
 CommandTells (Some commands.Check) o = TellsNothing
+CommandTells (Some commands.Show) o = TellsNothing
 CommandTells (Some (commands.Depth limit)) o = TellsNothing
 CommandTells (Some (commands.Races limit)) o = TellsNothing
 CommandTells (Some (commands.Replay options schedule)) o = TellsNothing

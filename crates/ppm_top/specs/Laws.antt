@@ -8,6 +8,7 @@ use Rattle.ppm_commands.specs.Code.{CodesAreFaithful, HaveOneAnswer as CodesHave
 use Rattle.ppm_commands.specs.Depth.{HaveOneAnswer as DepthRunsHaveOneAnswer}
 use Rattle.ppm_commands.specs.Races.{HaveOneAnswer as CasesHaveOneAnswer}
 use Rattle.ppm_commands.specs.Serial.{HaveOneAnswer as OutcomesHaveOneAnswer}
+use Rattle.ppm_commands.specs.Show.{HaveOneAnswer as SavedTextsHaveOneAnswer}
 use Rattle.ppm_driver.specs.CaseReplays.{HaveOneCaseAnswer}
 use Rattle.ppm_driver.specs.CaseRuns.{CaseAnswersAreOne, CaseFrontsDecide}
 use Rattle.ppm_driver.specs.CaseStops.{HaveOneStopAnswer}
@@ -45,6 +46,7 @@ pub record ProgramLaws : Type 0 where
   pub codes : CodesHaveOneAnswer
   pub faithful : CodesAreFaithful
   pub listings : ListingsHaveOneAnswer
+  pub states : SavedTextsHaveOneAnswer
   pub depths : DepthRunsHaveOneAnswer
   pub races : CasesHaveOneAnswer
   pub texts : CaseTextsHaveOneAnswer

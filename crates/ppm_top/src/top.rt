@@ -12,6 +12,7 @@ use ppm_answers::{Answer, Status, deliver};
 use ppm_cli::{Command, read_words};
 use ppm_commands::{
     case_command, check_command, code_command, depth_command, races_command, serial_command,
+    show_command,
 };
 use ppm_driver::{
     ram_command, replay_case_command, replay_command, resume_command, run_case_command,
@@ -103,6 +104,7 @@ fn answer_words<R: Threads + Wait + Sync, S: Source, K: Sink, E: Sink, W: Watch>
         Ok(Some(Command::Code)) => code_command(alloc, source, out, err),
         Ok(Some(Command::CodeCase)) => case_command(alloc, source, out, err),
         Ok(Some(Command::Check)) => check_command(alloc, source, out, err),
+        Ok(Some(Command::Show)) => show_command(alloc, source, out, err),
         Ok(Some(Command::Depth(limit))) => depth_command(alloc, limit.capsules, source, out, err),
         Ok(Some(Command::Races(limit))) => races_command(alloc, limit.capsules, source, out, err),
         Ok(Some(Command::Replay(options, schedule))) => replay_command(
