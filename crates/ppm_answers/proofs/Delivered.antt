@@ -8,8 +8,11 @@ use Rattle.ppm_answers.specs.declared.answer.Answer.{Answer}
 use Rattle.ppm_answers.specs.declared.answer.Answer.TheVariants as answers
 use Rattle.ppm_answers.specs.declared.status.Status.{Status}
 use Rattle.ppm_answers.specs.declared.status.Status.TheVariants as statuses
-use Rattle.ppm_answers.specs.Texts.{IsFixed, out_text}
-use Rattle.ppm_answers.specs.Statuses.{status_of}
+use Rattle.ppm_answers.specs.declared.run_counts.RunCounts.{RunCounts}
+use Rattle.ppm_answers.specs.declared.sweep.Came.{Came}
+use Rattle.ppm_answers.specs.declared.sweep.Came.TheVariants as came
+use Rattle.ppm_answers.specs.Texts.{IsFixed, counted_out, out_text}
+use Rattle.ppm_answers.specs.Statuses.{came_status, status_of}
 use Rattle.ppm_answers.specs.Delivery.{IsWritten, Delivers}
 use Rattle.ppm_answers.specs.Reading.{IsUnread, DeliversAnswer, TellsNothing, Answers}
 use Rattle.ppm_ports.specs.Outside.{ToldLists, Outside, ports_of}
@@ -39,6 +42,29 @@ pub fault_makes_8 : (out err : Port) (answer : Answer) (status : Status) → Del
 fault_makes_8 out err answer status d f =
     elim (own_or_fault out err answer status d) [ inl e ↦ e | inr w ↦ absurd (f w.out_takes.1 w.err_takes.1) ]
 
+-- what a replay came to is no read fault, and no refusal
+pub came_no_fault : (c : Came) → came_status c ≡ statuses.ReadFault → ⊥
+came_no_fault (came.Ended arrays) e = cc
+came_no_fault (came.Trapped t line) e = cc
+came_no_fault (came.Unfinished acts) e = cc
+came_no_fault (came.OutOfRoom place) e = cc
+came_no_fault (came.Broken place) e = cc
+
+pub came_no_refusal : (c : Came) → came_status c ≡ statuses.WordsRefused → ⊥
+came_no_refusal (came.Ended arrays) e = cc
+came_no_refusal (came.Trapped t line) e = cc
+came_no_refusal (came.Unfinished acts) e = cc
+came_no_refusal (came.OutOfRoom place) e = cc
+came_no_refusal (came.Broken place) e = cc
+
+-- a replay that has no end has no text on out, its counts included
+no_counted : (c : Came) (counts : RunCounts) → came_status c ≢ statuses.Ended → came_status c ≢ statuses.Trapped → counted_out c counts ≡ []
+no_counted (came.Ended arrays) counts n m = absurd (n refl)
+no_counted (came.Trapped t line) counts n m = absurd (m refl)
+no_counted (came.Unfinished acts) counts n m = refl
+no_counted (came.OutOfRoom place) counts n m = refl
+no_counted (came.Broken place) counts n m = refl
+
 -- but for arrays, traps, sums, counts, listings, saved states in digits and in words, traces and `ok`, an answer has no text on out
 no_text : (answer : Answer) (status : Status) → status ≡ status_of answer → status ≢ statuses.Ended → status ≢ statuses.Trapped →
     out_text answer ≡ []
@@ -56,6 +82,7 @@ no_text (answers.Counted arrays counts) status e n m = absurd (n e)
 no_text (answers.TrappedAfter t line counts) status e n m = absurd (m e)
 no_text (answers.Sound counts) status e n m = absurd (n e)
 no_text (answers.Swept sweep) status e n m = absurd (n e)
+no_text (answers.ReplayedWith c counts) status e n m = no_counted c counts (λ is. n (e ∙ is)) (λ is. m (e ∙ is))
 no_text answer status e n m = refl
 
 appends_nothing : (before now : Option (List ℕ)) → Appends before now [] → Keeps before now

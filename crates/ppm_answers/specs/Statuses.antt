@@ -2,8 +2,18 @@
 use Rattle.std.specs.Prelude.{ℕ}
 use Rattle.ppm_answers.specs.declared.answer.Answer.{Answer}
 use Rattle.ppm_answers.specs.declared.answer.Answer.TheVariants as answers
+use Rattle.ppm_answers.specs.declared.sweep.Came.{Came}
+use Rattle.ppm_answers.specs.declared.sweep.Came.TheVariants as came
 use Rattle.ppm_answers.specs.declared.status.Status.{Status}
 use Rattle.ppm_answers.specs.declared.status.Status.TheVariants as statuses
+
+-- the status of what a run came to
+abbrev pub came_status : Came → Status
+came_status (came.Ended arrays) = statuses.Ended
+came_status (came.Trapped t line) = statuses.Trapped
+came_status (came.Unfinished acts) = statuses.OutOfTurns
+came_status (came.OutOfRoom place) = statuses.OutOfRoom
+came_status (came.Broken place) = statuses.Broken
 
 -- the status of an answer whose texts are written
 abbrev pub status_of : Answer → Status
@@ -12,6 +22,7 @@ status_of (answers.Trapped t line) = statuses.Trapped
 status_of (answers.EndedWith arrays tally) = statuses.Ended
 status_of (answers.TrappedWith t line tally) = statuses.Trapped
 status_of (answers.Unfinished acts) = statuses.OutOfTurns
+status_of (answers.ReplayedWith c counts) = came_status c
 status_of (answers.NotWithin turns) = statuses.NotWithin
 status_of (answers.OutOfTurns processor) = statuses.OutOfTurns
 status_of (answers.OutOfRoom place) = statuses.OutOfRoom

@@ -24,6 +24,7 @@ use Rattle.ppm_answers.specs.declared.race.Opener.{Opener}
 use Rattle.ppm_answers.specs.declared.race.Visit.{Visit}
 use Rattle.ppm_answers.specs.declared.race.Touching.{Touching}
 use Rattle.ppm_answers.specs.declared.race.Race.{Race}
+use Rattle.ppm_answers.specs.declared.run_counts.RunCounts.{RunCounts}
 use Rattle.ppm_answers.specs.declared.sums.Sums.{Sums}
 use Rattle.ppm_answers.specs.declared.sweep.Sweep.{Sweep}
 use Rattle.ppm_answers.specs.declared.sweep.Came.{Came}
@@ -228,6 +229,44 @@ came_text (came.Unfinished acts) = unfinished_text acts
 came_text (came.OutOfRoom place) = room_text place
 came_text (came.Broken place) = broken_text place
 
+-- the first words of a line with what is counted in a run of a machine: its acts
+abbrev pub acts_words : RunCounts → List ℕ
+acts_words c = codes "acts " ++ decimal c.acts ++ codes " work " ++ decimal c.work ++ codes " looks " ++ decimal c.looks ++ codes " "
+
+-- the next ones: its branches
+abbrev pub branch_words : RunCounts → List ℕ
+branch_words c = codes "forks " ++ decimal c.forks ++ codes " takes " ++ decimal c.takes ++ codes " stolen " ++ decimal c.stolen
+    ++ codes " takeovers " ++ decimal c.takeovers ++ codes " "
+
+-- and the last ones: its faults and its room
+abbrev pub fault_words : RunCounts → List ℕ
+fault_words c = ended_line (codes "soft " ++ decimal c.soft ++ codes " hard " ++ decimal c.hard ++ codes " missed " ++ decimal c.missed
+    ++ codes " room " ++ decimal c.room)
+
+-- the line
+abbrev pub run_counts_text : RunCounts → List ℕ
+run_counts_text c = acts_words c ++ branch_words c ++ fault_words c
+
+-- the forks and takes among the counts
+abbrev pub tally_in : RunCounts → Tally
+tally_in c = record { forks = c.forks; takes = c.takes }
+
+-- what is written on out of a replay that came to this, with the counts of its run: its end, its tally, and then the counts
+abbrev pub counted_out : Came → RunCounts → List ℕ
+counted_out (came.Ended arrays) c = arrays_text arrays ++ tally_text (tally_in c) ++ run_counts_text c
+counted_out (came.Trapped t line) c = trap_text t line ++ tally_text (tally_in c) ++ run_counts_text c
+counted_out (came.Unfinished acts) c = []
+counted_out (came.OutOfRoom place) c = []
+counted_out (came.Broken place) c = []
+
+-- and on err: why it has no end, and then the counts
+abbrev pub counted_err : Came → RunCounts → List ℕ
+counted_err (came.Unfinished acts) c = unfinished_text acts ++ run_counts_text c
+counted_err (came.OutOfRoom place) c = room_text place ++ run_counts_text c
+counted_err (came.Broken place) c = broken_text place ++ run_counts_text c
+counted_err (came.Ended arrays) c = []
+counted_err (came.Trapped t line) c = []
+
 -- a line with the schedule of a run that came to something else
 abbrev pub schedule_line : List ℕ → List ℕ
 schedule_line schedule = ended_line (codes "differs: " ++ schedule)
@@ -246,6 +285,7 @@ out_text (answers.Ended arrays) = arrays_text arrays
 out_text (answers.Trapped t line) = trap_text t line
 out_text (answers.EndedWith arrays tally) = arrays_text arrays ++ tally_text tally
 out_text (answers.TrappedWith t line tally) = trap_text t line ++ tally_text tally
+out_text (answers.ReplayedWith c counts) = counted_out c counts
 out_text (answers.Summed sums) = sums_text sums
 out_text (answers.Listed listing) = listing
 out_text (answers.Saved text) = text
@@ -282,6 +322,7 @@ err_text (answers.NotWithin turns) = not_within_text turns
 err_text (answers.OutOfTurns processor) = turns_text processor
 err_text (answers.OutOfRoom place) = room_text place
 err_text (answers.Unfinished acts) = unfinished_text acts
+err_text (answers.ReplayedWith c counts) = counted_err c counts
 err_text (answers.Broken place) = broken_text place
 err_text (answers.PlanRefused number) = plan_text number
 err_text (answers.SourceRefused r) = refusal_text r

@@ -4,9 +4,10 @@ use crate::conflict::{Conflict, ListingRefusal};
 use crate::counts::Counts;
 use crate::race::Race;
 use crate::refusal::Refusal;
+use crate::run_counts::RunCounts;
 use crate::saved::SavedRefusal;
 use crate::sums::Sums;
-use crate::sweep::{Difference, Sweep};
+use crate::sweep::{Came, Difference, Sweep};
 use crate::tally::Tally;
 use ppm_words::{Items, NamedArray, Trap};
 
@@ -25,6 +26,8 @@ pub enum Answer {
     TrappedWith(Trap, u32, Tally),
     /// The replay did not end within so many acts.
     Unfinished(u64),
+    /// The replay came to this, and this was counted in its run.
+    ReplayedWith(Came, RunCounts),
     /// The run did not end within so many turns.
     NotWithin(u64),
     /// This processor has no turns left, and the run has not ended; processors count from 0.

@@ -7,6 +7,7 @@ ghost use Rattle.ppm_answers.specs.Texts.{IsFixed, out_text, err_text};
 ghost use Rattle.ppm_answers.specs.declared.answer.Answer.TheVariants as answers;
 
 use crate::answer::Answer;
+use crate::replayed::came_status;
 use crate::status::Status;
 use crate::texts::{OUT_OF_MEMORY, WRITE_FAULT, texts_of};
 use ppm_ports::{Failed, Sink, write_whole};
@@ -59,6 +60,7 @@ fn own_status(answer: &Answer) -> Status
         Answer::Ended(_) | Answer::EndedWith(_, _) | Answer::Counted(_, _) => Status::Ended,
         Answer::Trapped(_, _) | Answer::TrappedWith(_, _, _) | Answer::TrappedAfter(_, _, _) =>
             Status::Trapped,
+        Answer::ReplayedWith(came, _) => came_status(came),
         Answer::NotWithin(_) | Answer::NotWithinCapsules(_) => Status::NotWithin,
         Answer::OutOfTurns(_) | Answer::Unfinished(_) => Status::OutOfTurns,
         Answer::OutOfRoom(_) => Status::OutOfRoom,

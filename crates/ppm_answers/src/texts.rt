@@ -12,6 +12,7 @@ use crate::counts::{not_within_capsules_text_of, sound_text_of, with_counts};
 use crate::ends::{arrays_text_of, broken_text_of, room_text_of, trap_text_of, unfinished_text_of};
 use crate::race::race_text_of;
 use crate::refusal::{Pass, Refusal};
+use crate::replayed::{counted_err_of, counted_out_of};
 use crate::saved::saved_line_of;
 use crate::sums::sums_text_of;
 use crate::sweep::{difference_text_of, sweep_text_of};
@@ -63,6 +64,10 @@ pub fn texts_of(alloc: Global, answer: &Answer) -> Result<(Text, Text), AllocErr
                 CowSlice::Borrowed(none),
             ))
         }
+        Answer::ReplayedWith(came, counts) => Ok((
+            CowSlice::Owned(counted_out_of(alloc, came, *counts)?),
+            CowSlice::Owned(counted_err_of(alloc, came, *counts)?),
+        )),
         Answer::Counted(arrays, counts) => {
             let text = arrays_text_of(alloc, arrays.as_slice())?;
             Ok((

@@ -22,12 +22,13 @@ use Rattle.ppm_cli.specs.Words.{with_text, AreReplayed, AreResumed, AreRun, AreS
 use Rattle.ppm_cli.specs.Values.{fitting_room, room_given}
 use Rattle.ppm_cli.specs.Words.{sweep_options, AreSwept, trace_options, AreTraced}
 use Rattle.ppm_cli.specs.Values.{swept_takeovers_given, traced_form_given, traced_lines_given}
-use Rattle.ppm_cli.specs.Words.{by_input, code_in, capsule_limit, with_input}
-use Rattle.ppm_cli.specs.Values.{choice_given, is_case_given}
+use Rattle.ppm_cli.specs.Words.{by_input, replay_by, replay_with, code_in, capsule_limit, with_input}
+use Rattle.ppm_cli.specs.Values.{are_counts_given, choice_given, is_case_given}
 use Rattle.ppm_cli.specs.declared.capsules.CapsuleLimit.{CapsuleLimit}
 use Rattle.ppm_cli.specs.declared.command.Command.{Command}
 use Rattle.ppm_cli.specs.declared.command.Command.TheVariants as commands
 use Rattle.ppm_cli.specs.declared.example.SelfOptions.{SelfOptions}
+use Rattle.ppm_cli.specs.declared.replay.ReplayOptions.{ReplayOptions}
 
 -- a value with what came of it
 record Came {A B : Type 0} (o : Option A) (f : A → Option B) (b : B) : Type 0 where
@@ -140,6 +141,18 @@ replay_are rows =
     bound AreReplayed (takeover_given rows) _ (λ t e.
     let r = room_fits room _ _ p w rows refl c in
     (given processors _ _ p rows refl a, given turns _ _ n rows refl b, r.0, given slots _ _ s rows refl d, r.1))))))
+
+-- a replay is in range where its options are, whether its counts are told or not
+replays_by : (is_counted : Bool) (o : ReplayOptions) (t : Text) (rows : List Row) → AreReplayed o → IfSome (replay_by is_counted o t rows) IsInRange
+replays_by true o t rows h = by_input_are (commands.CountedReplay o t) (commands.CountedReplayCase o t) rows h h
+replays_by false o t rows h = by_input_are (commands.Replay o t) (commands.ReplayCase o t) rows h h
+
+replays_are : (options : Option ReplayOptions) (rows : List Row) → IfSome options AreReplayed
+    → IfSome (option_and_then (λ o. option_and_then (λ t. replay_with o t rows) (text_given schedule rows)) options) IsInRange
+replays_are None rows h = tt
+replays_are (Some o) rows h =
+    bound IsInRange (text_given schedule rows) (λ t. replay_with o t rows)
+    (λ t e. bound IsInRange (are_counts_given rows) (λ is_counted. replay_by is_counted o t rows) (λ is_counted d. replays_by is_counted o t rows h))
 
 serial_are : (rows : List Row) → IfSome (serial_in rows) IsInRange
 serial_are rows = go (number_given turns rows) (λ n e. given turns _ _ n rows refl e) where
@@ -256,7 +269,7 @@ named_are name rows =
     (either IsInRange (bytes_eq name (codes "races")) _ _
     (limited_are (λ l. commands.Races l) (λ l h. h) (capsule_limit rows) (limit_are rows))
     (either IsInRange (bytes_eq name (codes "replay")) _ _
-    (with_input_are AreReplayed commands.Replay commands.ReplayCase schedule (replay_options rows) rows (λ o t h. h) (λ o t h. h) (replay_are rows))
+    (replays_are (replay_options rows) rows (replay_are rows))
     (either IsInRange (bytes_eq name (codes "self")) _ _ (example_are rows)
     (either IsInRange (bytes_eq name (codes "stop")) _ _
     (with_input_are AreStopped commands.Stop commands.StopCase schedule (stop_options rows) rows (λ o t h. h) (λ o t h. h) (stop_are rows))

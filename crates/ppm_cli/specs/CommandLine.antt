@@ -171,6 +171,10 @@ arrays = choice "arrays" ("no" ∷ "yes" ∷ []) "no"
 abbrev pub input : OptionRule
 input = choice "input" ("source" ∷ "case" ∷ []) "source"
 
+-- whether what is counted in the run is told
+abbrev pub counts : OptionRule
+counts = choice "counts" ("no" ∷ "yes" ∷ []) "no"
+
 -- ---- the commands
 
 -- the whole command line
@@ -183,7 +187,7 @@ command_line =
     ∷ command "check" []
     ∷ command "depth" (capsules ∷ [])
     ∷ command "races" (capsules ∷ [])
-    ∷ command "replay" (processors ∷ turns ∷ room ∷ slots ∷ takeover ∷ schedule ∷ input ∷ [])
+    ∷ command "replay" (processors ∷ turns ∷ room ∷ slots ∷ takeover ∷ schedule ∷ input ∷ counts ∷ [])
     ∷ command "self" (few_processors ∷ size ∷ seed ∷ count ∷ [])
     ∷ command "stop" (few_processors ∷ after ∷ small_room ∷ few_slots ∷ schedule ∷ input ∷ [])
     ∷ command "resume" (turns ∷ looks ∷ seed ∷ faults ∷ [])

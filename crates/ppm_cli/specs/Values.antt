@@ -9,7 +9,7 @@ use Rattle.ppm_words.specs.declared.idle.Idle.TheVariants.{Leave, Park}
 use Rattle.ppm_cells.specs.Limits.{most_pool_words}
 use Rattle.ppm_cells.specs.declared.shape.Takeover.{Takeover}
 use Rattle.ppm_cells.specs.declared.shape.Takeover.TheVariants.{ByPlaces, ByEntries}
-use Rattle.ppm_cli.specs.CommandLine.{Form, Number, Choice, AnyText, OptionRule, is_free_text, takeover, swept_takeovers, idle, input, traced_form, only}
+use Rattle.ppm_cli.specs.CommandLine.{Form, Number, Choice, AnyText, OptionRule, is_free_text, takeover, swept_takeovers, counts, idle, input, traced_form, only}
 use Rattle.ppm_cli.specs.declared.takeover.SweptTakeovers.{SweptTakeovers}
 use Rattle.ppm_cli.specs.declared.takeover.SweptTakeovers.TheVariants as swept
 use Rattle.ppm_cli.specs.declared.trace.TracedForm.{TracedForm}
@@ -88,6 +88,10 @@ fitting_room processors words = if nat_le (processors * words) most_pool_words t
 -- the words of the pool of each of so many places
 abbrev pub room_given : OptionRule → ℕ → List Row → Option ℕ
 room_given o processors rows = and_then (number_given o rows) (fitting_room processors)
+
+-- whether what is counted is told
+abbrev pub are_counts_given : List Row → Option Bool
+are_counts_given rows = choice_given counts (false ∷ true ∷ []) rows
 
 -- whether the text that is read is a case, and not a source
 abbrev pub is_case_given : List Row → Option Bool

@@ -1,5 +1,5 @@
 -- The command that the words of the command line give, as clap reads them.
-use Rattle.std.specs.Prelude.{◌≤◌, ◌*◌, ℕ, true, false, List, [], ◌∷◌, Option, Some, None, codes, if◌then◌else◌, option_and_then, option_map, ⊤}
+use Rattle.std.specs.Prelude.{◌≤◌, ◌*◌, ℕ, Bool, true, false, List, [], ◌∷◌, Option, Some, None, codes, if◌then◌else◌, option_and_then, option_map, ⊤}
 use Rattle.std.specs.Str.{bytes_eq}
 use Rattle.clap.specs.Words.{Kinds, Row, Text, fault_of, subcommand_of}
 use Rattle.ppm_cells.specs.Limits.{most_pool_words}
@@ -9,7 +9,7 @@ use Rattle.ppm_cli.specs.CommandLine.{processors, turns, room, slots, looks, see
 use Rattle.ppm_cli.specs.CommandLine.{few_processors, after, small_room, few_slots, size, count, capsules, arrays}
 use Rattle.ppm_cli.specs.CommandLine.{copied_room, copied_slots, met, from, acts, runs}
 use Rattle.ppm_cli.specs.CommandLine.{traced_from, traced_acts}
-use Rattle.ppm_cli.specs.Values.{and_then, choice_given, idle_given, is_case_given, number_given, room_given, swept_takeovers_given, takeover_given, text_given}
+use Rattle.ppm_cli.specs.Values.{and_then, are_counts_given, choice_given, idle_given, is_case_given, number_given, room_given, swept_takeovers_given, takeover_given, text_given}
 use Rattle.ppm_cli.specs.Values.{traced_form_given, traced_lines_given}
 use Rattle.ppm_cli.specs.declared.capsules.CapsuleLimit.{CapsuleLimit}
 use Rattle.ppm_cli.specs.declared.command.Command.{Command}
@@ -70,9 +70,16 @@ replay_options rows =
     and_then (takeover_given rows) (λ t.
     Some (record { processors = p; turns = n; room = w; slots = e; takeover = t }))))))
 
--- the command `replay` with its options and its schedule, over a source or over a case
+-- the command `replay` with its options and its schedule, over a source or over a case; if what is counted is told, it is another command
+abbrev pub replay_by : (is_counted : Bool) → ReplayOptions → Text → List Row → Option Command
+replay_by true options text rows = by_input (commands.CountedReplay options text) (commands.CountedReplayCase options text) rows
+replay_by false options text rows = by_input (commands.Replay options text) (commands.ReplayCase options text) rows
+
+abbrev pub replay_with : ReplayOptions → Text → List Row → Option Command
+replay_with options text rows = and_then (are_counts_given rows) (λ is_counted. replay_by is_counted options text rows)
+
 abbrev pub replay_in : List Row → Option Command
-replay_in rows = with_input commands.Replay commands.ReplayCase schedule (replay_options rows) rows
+replay_in rows = and_then (replay_options rows) (λ o. and_then (text_given schedule rows) (λ t. replay_with o t rows))
 
 -- the options of `stop` but for its schedule, if each has a value of its form
 abbrev pub stop_options : List Row → Option StopOptions
@@ -281,6 +288,8 @@ IsInRange (commands.Races limit) = IsLimit limit
 IsInRange commands.CodeCase = ⊤
 IsInRange (commands.RunCase options _) = AreRun options
 IsInRange (commands.ReplayCase options _) = AreReplayed options
+IsInRange (commands.CountedReplay options _) = AreReplayed options
+IsInRange (commands.CountedReplayCase options _) = AreReplayed options
 IsInRange (commands.StopCase options _) = AreStopped options
 IsInRange (commands.Sweep options _) = AreSwept options
 IsInRange (commands.SweepCase options _) = AreSwept options

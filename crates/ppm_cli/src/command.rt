@@ -49,6 +49,12 @@ pub enum Command {
     RunCase(RunOptions, Items<u8>),
     /// To replay the case that is read, by a schedule, of which these are the bytes.
     ReplayCase(ReplayOptions, Items<u8>),
+    /// To replay the source that is read, by a schedule, of which these are the bytes, and to tell
+    /// what is counted in its run.
+    CountedReplay(ReplayOptions, Items<u8>),
+    /// To replay the case that is read, by a schedule, of which these are the bytes, and to tell
+    /// what is counted in its run.
+    CountedReplayCase(ReplayOptions, Items<u8>),
     /// To stop the case that is read in mid-run, by a schedule, of which these are the bytes, and to
     /// save the machine's words.
     StopCase(StopOptions, Items<u8>),

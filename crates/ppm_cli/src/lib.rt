@@ -11,6 +11,7 @@ mod application;
 mod capsules;
 mod code;
 mod command;
+mod counts;
 mod example;
 mod getters;
 mod input;

@@ -2,10 +2,11 @@
 ghost use Rattle.std.specs.Prelude.{◌≡◌, IfOk, IfSome};
 ghost use Rattle.clap.specs.Words.{found_of, rows_of};
 ghost use Rattle.ppm_cli.specs.declared.command.Command.TheVariants as commands;
-ghost use Rattle.ppm_cli.specs.Words.{AreReplayed, IsInRange, by_input, replay_in};
+ghost use Rattle.ppm_cli.specs.Words.{AreReplayed, IsInRange, by_input, replay_in, replay_with};
 ghost use Rattle.ppm_cli.specs.Words.{replay_options as options_in};
 
 use crate::command::Command;
+use crate::counts::are_counted;
 use crate::getters::{bytes_of, number_of};
 use crate::input::is_case;
 use crate::room::room_of;
@@ -50,9 +51,47 @@ pub(crate) fn replay_from(
     }
 }
 
-/// The command with these options and this schedule: over a source or over a case, as the matches
+/// The command with these options and this schedule: with counts or without them, as the matches
 /// say.
 fn replay_of(
+    matches: &ArgMatches<'_>,
+    options: ReplayOptions,
+    schedule: Items<u8>,
+) -> Option<Command>
+    requires { AreReplayed options }
+    ensures value { result ≡ replay_with options schedule (rows_of (found_of matches.now)) }
+    ensures in_range { IfSome result IsInRange }
+{
+    let counted = are_counted(matches)?;
+    if counted {
+        counted_replay_of(matches, options, schedule)
+    } else {
+        plain_replay_of(matches, options, schedule)
+    }
+}
+
+/// The command that tells its counts: over a source or over a case, as the matches say.
+fn counted_replay_of(
+    matches: &ArgMatches<'_>,
+    options: ReplayOptions,
+    schedule: Items<u8>,
+) -> Option<Command>
+    requires { AreReplayed options }
+    ensures value { result
+        ≡ by_input (commands.CountedReplay options schedule) (commands.CountedReplayCase options schedule)
+        (rows_of (found_of matches.now)) }
+    ensures in_range { IfSome result IsInRange }
+{
+    let of_case = is_case(matches)?;
+    if of_case {
+        Some(Command::CountedReplayCase(options, schedule))
+    } else {
+        Some(Command::CountedReplay(options, schedule))
+    }
+}
+
+/// The command that tells none: over a source or over a case, as the matches say.
+fn plain_replay_of(
     matches: &ArgMatches<'_>,
     options: ReplayOptions,
     schedule: Items<u8>,

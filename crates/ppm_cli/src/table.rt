@@ -299,6 +299,13 @@ pub(crate) const INPUT: ChoiceOption = ChoiceOption {
     default: "source",
 };
 
+/// Whether what is counted in the run is told.
+pub(crate) const COUNTS: ChoiceOption = ChoiceOption {
+    name: "counts",
+    words: &["no", "yes"],
+    default: "no",
+};
+
 /// The schedule of acts.
 pub(crate) const SCHEDULE: TextOption = TextOption {
     name: "schedule",
@@ -352,6 +359,7 @@ pub const COMMANDS: [CommandRow; 14] = [
             OptionRow::Choice(TAKEOVER),
             OptionRow::Text(SCHEDULE),
             OptionRow::Choice(INPUT),
+            OptionRow::Choice(COUNTS),
         ],
     },
     CommandRow {

@@ -12,6 +12,8 @@
 -- (`OfResume`). What `stop` wrote is such a state's text (`StoppedLemmas`), of a sound case too (`CaseStoppedLemmas`).
 -- `run` of a case is shown as `run` of a program, with the code and the input of the case in their place (`RunCaseLemmas`, `OneCase`,
 -- `CaseHeadlineLemmas`, `OfRunCase`), and `replay` of a case likewise (`OneCase`, `OfReplayCase`).
+-- Where the counts of a replay are told, its answer is the one without them, and they are those of its turns (`CountedLemmas`); so its laws
+-- (`OneCounted`) and its rows (`OfCounted`, `OfCountedCase`) are those of `replay`.
 -- What a RAM's code comes to is what the RAM does (`AsRamLemmas`). A text is of a RAM or has a fault (`RamTextLemmas`, `RamTaskLemmas`), so the rows of
 -- `ram` are shown as those of a case (`RamLemmas`, `OneRam`, `RamHeadlineLemmas`, `OfRam`).
 -- The arrays that an admitted program starts with have names of their own, none of them a keyword (`NamesLemmas`), and so have those of a case
@@ -65,6 +67,10 @@ pub mod OneRam
 pub mod RamHeadlineLemmas
 pub mod OfRam
 pub mod OfReplayCase
+pub mod CountedLemmas
+pub mod OneCounted
+pub mod OfCounted
+pub mod OfCountedCase
 pub mod ComeLemmas
 pub mod SweepLemmas
 pub mod SweepAsCode

@@ -155,6 +155,11 @@ module _ (options : ReplayOptions) (items : List ScheduleItem) where
       says = h;
     }
 
+    -- it begins there
+    pub said_start : (a : Answer) (h : IsSaid options.turns ending input a) → (has_said a h).start ≡ start
+    unfolding has_said
+    said_start a h = refl
+
     -- something is said of it
     pub some_end : (a : Answer) × IsSaid options.turns ending input a
     some_end = some_said options.processors options.turns ending input

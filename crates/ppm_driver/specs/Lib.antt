@@ -25,6 +25,10 @@ pub mod CaseReplays
 pub mod CaseReplayRows
 pub mod Sweeps
 pub mod Halts
+pub mod CountedReplays
+pub mod CountedReplayRows
+pub mod CountedCases
+pub mod CountedCaseRows
 pub mod SweepRows
 pub mod CaseSweeps
 pub mod CaseSweepRows

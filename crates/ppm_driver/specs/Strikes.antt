@@ -1,11 +1,10 @@
 -- The faults of a plan and of a schedule, and those that undo work where all obey the plan.
-use Rattle.std.specs.Prelude.{◌≤◌, ℕ, ◌+◌, if◌then◌else◌, Bool, true, false, List, [], ◌∷◌}
+use Rattle.std.specs.Prelude.{◌≤◌, ℕ, ◌+◌, if◌then◌else◌, List, [], ◌∷◌}
 use Rattle.std.specs.List.{list_any}
 use Rattle.ppm_cells.specs.declared.shape.Shape.{Shape}
 use Rattle.ppm_code.specs.declared.code.CodeParts.{CodeParts}
 use Rattle.ppm_plan.specs.declared.plan_item.PlanItem.{PlanItem}
 use Rattle.ppm_plan.specs.declared.schedule_item.ScheduledAct.{ScheduledAct}
-use Rattle.ppm_plan.specs.declared.schedule_item.ScheduledAct.TheVariants.{Step, Fails}
 use Rattle.ppm_plan.specs.declared.schedule_item.ScheduleItem.{ScheduleItem}
 use Rattle.ppm_plan.specs.Faults.{is_at, acts_of}
 use Rattle.ppm_plan.specs.Schedules.{Planned}
@@ -15,6 +14,7 @@ use Rattle.ppm_core.specs.Situation.{Situation}
 use Rattle.ppm_choice.specs.Obeying.{ObeyAll}
 use Rattle.ppm_choice.specs.Schedules.{schedule_turns}
 use Rattle.ppm_choice.specs.declared.limits.Limits.{Limits}
+pub use Rattle.ppm_counts.specs.Ordered.{fails}
 use Rattle.ppm_runs.specs.Deques.{one_if}
 use Rattle.ppm_driver.specs.Meant.{faults_in, struck_in, undone_in}
 
@@ -34,10 +34,6 @@ UndoneArePlanned = (plan : Planned) (limits : Limits) (m : Situation) (turns : L
     → undone_in m turns ≤ fault_count plan.items
 
 -- how many of the acts that the items of a schedule stand for are faults: an item that is one stands for one
-abbrev pub fails : ScheduledAct → Bool
-fails (Step processor victim) = false
-fails (Fails processor fault) = true
-
 abbrev pub faults_among : List ScheduledAct → ℕ
 faults_among [] = 0
 faults_among (act ∷ acts) = one_if (fails act) + faults_among acts

@@ -28,20 +28,25 @@
 //! `specs/CaseStopped`. `ram_command` runs the code of the RAM that is read (`specs/RamRuns`), and
 //! it ends as the RAM does (`specs/RamEnds`); what follows from each status: `specs/RamHeadline`
 //! and `specs/RamRows`.
-//! Stands on `ppm_threads`, `ppm_following`, `ppm_trace`, `ppm_sweep`, `ppm_loading`, `ppm_case`,
-//! `ppm_ram_code`, `ppm_saved`, `ppm_saved_reader` and `ppm_answers`; `ppm_top` calls it. The
+//! `counted_replay_command` and `counted_replay_case_command` deliver what `replay` does, and what is
+//! counted in the run (`specs/CountedReplays`, `specs/CountedCases`).
+//! Stands on `ppm_threads`, `ppm_following`, `ppm_trace`, `ppm_counts`, `ppm_sweep`, `ppm_loading`,
+//! `ppm_case`, `ppm_ram_code`, `ppm_saved`, `ppm_saved_reader` and `ppm_answers`; `ppm_top` calls it. The
 //! schedules and limits and their rules are this project's. `stop` and `resume` come after the
 //! persistent memory of Blelloch et al., SPAA 2018, which outlives its processors.
 #![tactic(auto)]
 
 mod complete;
 mod complete_resume;
+mod counted;
+mod counted_case;
 mod example;
 mod fronts;
 mod legs;
 mod meant;
 mod names;
 mod one_case;
+mod one_counted;
 mod one_ram;
 mod one_replay;
 mod one_run;
@@ -70,6 +75,8 @@ mod trace_names;
 
 pub use complete::{runs_complete, runs_of_code_complete};
 pub use complete_resume::{resume_laws, resumes_complete, runs_of_code_complete_in_legs};
+pub use counted::counted_replay_command;
+pub use counted_case::counted_replay_case_command;
 pub use example::self_command;
 pub use fronts::fronts_decide_resumed;
 pub use legs::{
@@ -83,6 +90,7 @@ pub use meant::{
 pub use one_case::{
     case_answers_are_one, case_replays_have_one_answer, case_stops_have_one_answer,
 };
+pub use one_counted::{counted_case_replays_have_one_answer, counted_replays_have_one_answer};
 pub use one_ram::ram_answers_are_one;
 pub use one_replay::replays_have_one_answer;
 pub use one_run::answers_are_one;

@@ -107,7 +107,7 @@ pub(crate) fn replayed_code(
 }
 
 /// The machine's sizes, as the options say them.
-fn sizes_of(options: ReplayOptions) -> Sizes
+pub(crate) fn sizes_of(options: ReplayOptions) -> Sizes
     ensures { result ≡ sizes_in options }
 {
     Sizes {

@@ -84,6 +84,7 @@ pub(crate) fn meaning_of(command: &str, option: &str) -> &'static str {
         "form" => "lines, or events for a viewer of traces",
         "only" => "lines: all, those that end a row, or those with a mark",
         "input" => "what is read; the code of a case runs, sound or not",
+        "counts" => "with yes a last line counts what was done",
         _ => NO_WORDS,
     }
 }

@@ -156,6 +156,16 @@ fn line_of(alloc: Global, command: &Command) -> Result<Vec<u8>, Fault> {
             plan = schedule.as_slice();
             replay_line(alloc, "replay of a case", it)?
         }
+        Command::CountedReplay(it, schedule) => {
+            front = " schedule=";
+            plan = schedule.as_slice();
+            replay_line(alloc, "replay with counts", it)?
+        }
+        Command::CountedReplayCase(it, schedule) => {
+            front = " schedule=";
+            plan = schedule.as_slice();
+            replay_line(alloc, "replay of a case with counts", it)?
+        }
         Command::Example(it) => format!(in alloc;
             "self processors {} size {} seed {} count {}",
             it.processors, it.size, it.seed, it.count

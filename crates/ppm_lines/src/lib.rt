@@ -22,6 +22,7 @@ mod place;
 mod scene;
 mod value;
 
+pub use column::fill;
 pub use doing::{Doing, doing_of, push_of_row};
 pub use edge::{Edge, edge_of};
 pub use event::{Moment, push_begun, push_events};

@@ -29,6 +29,8 @@ use Rattle.ppm_driver.specs.CaseRuns.{TextHas as RunCaseTextHas}
 use Rattle.ppm_driver.specs.CaseStops.{TextReads as StopCaseTextReads}
 use Rattle.ppm_driver.specs.CaseSweeps.{TextHas as SweepCaseTextHas}
 use Rattle.ppm_driver.specs.CaseTraces.{TextHas as TraceCaseTextHas}
+use Rattle.ppm_driver.specs.CountedCases.{TextHas as CountedCaseTextHas}
+use Rattle.ppm_driver.specs.CountedReplays.{TextHas as CountedTextHas}
 use Rattle.ppm_driver.specs.Examples.{ExampleMay, ExampleTells}
 use Rattle.ppm_driver.specs.RamRuns.{TextHas as RamTextHas}
 use Rattle.ppm_driver.specs.Replays.{TextHas as ReplayTextHas}
@@ -74,6 +76,10 @@ memory_before (Some (commands.Trace options schedule)) o h =
     planned.memory_before schedule_form schedule options.processors (TraceTextHas options) text_limit o.source h
 memory_before (Some (commands.TraceCase options schedule)) o h =
     planned.memory_before schedule_form schedule options.processors (TraceCaseTextHas options) case_limit o.source h
+memory_before (Some (commands.CountedReplay options schedule)) o h =
+    planned.memory_before schedule_form schedule options.processors (CountedTextHas options) text_limit o.source h
+memory_before (Some (commands.CountedReplayCase options schedule)) o h =
+    planned.memory_before schedule_form schedule options.processors (CountedCaseTextHas options) case_limit o.source h
 memory_before (Some (commands.Ram options plan)) o h =
     planned.memory_before plan_form plan options.processors (RamTextHas options options.processors o.told_before o.told_now) ram_limit o.source h
 memory_before (Some (commands.Example options)) o h = (h, tt)
@@ -120,5 +126,7 @@ told_nothing (Some (commands.Sweep options schedule)) o answer lists = refl
 told_nothing (Some (commands.SweepCase options schedule)) o answer lists = refl
 told_nothing (Some (commands.Trace options schedule)) o answer lists = refl
 told_nothing (Some (commands.TraceCase options schedule)) o answer lists = refl
+told_nothing (Some (commands.CountedReplay options schedule)) o answer lists = refl
+told_nothing (Some (commands.CountedReplayCase options schedule)) o answer lists = refl
 told_nothing (Some (commands.Ram options plan)) o answer lists = untold options.processors _ _ answer lists
 told_nothing (Some (commands.Example options)) o answer lists = untold options.processors _ _ answer lists

@@ -44,6 +44,8 @@ use Rattle.ppm_driver.specs.CaseRuns.{TextHas as RunCaseTextHas}
 use Rattle.ppm_driver.specs.CaseStops.{TextReads as StopCaseTextReads}
 use Rattle.ppm_driver.specs.CaseSweeps.{TextHas as SweepCaseTextHas}
 use Rattle.ppm_driver.specs.CaseTraces.{TextHas as TraceCaseTextHas}
+use Rattle.ppm_driver.specs.CountedCases.{TextHas as CountedCaseTextHas}
+use Rattle.ppm_driver.specs.CountedReplays.{TextHas as CountedTextHas}
 use Rattle.ppm_driver.specs.RamRuns.{TextHas as RamTextHas}
 use Rattle.ppm_driver.specs.Replays.{TextHas as ReplayTextHas}
 use Rattle.ppm_driver.specs.Resumes.{TextHas as ResumeTextHas}
@@ -67,6 +69,7 @@ use Rattle.ppm_top.specs.Causes.{NoCommandMay, CommandMay, CommandTells, IsAnswe
 use Rattle.ppm_top.specs.Laws.{ProgramLaws}
 use Rattle.ppm_top.specs.Rows.{ReportsFaults, ProgramRows}
 use Rattle.ppm_top.proofs.OfCases as of_cases
+use Rattle.ppm_top.proofs.OfCounts as of_counts
 use Rattle.ppm_top.proofs.OfRams as of_rams
 use Rattle.ppm_top.proofs.OfSweeps as of_sweeps
 use Rattle.ppm_top.proofs.OfTraces as of_traces
@@ -120,6 +123,10 @@ command_reports o (Some (commands.Trace options schedule)) =
     planned_reports schedule_form schedule options.processors (TraceTextHas options) text_limit o
 command_reports o (Some (commands.TraceCase options schedule)) =
     planned_reports schedule_form schedule options.processors (TraceCaseTextHas options) case_limit o
+command_reports o (Some (commands.CountedReplay options schedule)) =
+    planned_reports schedule_form schedule options.processors (CountedTextHas options) text_limit o
+command_reports o (Some (commands.CountedReplayCase options schedule)) =
+    planned_reports schedule_form schedule options.processors (CountedCaseTextHas options) case_limit o
 command_reports o (Some (commands.Ram options plan)) =
     planned_reports plan_form plan options.processors (RamTextHas options options.processors o.told_before o.told_now) ram_limit o
 command_reports o (Some (commands.Serial options)) = judging_reports text_limit (SerialHas options.turns) o
@@ -139,6 +146,7 @@ command_reports o (Some (commands.Example options)) = example_reports options o
 -- an answer of status 7 is a read fault
 read_answer : (may : Answer → Type 0) (answer : Answer) → may answer → status_of answer ≡ statuses.ReadFault → may answers.ReadFault
 read_answer may answers.ReadFault h e = h
+read_answer may (answers.ReplayedWith c counts) h e = absurd (delivered.came_no_fault c e)
 read_answer may answer h e = cc
 
 -- faults are reported exactly, whatever the command is
@@ -200,6 +208,8 @@ program_rows laws words o status a = record {
   replay_case = of_cases.replays_case laws words o status a;
   sweep = of_sweeps.sweeps laws words o status a;
   sweep_case = of_sweeps.sweeps_case laws words o status a;
+  counted = of_counts.counts laws words o status a;
+  counted_case = of_counts.counts_case laws words o status a;
   trace = of_traces.traces laws words o status a;
   trace_case = of_traces.traces_case laws words o status a;
   ram = of_rams.runs_ram laws words o status a;

@@ -29,6 +29,7 @@ use Rattle.ppm_top.specs.Laws.{ProgramLaws}
 use Rattle.ppm_top.specs.Orders.{Orders, plan_of, schedule_of}
 use Rattle.ppm_top.specs.Rows.{HasRefusedPlan, OfPlan, OfSchedule, OfResume, RefusesWords}
 use Rattle.ppm_top.proofs.OfCases as of_cases
+use Rattle.ppm_top.proofs.OfCounts as of_counts
 use Rattle.ppm_top.proofs.OfRams as of_rams
 use Rattle.ppm_top.proofs.OfSweeps as of_sweeps
 use Rattle.ppm_top.proofs.OfTraces as of_traces
@@ -53,6 +54,9 @@ no_command (Some (commands.Sweep options schedule)) o answer h e = inr (BySchedu
 no_command (Some (commands.SweepCase options schedule)) o answer h e = inr (BySchedule (commands.SweepCase options schedule) _ refl refl)
 no_command (Some (commands.Trace options schedule)) o answer h e = inr (BySchedule (commands.Trace options schedule) _ refl refl)
 no_command (Some (commands.TraceCase options schedule)) o answer h e = inr (BySchedule (commands.TraceCase options schedule) _ refl refl)
+no_command (Some (commands.CountedReplay options schedule)) o answer h e = inr (BySchedule (commands.CountedReplay options schedule) _ refl refl)
+no_command (Some (commands.CountedReplayCase options schedule)) o answer h e =
+    inr (BySchedule (commands.CountedReplayCase options schedule) _ refl refl)
 no_command (Some (commands.Ram options plan)) o answer h e = inr (ByPlan (commands.Ram options plan) _ refl refl)
 no_command (Some (commands.Serial options)) o answers.WordsRefused h e = absurd h.2
 no_command (Some commands.Code) o answers.WordsRefused h e = absurd h.2
@@ -72,6 +76,7 @@ no_command (Some (commands.Depth limit)) o (answers.PlanRefused number) h e = ab
 no_command (Some (commands.Races limit)) o (answers.PlanRefused number) h e = absurd h.2.1
 no_command (Some (commands.Example options)) o (answers.PlanRefused number) h e =
     absurd (of_example.no_plan_refused options o.told_before o.told_now number h.1)
+no_command command o (answers.ReplayedWith c counts) h e = absurd (delivered.came_no_refusal c e)
 no_command command o answer h e = cc
 
 -- without a command nothing is read, and the words are refused or memory is
@@ -138,6 +143,12 @@ module _ (laws : ProgramLaws) (words : List (List ℕ)) (o : Outside) (status : 
     schedule_refused (commands.TraceCase options schedule) orders c is =
         subst (λ (x : Orders). RefusesPlan schedule_form x.bytes x.processors (ports_of o)) (some_is is)
         (of_traces.case_trace_refused laws words o status a options schedule c refused)
+    schedule_refused (commands.CountedReplay options schedule) orders c is =
+        subst (λ (x : Orders). RefusesPlan schedule_form x.bytes x.processors (ports_of o)) (some_is is)
+        (of_counts.counted_refused laws words o status a options schedule c refused)
+    schedule_refused (commands.CountedReplayCase options schedule) orders c is =
+        subst (λ (x : Orders). RefusesPlan schedule_form x.bytes x.processors (ports_of o)) (some_is is)
+        (of_counts.counted_case_refused laws words o status a options schedule c refused)
     schedule_refused command orders c is = cc
 
     -- whichever plan or schedule the words name

@@ -20,6 +20,8 @@ use Rattle.ppm_driver.specs.CaseRuns.{RunCaseMay, RunCaseTells}
 use Rattle.ppm_driver.specs.CaseStops.{StopCaseMay}
 use Rattle.ppm_driver.specs.CaseSweeps.{SweepCaseMay}
 use Rattle.ppm_driver.specs.CaseTraces.{TraceCaseMay}
+use Rattle.ppm_driver.specs.CountedCases.{CountedCaseMay}
+use Rattle.ppm_driver.specs.CountedReplays.{CountedMay}
 use Rattle.ppm_driver.specs.Examples.{ExampleMay, ExampleTells}
 use Rattle.ppm_driver.specs.RamRuns.{RamMay, RamTells}
 use Rattle.ppm_driver.specs.Replays.{ReplayMay}
@@ -51,6 +53,8 @@ CommandMay (Some (commands.Resume options plan)) o answer = ResumeMay options pl
 CommandMay (Some (commands.Stop options schedule)) o answer = StopMay options schedule o.source answer
 CommandMay (Some (commands.RunCase options plan)) o answer = RunCaseMay options options.processors plan o.told_before o.told_now o.source answer
 CommandMay (Some (commands.ReplayCase options schedule)) o answer = ReplayCaseMay options schedule o.source answer
+CommandMay (Some (commands.CountedReplay options schedule)) o answer = CountedMay options schedule o.source answer
+CommandMay (Some (commands.CountedReplayCase options schedule)) o answer = CountedCaseMay options schedule o.source answer
 CommandMay (Some (commands.StopCase options schedule)) o answer = StopCaseMay options schedule o.source answer
 CommandMay (Some (commands.Sweep options schedule)) o answer = SweepMay options schedule o.source answer
 CommandMay (Some (commands.SweepCase options schedule)) o answer = SweepCaseMay options schedule o.source answer
@@ -76,6 +80,8 @@ CommandTells (Some (commands.Resume options plan)) o = ResumeTells options plan 
 CommandTells (Some (commands.Stop options schedule)) o = TellsNothing
 CommandTells (Some (commands.RunCase options plan)) o = RunCaseTells options options.processors plan o.source
 CommandTells (Some (commands.ReplayCase options schedule)) o = TellsNothing
+CommandTells (Some (commands.CountedReplay options schedule)) o = TellsNothing
+CommandTells (Some (commands.CountedReplayCase options schedule)) o = TellsNothing
 CommandTells (Some (commands.StopCase options schedule)) o = TellsNothing
 CommandTells (Some (commands.Sweep options schedule)) o = TellsNothing
 CommandTells (Some (commands.SweepCase options schedule)) o = TellsNothing

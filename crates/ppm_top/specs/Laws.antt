@@ -18,6 +18,8 @@ use Rattle.ppm_driver.specs.CodeReplays.{ReplaysAreAsCode}
 use Rattle.ppm_driver.specs.CodeResumes.{StopsOfCodeLeaveStates}
 use Rattle.ppm_driver.specs.CodeRuns.{AnswersAreAsCode}
 use Rattle.ppm_driver.specs.Completeness.{RunsComplete}
+use Rattle.ppm_driver.specs.CountedCases.{HaveOneCountedAnswer}
+use Rattle.ppm_driver.specs.CountedReplays.{HaveOneAnswer as CountedReplaysHaveOneAnswer}
 use Rattle.ppm_driver.specs.Examples.{ExamplesSumUp}
 use Rattle.ppm_driver.specs.Meant.{RunsAreAsPrograms}
 use Rattle.ppm_driver.specs.ProgramsAsCode.{ProgramsAreAsCode}
@@ -66,6 +68,8 @@ pub record ProgramLaws : Type 0 where
   pub swept_codes : SweepsAreAsCode
   pub traces : TracesHaveOneAnswer
   pub traced_cases : HaveOneTraceAnswer
+  pub counted : CountedReplaysHaveOneAnswer
+  pub counted_cases : HaveOneCountedAnswer
   pub coded : ProgramsAreAsCode
   pub ram_runs : AnswersAreAsRams
   pub ram_answers : RamAnswersAreOne

@@ -19,6 +19,8 @@ plan_of _ = None
 abbrev pub schedule_of : Command → Option Orders
 schedule_of (commands.Replay options schedule) = Some (record { processors = options.processors; bytes = schedule })
 schedule_of (commands.ReplayCase options schedule) = Some (record { processors = options.processors; bytes = schedule })
+schedule_of (commands.CountedReplay options schedule) = Some (record { processors = options.processors; bytes = schedule })
+schedule_of (commands.CountedReplayCase options schedule) = Some (record { processors = options.processors; bytes = schedule })
 schedule_of (commands.Stop options schedule) = Some (record { processors = options.processors; bytes = schedule })
 schedule_of (commands.StopCase options schedule) = Some (record { processors = options.processors; bytes = schedule })
 schedule_of (commands.Sweep options schedule) = Some (record { processors = options.processors; bytes = schedule })

@@ -32,6 +32,8 @@ use Rattle.ppm_driver.specs.CaseReplayRows.{ReplayCaseRows}
 use Rattle.ppm_driver.specs.CaseRows.{RunCaseRows}
 use Rattle.ppm_driver.specs.CaseSweepRows.{SweepCaseRows}
 use Rattle.ppm_driver.specs.CaseTraceRows.{TraceCaseRows}
+use Rattle.ppm_driver.specs.CountedCaseRows.{CountedCaseRows}
+use Rattle.ppm_driver.specs.CountedReplayRows.{CountedRows}
 use Rattle.ppm_driver.specs.ExampleRows.{ExampleRows}
 use Rattle.ppm_driver.specs.RamRows.{RamRows}
 use Rattle.ppm_driver.specs.ReplayRows.{ReplayRows}
@@ -98,6 +100,17 @@ ReplaysByWords words o status = (options : ReplayOptions) (schedule : List ℕ) 
 abbrev pub ReplaysCaseByWords : List (List ℕ) → Outside → Status → Type 0
 ReplaysCaseByWords words o status = (options : ReplayOptions) (schedule : List ℕ) → command_of words ≡ Some (commands.ReplayCase options schedule)
     → AreReplayed options × ReplayCaseRows options schedule (ports_of o) status
+
+-- those of `replay` with its counts where they ask for that, with these options, which are in their ranges, and this schedule
+abbrev pub CountsByWords : List (List ℕ) → Outside → Status → Type 0
+CountsByWords words o status = (options : ReplayOptions) (schedule : List ℕ) → command_of words ≡ Some (commands.CountedReplay options schedule)
+    → AreReplayed options × CountedRows options schedule (ports_of o) status
+
+-- those of `replay` of a case with its counts where they ask for that, with these options, which are in their ranges, and this schedule
+abbrev pub CountsCaseByWords : List (List ℕ) → Outside → Status → Type 0
+CountsCaseByWords words o status = (options : ReplayOptions) (schedule : List ℕ)
+    → command_of words ≡ Some (commands.CountedReplayCase options schedule)
+    → AreReplayed options × CountedCaseRows options schedule (ports_of o) status
 
 -- those of `sweep` where they ask for that, with these options, which are in their ranges, and this schedule
 abbrev pub SweepsByWords : List (List ℕ) → Outside → Status → Type 0
@@ -209,6 +222,8 @@ pub record ProgramRows (words : List (List ℕ)) (o : Outside) (status : Status)
   pub races : SeeksRacesByWords words o status
   pub replay : ReplaysByWords words o status
   pub replay_case : ReplaysCaseByWords words o status
+  pub counted : CountsByWords words o status
+  pub counted_case : CountsCaseByWords words o status
   pub sweep : SweepsByWords words o status
   pub sweep_case : SweepsCaseByWords words o status
   pub trace : TracesByWords words o status

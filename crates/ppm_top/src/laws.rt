@@ -11,10 +11,11 @@ use ppm_commands::{
 use ppm_driver::{
     answers_are_as_code, answers_are_as_rams, answers_are_one as runs_have_one_answer,
     case_answers_are_one, case_replays_have_one_answer, case_stops_have_one_answer,
-    case_sweeps_have_one_answer, case_traces_have_one_answer, examples_sum_up,
-    programs_are_as_code, ram_answers_are_one, replays_are_as_code, replays_have_one_answer,
-    resume_laws, runs_are_as_programs, runs_complete, stops_have_one_answer, stops_leave_states,
-    sweeps_are_as_code, sweeps_have_one_answer, traces_have_one_answer,
+    case_sweeps_have_one_answer, case_traces_have_one_answer, counted_case_replays_have_one_answer,
+    counted_replays_have_one_answer, examples_sum_up, programs_are_as_code, ram_answers_are_one,
+    replays_are_as_code, replays_have_one_answer, resume_laws, runs_are_as_programs, runs_complete,
+    stops_have_one_answer, stops_leave_states, sweeps_are_as_code, sweeps_have_one_answer,
+    traces_have_one_answer,
 };
 use ppm_plan::have_one_answer as plans_have_one_answer;
 use ppm_ram::texts_are_of_rams;
@@ -54,6 +55,8 @@ pub fn program_laws()
     programs_are_as_code();
     traces_have_one_answer();
     case_traces_have_one_answer();
+    counted_replays_have_one_answer();
+    counted_case_replays_have_one_answer();
     answers_are_as_rams();
     ram_answers_are_one();
     texts_are_of_rams();

@@ -15,9 +15,9 @@ use ppm_commands::{
     show_command,
 };
 use ppm_driver::{
-    ram_command, replay_case_command, replay_command, resume_command, run_case_command,
-    run_command, self_command, stop_case_command, stop_command, sweep_case_command, sweep_command,
-    trace_case_command, trace_command,
+    counted_replay_case_command, counted_replay_command, ram_command, replay_case_command,
+    replay_command, resume_command, run_case_command, run_command, self_command, stop_case_command,
+    stop_command, sweep_case_command, sweep_command, trace_case_command, trace_command,
 };
 use ppm_ports::{Sink, Source, Watch};
 use ppm_words::NoMemory;
@@ -119,6 +119,22 @@ fn answer_words<R: Threads + Wait + Sync, S: Source, K: Sink, E: Sink, W: Watch>
             alloc,
             options,
             case_schedule.as_slice(),
+            source,
+            out,
+            err,
+        ),
+        Ok(Some(Command::CountedReplay(options, counted))) => counted_replay_command(
+            alloc,
+            options,
+            counted.as_slice(),
+            source,
+            out,
+            err,
+        ),
+        Ok(Some(Command::CountedReplayCase(options, case_counted))) => counted_replay_case_command(
+            alloc,
+            options,
+            case_counted.as_slice(),
             source,
             out,
             err,

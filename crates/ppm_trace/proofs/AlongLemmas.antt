@@ -10,7 +10,7 @@ use Rattle.ppm_naming.specs.declared.names.Names.{Names}
 use Rattle.ppm_step.specs.declared.turn.Turn.{Turn}
 use Rattle.ppm_trace.specs.Laws.{thinned_line}
 use Rattle.ppm_trace.specs.Telling.{HasTold}
-use Rattle.ppm_trace.specs.Json.{told_as}
+use Rattle.ppm_trace.specs.Json.{told_if}
 use Rattle.ppm_trace.specs.Trace.{along_turns, counts_along, is_told, shown_line, told_counts}
 use Rattle.ppm_trace.specs.declared.counts.Counts.{Counts}
 use Rattle.ppm_trace.specs.declared.tale.Tale.{Tale}
@@ -38,7 +38,7 @@ module _ (names : Names) (excerpt : Excerpt) where
   pub told_both : (m : Situation) (first more : List Turn) (a b c : Tale) → HasTold names excerpt m first a b
       → HasTold names excerpt (run_on m first) more b c → HasTold names excerpt m (first ++ more) a c
   told_both m first more a b c d e =
-      let told = told_as names excerpt.form excerpt.from in
+      let told = told_if names excerpt.form excerpt.from in
       let one = along_turns told m first in
       let two = along_turns told (run_on m first) more in
       record {

@@ -1,5 +1,5 @@
 -- What was told, one thing after the other.
-use Rattle.std.proofs.Common.{◌≡◌, ◌∙◌, List, [], ◌∷◌, ◌++◌, ℕ, ◌-◌, ◌<◌, ◌≤◌, length, take, drop, get_or, replicate, ap, arith, refl, subst, sym}
+use Rattle.std.proofs.Common.{◌≡◌, ◌∙◌, List, [], ◌∷◌, ◌++◌, ℕ, ◌-◌, ◌<◌, ◌≤◌, length, take, drop, get_or, replicate, Some, None, ap, arith, refl, subst, sym}
 use Rattle.ppm_choice.proofs.CourseLemmas.{turns_of_both}
 use Rattle.ppm_choice.proofs.IdleLemmas.{Idle}
 use Rattle.ppm_choice.specs.Course.{Due, Listed, Course, behind_all, turns_of}
@@ -126,7 +126,7 @@ module _ (names : Names) (excerpt : Excerpt) where
 
 module _ (names : Names) (only : Only) (from : ℕ) where
   abbrev pub lines : Excerpt
-  lines = record { form = Lines only; from = from }
+  lines = record { form = Some (Lines only); from = from }
 
   -- a head, the lines of the whole run, and a tail
   pub trace_is : (m n : Situation) (way u : Way) (a b : Tale) (given items : List ScheduleItem) (turns : ℕ) (text : List ℕ) → given ≡ items
@@ -145,7 +145,7 @@ module _ (names : Names) (only : Only) (from : ℕ) where
 
 module _ (names : Names) (from : ℕ) where
   abbrev pub events : Excerpt
-  events = record { form = Events; from = from }
+  events = record { form = Some Events; from = from }
 
   -- a head, the events of the whole run, and a tail
   pub events_are : (m n : Situation) (way u : Way) (a b : Tale) (given items : List ScheduleItem) (turns : ℕ) (text : List ℕ) → given ≡ items
@@ -157,3 +157,16 @@ module _ (names : Names) (from : ℕ) where
       let told = along_turns (told_events names from) m (schedule_turns m.shape m.code m.state items turns) in
       let d = whole names events m n way u a b given items turns same first tells in
       is ∙ ap (λ front. front ++ json_tail) (d.told.text ∙ ap (λ front. front ++ told) head)
+
+module _ (names : Names) where
+  abbrev pub counting : Excerpt
+  counting = record { form = None; from = 0 }
+
+  -- what is counted in the whole run
+  pub counts_are : (m n : Situation) (way u : Way) (a b : Tale) (given items : List ScheduleItem) (turns : ℕ) → given ≡ items
+      → way ≡ record { loads = replicate 64 0; left = turns } → a.counts ≡ no_counts
+      → Tells names counting (dues_of m.shape.processors given way.left) (telling m way a) (telling n u b)
+      → b.counts ≡ counts_along 0 no_counts m (schedule_turns m.shape m.code m.state items turns)
+  counts_are m n way u a b given items turns same first zero tells =
+      (whole names counting m n way u a b given items turns same first tells).told.counts
+      ∙ ap (λ c. counts_along 0 c m (schedule_turns m.shape m.code m.state items turns)) zero

@@ -1,5 +1,5 @@
 -- A trace in the trace event format: a head, the events of each turn that is told, and a tail.
-use Rattle.std.specs.Prelude.{ℕ, ◌==◌, if◌then◌else◌, List, [], ◌++◌}
+use Rattle.std.specs.Prelude.{ℕ, ◌==◌, if◌then◌else◌, List, [], ◌++◌, Option, Some, None}
 use Rattle.std.specs.List.{flat_map, range_with_len}
 use Rattle.ppm_core.specs.Situation.{Situation}
 use Rattle.ppm_lines.specs.Events.{begun_text, events_text, json_head, json_tail}
@@ -42,6 +42,15 @@ written_as names Events from m turn = written_events names from m turn
 abbrev pub told_as : Names → Form → (from : ℕ) → Situation → Turn → List ℕ
 told_as names (Lines only) from = shown_line names only from
 told_as names Events from = told_events names from
+
+-- what is written of a turn that is told, and of any turn, if a form is asked for
+abbrev pub written_if : Names → Option Form → (from : ℕ) → Situation → Turn → List ℕ
+written_if names None from m turn = []
+written_if names (Some form) from m turn = written_as names form from m turn
+
+abbrev pub told_if : Names → Option Form → (from : ℕ) → Situation → Turn → List ℕ
+told_if names None from m turn = []
+told_if names (Some form) from m turn = told_as names form from m turn
 
 -- the trace of turns in a form
 abbrev pub trace_as : Names → Form → (from : ℕ) → Situation → List Turn → List ℕ

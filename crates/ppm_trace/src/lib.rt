@@ -2,12 +2,13 @@
 //! Model: a trace is a head, a line for each turn that is shown, and a tail of what was counted
 //! (`specs/Trace`); or a head, the events of each turn, and a tail (`specs/Json`).
 //! Contract: `trace` makes the run of a schedule and answers exactly its trace in a form, from an act
-//! on.
-//! Stands on `ppm_lines`, `ppm_marks`, `ppm_core` and `ppm_following`; the command `trace` stands on
-//! it.
+//! on; `count_run` makes it and answers what is counted in it.
+//! Stands on `ppm_lines`, `ppm_marks`, `ppm_core` and `ppm_following`; the command `trace` and
+//! `ppm_counts` stand on it.
 //! The text form is this project's.
 #![tactic(auto)]
 
+mod counting;
 mod counts;
 mod ends;
 mod events;
@@ -17,6 +18,8 @@ mod tale;
 mod telling;
 mod tracing;
 
+pub use counting::count_run;
+pub use counts::Counts;
 pub use form::Form;
 pub use laws::{
     counts_are_the_machines, lines_follow_on, thinner_lines_are_among, windows_are_parts,

@@ -6,7 +6,7 @@ ghost use Rattle.ppm_marks.specs.Marks.{marks_of};
 ghost use Rattle.ppm_marks.specs.Shown.{is_shown as is_shown_by};
 ghost use Rattle.ppm_step.specs.Among.{IsTurnAmong};
 ghost use Rattle.ppm_trace.specs.Counts.{counted, total};
-ghost use Rattle.ppm_trace.specs.Json.{written_as};
+ghost use Rattle.ppm_trace.specs.Json.{written_as, written_if};
 ghost use Rattle.ppm_trace.specs.Telling.{HasTold};
 ghost use Rattle.ppm_trace.specs.declared.form.Form.TheVariants.{Lines};
 
@@ -21,10 +21,11 @@ use ppm_step::Turn;
 use ppm_words::NoMemory;
 use std::alloc::Global;
 
-/// What is told of a run: in which form, and from which act on.
+/// What is told of a run: in which form, if in any, and from which act on. In no form nothing is
+/// written, and the run is counted alone.
 #[derive(Clone, Copy, Debug, PartialEq, Eq)]
 pub struct Excerpt {
-    pub form: Form,
+    pub form: Option<Form>,
     pub from: u64,
 }
 
@@ -97,8 +98,29 @@ fn push_if_shown(
     push_shown(alloc, text, machine, names, turn)
 }
 
-/// Appends what is written of a turn that is told.
+/// Appends what is written of a turn that is told, in a form.
 fn push_written(
+    alloc: Global,
+    text: &mut Vec<u8>,
+    machine: &Machine,
+    names: &Names,
+    form: Form,
+    from: u64,
+    turn: Turn,
+) -> Result<(), NoMemory>
+    requires among { IsTurnAmong (seen machine.now).shape.processors turn }
+    requires turns { (seen machine.now).turns < 2 ^ 62 }
+    ensures { OnOk result (text.new.items
+        ≡ text.old.items ++ written_as names.now form from (seen machine.now) turn) }
+{
+    match form {
+        Form::Lines(only) => push_if_shown(alloc, text, machine, names, only, turn),
+        Form::Events => push_written_events(alloc, text, machine, names, from, turn),
+    }
+}
+
+/// Appends what is written of a turn that is told, if anything is.
+fn push_if_written(
     alloc: Global,
     text: &mut Vec<u8>,
     machine: &Machine,
@@ -109,12 +131,12 @@ fn push_written(
     requires among { IsTurnAmong (seen machine.now).shape.processors turn }
     requires turns { (seen machine.now).turns < 2 ^ 62 }
     ensures { OnOk result (text.new.items
-        ≡ text.old.items ++ written_as names.now excerpt.form excerpt.from (seen machine.now) turn) }
+        ≡ text.old.items ++ written_if names.now excerpt.form excerpt.from (seen machine.now) turn) }
 {
-    match excerpt.form {
-        Form::Lines(only) => push_if_shown(alloc, text, machine, names, only, turn),
-        Form::Events => push_written_events(alloc, text, machine, names, excerpt.from, turn),
-    }
+    let Some(form) = excerpt.form else {
+        return Ok(());
+    };
+    push_written(alloc, text, machine, names, form, excerpt.from, turn)
 }
 
 /// Counts a turn with its marks.
@@ -151,6 +173,6 @@ pub(crate) fn tell(
         return Ok(());
     }
     count(machine, &mut tale.counts, turn);
-    push_written(alloc, &mut tale.text, machine, names, excerpt, turn)?;
+    push_if_written(alloc, &mut tale.text, machine, names, excerpt, turn)?;
     Ok(())
 }

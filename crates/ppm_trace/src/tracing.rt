@@ -46,7 +46,7 @@ fn trace_lines(
     push_head(alloc, &mut tale.text, &machine.shape(), from)?;
     let mut way = Way::first(from + acts);
     let excerpt = Excerpt {
-        form: Form::Lines(only),
+        form: Some(Form::Lines(only)),
         from,
     };
     follow_told(
@@ -87,7 +87,7 @@ fn trace_json(
     push_json_head(alloc, &mut tale.text, machine.processors())?;
     let mut way = Way::first(from + acts);
     let excerpt = Excerpt {
-        form: Form::Events,
+        form: Some(Form::Events),
         from,
     };
     follow_told(

@@ -73,6 +73,18 @@ returns-in-Ok-Some-Replay-clause-answers g c = by_ports (map string_bytes c.args
     (cc (c.in-Ok-Some-Replay.ensures.value, c.in-Ok-Some-Replay.field-0-is, c.in-Ok-Some-Replay.field-0-0-is)) refl refl
     c.replay_command.ensures.delivers
 
+-- the words ask for a replay with its counts, which was answered
+pub returns-in-Ok-Some-CountedReplay-clause-answers : goal.returns-in-Ok-Some-CountedReplay-clause-answers
+returns-in-Ok-Some-CountedReplay-clause-answers g c = by_ports (map string_bytes c.args.words.now) _ _ (Some (commands.CountedReplay _ _))
+    (cc (c.in-Ok-Some-CountedReplay.ensures.value, c.in-Ok-Some-CountedReplay.field-0-is, c.in-Ok-Some-CountedReplay.field-0-0-is)) refl refl
+    c.counted_replay_command.ensures.delivers
+
+-- the words ask for a replay of a case with its counts, which was answered
+pub returns-in-Ok-Some-CountedReplayCase-clause-answers : goal.returns-in-Ok-Some-CountedReplayCase-clause-answers
+returns-in-Ok-Some-CountedReplayCase-clause-answers g c = by_ports (map string_bytes c.args.words.now) _ _ (Some (commands.CountedReplayCase _ _))
+    (cc (c.in-Ok-Some-CountedReplayCase.ensures.value, c.in-Ok-Some-CountedReplayCase.field-0-is, c.in-Ok-Some-CountedReplayCase.field-0-0-is)) refl refl
+    c.counted_replay_case_command.ensures.delivers
+
 -- the words ask to resume, which was answered
 pub returns-in-Ok-Some-Resume-clause-answers : goal.returns-in-Ok-Some-Resume-clause-answers
 returns-in-Ok-Some-Resume-clause-answers g c = by_command (map string_bytes c.args.words.now) _ _ (Some (commands.Resume _ _))

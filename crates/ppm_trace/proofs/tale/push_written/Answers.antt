@@ -7,5 +7,5 @@ use Rattle.ppm_trace.proofs.tale.push_written.Goals as goal
 pub returns-in-Lines : goal.returns-in-Lines
 returns-in-Lines c =
     subst (λ form. OnOk c.push_if_shown.result (c.push_if_shown.new.text.items
-    ≡ c.args.text.now.items ++ written_as c.args.names.now form c.args.excerpt.from (seen c.args.machine.now) c.args.turn))
-    (sym c.in-Lines.is) (c.push_if_shown.ensures c.args.excerpt.from)
+    ≡ c.args.text.now.items ++ written_as c.args.names.now form c.args.from (seen c.args.machine.now) c.args.turn))
+    (sym c.in-Lines.is) (c.push_if_shown.ensures c.args.from)

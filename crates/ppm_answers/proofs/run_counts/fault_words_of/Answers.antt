@@ -1,0 +1,14 @@
+use Rattle.std.proofs.Common.{◌≡◌, ◌++◌, ℕ, List, [], ◌∷◌, ◌∙◌, ap, codes, append_assoc}
+use Rattle.std.specs.Prelude.{decimal}
+use Rattle.ppm_answers.proofs.run_counts.fault_words_of.Goals as goal
+
+-- the parts, put together from the right
+from_the_right : (a m b n d p e : List ℕ) → a ++ (m ++ (b ++ (n ++ (d ++ (p ++ (e ++ 10 ∷ [])))))) ≡ (a ++ m ++ b ++ n ++ d ++ p ++ e) ++ 10 ∷ []
+from_the_right a m b n d p e = simp (append_assoc)
+
+-- the bytes of the string
+pub returns : goal.returns
+returns c = let k = c.args.counts in
+    ap (λ v. v.items) c.into_bytes.ensures.value ∙ c.in_ok-text.ensures.ok ∙
+    ap (λ l. codes "soft " ++ l)
+    (from_the_right (decimal k.soft) (codes " hard ") (decimal k.hard) (codes " missed ") (decimal k.missed) (codes " room ") (decimal k.room))
