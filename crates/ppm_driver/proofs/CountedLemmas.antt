@@ -24,9 +24,9 @@ use Rattle.ppm_answers.specs.declared.sweep.Came.TheVariants as came
 use Rattle.ppm_answers.specs.declared.tally.Tally.{Tally}
 use Rattle.ppm_answers.specs.Texts.{tally_in}
 use Rattle.ppm_cli.specs.declared.replay.ReplayOptions.{ReplayOptions}
-use Rattle.ppm_counts.specs.Counts.{run_counts}
-use Rattle.ppm_counts.specs.Laws.{CountsAreOfTurns}
-use Rattle.ppm_counts.specs.Ordered.{ordered_faults}
+use Rattle.ppm_driver.specs.RunCounts.{run_counts}
+use Rattle.ppm_driver.specs.CountLaws.{CountsAreOfTurns}
+use Rattle.ppm_driver.specs.OrderedFaults.{ordered_faults}
 use Rattle.ppm_loading.specs.declared.loading.Sizes.{Sizes}
 use Rattle.ppm_loading.specs.Loading.{OpensRun}
 use Rattle.ppm_loading.specs.Says.{arrays_from, IsTheOne, IsOfFinish, IsOfEnding}

@@ -67,6 +67,9 @@ pub mod OneRam
 pub mod RamHeadlineLemmas
 pub mod OfRam
 pub mod OfReplayCase
+pub mod OrderedLemmas
+pub mod GivenLemmas
+pub mod CountTurnLemmas
 pub mod CountedLemmas
 pub mod OneCounted
 pub mod OfCounted

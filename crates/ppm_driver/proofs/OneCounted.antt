@@ -6,9 +6,9 @@ use Rattle.ppm_case.specs.Faults.{HasFault}
 use Rattle.ppm_case.specs.Rules.{case_limit}
 use Rattle.ppm_case.specs.declared.case_error.CaseFault.{CaseFault}
 use Rattle.ppm_core.specs.Situation.{Situation}
-use Rattle.ppm_counts.specs.Counts.{run_counts}
-use Rattle.ppm_counts.specs.Laws.{CountsAreOfTurns}
-use Rattle.ppm_counts.specs.Ordered.{ordered_faults}
+use Rattle.ppm_driver.specs.RunCounts.{run_counts}
+use Rattle.ppm_driver.specs.CountLaws.{CountsAreOfTurns}
+use Rattle.ppm_driver.specs.OrderedFaults.{ordered_faults}
 use Rattle.ppm_layout.specs.Correct.{ImagesAreOne}
 use Rattle.ppm_plan.specs.declared.schedule_item.ScheduleItem.{ScheduleItem}
 use Rattle.ppm_plan.specs.Correct.{HaveOneAnswer as PlansHaveOneAnswer}

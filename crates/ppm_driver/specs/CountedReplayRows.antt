@@ -28,8 +28,8 @@ use Rattle.ppm_step.specs.declared.turn.Turn.{Turn}
 use Rattle.ppm_loading.specs.MachineRows as machine
 use Rattle.ppm_loading.specs.Planned.{IsRefusedBy, HasByItems}
 use Rattle.ppm_core.specs.Situation.{Situation}
-use Rattle.ppm_counts.specs.Counts.{run_counts}
-use Rattle.ppm_counts.specs.Ordered.{ordered_faults}
+use Rattle.ppm_driver.specs.RunCounts.{run_counts}
+use Rattle.ppm_driver.specs.OrderedFaults.{ordered_faults}
 use Rattle.ppm_driver.specs.CodeReplays.{turns_in}
 use Rattle.ppm_driver.specs.CountedReplays.{ProgramHas, CountedHas, CountedMay, TextHas}
 use Rattle.ppm_driver.specs.Meant.{NeedsMoreRoom, forked_in, NoneIsTakenTwice, EndsAsProgram, IsAsProgram}

@@ -19,8 +19,8 @@ use Rattle.ppm_cli.specs.declared.replay.ReplayOptions.{ReplayOptions}
 use Rattle.ppm_cli.specs.Words.{AreReplayed}
 use Rattle.ppm_loading.specs.Planned.{PlannedHas, PlannedMay, HasSomeAnswer}
 use Rattle.ppm_loading.specs.Programs as programs
-use Rattle.ppm_counts.specs.Counts.{run_counts}
-use Rattle.ppm_counts.specs.Ordered.{ordered_faults}
+use Rattle.ppm_driver.specs.RunCounts.{run_counts}
+use Rattle.ppm_driver.specs.OrderedFaults.{ordered_faults}
 use Rattle.ppm_driver.specs.CodeReplays.{turns_in}
 use Rattle.ppm_driver.specs.Halts.{with_tally}
 use Rattle.ppm_driver.specs.Replays as plain

@@ -4,6 +4,9 @@ pub mod RunOf
 pub mod Meant
 pub mod AsCode
 pub mod Runs
+pub mod OrderedFaults
+pub mod RunCounts
+pub mod CountLaws
 pub mod Strikes
 pub mod CodeRuns
 pub mod Completeness

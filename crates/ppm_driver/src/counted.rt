@@ -9,6 +9,8 @@ ghost use Rattle.ppm_cut_bounds.specs.Bounds.{IsWithinBounds};
 ghost use Rattle.ppm_driver.specs.CountedReplays.{CodeHas, ProgramHas, CountedMay};
 ghost use Rattle.ppm_driver.specs.CountedReplayRows.{IsCountedReplay};
 
+use crate::count_laws::counts_are_of_turns;
+use crate::counting::count_replay;
 use crate::meant::runs_are_as_programs;
 use crate::one_counted::counted_replays_have_one_answer;
 use crate::orders::read_task;
@@ -17,7 +19,6 @@ use crate::saying::replay_came;
 use ppm_answers::{Answer, Status, deliver};
 use ppm_cli::ReplayOptions;
 use ppm_code::Code;
-use ppm_counts::{count_replay, counts_are_of_turns};
 use ppm_loading::{load_code, program_code};
 use ppm_plan::{Schedule, have_one_answer as schedules_have_one_answer};
 use ppm_ports::{Sink, Source};

@@ -30,7 +30,7 @@
 //! and `specs/RamRows`.
 //! `counted_replay_command` and `counted_replay_case_command` deliver what `replay` does, and what is
 //! counted in the run (`specs/CountedReplays`, `specs/CountedCases`).
-//! Stands on `ppm_threads`, `ppm_following`, `ppm_trace`, `ppm_counts`, `ppm_sweep`, `ppm_loading`,
+//! Stands on `ppm_threads`, `ppm_following`, `ppm_trace`, `ppm_sweep`, `ppm_loading`,
 //! `ppm_case`, `ppm_ram_code`, `ppm_saved`, `ppm_saved_reader` and `ppm_answers`; `ppm_top` calls it. The
 //! schedules and limits and their rules are this project's. `stop` and `resume` come after the
 //! persistent memory of Blelloch et al., SPAA 2018, which outlives its processors.
@@ -38,8 +38,10 @@
 
 mod complete;
 mod complete_resume;
+mod count_laws;
 mod counted;
 mod counted_case;
+mod counting;
 mod example;
 mod fronts;
 mod legs;
@@ -53,12 +55,14 @@ mod one_run;
 mod one_stop;
 mod one_sweep;
 mod one_trace;
+mod ordered;
 mod orders;
 mod ram;
 mod rams;
 mod replay;
 mod replay_case;
 mod resuming;
+mod room;
 mod run;
 mod run_case;
 mod saying;
@@ -75,6 +79,7 @@ mod trace_names;
 
 pub use complete::{runs_complete, runs_of_code_complete};
 pub use complete_resume::{resume_laws, resumes_complete, runs_of_code_complete_in_legs};
+pub use count_laws::counts_are_of_turns;
 pub use counted::counted_replay_command;
 pub use counted_case::counted_replay_case_command;
 pub use example::self_command;

@@ -2,8 +2,8 @@
 ghost use Rattle.ppm_driver.specs.CountedCases.{HaveOneCountedAnswer};
 ghost use Rattle.ppm_driver.specs.CountedReplays.{HaveOneAnswer};
 
+use crate::count_laws::counts_are_of_turns;
 use ppm_case::faults_tell_cases;
-use ppm_counts::counts_are_of_turns;
 use ppm_cut_code::keeps_the_rules;
 use ppm_layout::images_are_one;
 use ppm_plan::have_one_answer as schedules_have_one_answer;

@@ -3,8 +3,8 @@
 //! (`specs/Trace`); or a head, the events of each turn, and a tail (`specs/Json`).
 //! Contract: `trace` makes the run of a schedule and answers exactly its trace in a form, from an act
 //! on; `count_run` makes it and answers what is counted in it.
-//! Stands on `ppm_lines`, `ppm_marks`, `ppm_core` and `ppm_following`; the command `trace` and
-//! `ppm_counts` stand on it.
+//! Stands on `ppm_lines`, `ppm_marks`, `ppm_core` and `ppm_following`; the commands `trace` and
+//! `replay` stand on it.
 //! The text form is this project's.
 #![tactic(auto)]
 

@@ -1,7 +1,7 @@
 -- The laws that join the counts to the turns.
 use Rattle.std.specs.Prelude.{◌≡◌, ℕ, ◌+◌, List, length}
 use Rattle.ppm_core.specs.Situation.{Situation}
-use Rattle.ppm_counts.specs.Counts.{run_counts}
+use Rattle.ppm_driver.specs.RunCounts.{run_counts}
 use Rattle.ppm_step.specs.State.{along, forks_of, takes_of, work_of}
 use Rattle.ppm_step.specs.declared.turn.Turn.{Turn}
 

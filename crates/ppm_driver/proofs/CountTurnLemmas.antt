@@ -2,8 +2,8 @@
 use Rattle.std.proofs.Common.{◌≡◌, ◌∙◌, ℕ, ◌+◌, ◌-◌, ◌≤◌, Bool, true, false, if◌then◌else◌, List, [], ◌∷◌, ◌++◌, length, ap, arith, refl, sym}
 use Rattle.std.proofs.lemmas.List.{length-append}
 use Rattle.ppm_core.specs.Situation.{Situation, run_on, turned}
-use Rattle.ppm_counts.specs.Counts.{run_counts}
-use Rattle.ppm_counts.specs.Laws.{CountsAreOfTurns, IsOfTurns}
+use Rattle.ppm_driver.specs.RunCounts.{run_counts}
+use Rattle.ppm_driver.specs.CountLaws.{CountsAreOfTurns, IsOfTurns}
 use Rattle.ppm_marks.specs.Marks.{marks_of}
 use Rattle.ppm_marks.specs.declared.mark.Mark.{Mark}
 use Rattle.ppm_marks.specs.declared.mark.Mark.TheVariants as mark

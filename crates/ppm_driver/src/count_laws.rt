@@ -1,5 +1,5 @@
 //! Laws of counts, shown by a call that does nothing.
-ghost use Rattle.ppm_counts.specs.Laws.{CountsAreOfTurns};
+ghost use Rattle.ppm_driver.specs.CountLaws.{CountsAreOfTurns};
 
 use ppm_trace::counts_are_the_machines;
 

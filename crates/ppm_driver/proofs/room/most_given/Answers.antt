@@ -1,6 +1,6 @@
 use Rattle.std.proofs.Common.{arith}
-use Rattle.ppm_counts.proofs.RoomLemmas.{most_step}
-use Rattle.ppm_counts.proofs.room.most_given.Goals as goal
+use Rattle.ppm_driver.proofs.GivenLemmas.{most_step}
+use Rattle.ppm_driver.proofs.room.most_given.Goals as goal
 
 -- a place more
 pub loop-place-preserved : goal.loop-place-preserved

@@ -1,6 +1,6 @@
 use Rattle.std.proofs.Common.{◌≡◌, ◌-◌, ◌≤◌}
-use Rattle.ppm_counts.specs.Counts.{most_given}
-use Rattle.ppm_counts.proofs.room.most_given.Given as goal
+use Rattle.ppm_driver.specs.RunCounts.{most_given}
+use Rattle.ppm_driver.proofs.room.most_given.Given as goal
 
 -- the most of the places so far
 abbrev pub invariant-loop-place : goal.invariant-loop-place

@@ -2,8 +2,8 @@
 ghost use Rattle.std.specs.Prelude.{◌≡◌, ◌≤◌, ◌^◌, IfOk, OnOk};
 ghost use Rattle.ppm_choice.specs.Schedules.{schedule_turns};
 ghost use Rattle.ppm_core.specs.Machine.{seen};
-ghost use Rattle.ppm_counts.specs.Counts.{counts_of, run_counts};
-ghost use Rattle.ppm_counts.specs.Ordered.{ordered_faults};
+ghost use Rattle.ppm_driver.specs.RunCounts.{counts_of, run_counts};
+ghost use Rattle.ppm_driver.specs.OrderedFaults.{ordered_faults};
 ghost use Rattle.ppm_following.specs.Followed.{followed};
 
 use crate::ordered::faults_among;

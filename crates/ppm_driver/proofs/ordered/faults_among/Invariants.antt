@@ -1,6 +1,6 @@
 use Rattle.std.proofs.Common.{◌≡◌, ◌+◌, ◌≤◌, length}
-use Rattle.ppm_counts.specs.Ordered.{ordered_faults}
-use Rattle.ppm_counts.proofs.ordered.faults_among.Given as goal
+use Rattle.ppm_driver.specs.OrderedFaults.{ordered_faults}
+use Rattle.ppm_driver.proofs.ordered.faults_among.Given as goal
 
 -- the faults so far, and those that are left
 abbrev pub invariant-loop-left : goal.invariant-loop-left
