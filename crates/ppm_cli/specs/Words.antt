@@ -193,6 +193,7 @@ command_named name rows =
     else if bytes_eq name (codes "sweep") then sweep_in rows
     else if bytes_eq name (codes "ram") then ram_in rows
     else if bytes_eq name (codes "trace") then trace_in rows
+    else if bytes_eq name (codes "explain") then Some commands.Explain
     else None
 
 -- the command of the subcommand that was met, with its options
@@ -286,3 +287,4 @@ IsInRange (commands.SweepCase options _) = AreSwept options
 IsInRange (commands.Ram options _) = AreRun options
 IsInRange (commands.Trace options _) = AreTraced options
 IsInRange (commands.TraceCase options _) = AreTraced options
+IsInRange commands.Explain = ⊤

@@ -65,6 +65,8 @@ pub enum Command {
     Trace(TraceOptions, Items<u8>),
     /// To tell the acts of the case that is read along a schedule, of which these are the bytes.
     TraceCase(TraceOptions, Items<u8>),
+    /// To judge the source that is read, and to explain why it is refused.
+    Explain,
 }
 
 /// The command of the subcommand that was met, with its options.
@@ -104,6 +106,7 @@ fn command_named(
         "sweep" => sweep_from(alloc, matches),
         "ram" => ram_from(alloc, matches),
         "trace" => trace_from(alloc, matches),
+        "explain" => Ok(Some(Command::Explain)),
         _ => Ok(None),
     }
 }

@@ -430,4 +430,8 @@ pub const COMMANDS: [CommandRow; 13] = [
             OptionRow::Choice(INPUT),
         ],
     },
+    CommandRow {
+        name: "explain",
+        options: &[],
+    },
 ];
