@@ -8,6 +8,7 @@ use Rattle.ppm_text.specs.declared.token.Kind.{Kind}
 use Rattle.ppm_text.specs.declared.token.Kind.TheVariants as kind
 use Rattle.ppm_text.specs.declared.token.Token.{Token}
 use Rattle.ppm_printer.specs.Spelled.{keyword_text}
+use Rattle.ppm_explain.specs.Words.{four_text}
 use Rattle.ppm_answers.specs.declared.refusal.Pass.{Pass}
 use Rattle.ppm_answers.specs.declared.refusal.Pass.TheVariants as pass
 use Rattle.ppm_answers.specs.declared.refusal.Refusal.{Refusal}
@@ -73,32 +74,32 @@ note_text words = codes "note: " ++ words ++ codes "\n"
 abbrev pub meaning_text : Refusal → List ℕ
 meaning_text r = note_text (meaning_by r.pass r.number)
 
--- what is said of some words
+-- what is said of some words, to the end of the line
 abbrev pub word_advice : Keyword → List ℕ
-word_advice k.If = codes "; after `else` comes a block"
-word_advice k.Call = codes "; `x = call f();` takes the value of a call, where `x` is declared"
-word_advice k.Array = codes "; a block that is open ends with `}`"
-word_advice k.Proc = codes "; a block that is open ends with `}`"
-word_advice k.Input = codes "; a block that is open ends with `}`"
-word_advice k.Give = codes "; it comes once, as the last of a procedure"
-word_advice k.Let = []
-word_advice k.Mut = []
-word_advice k.Ref = []
-word_advice k.Int = []
-word_advice k.Else = []
-word_advice k.While = []
-word_advice k.Fork = []
-word_advice k.And = []
-word_advice k.Split = []
-word_advice k.At = []
-word_advice k.Into = []
-word_advice k.Len = []
-word_advice k.Each = []
-word_advice k.In = []
+word_advice k.If = codes "; after `else` comes a block\n"
+word_advice k.Call = codes "; `x = call f();` takes the value of a call, where `x` is declared\n"
+word_advice k.Array = codes "; a block that is open ends with `}`\n"
+word_advice k.Proc = codes "; a block that is open ends with `}`\n"
+word_advice k.Input = codes "; a block that is open ends with `}`\n"
+word_advice k.Give = codes "; it comes once, as the last of a procedure\n"
+word_advice k.Let = codes "\n"
+word_advice k.Mut = codes "\n"
+word_advice k.Ref = codes "\n"
+word_advice k.Int = codes "\n"
+word_advice k.Else = codes "\n"
+word_advice k.While = codes "\n"
+word_advice k.Fork = codes "\n"
+word_advice k.And = codes "\n"
+word_advice k.Split = codes "\n"
+word_advice k.At = codes "\n"
+word_advice k.Into = codes "\n"
+word_advice k.Len = codes "\n"
+word_advice k.Each = codes "\n"
+word_advice k.In = codes "\n"
 
 -- of a word that cannot come
 abbrev pub word_hint : Keyword → List ℕ
-word_hint w = codes "note: `" ++ keyword_text w ++ codes "` is a word of the language, and no name" ++ word_advice w ++ codes "\n"
+word_hint w = four_text (codes "note: `") (keyword_text w) (codes "` is a word of the language, and no name") (word_advice w)
 
 -- of a sign that cannot come
 abbrev pub sign_hint : Sign → List ℕ

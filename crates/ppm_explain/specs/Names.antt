@@ -8,10 +8,10 @@ use Rattle.ppm_text.specs.declared.token.Sign.TheVariants as s
 use Rattle.ppm_text.specs.declared.token.Kind.{Kind}
 use Rattle.ppm_text.specs.declared.token.Kind.TheVariants as kind
 use Rattle.ppm_text.specs.declared.token.Token.{Token}
-use Rattle.ppm_printer.specs.Spelled.{keyword_text, token_text}
+use Rattle.ppm_printer.specs.Spelled.{keyword_text}
+use Rattle.ppm_explain.specs.Words.{counted_text, located_text}
 use Rattle.ppm_explain.specs.declared.declaring.Before.{Before}
 use Rattle.ppm_explain.specs.declared.declaring.Before.TheVariants as before
-use Rattle.ppm_explain.specs.Words.{quoted}
 
 -- whether the word declares the name behind it
 abbrev pub declares : Keyword → Bool
@@ -120,14 +120,18 @@ abbrev pub stood_from : ℕ → List ℕ → ℕ → List Token → ℕ
 stood_from n x line [] = n
 stood_from n x line (t ∷ ts) = stood_from (stood_with n x line t) x line ts
 
--- that it stood there
+-- that it stood in this line
+abbrev pub before_text : ℕ → List ℕ
+before_text n = counted_text (codes "; before in line ") n
+
+-- if it did in one
 abbrev pub stood_text : ℕ → List ℕ
-stood_text n = if n == 0 then [] else codes "; before in line " ++ decimal n
+stood_text n = if n == 0 then [] else before_text n
 
 -- a name of the line: how it is declared, and where it stood before
 abbrev pub name_text : List Token → ℕ → List ℕ → List ℕ
 name_text all line x =
-    codes "name: " ++ quoted x ++ or_nowhere (declared_from before.Other x all) ++ stood_text (stood_from 0 x line all) ++ codes "\n"
+    codes "name: `" ++ x ++ codes "`" ++ or_nowhere (declared_from before.Other x all) ++ stood_text (stood_from 0 x line all) ++ codes "\n"
 
 -- whether the token is the name, in this line
 abbrev pub stands_there : List ℕ → ℕ → Token → Bool
@@ -217,4 +221,4 @@ heading_at b n (t ∷ ts) =
 -- a procedure by its name, and the line of that
 abbrev pub procedure_text : Option Token → List ℕ
 procedure_text None = []
-procedure_text (Some t) = codes "procedure: " ++ quoted (token_text t.kind) ++ codes " in line " ++ decimal t.line ++ codes "\n"
+procedure_text (Some t) = located_text (codes "procedure: `") t.kind (codes "` in line ") t.line

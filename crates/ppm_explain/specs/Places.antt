@@ -1,19 +1,21 @@
 -- Places of a text: lines and columns, both from 1; columns count bytes.
-use Rattle.std.specs.Prelude.{ℕ, zero, suc, ◌+◌, ◌-◌, ◌==◌, Bool, not, if◌then◌else◌, List, [], ◌∷◌, ◌++◌, length, take, map, reverse, codes, decimal}
-use Rattle.std.specs.List.{filter, prefix_len}
+use Rattle.std.specs.Prelude.{ℕ, zero, suc, ◌+◌, ◌-◌, ◌==◌, if◌then◌else◌, List, [], ◌∷◌, ◌++◌, length, take, map, codes, decimal}
+use Rattle.std.specs.List.{filter}
 use Rattle.ppm_pieces.specs.Pieces.{split}
 
--- whether a byte is no line feed
-abbrev pub is_in_line : ℕ → Bool
-is_in_line b = not (b == 10)
+-- the last of some lines; of none nothing
+abbrev pub last_of : List (List ℕ) → List ℕ
+last_of [] = []
+last_of (l ∷ []) = l
+last_of (l ∷ m ∷ ls) = last_of (m ∷ ls)
 
 -- the line of the place: one more than the line feeds in front of it
 abbrev pub line_of : List ℕ → ℕ → ℕ
 line_of text place = length (filter (λ b. b == 10) (take place text)) + 1
 
--- its column: one more than the bytes between the last line feed in front of it, or the beginning of the text, and it
+-- its column: one more than the bytes of the last line of what stands in front of it
 abbrev pub column_of : List ℕ → ℕ → ℕ
-column_of text place = prefix_len is_in_line (reverse (take place text)) + 1
+column_of text place = length (last_of (split 10 (take place text))) + 1
 
 -- of some lines the one that has so many in front of it; nothing where there is none
 abbrev pub line_behind : ℕ → List (List ℕ) → List ℕ

@@ -17,9 +17,13 @@ use Rattle.ppm_explain.specs.Words.{token_in, found_text, expected_text}
 use Rattle.ppm_explain.specs.Meanings.{meaning_text, hint_text}
 use Rattle.ppm_explain.specs.Names.{names_text, heading_above, heading_at, procedure_text}
 
--- of a fault of bytes: its place, but where the text is too long
+-- the place of a fault of bytes; where the text is too long nothing
+abbrev pub bytes_spot : List ℕ → Refusal → List ℕ
+bytes_spot text r = if r.number == 5 then [] else spot_text text r.place
+
+-- of a fault of bytes: its place
 abbrev pub bytes_notes : List ℕ → Refusal → List ℕ
-bytes_notes text r = (if r.number == 5 then [] else spot_text text r.place) ++ meaning_text r
+bytes_notes text r = bytes_spot text r ++ meaning_text r
 
 -- of a token that cannot come, or of the end: what stands there, what could, and a hint
 abbrev pub stop_notes : List ℕ → List Token → Expected → Refusal → List ℕ
@@ -35,20 +39,23 @@ limit_notes text tokens r = spot_text text r.place ++ found_text (token_in r.pla
 abbrev pub line_notes : List ℕ → List Token → Refusal → List ℕ
 line_notes text tokens r =
     if r.place == 0
-        then meaning_text r
-        else line_text r.place ++ shown_text (line_bytes text r.place) ++ names_text tokens r.place
-            ++ procedure_text (heading_above None before.Other r.place tokens) ++ meaning_text r
+    then meaning_text r
+    else line_text r.place ++ shown_text (line_bytes text r.place) ++ names_text tokens r.place
+    ++ procedure_text (heading_above None before.Other r.place tokens) ++ meaning_text r
 
--- of a bound that is passed: the procedure; of that on capsules, which all procedures share, none
+-- the procedure that passes a bound; of that on capsules, which all procedures share, none
+abbrev pub bound_procedure : List Token → Refusal → List ℕ
+bound_procedure tokens r = if r.number == 2 then [] else procedure_text (heading_at before.Other r.place tokens)
+
+-- of a bound that is passed: the procedure
 abbrev pub bound_notes : List Token → Refusal → List ℕ
-bound_notes tokens r =
-    (if r.number == 2 then [] else procedure_text (heading_at before.Other r.place tokens)) ++ meaning_text r
+bound_notes tokens r = bound_procedure tokens r ++ meaning_text r
 
 -- the notes by the tokens of the text
 pub record ByTokens (text : List ℕ) (notes_of : List Token → List ℕ) (notes : List ℕ) : Type 0 where
   pub tokens : List Token
   pub lexed : HasTokens text tokens
-  pub notes : notes ≡ notes_of tokens
+  pub is : notes ≡ notes_of tokens
 
 -- The notes by the tokens, and by what could stand where these go no further: just the tokens with which some text of the grammar goes on
 -- from those in front. At a token that cannot come that is its place, and so it is at the end.
@@ -59,7 +66,7 @@ pub record ByStop (text : List ℕ) (r : Refusal) (notes : List ℕ) : Type 0 wh
   pub goes_on : CanGoOn tokens expected
   pub unexpected : (place : ℕ) (fault : IsFirstUnexpected language limits tokens place) → CanFollow fault.front expected
   pub ended : IsEnded language limits tokens → CanFollow tokens expected
-  pub notes : notes ≡ stop_notes text tokens expected r
+  pub is : notes ≡ stop_notes text tokens expected r
 
 -- the notes of a fault of tokens: of the numbers 1 and 2 with what could stand there
 pub record BySyntax (text : List ℕ) (r : Refusal) (notes : List ℕ) : Type 0 where

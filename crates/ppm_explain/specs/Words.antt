@@ -1,5 +1,5 @@
 -- What stands at a place, and what could stand there, in words.
-use Rattle.std.specs.Prelude.{ℕ, ◌==◌, if◌then◌else◌, Bool, true, false, List, [], ◌∷◌, ◌++◌, codes, Option, Some, None}
+use Rattle.std.specs.Prelude.{ℕ, ◌==◌, if◌then◌else◌, Bool, true, false, List, [], ◌∷◌, ◌++◌, codes, decimal, Option, Some, None}
 use Rattle.std.specs.List.{flat_map}
 use Rattle.ppm_text.specs.declared.token.Kind.{Kind}
 use Rattle.ppm_text.specs.declared.token.Kind.TheVariants as kind
@@ -10,6 +10,18 @@ use Rattle.ppm_printer.specs.Spelled.{keyword_text, sign_text, token_text}
 -- in backticks
 abbrev pub quoted : List ℕ → List ℕ
 quoted text = codes "`" ++ text ++ codes "`"
+
+-- a number behind words
+abbrev pub counted_text : List ℕ → ℕ → List ℕ
+counted_text words number = words ++ decimal number
+
+-- a token behind words, and its line behind others
+abbrev pub located_text : List ℕ → Kind → List ℕ → ℕ → List ℕ
+located_text words k others line = words ++ token_text k ++ others ++ decimal line ++ codes "\n"
+
+-- four parts, one behind another
+abbrev pub four_text : List ℕ → List ℕ → List ℕ → List ℕ → List ℕ
+four_text a b c d = a ++ b ++ c ++ d
 
 -- what a token is called
 abbrev pub kind_name : Kind → List ℕ
@@ -57,6 +69,10 @@ abbrev pub end_text : Bool → List ℕ
 end_text true = codes ", or the end of the text"
 end_text false = []
 
+-- a line of kinds behind words, with the end of the text last
+abbrev pub listed_text : List ℕ → List Terminal → Bool → List ℕ
+listed_text words kinds end = words ++ kinds_text kinds ++ end_text end ++ codes "\n"
+
 -- the line of what could stand at a place: the kinds in the order of the grammar's, and the end of the text last
 abbrev pub expected_text : List Terminal → Bool → List ℕ
-expected_text kinds end = codes "expected: " ++ kinds_text kinds ++ end_text end ++ codes "\n"
+expected_text kinds end = listed_text (codes "expected: ") kinds end

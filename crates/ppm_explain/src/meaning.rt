@@ -9,7 +9,7 @@ ghost use Rattle.ppm_explain.specs.Meanings.{word_advice as advice_of_word};
 ghost use Rattle.ppm_explain.specs.Meanings.{sign_hint as hint_of_sign};
 ghost use Rattle.ppm_explain.specs.Words.{token_in};
 
-use crate::words::{push_word, token_at};
+use crate::words::{push_four, push_word, token_at};
 use ppm_answers::{Pass, Refusal};
 use ppm_printer::keyword_spelling;
 use ppm_text::{Keyword, Kind, Sign, Token};
@@ -38,8 +38,10 @@ fn syntax_meaning(number: u32) -> &'static str
     match number {
         1 => "no text of the grammar has this here",
         2 => "the text ends too early: a block, a list or a statement is not closed",
-        3 => "with this more than 32 openings are open: `(`, `[`, `{` and a `-` in front of an operand",
-        4 => "with this a limit is passed: 64 arrays, 4194304 words of arrays, 1024 procedures with blocks of `each`, 12 parameters or arguments, 48 nodes of the expressions of a statement",
+        3 =>
+            "with this more than 32 openings are open: `(`, `[`, `{` and a `-` in front of an operand",
+        4 =>
+            "with this a limit is passed: 64 arrays, 4194304 words of arrays, 1024 procedures with blocks of `each`, 12 parameters or arguments, 48 nodes of the expressions of a statement",
         _ => "",
     }
 }
@@ -50,19 +52,27 @@ fn region_meaning(number: u32) -> &'static str
     ensures { result.now ≡ region_words number }
 {
     match number {
-        1 => "a name of this line is not in force here: no parameter, `let`, part or index of the procedure has it; or it is called, and no procedure has it",
-        2 => "a name is declared in this line that is in force already, hidden or not; or a second array, procedure or input has it",
-        3 => "a region (an array, a `mut`, a `ref` or a part) stands where a number is asked for, or a number where the name of a region is",
+        1 =>
+            "a name of this line is not in force here: no parameter, `let`, part or index of the procedure has it; or it is called, and no procedure has it",
+        2 =>
+            "a name is declared in this line that is in force already, hidden or not; or a second array, procedure or input has it",
+        3 =>
+            "a region (an array, a `mut`, a `ref` or a part) stands where a number is asked for, or a number where the name of a region is",
         4 => "the procedure that is called in this line has more or fewer parameters",
         5 => "a region that is `ref` is written in this line, or lent to a `mut` parameter",
-        6 => "a region of this line is lent twice, in one call or in both sides of a fork, and once to a `mut` parameter",
-        7 => "a region of this line is in parts here: in the block of its `split` or `each` only the parts may be used",
-        8 => "the program needs one `proc main`; each parameter of it is `mut` or `ref` with the name of an array, and it gives no value",
+        6 =>
+            "a region of this line is lent twice, in one call or in both sides of a fork, and once to a `mut` parameter",
+        7 =>
+            "a region of this line is in parts here: in the block of its `split` or `each` only the parts may be used",
+        8 =>
+            "the program needs one `proc main`; each parameter of it is `mut` or `ref` with the name of an array, and it gives no value",
         9 => "the input of this line is for no array, or has more values than its array has words",
         10 => "a value is taken of a procedure that gives none: it ends without `give`",
         11 => "both sides of a fork give their value to one name",
-        12 => "in the block of an `each` a region of outside is written in this line: there only its element may be",
-        13 => "in the block of an `each` its index, or a number of outside, is assigned in this line",
+        12 =>
+            "in the block of an `each` a region of outside is written in this line: there only its element may be",
+        13 =>
+            "in the block of an `each` its index, or a number of outside, is assigned in this line",
         _ => "",
     }
 }
@@ -73,8 +83,10 @@ fn cut_meaning(number: u32) -> &'static str
     ensures { result.now ≡ cut_words number }
 {
     match number {
-        1 => "the procedure, or the block of an `each` in it, has more than 24 slots: one for each name in force at one place, parameters among them, and two more where it assigns to an element",
-        2 => "the program has more than 65535 capsules, counted as four for each statement and two for each procedure",
+        1 =>
+            "the procedure, or the block of an `each` in it, has more than 24 slots: one for each name in force at one place, parameters among them, and two more where it assigns to an element",
+        2 =>
+            "the program has more than 65535 capsules, counted as four for each statement and two for each procedure",
         3 => "the block of an `each` in the procedure names more than 10 names of outside",
         _ => "",
     }
@@ -102,15 +114,17 @@ pub(crate) fn push_meaning(text: &mut Vec<u8>, refusal: Refusal) -> Result<(), N
     push_word(text, "\n")
 }
 
-/// What is said of some words.
+/// What is said of some words, to the end of the line.
 fn word_advice(keyword: Keyword) -> &'static str
     ensures { result.now ≡ advice_of_word keyword }
 {
     match keyword {
-        Keyword::If => "; after `else` comes a block",
-        Keyword::Call => "; `x = call f();` takes the value of a call, where `x` is declared",
-        Keyword::Array | Keyword::Proc | Keyword::Input => "; a block that is open ends with `}`",
-        Keyword::Give => "; it comes once, as the last of a procedure",
+        Keyword::If => "; after `else` comes a block\n",
+        Keyword::Call => { "; `x = call f();` takes the value of a call, where `x` is declared\n" }
+        Keyword::Array | Keyword::Proc | Keyword::Input => {
+            "; a block that is open ends with `}`\n"
+        }
+        Keyword::Give => "; it comes once, as the last of a procedure\n",
         Keyword::Let
         | Keyword::Mut
         | Keyword::Ref
@@ -124,7 +138,7 @@ fn word_advice(keyword: Keyword) -> &'static str
         | Keyword::Into
         | Keyword::Len
         | Keyword::Each
-        | Keyword::In => "",
+        | Keyword::In => "\n",
     }
 }
 
@@ -166,11 +180,13 @@ fn sign_hint(sign: Sign) -> &'static str
 fn push_word_hint(text: &mut Vec<u8>, keyword: Keyword) -> Result<(), NoMemory>
     ensures { OnOk result (text.new.items ≡ text.old.items ++ word_hint keyword) }
 {
-    push_word(text, "note: `")?;
-    push_word(text, keyword_spelling(keyword))?;
-    push_word(text, "` is a word of the language, and no name")?;
-    push_word(text, word_advice(keyword))?;
-    push_word(text, "\n")
+    push_four(
+        text,
+        "note: `",
+        keyword_spelling(keyword),
+        "` is a word of the language, and no name",
+        word_advice(keyword),
+    )
 }
 
 /// Appends what is said of a token that cannot come.
@@ -189,11 +205,7 @@ fn push_kind_hint(text: &mut Vec<u8>, kind: &Kind) -> Result<(), NoMemory>
 }
 
 /// Appends what is said of the token at a place, if one begins there.
-pub(crate) fn push_hint(
-    text: &mut Vec<u8>,
-    tokens: &[Token],
-    place: u32,
-) -> Result<(), NoMemory>
+pub(crate) fn push_hint(text: &mut Vec<u8>, tokens: &[Token], place: u32) -> Result<(), NoMemory>
     ensures { OnOk result (text.new.items
         ≡ text.old.items ++ hint_text (token_in place tokens.now)) }
 {

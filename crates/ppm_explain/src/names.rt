@@ -2,7 +2,7 @@
 ghost use Rattle.std.specs.Prelude.{◌≡◌, ◌++◌, OnOk, IfOk, None, Some, MatchOption};
 ghost use Rattle.ppm_explain.specs.declared.declaring.Before.TheVariants as before;
 ghost use Rattle.ppm_explain.specs.Names.{is_name as is_name_of, declared_from, or_nowhere, declared_by};
-ghost use Rattle.ppm_explain.specs.Names.{stood_from, stood_text, name_text, stands_in, stands_there};
+ghost use Rattle.ppm_explain.specs.Names.{stood_from, stood_text, before_text, name_text, stands_in, stands_there};
 ghost use Rattle.ppm_explain.specs.Names.{mentioned, mention_text, names_text, last_text};
 ghost use Rattle.ppm_explain.specs.Names.{stood_with, is_above as is_above_line};
 ghost use Rattle.ppm_explain.specs.Names.{is_here as is_there, left_ahead as ahead_behind};
@@ -10,8 +10,7 @@ ghost use Rattle.ppm_explain.specs.Names.{heading_above as heading_above_line};
 ghost use Rattle.ppm_explain.specs.Names.{heading_at as heading_with, procedure_text};
 
 use crate::declaring::{Before, after, heads, push_declaration};
-use crate::words::{push_spelling, push_word};
-use ppm_pieces::push_number;
+use crate::words::{push_counted, push_located, push_word};
 use ppm_text::{Kind, Token};
 use ppm_words::{Name, NoMemory};
 use std::alloc::Global;
@@ -108,16 +107,21 @@ fn later(token: &Token, name: &[u8], line: u32, last: u32) -> u32
     }
 }
 
-/// Appends that a name stood in this line, if it did.
+/// Appends that a name stood in this line.
+fn push_before(alloc: Global, text: &mut Vec<u8>, line: u32) -> Result<(), NoMemory>
+    ensures { OnOk result (text.new.items ≡ text.old.items ++ before_text line) }
+{
+    push_counted(alloc, text, "; before in line ", line)
+}
+
+/// Appends that a name stood in this line, if it did in one.
 fn push_stood(alloc: Global, text: &mut Vec<u8>, line: u32) -> Result<(), NoMemory>
     ensures { OnOk result (text.new.items ≡ text.old.items ++ stood_text line) }
 {
     if line == 0 {
         return Ok(());
     }
-    push_word(text, "; before in line ")?;
-    push_number(alloc, text, u64::from(line))?;
-    Ok(())
+    push_before(alloc, text, line)
 }
 
 /// Appends how a name of a line is declared, and where it stood before.
@@ -303,11 +307,7 @@ pub(crate) fn heading_at(tokens: &[Token], number: u32) -> Option<&Token>
 fn push_procedure(alloc: Global, text: &mut Vec<u8>, token: &Token) -> Result<(), NoMemory>
     ensures { OnOk result (text.new.items ≡ text.old.items ++ procedure_text (Some token.now)) }
 {
-    push_word(text, "procedure: `")?;
-    push_spelling(alloc, text, &token.kind)?;
-    push_word(text, "` in line ")?;
-    push_number(alloc, text, u64::from(token.line))?;
-    push_word(text, "\n")
+    push_located(alloc, text, "procedure: `", token, "` in line ")
 }
 
 /// Appends the procedure around a line, if there is one.

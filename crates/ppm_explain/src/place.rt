@@ -1,8 +1,10 @@
 //! Places of a text: lines and columns.
-ghost use Rattle.std.specs.Prelude.{◌≡◌, ◌++◌, OnOk, take};
+ghost use Rattle.std.specs.Prelude.{◌≡◌, ◌≤◌, ◌==◌, ◌++◌, OnOk, take, length};
+ghost use Rattle.std.specs.List.{filter};
+ghost use Rattle.ppm_pieces.specs.Pieces.{split};
 ghost use Rattle.ppm_explain.specs.Places.{line_of, column_of, line_bytes, place_text, line_text};
 ghost use Rattle.ppm_explain.specs.Places.{shown_text, mark_text, spot_text};
-ghost use Rattle.ppm_explain.specs.Places.{under as byte_under};
+ghost use Rattle.ppm_explain.specs.Places.{under as byte_under, last_of};
 
 use crate::words::push_word;
 use ppm_pieces::{push_number, split_once};
@@ -21,28 +23,43 @@ fn front(items: &[u8], count: usize) -> &[u8]
     }
 }
 
+/// How many line feeds there are.
+#[tactic(auto, using(crate::proofs::PlaceLemmas::feeds_few))]
+fn line_feeds(bytes: &[u8]) -> usize
+    ensures count { result ≡ length (filter (λ b. b == 10) bytes.now) }
+    ensures few { result ≤ length bytes.now }
+{
+    bytes.iter().filter(|byte| **byte == b'\n').count()
+}
+
+/// The bytes after the last line feed, or all.
+#[tactic(auto, using(crate::proofs::PlaceLemmas::last_kept, crate::proofs::PlaceLemmas::last_one))]
+fn last_line(bytes: &[u8]) -> &[u8]
+    ensures { result.now ≡ last_of (split 10 bytes.now) }
+{
+    let mut left = bytes;
+    'lines: while let Some((_, rest)) = split_once(left, b'\n') {
+        left = rest;
+    }
+    left
+}
+
 /// The line of a place, from 1.
 fn line_at(text: &[u8], place: u32) -> usize
     ensures { result ≡ line_of text.now place }
 {
-    let before = front(text, place as usize);
-    before.iter().filter(|byte| **byte == b'\n').count() + 1
+    line_feeds(front(text, place as usize)) + 1
 }
 
 /// The column of a place, from 1, in bytes.
 fn column_at(text: &[u8], place: u32) -> usize
     ensures { result ≡ column_of text.now place }
 {
-    let before = front(text, place as usize);
-    before
-        .iter()
-        .rev()
-        .take_while(|byte| !(**byte == b'\n'))
-        .count()
-        + 1
+    last_line(front(text, place as usize)).len() + 1
 }
 
 /// The bytes of a line, which counts from 1; none where the text has no such line.
+#[tactic(auto, using(crate::proofs::PlaceLemmas::line_next, crate::proofs::PlaceLemmas::line_here, crate::proofs::PlaceLemmas::line_none))]
 fn bytes_of_line(text: &[u8], line: usize) -> &[u8]
     ensures { result.now ≡ line_bytes text.now line }
 {
@@ -87,12 +104,7 @@ fn push_shown(text: &mut Vec<u8>, line: &[u8]) -> Result<(), NoMemory>
 }
 
 /// Appends the line and the column of a place.
-fn push_place(
-    alloc: Global,
-    text: &mut Vec<u8>,
-    line: usize,
-    column: usize,
-) -> Result<(), NoMemory>
+fn push_place(alloc: Global, text: &mut Vec<u8>, line: usize, column: usize) -> Result<(), NoMemory>
     ensures { OnOk result (text.new.items ≡ text.old.items ++ place_text line column) }
 {
     push_word(text, "line ")?;

@@ -6,6 +6,7 @@ ghost use Rattle.ppm_explain.specs.Sources.{bytes_notes as notes_of_bytes, stop_
 ghost use Rattle.ppm_explain.specs.Sources.{limit_notes as notes_of_limit, line_notes as notes_of_line};
 ghost use Rattle.ppm_explain.specs.Meanings.{meaning_text};
 ghost use Rattle.ppm_explain.specs.Sources.{bound_notes as notes_of_bound, AreNotes, BySyntax};
+ghost use Rattle.ppm_explain.specs.Sources.{bytes_spot, bound_procedure};
 
 use crate::meaning::{push_hint, push_meaning};
 use crate::names::{push_around, push_names, push_numbered};
@@ -17,14 +18,27 @@ use ppm_text::{Token, Tokens, tokens};
 use ppm_words::NoMemory;
 use std::alloc::Global;
 
+/// Appends the place of a fault of bytes; where the text is too long nothing.
+fn push_bytes_spot(
+    alloc: Global,
+    text: &mut Vec<u8>,
+    source: &[u8],
+    refusal: Refusal,
+) -> Result<(), NoMemory>
+    ensures { OnOk result (text.new.items ≡ text.old.items ++ bytes_spot source.now refusal) }
+{
+    if refusal.number == 5 {
+        return Ok(());
+    }
+    push_spot(alloc, text, source, refusal.place)
+}
+
 /// What is said of a fault of bytes.
 fn bytes_notes(alloc: Global, source: &[u8], refusal: Refusal) -> Result<Vec<u8>, NoMemory>
     ensures { IfOk result (λ text. text.items ≡ notes_of_bytes source.now refusal) }
 {
     let mut text = Vec::new(alloc);
-    if refusal.number != 5 {
-        push_spot(alloc, &mut text, source, refusal.place)?;
-    }
+    push_bytes_spot(alloc, &mut text, source, refusal)?;
     push_meaning(&mut text, refusal)?;
     Ok(text)
 }
@@ -86,14 +100,27 @@ fn line_notes(
     Ok(text)
 }
 
+/// Appends the procedure that passes a bound; of the bound on capsules nothing.
+fn push_bound_procedure(
+    alloc: Global,
+    text: &mut Vec<u8>,
+    tokens: &[Token],
+    refusal: Refusal,
+) -> Result<(), NoMemory>
+    ensures { OnOk result (text.new.items ≡ text.old.items ++ bound_procedure tokens.now refusal) }
+{
+    if refusal.number == 2 {
+        return Ok(());
+    }
+    push_numbered(alloc, text, tokens, refusal.place)
+}
+
 /// What is said of a bound that is passed.
 fn bound_notes(alloc: Global, tokens: &[Token], refusal: Refusal) -> Result<Vec<u8>, NoMemory>
     ensures { IfOk result (λ text. text.items ≡ notes_of_bound tokens.now refusal) }
 {
     let mut text = Vec::new(alloc);
-    if refusal.number != 2 {
-        push_numbered(alloc, &mut text, tokens, refusal.place)?;
-    }
+    push_bound_procedure(alloc, &mut text, tokens, refusal)?;
     push_meaning(&mut text, refusal)?;
     Ok(text)
 }
@@ -139,11 +166,7 @@ fn syntax_notes(
 /// What is said, after the line of its refusal, of a source that is refused for this reason: the
 /// place, the line with a mark, what stands there and what could, the names of a line, the
 /// procedure, and what the refusal means.
-pub fn source_notes(
-    alloc: Global,
-    source: &[u8],
-    refusal: Refusal,
-) -> Result<Vec<u8>, NoMemory>
+pub fn source_notes(alloc: Global, source: &[u8], refusal: Refusal) -> Result<Vec<u8>, NoMemory>
     ensures { IfOk result (λ text. AreNotes source.now refusal text.items) }
 {
     match refusal.pass {

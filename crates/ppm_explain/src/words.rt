@@ -4,6 +4,7 @@ ghost use Rattle.ppm_printer.specs.Spelled.{token_text};
 ghost use Rattle.ppm_expected.specs.Language.{terminal_of};
 ghost use Rattle.ppm_explain.specs.Words.{quoted, kind_text, found_text, terminal_text};
 ghost use Rattle.ppm_explain.specs.Words.{kinds_text, end_text, expected_text, further_text};
+ghost use Rattle.ppm_explain.specs.Words.{counted_text, located_text, four_text, listed_text};
 ghost use Rattle.ppm_explain.specs.Words.{kind_name as name_of_kind, thing_text, token_in};
 
 use ppm_expected::{Expected, Terminal};
@@ -21,12 +22,57 @@ pub(crate) fn push_word(text: &mut Vec<u8>, word: &str) -> Result<(), NoMemory>
     Ok(())
 }
 
-/// Appends the spelling of a token.
-pub(crate) fn push_spelling(
+/// Appends a number after words.
+pub(crate) fn push_counted(
     alloc: Global,
     text: &mut Vec<u8>,
-    kind: &Kind,
+    words: &str,
+    number: u32,
 ) -> Result<(), NoMemory>
+    ensures { OnOk result (text.new.items ≡ text.old.items ++ counted_text words.now number) }
+{
+    push_word(text, words)?;
+    push_number(alloc, text, u64::from(number))?;
+    Ok(())
+}
+
+/// Appends a token after words, and its line after others.
+pub(crate) fn push_located(
+    alloc: Global,
+    text: &mut Vec<u8>,
+    words: &str,
+    token: &Token,
+    others: &str,
+) -> Result<(), NoMemory>
+    ensures { OnOk result (text.new.items ≡ text.old.items
+        ++ located_text words.now token.now.kind others.now token.now.line) }
+{
+    push_word(text, words)?;
+    push_spelling(alloc, text, &token.kind)?;
+    push_word(text, others)?;
+    push_number(alloc, text, u64::from(token.line))?;
+    push_word(text, "\n")
+}
+
+/// Appends four words, one after another.
+pub(crate) fn push_four(
+    text: &mut Vec<u8>,
+    first: &str,
+    second: &str,
+    third: &str,
+    last: &str,
+) -> Result<(), NoMemory>
+    ensures { OnOk result (text.new.items
+        ≡ text.old.items ++ four_text first.now second.now third.now last.now) }
+{
+    push_word(text, first)?;
+    push_word(text, second)?;
+    push_word(text, third)?;
+    push_word(text, last)
+}
+
+/// Appends the spelling of a token.
+pub(crate) fn push_spelling(alloc: Global, text: &mut Vec<u8>, kind: &Kind) -> Result<(), NoMemory>
     ensures { OnOk result (text.new.items ≡ text.old.items ++ token_text kind.now) }
 {
     match kind {
@@ -117,11 +163,7 @@ fn push_kinds(text: &mut Vec<u8>, terminals: &[Terminal]) -> Result<(), NoMemory
 fn end_word(end: bool) -> &'static str
     ensures { result.now ≡ end_text end }
 {
-    if end {
-        ", or the end of the text"
-    } else {
-        ""
-    }
+    if end { ", or the end of the text" } else { "" }
 }
 
 /// Appends the line of what could stand at a place.
@@ -129,7 +171,15 @@ pub(crate) fn push_expected(text: &mut Vec<u8>, expected: &Expected) -> Result<(
     ensures { OnOk result (text.new.items ≡ text.old.items
         ++ expected_text (map terminal_of expected.now.terminals.items) expected.now.end) }
 {
-    push_word(text, "expected: ")?;
+    push_listed(text, "expected: ", expected)
+}
+
+/// Appends a line of what could stand at a place, after other words.
+fn push_listed(text: &mut Vec<u8>, words: &str, expected: &Expected) -> Result<(), NoMemory>
+    ensures { OnOk result (text.new.items ≡ text.old.items
+        ++ listed_text words.now (map terminal_of expected.now.terminals.items) expected.now.end) }
+{
+    push_word(text, words)?;
     push_kinds(text, &expected.terminals)?;
     push_word(text, end_word(expected.end))?;
     push_word(text, "\n")
