@@ -5,7 +5,7 @@
 //! `specs/Meanings`).
 //! Contract: `source_notes` answers exactly that function; what could stand at a place is just what
 //! some text of the grammar has there.
-//! Stands on `ppm_text`, `ppm_expected` and `ppm_printer`; `ppm_commands` calls it.
+//! Stands on `ppm_text`, `ppm_expected` and `ppm_printer`; `ppm_top` calls it.
 //! After the messages of compilers with a mark under the place; their words are this project's.
 #![tactic(auto)]
 

@@ -5,7 +5,7 @@ ghost use Rattle.ppm_program.specs.Programs.{HasTokens};
 ghost use Rattle.ppm_explain.specs.Sources.{bytes_notes as notes_of_bytes, stop_notes as notes_of_stop};
 ghost use Rattle.ppm_explain.specs.Sources.{limit_notes as notes_of_limit, line_notes as notes_of_line};
 ghost use Rattle.ppm_explain.specs.Meanings.{meaning_text};
-ghost use Rattle.ppm_explain.specs.Sources.{bound_notes as notes_of_bound, AreNotes, BySyntax};
+ghost use Rattle.ppm_explain.specs.Sources.{bound_notes as notes_of_bound, AreNotes, ByStop, BySyntax};
 ghost use Rattle.ppm_explain.specs.Sources.{bytes_spot, bound_procedure};
 
 use crate::meaning::{push_hint, push_meaning};
@@ -145,6 +145,20 @@ fn tokens_of(alloc: Global, source: &[u8]) -> Result<Tokens, NoMemory>
     }
 }
 
+/// What is said of a token that cannot come, or of the end.
+fn stopped_notes(
+    alloc: Global,
+    source: &[u8],
+    all: &Tokens,
+    refusal: Refusal,
+) -> Result<Vec<u8>, NoMemory>
+    requires lexed { HasTokens source.now all.now.tokens }
+    ensures { IfOk result (λ text. ByStop source.now refusal text.items) }
+{
+    let expected = expected_at_fault(alloc, all)?;
+    stop_notes(alloc, source, all.as_slice(), &expected, refusal)
+}
+
 /// What is said of a fault of tokens.
 fn syntax_notes(
     alloc: Global,
@@ -156,8 +170,7 @@ fn syntax_notes(
     ensures { IfOk result (λ text. BySyntax source.now refusal text.items) }
 {
     if refusal.number < 3 {
-        let expected = expected_at_fault(alloc, all)?;
-        stop_notes(alloc, source, all.as_slice(), &expected, refusal)
+        stopped_notes(alloc, source, all, refusal)
     } else {
         limit_notes(alloc, source, all.as_slice(), refusal)
     }
