@@ -171,6 +171,10 @@ arrays = choice "arrays" ("no" ∷ "yes" ∷ []) "no"
 abbrev pub input : OptionRule
 input = choice "input" ("source" ∷ "case" ∷ []) "source"
 
+-- and where the run may go on from a saved text, whether it is that
+abbrev pub any_input : OptionRule
+any_input = choice "input" ("source" ∷ "case" ∷ "saved" ∷ []) "source"
+
 -- ---- the commands
 
 -- the whole command line
@@ -183,9 +187,9 @@ command_line =
     ∷ command "check" []
     ∷ command "depth" (capsules ∷ [])
     ∷ command "races" (capsules ∷ [])
-    ∷ command "replay" (processors ∷ turns ∷ room ∷ slots ∷ takeover ∷ schedule ∷ input ∷ [])
+    ∷ command "replay" (processors ∷ turns ∷ room ∷ slots ∷ takeover ∷ schedule ∷ any_input ∷ [])
     ∷ command "self" (few_processors ∷ size ∷ seed ∷ count ∷ [])
-    ∷ command "stop" (few_processors ∷ after ∷ small_room ∷ few_slots ∷ schedule ∷ input ∷ [])
+    ∷ command "stop" (few_processors ∷ after ∷ small_room ∷ few_slots ∷ schedule ∷ any_input ∷ [])
     ∷ command "resume" (turns ∷ looks ∷ seed ∷ faults ∷ [])
     ∷ command "sweep"
     (processors ∷ turns ∷ copied_room ∷ copied_slots ∷ swept_takeovers ∷ schedule ∷ met ∷ from ∷ acts ∷ runs ∷ seed ∷ capsules ∷ input ∷ [])

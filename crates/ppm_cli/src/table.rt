@@ -299,6 +299,13 @@ pub(crate) const INPUT: ChoiceOption = ChoiceOption {
     default: "source",
 };
 
+/// And where the run may go on from a saved text, whether it is that.
+pub(crate) const ANY_INPUT: ChoiceOption = ChoiceOption {
+    name: "input",
+    words: &["source", "case", "saved"],
+    default: "source",
+};
+
 /// The schedule of acts.
 pub(crate) const SCHEDULE: TextOption = TextOption {
     name: "schedule",
@@ -351,7 +358,7 @@ pub const COMMANDS: [CommandRow; 13] = [
             OptionRow::Number(SLOTS),
             OptionRow::Choice(TAKEOVER),
             OptionRow::Text(SCHEDULE),
-            OptionRow::Choice(INPUT),
+            OptionRow::Choice(ANY_INPUT),
         ],
     },
     CommandRow {
@@ -371,7 +378,7 @@ pub const COMMANDS: [CommandRow; 13] = [
             OptionRow::Number(SMALL_ROOM),
             OptionRow::Number(FEW_SLOTS),
             OptionRow::Text(SCHEDULE),
-            OptionRow::Choice(INPUT),
+            OptionRow::Choice(ANY_INPUT),
         ],
     },
     CommandRow {
