@@ -3,6 +3,7 @@ pub mod OfCases
 pub mod OfRams
 pub mod OfSweeps
 pub mod OfTraces
+pub mod OfLegs
 pub mod Refusing
 pub mod OfAll
 pub mod SoundCaseLemmas

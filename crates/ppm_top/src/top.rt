@@ -18,6 +18,7 @@ use ppm_driver::{
     run_command, self_command, stop_case_command, stop_command, sweep_case_command, sweep_command,
     trace_case_command, trace_command,
 };
+use ppm_legs::stop_saved_command;
 use ppm_ports::{Sink, Source, Watch};
 use ppm_words::NoMemory;
 use std::alloc::Global;
@@ -143,6 +144,14 @@ fn answer_words<R: Threads + Wait + Sync, S: Source, K: Sink, E: Sink, W: Watch>
             alloc,
             options,
             case_acts.as_slice(),
+            source,
+            out,
+            err,
+        ),
+        Ok(Some(Command::StopSaved(options, more_acts))) => stop_saved_command(
+            alloc,
+            options,
+            more_acts.as_slice(),
             source,
             out,
             err,

@@ -1,0 +1,4 @@
+pub mod SavedTexts
+pub mod Stops
+pub mod StopRows
+pub mod Chains
