@@ -1,5 +1,5 @@
 -- The rows of `stop` of a saved text.
-use Rattle.std.proofs.Common.{◌≡◌, ◌⊎◌, ℕ, List, inl, inr, sym, subst}
+use Rattle.std.proofs.Common.{◌≡◌, ◌⊎◌, ◌+◌, ℕ, List, inl, inr, sym, subst}
 use Rattle.ppm_ports.specs.Outside.{Ports}
 use Rattle.ppm_plan.specs.declared.schedule_item.ScheduleItem.{ScheduleItem}
 use Rattle.ppm_step.specs.Standings.{unknown_place}
@@ -18,6 +18,7 @@ use Rattle.ppm_cli.specs.declared.stop.StopSavedOptions.{StopSavedOptions}
 use Rattle.ppm_cli.specs.Words.{AreSavedStopped}
 use Rattle.ppm_driver.specs.ResumeLaws.{ResumeLaws}
 use Rattle.ppm_driver.specs.Resumes.{SavedState, IsTextOf}
+use Rattle.ppm_driver.specs.Strikes.{scheduled_faults}
 use Rattle.ppm_driver.proofs.ResumedOfCode.{left_words_stand}
 use Rattle.ppm_legs.specs.Chains.{IsTextOfChain, StopsGoOnChains}
 use Rattle.ppm_legs.specs.SavedTexts.{IsBroken, ItemsHave}
@@ -114,7 +115,7 @@ module _ (laws : ResumeLaws) (options : StopSavedOptions) (schedule : List ℕ) 
         let s = read.2 in
         let next = law options are read.0 s.state s.is schedule s.has.items s.has.accepted code input may stops faults chain few (answers.Saved text)
         s.has.has in
-        subst (λ (t : List ℕ). IsTextOfChain code input _ _ t) (sym (same_text text next.0 next.1)) next.2
+        subst (λ (t : List ℕ). IsTextOfChain code input (stops + 1) (faults + scheduled_faults s.has.items) t) (sym (same_text text next.0 next.1)) next.2
 
     pub stop_rows : AreSavedStopped options → HaveOneAnswer → StopsGoOnChains → StopRows options schedule o status
     stop_rows are one law = record {
