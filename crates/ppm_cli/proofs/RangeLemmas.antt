@@ -23,7 +23,7 @@ use Rattle.ppm_cli.specs.Values.{fitting_room, room_given}
 use Rattle.ppm_cli.specs.Words.{sweep_options, AreSwept, trace_options, AreTraced}
 use Rattle.ppm_cli.specs.Values.{swept_takeovers_given, traced_form_given, traced_lines_given}
 use Rattle.ppm_cli.specs.Words.{by_input, code_in, capsule_limit, with_input}
-use Rattle.ppm_cli.specs.Words.{by_any_input, command_for, stop_saved, with_any_input}
+use Rattle.ppm_cli.specs.Words.{by_any_input, command_for, replay_saved, stop_saved, with_any_input}
 use Rattle.ppm_cli.specs.Values.{choice_given, input_given, is_case_given}
 use Rattle.ppm_cli.specs.declared.capsules.CapsuleLimit.{CapsuleLimit}
 use Rattle.ppm_cli.specs.declared.command.Command.{Command}
@@ -277,7 +277,8 @@ named_are name rows =
     (either IsInRange (bytes_eq name (codes "races")) _ _
     (limited_are (λ l. commands.Races l) (λ l h. h) (capsule_limit rows) (limit_are rows))
     (either IsInRange (bytes_eq name (codes "replay")) _ _
-    (with_input_are AreReplayed commands.Replay commands.ReplayCase schedule (replay_options rows) rows (λ o t h. h) (λ o t h. h) (replay_are rows))
+    (with_any_input_are AreReplayed commands.Replay commands.ReplayCase replay_saved schedule (replay_options rows) rows (λ o t h. h) (λ o t h. h)
+    (λ o t h. h.1) (replay_are rows))
     (either IsInRange (bytes_eq name (codes "self")) _ _ (example_are rows)
     (either IsInRange (bytes_eq name (codes "stop")) _ _
     (with_any_input_are AreStopped commands.Stop commands.StopCase stop_saved schedule (stop_options rows) rows (λ o t h. h) (λ o t h. h)

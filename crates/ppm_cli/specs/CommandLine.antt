@@ -187,7 +187,7 @@ command_line =
     ∷ command "check" []
     ∷ command "depth" (capsules ∷ [])
     ∷ command "races" (capsules ∷ [])
-    ∷ command "replay" (processors ∷ turns ∷ room ∷ slots ∷ takeover ∷ schedule ∷ input ∷ [])
+    ∷ command "replay" (processors ∷ turns ∷ room ∷ slots ∷ takeover ∷ schedule ∷ any_input ∷ [])
     ∷ command "self" (few_processors ∷ size ∷ seed ∷ count ∷ [])
     ∷ command "stop" (few_processors ∷ after ∷ small_room ∷ few_slots ∷ schedule ∷ any_input ∷ [])
     ∷ command "resume" (turns ∷ looks ∷ seed ∷ faults ∷ [])

@@ -18,6 +18,7 @@ use Rattle.ppm_cli.specs.declared.example.SelfOptions.{SelfOptions}
 use Rattle.ppm_cli.specs.declared.input.InputKind.{InputKind}
 use Rattle.ppm_cli.specs.declared.input.InputKind.TheVariants as kinds
 use Rattle.ppm_cli.specs.declared.replay.ReplayOptions.{ReplayOptions}
+use Rattle.ppm_cli.specs.declared.replay.ReplaySavedOptions.{ReplaySavedOptions}
 use Rattle.ppm_cli.specs.declared.resume.ResumeOptions.{ResumeOptions}
 use Rattle.ppm_cli.specs.declared.run.RunOptions.{RunOptions}
 use Rattle.ppm_cli.specs.declared.stop.StopOptions.{StopOptions}
@@ -87,9 +88,13 @@ replay_options rows =
     and_then (takeover_given rows) (λ t.
     Some (record { processors = p; turns = n; room = w; slots = e; takeover = t }))))))
 
--- the command `replay` with its options and its schedule, over a source or over a case
+-- `replay` of a saved text, which has the sizes: of the options the most acts alone count
+abbrev pub replay_saved : ReplayOptions → Text → Command
+replay_saved options t = commands.ReplaySaved (record { turns = options.turns }) t
+
+-- the command `replay` with its options and its schedule, over a source, a case or a saved text
 abbrev pub replay_in : List Row → Option Command
-replay_in rows = with_input commands.Replay commands.ReplayCase schedule (replay_options rows) rows
+replay_in rows = with_any_input commands.Replay commands.ReplayCase replay_saved schedule (replay_options rows) rows
 
 -- the options of `stop` but for its schedule, if each has a value of its form
 abbrev pub stop_options : List Row → Option StopOptions
@@ -251,6 +256,10 @@ AreReplayed options =
     IsOfForm processors.form options.processors × IsOfForm turns.form options.turns × IsOfForm room.form options.room
     × IsOfForm slots.form options.slots × DoPoolsFit options.processors options.room
 
+-- of a replay that goes on from a saved text the most acts are in their range
+abbrev pub AreSavedReplayed : ReplaySavedOptions → Type 0
+AreSavedReplayed options = IsOfForm turns.form options.turns
+
 -- each option of a run of the program's own example is in its range
 abbrev pub AreSelf : SelfOptions → Type 0
 AreSelf options =
@@ -312,3 +321,4 @@ IsInRange (commands.Ram options _) = AreRun options
 IsInRange (commands.Trace options _) = AreTraced options
 IsInRange (commands.TraceCase options _) = AreTraced options
 IsInRange (commands.StopSaved options _) = AreSavedStopped options
+IsInRange (commands.ReplaySaved options _) = AreSavedReplayed options

@@ -7,7 +7,7 @@ use crate::capsules::{CapsuleLimit, depth_from, races_from};
 use crate::code::code_from;
 use crate::example::{SelfOptions, self_from};
 use crate::ram::ram_from;
-use crate::replay::{ReplayOptions, replay_from};
+use crate::replay::{ReplayOptions, ReplaySavedOptions, replay_from};
 use crate::resume::{ResumeOptions, resume_from};
 use crate::run::{RunOptions, run_from};
 use crate::serial::{SerialOptions, serial_from};
@@ -68,6 +68,9 @@ pub enum Command {
     /// To go on from the words of the saved text that is read, by a schedule, of which these are the
     /// bytes, to stop that run too, and to save the machine's words again.
     StopSaved(StopSavedOptions, Items<u8>),
+    /// To go on from the words of the saved text that is read, by a schedule, of which these are the
+    /// bytes.
+    ReplaySaved(ReplaySavedOptions, Items<u8>),
 }
 
 /// The command of the subcommand that was met, with its options.

@@ -34,7 +34,7 @@ pub use example::SelfOptions;
 pub use input::InputKind;
 pub use laws::any_command_may_be_added;
 pub use line::read_words;
-pub use replay::ReplayOptions;
+pub use replay::{ReplayOptions, ReplaySavedOptions};
 pub use resume::ResumeOptions;
 pub use run::RunOptions;
 pub use serial::SerialOptions;

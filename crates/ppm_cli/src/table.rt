@@ -358,7 +358,7 @@ pub const COMMANDS: [CommandRow; 13] = [
             OptionRow::Number(SLOTS),
             OptionRow::Choice(TAKEOVER),
             OptionRow::Text(SCHEDULE),
-            OptionRow::Choice(INPUT),
+            OptionRow::Choice(ANY_INPUT),
         ],
     },
     CommandRow {

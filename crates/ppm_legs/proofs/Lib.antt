@@ -7,3 +7,5 @@ pub mod OneLemmas
 pub mod StopLemmas
 pub mod ChainLemmas
 pub mod OfStop
+pub mod ReplayLemmas
+pub mod OfReplay

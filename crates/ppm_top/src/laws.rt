@@ -16,7 +16,9 @@ use ppm_driver::{
     resume_laws, runs_are_as_programs, runs_complete, stops_have_one_answer, stops_leave_states,
     sweeps_are_as_code, sweeps_have_one_answer, traces_have_one_answer,
 };
-use ppm_legs::{saved_stops_have_one_answer, stops_go_on_chains};
+use ppm_legs::{
+    saved_replays_have_one_answer, saved_stops_have_one_answer, stops_go_on_chains,
+};
 use ppm_plan::have_one_answer as plans_have_one_answer;
 use ppm_ram::texts_are_of_rams;
 
@@ -43,6 +45,7 @@ pub fn program_laws()
     replays_have_one_answer();
     stops_have_one_answer();
     saved_stops_have_one_answer();
+    saved_replays_have_one_answer();
     stops_go_on_chains();
     answers_are_as_code();
     replays_are_as_code();

@@ -18,7 +18,7 @@ use ppm_driver::{
     run_command, self_command, stop_case_command, stop_command, sweep_case_command, sweep_command,
     trace_case_command, trace_command,
 };
-use ppm_legs::stop_saved_command;
+use ppm_legs::{replay_saved_command, stop_saved_command};
 use ppm_ports::{Sink, Source, Watch};
 use ppm_words::NoMemory;
 use std::alloc::Global;
@@ -144,6 +144,14 @@ fn answer_words<R: Threads + Wait + Sync, S: Source, K: Sink, E: Sink, W: Watch>
             alloc,
             options,
             case_acts.as_slice(),
+            source,
+            out,
+            err,
+        ),
+        Ok(Some(Command::ReplaySaved(options, leg_acts))) => replay_saved_command(
+            alloc,
+            options,
+            leg_acts.as_slice(),
             source,
             out,
             err,
