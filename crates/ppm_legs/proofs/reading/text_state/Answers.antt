@@ -5,8 +5,8 @@ use Rattle.ppm_legs.proofs.LegLemmas.{long_text, refused_text}
 use Rattle.ppm_legs.proofs.reading.text_state.Goals as goal
 
 -- a text that is too long
-pub returns-then-len-gt-SAVED_LIMIT-clause-none : goal.returns-then-len-gt-SAVED_LIMIT-clause-none
-returns-then-len-gt-SAVED_LIMIT-clause-none c = long_text c.args.text.now (omega arith)
+pub returns-then-text-gt-SAVED_LIMIT-clause-none : goal.returns-then-text-gt-SAVED_LIMIT-clause-none
+returns-then-text-gt-SAVED_LIMIT-clause-none c = long_text c.args.text.now (omega arith)
 
 -- one of a state
 pub returns-in-Ok-clause-state : goal.returns-in-Ok-clause-state
