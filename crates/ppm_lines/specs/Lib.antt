@@ -5,3 +5,4 @@ pub mod Texts
 pub mod Line
 pub mod Flows
 pub mod Events
+pub mod Strokes

@@ -8,11 +8,21 @@
 //! The text form is this project's.
 #![tactic(auto)]
 
+mod arrow;
+mod canvas;
 mod counts;
 mod ends;
 mod events;
 mod form;
 mod laws;
+mod layer;
+mod legend;
+mod markup;
+mod picture;
+mod ruler;
+mod sign;
+mod strokes;
+mod style;
 mod tale;
 mod telling;
 mod tracing;

@@ -1,0 +1,103 @@
+-- Arrows between lanes, and the marks at an act.
+use Rattle.std.specs.Prelude.{ℕ, ◌+◌, ◌-◌, ◌==◌, nat_le, nat_lt, if◌then◌else◌, List, [], ◌∷◌, ◌++◌, codes, decimal}
+use Rattle.std.specs.List.{flat_map}
+use Rattle.ppm_lines.specs.Strokes.{Drawn}
+use Rattle.ppm_marks.specs.declared.mark.Mark.{Mark}
+use Rattle.ppm_marks.specs.declared.mark.Mark.TheVariants as mark
+use Rattle.ppm_trace.specs.Canvas.{lane, middle, right_edge}
+use Rattle.ppm_trace.specs.declared.arrow.Arrow.{Arrow}
+use Rattle.ppm_trace.specs.declared.arrow.Arrow.TheVariants.{Theft, Takeover}
+use Rattle.ppm_trace.specs.declared.canvas.Canvas.{Canvas}
+
+-- the classes of an arrow's line, and of its ends
+abbrev pub line_class : Arrow → List ℕ
+line_class Theft = codes "a"
+line_class Takeover = codes "o"
+
+abbrev pub end_class : Arrow → List ℕ
+end_class Theft = codes "q"
+end_class Takeover = codes "r"
+
+-- a point
+abbrev pub point : (x y : ℕ) → List ℕ
+point x y = decimal x ++ 32 ∷ decimal y
+
+-- an upright line
+abbrev pub upright : (class : List ℕ) (x start end : ℕ) → List ℕ
+upright class x start end = codes "<path class=\"" ++ class ++ codes "\" d=\"M" ++ point x start ++ codes "V" ++ decimal end ++ codes "\"/>"
+
+-- a disc, by its class and its radius
+abbrev pub disc : (class : List ℕ) (x y radius : ℕ) → List ℕ
+disc class x y radius =
+    codes "<circle class=\"" ++ class ++ codes "\" cx=\"" ++ decimal x ++ codes "\" cy=\"" ++ decimal y
+    ++ codes "\" r=\"" ++ decimal radius ++ codes "\"/>"
+
+-- a path that begins at a point
+abbrev pub path_from : (class : List ℕ) (x y : ℕ) (path : List ℕ) → List ℕ
+path_from class x y path = codes "<path class=\"" ++ class ++ codes "\" d=\"M" ++ point x y ++ path ++ codes "\"/>"
+
+-- a line with a bright edge, a disc where it starts, and a head
+abbrev pub shaft : Arrow → (x start end tip : ℕ) (head : List ℕ) → List ℕ
+shaft arrow x start end tip head =
+    upright (codes "b") x start end ++ upright (line_class arrow) x start end ++ disc (end_class arrow) x start 340
+    ++ path_from (end_class arrow) x tip head ++ 10 ∷ []
+
+-- from a lane to another, down or up
+abbrev pub arrow_text : Arrow → (x source target : ℕ) → List ℕ
+arrow_text arrow x source target =
+    if source == target then []
+    else (if nat_lt source target
+    then shaft arrow x (lane source + 2400) (lane target - 800) (lane target) (codes "l-450 -800h900z")
+    else shaft arrow x (lane source) (lane target + 3200) (lane target + 2400) (codes "l-450 800h900z"))
+
+-- the number of the place that is taken over, on the side from which the arrow comes
+abbrev pub place_label : (x y place : ℕ) → List ℕ
+place_label x y place =
+    codes "<text class=\"t r\" x=\"" ++ decimal (x + 600) ++ codes "\" y=\"" ++ decimal y ++ codes "\">place " ++ decimal place ++ codes "</text>\n"
+
+abbrev pub label_height : (source target : ℕ) → ℕ
+label_height source target = if nat_lt source target then lane target - 1500 else lane target + 4500
+
+-- what leads to an act with a mark
+abbrev pub mark_arrow : (x : ℕ) → Drawn → Mark → List ℕ
+mark_arrow x drawn mark.Won = arrow_text Theft x drawn.source drawn.processor
+mark_arrow x drawn mark.Heir = arrow_text Takeover x drawn.source drawn.processor
+mark_arrow x drawn mark.Carries =
+    arrow_text Takeover x drawn.source drawn.processor ++ place_label x (label_height drawn.source drawn.processor) drawn.source
+mark_arrow x drawn _ = []
+
+-- a cross, by its class and its size, about the middle of the act
+abbrev pub cross : (class : List ℕ) (x y size : ℕ) → List ℕ
+cross class x y size =
+    path_from class x y (codes "l" ++ point size size ++ codes "m0 -" ++ decimal size ++ codes "l-" ++ point size size)
+
+-- a processor that died: its lane is dotted from here on
+abbrev pub dotted : (x y : ℕ) → List ℕ
+dotted x y = path_from (codes "d") x y (codes "H" ++ decimal right_edge)
+
+-- a fork, and the branches at its join
+abbrev pub fine_sign : (x y : ℕ) → Mark → List ℕ
+fine_sign x y mark.Fork = path_from (codes "f") x (y - 150) (codes "l-420 -750h840z") ++ 10 ∷ []
+fine_sign x y mark.First = disc (codes "y") x (y + 3000) 330 ++ 10 ∷ []
+fine_sign x y mark.Last = disc (codes "z") x (y + 3000) 390 ++ 10 ∷ []
+fine_sign x y mark.Inline = disc (codes "z") x (y + 3000) 390 ++ 10 ∷ []
+fine_sign x y _ = []
+
+-- a mark at an act in a lane; those of single forks and joins where 10,000 acts are shown at most
+abbrev pub mark_sign : (acts x y : ℕ) → Mark → List ℕ
+mark_sign acts x y mark.Lost = cross (codes "a") (x - 300) (y + 2700) 600 ++ 10 ∷ []
+mark_sign acts x y mark.Soft = cross (codes "x") (x - 800) (y + 400) 1600 ++ 10 ∷ []
+mark_sign acts x y mark.Hard = cross (codes "x") (x - 1200) y 2400 ++ dotted (x + 1600) (y + 1200) ++ 10 ∷ []
+mark_sign acts x y sign = if nat_le acts 10000 then fine_sign x y sign else []
+
+module _ (canvas : Canvas) where
+  -- the arrows to acts in a row, the first of which comes after so many
+  abbrev pub arrows_from : (act : ℕ) → List Drawn → List ℕ
+  arrows_from act [] = []
+  arrows_from act (drawn ∷ more) = flat_map (mark_arrow (middle canvas act) drawn) drawn.marks ++ arrows_from (act + 1) more
+
+  -- and their marks
+  abbrev pub signs_from : (act : ℕ) → List Drawn → List ℕ
+  signs_from act [] = []
+  signs_from act (drawn ∷ more) =
+      flat_map (mark_sign canvas.acts (middle canvas act) (lane drawn.processor)) drawn.marks ++ signs_from (act + 1) more
