@@ -5,4 +5,3 @@ pub mod Texts
 pub mod Line
 pub mod Flows
 pub mod Events
-pub mod Strokes

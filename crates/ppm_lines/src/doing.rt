@@ -42,7 +42,7 @@ fn row_with(restart: Option<Restart>) -> Doing
 }
 
 /// What a processor is at.
-pub(crate) fn doing_of(local: &Local) -> Doing
+pub fn doing_of(local: &Local) -> Doing
     ensures { (s : Shape) (code : CodeParts) → result ≡ doing_by (standing_of s code local.now) }
 {
     match &local.stand {

@@ -102,7 +102,7 @@ fn edge_between(before: bool, after: bool) -> Edge
 }
 
 /// What a turn is to rows, where `local` is its processor before it.
-pub(crate) fn edge_of(scene: &Scene, local: &Local, turn: Turn) -> Edge
+pub fn edge_of(scene: &Scene, local: &Local, turn: Turn) -> Edge
     requires local { IsLocal scene.now.shape scene.now.code local.now }
     requires own { local.now.own ≡ turn.processor }
     requires among { IsTurnAmong scene.now.shape.processors turn }

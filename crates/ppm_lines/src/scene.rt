@@ -110,7 +110,7 @@ impl<'a> Scene<'a> {
     }
 
     /// The word at an address; 0 past the last one.
-    pub(crate) fn word_at(&self, at: u64) -> u64
+    pub fn word_at(&self, at: u64) -> u64
         ensures { result ≡ scenes.word_at self.now at }
     {
         match self.words.get(at as usize) {
@@ -120,7 +120,7 @@ impl<'a> Scene<'a> {
     }
 
     /// The procedure of a frame, by its number.
-    pub(crate) fn procedure_of(&self, frame: u32) -> Option<u32>
+    pub fn procedure_of(&self, frame: u32) -> Option<u32>
         ensures { result ≡ scenes.procedure_of self.now frame }
     {
         let number = self.word_at(u64::from(frame) + 2);
@@ -154,7 +154,7 @@ impl<'a> Scene<'a> {
     }
 
     /// Whether a block is one of a fork.
-    pub(crate) fn is_fork_block(&self, block: u32) -> bool
+    pub fn is_fork_block(&self, block: u32) -> bool
         ensures { result ≡ scenes.is_fork_block self.now block }
     {
         is_fork_link(self.link_at(block))

@@ -1,12 +1,5 @@
 pub mod Counts
 pub mod Trace
-pub mod Canvas
-pub mod Markup
-pub mod Arrows
-pub mod Layers
-pub mod Ruler
-pub mod Style
-pub mod Legend
 pub mod Picture
 pub mod Json
 pub mod Telling

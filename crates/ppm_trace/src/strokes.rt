@@ -2,17 +2,15 @@
 ghost use Rattle.std.specs.Prelude.{◌≡◌, ◌<◌, ◌++◌, [], ◌∷◌, OnOk};
 ghost use Rattle.std.specs.List.{flat_map, range_with_len};
 ghost use Rattle.ppm_core.specs.Machine.{seen};
-ghost use Rattle.ppm_lines.specs.Strokes.{drawn_of};
+ghost use Rattle.ppm_picture.specs.Strokes.{drawn_of};
 ghost use Rattle.ppm_step.specs.Among.{IsTurnAmong};
 ghost use Rattle.ppm_trace.specs.Picture.{dead_lane, dead_lanes};
 
-use crate::canvas::lane;
-use crate::markup::Markup::{Fixed, Number};
-use crate::markup::push_markup;
 use ppm_cells::Cell;
 use ppm_core::Machine;
-use ppm_lines::{Scene, Stroke, stroke_of};
+use ppm_lines::Scene;
 use ppm_naming::Names;
+use ppm_picture::{Stroke, push_dead_lane as push_dotted, stroke_of};
 use ppm_step::Turn;
 use ppm_words::NoMemory;
 use std::alloc::Global;
@@ -56,12 +54,7 @@ fn push_dead_lane(
     if machine.words()[at as usize] == 0 {
         return Ok(());
     }
-    let parts = [
-        Fixed("<path class=\"d\" d=\"M6400 "),
-        Number(lane(processor) + 1200),
-        Fixed("H90400\"/>\n"),
-    ];
-    push_markup(alloc, text, &parts)
+    push_dotted(alloc, text, processor)
 }
 
 /// Appends those of all.

@@ -1,0 +1,9 @@
+pub mod Strokes
+pub mod Canvas
+pub mod Markup
+pub mod Arrows
+pub mod Layers
+pub mod Ruler
+pub mod Style
+pub mod Legend
+pub mod Drawing
