@@ -23,22 +23,52 @@ fit distance some few = record { some = some; few = few }
 these_fit : all_fit distances
 these_fit = (
   fit 1 (omega arith) (omega arith),
-  (fit 2 (omega arith) (omega arith),
-  (fit 5 (omega arith) (omega arith),
-  (fit 10 (omega arith) (omega arith),
-  (fit 20 (omega arith) (omega arith),
-  (fit 50 (omega arith) (omega arith),
-  (fit 100 (omega arith) (omega arith),
-  (fit 200 (omega arith) (omega arith),
-  (fit 500 (omega arith) (omega arith),
-  (fit 1000 (omega arith) (omega arith),
-  (fit 2000 (omega arith) (omega arith),
-  (fit 5000 (omega arith) (omega arith),
-  (fit 10000 (omega arith) (omega arith),
-  (fit 20000 (omega arith) (omega arith),
-  (fit 50000 (omega arith) (omega arith),
-  (fit 100000 (omega arith) (omega arith),
-  omega arith)))))))))))))))),
+  (
+    fit 2 (omega arith) (omega arith),
+    (
+      fit 5 (omega arith) (omega arith),
+      (
+        fit 10 (omega arith) (omega arith),
+        (
+          fit 20 (omega arith) (omega arith),
+          (
+            fit 50 (omega arith) (omega arith),
+            (
+              fit 100 (omega arith) (omega arith),
+              (
+                fit 200 (omega arith) (omega arith),
+                (
+                  fit 500 (omega arith) (omega arith),
+                  (
+                    fit 1000 (omega arith) (omega arith),
+                    (
+                      fit 2000 (omega arith) (omega arith),
+                      (
+                        fit 5000 (omega arith) (omega arith),
+                        (
+                          fit 10000 (omega arith) (omega arith),
+                          (
+                            fit 20000 (omega arith) (omega arith),
+                            (
+                              fit 50000 (omega arith) (omega arith),
+                              (
+                                fit 100000 (omega arith) (omega arith),
+                                omega arith,
+                              ),
+                            ),
+                          ),
+                        ),
+                      ),
+                    ),
+                  ),
+                ),
+              ),
+            ),
+          ),
+        ),
+      ),
+    ),
+  ),
 )
 
 pub distance_fits : (acts : ℕ) → 1 ≤ acts → acts ≤ 2 ^ 40 → Fits (distance_among distances acts)

@@ -61,12 +61,15 @@ place_label x y place =
 abbrev pub label_height : (source target : ℕ) → ℕ
 label_height source target = if nat_lt source target then lane target - 1500 else lane target + 4500
 
+-- a takeover of a place
+abbrev pub takeover_text : (x source target : ℕ) → List ℕ
+takeover_text x source target = arrow_text Takeover x source target ++ place_label x (label_height source target) source
+
 -- what leads to an act with a mark
 abbrev pub mark_arrow : (x : ℕ) → Drawn → Mark → List ℕ
 mark_arrow x drawn mark.Won = arrow_text Theft x drawn.source drawn.processor
 mark_arrow x drawn mark.Heir = arrow_text Takeover x drawn.source drawn.processor
-mark_arrow x drawn mark.Carries =
-    arrow_text Takeover x drawn.source drawn.processor ++ place_label x (label_height drawn.source drawn.processor) drawn.source
+mark_arrow x drawn mark.Carries = takeover_text x drawn.source drawn.processor
 mark_arrow x drawn _ = []
 
 -- a cross, by its class and its size, from its upper left end

@@ -43,8 +43,14 @@ key_text =
     ++ codes "<path class=\"r\" d=\"M73400 7750l-800 -450v900z\"/><text class=\"t\" x=\"74100\" y=\"8200\">takeover</text>\n"
     ++ codes "</g>\n</svg>\n"
 
+-- the first eight
+abbrev pub procedures_text : Names → List ℕ
+procedures_text names = labels_from 0 (take 8 names.procedures)
+
+-- the beginning of a legend at a height
+abbrev pub legend_head : (y : ℕ) → List ℕ
+legend_head y = codes "<g transform=\"translate(6400 " ++ decimal y ++ codes ")\">\n<text class=\"t\" x=\"-900\" y=\"4000\">"
+
 -- the legend, under the lanes, with the end of the picture
 abbrev pub legend_text : Canvas → Names → List ℕ
-legend_text canvas names =
-    codes "<g transform=\"translate(6400 " ++ decimal (bottom canvas) ++ codes ")\">\n<text class=\"t\" x=\"-900\" y=\"4000\">"
-    ++ labels_from 0 (take 8 names.procedures) ++ codes "</text>\n" ++ key_text
+legend_text canvas names = legend_head (bottom canvas) ++ procedures_text names ++ codes "</text>\n" ++ key_text

@@ -21,22 +21,21 @@ abbrev pub distance_among : List ℕ → (acts : ℕ) → ℕ
 distance_among [] acts = acts
 distance_among (distance ∷ more) acts = if nat_le acts (12 * distance) then distance else distance_among more acts
 
+-- the number of a tick, and what the ruler counts, at a height
+abbrev pub tick_label : (x y act : ℕ) → List ℕ
+tick_label x y act =
+    codes "<text class=\"t u m\" x=\"" ++ decimal x ++ codes "\" y=\"" ++ decimal y ++ codes "\">" ++ grouped act ++ codes "</text>\n"
+
+abbrev pub ruler_label : (y : ℕ) → List ℕ
+ruler_label y = codes "<text class=\"t u\" x=\"900\" y=\"" ++ decimal y ++ codes "\">acts</text>\n"
+
 module _ (canvas : Canvas) where
-  -- the number of a tick, or of the ruler what it counts, under the last lane
-  abbrev pub tick_label : (x act : ℕ) → List ℕ
-  tick_label x act =
-      codes "<text class=\"t u m\" x=\"" ++ decimal x ++ codes "\" y=\"" ++ decimal (bottom canvas + 1500) ++ codes "\">"
-      ++ grouped act ++ codes "</text>\n"
-
-  abbrev pub ruler_label : List ℕ
-  ruler_label = codes "<text class=\"t u\" x=\"900\" y=\"" ++ decimal (bottom canvas + 1500) ++ codes "\">acts</text>\n"
-
   -- a tick at so many distances from the run's first act
   abbrev pub tick_text : (distance number : ℕ) → List ℕ
   tick_text distance number =
       let act = number * distance in
       let x = across canvas (act - canvas.from) in
-      upright (codes "g") x 5600 (bottom canvas) ++ tick_label x act
+      upright (codes "g") x 5600 (bottom canvas) ++ tick_label x (bottom canvas + 1500) act
 
   -- the ticks from the first act that is shown to the end of the last one
   abbrev pub ticks_by : (distance : ℕ) → List ℕ
@@ -45,7 +44,7 @@ module _ (canvas : Canvas) where
       flat_map (tick_text distance) (range_with_len first ((canvas.from + canvas.acts) / distance + 1 - first))
 
   abbrev pub ruler_text : List ℕ
-  ruler_text = ticks_by (distance_among distances canvas.acts) ++ ruler_label
+  ruler_text = ticks_by (distance_among distances canvas.acts) ++ ruler_label (bottom canvas + 1500)
 
 -- an empty lane
 abbrev pub lane_text : (processor : ℕ) → List ℕ

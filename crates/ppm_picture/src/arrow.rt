@@ -4,8 +4,8 @@ ghost use Rattle.std.specs.List.{flat_map};
 ghost use Rattle.ppm_marks.specs.Marks.{listed_one};
 ghost use Rattle.ppm_picture.specs.Arrows.{arrow_text, arrows_from, disc, downward};
 ghost use Rattle.ppm_picture.specs.Arrows.{label_height, mark_arrow, path_from, place_label};
-ghost use Rattle.ppm_picture.specs.Arrows.{shaft, upright, upward};
-ghost use Rattle.ppm_picture.specs.Canvas.{IsCanvas};
+ghost use Rattle.ppm_picture.specs.Arrows.{shaft, takeover_text, upright, upward};
+ghost use Rattle.ppm_picture.specs.Canvas.{IsCanvas, middle};
 
 use crate::canvas::{Canvas, lane};
 use crate::markup::Markup::{Fixed, Number};
@@ -152,7 +152,8 @@ fn push_down(
 {
     let tip = lane(target);
     push_shaft(alloc, text, arrow, x, lane(source) + 2400, tip - 800)?;
-    push_path(alloc, text, arrow.end_class(), x, tip, "l-450 -800h900z")
+    push_path(alloc, text, arrow.end_class(), x, tip, "l-450 -800h900z")?;
+    Ok(())
 }
 
 /// Appends an arrow from a lane to an earlier one.
@@ -166,9 +167,17 @@ fn push_up(
 ) -> Result<(), NoMemory>
     ensures { OnOk result (text.new.items ≡ text.old.items ++ upward arrow x source target) }
 {
-    let tip = lane(target) + 2400;
-    push_shaft(alloc, text, arrow, x, lane(source), tip + 800)?;
-    push_path(alloc, text, arrow.end_class(), x, tip, "l-450 800h900z")
+    let top = lane(target);
+    push_shaft(alloc, text, arrow, x, lane(source), top + 2400 + 800)?;
+    push_path(
+        alloc,
+        text,
+        arrow.end_class(),
+        x,
+        top + 2400,
+        "l-450 800h900z",
+    )?;
+    Ok(())
 }
 
 /// Appends an arrow, if it leads to another lane.
@@ -218,6 +227,22 @@ fn push_place(alloc: Global, text: &mut Vec<u8>, x: u64, y: u64, place: u32) -> 
     push_markup(alloc, text, &parts)
 }
 
+/// Appends a takeover of a place.
+fn push_takeover(
+    alloc: Global,
+    text: &mut Vec<u8>,
+    x: u64,
+    source: u32,
+    target: u32,
+) -> Result<(), NoMemory>
+    requires { x ≤ 2 ^ 62 }
+    ensures { OnOk result (text.new.items ≡ text.old.items ++ takeover_text x source target) }
+{
+    push_arrow(alloc, text, Arrow::Takeover, x, source, target)?;
+    push_place(alloc, text, x, label_height(source, target), source)?;
+    Ok(())
+}
+
 /// Appends what leads to an act with a mark.
 fn push_mark_arrow(
     alloc: Global,
@@ -234,10 +259,7 @@ fn push_mark_arrow(
     match mark {
         Mark::Won => push_arrow(alloc, text, Arrow::Theft, x, source, target),
         Mark::Heir => push_arrow(alloc, text, Arrow::Takeover, x, source, target),
-        Mark::Carries => {
-            push_arrow(alloc, text, Arrow::Takeover, x, source, target)?;
-            push_place(alloc, text, x, label_height(source, target), source)
-        }
+        Mark::Carries => push_takeover(alloc, text, x, source, target),
         Mark::Fork
         | Mark::Push
         | Mark::Pop
@@ -279,14 +301,17 @@ fn push_arrow_of(
 fn push_arrows_to(
     alloc: Global,
     text: &mut Vec<u8>,
-    x: u64,
+    canvas: Canvas,
+    act: u64,
     stroke: &Stroke,
 ) -> Result<(), NoMemory>
-    requires { x ≤ 2 ^ 62 }
+    requires canvas { IsCanvas canvas }
+    requires few { act ≤ 2 ^ 41 }
     ensures { OnOk result (text.new.items
-        ≡ text.old.items ++ flat_map (mark_arrow x stroke.now) stroke.now.marks) }
+        ≡ text.old.items ++ flat_map (mark_arrow (middle canvas act) stroke.now) stroke.now.marks) }
 {
     let marks = stroke.marks;
+    let x = canvas.middle(act);
     push_arrow_of(alloc, text, x, stroke, marks.first)?;
     push_arrow_of(alloc, text, x, stroke, marks.second)
 }
@@ -305,7 +330,7 @@ pub(crate) fn push_arrows(
     let mut act = 0;
     let mut left = strokes;
     while let [stroke, rest @ ..] = left {
-        push_arrows_to(alloc, text, canvas.middle(act), stroke)?;
+        push_arrows_to(alloc, text, canvas, act, stroke)?;
         act += 1;
         left = rest;
     }

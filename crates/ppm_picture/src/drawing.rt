@@ -73,7 +73,8 @@ fn push_title(
     push_from(alloc, text, canvas.from)?;
     push_markup(alloc, text, &[Fixed(": ")])?;
     push_ending(alloc, text, finish)?;
-    push_markup(alloc, text, &[Fixed("</text>\n")])
+    push_markup(alloc, text, &[Fixed("</text>\n")])?;
+    Ok(())
 }
 
 /// Appends the beginning of a picture, of so many acts, up to the first line over its lanes. `Err`

@@ -1,6 +1,7 @@
 //! The legend of a picture.
 ghost use Rattle.std.specs.Prelude.{◌≡◌, ◌++◌, ◌≤◌, OnOk, length};
-ghost use Rattle.ppm_picture.specs.Legend.{key_text, label_at, label_text, labels_from, legend_text};
+ghost use Rattle.ppm_picture.specs.Legend.{label_at, label_text, labels_from, legend_head};
+ghost use Rattle.ppm_picture.specs.Legend.{legend_text, procedures_text};
 
 use crate::canvas::Canvas;
 use crate::markup::Markup::{Fixed, Number};
@@ -112,6 +113,28 @@ fn push_labels(alloc: Global, text: &mut Vec<u8>, names: &[ProcedureName]) -> Re
     Ok(())
 }
 
+/// Appends the first eight.
+fn push_procedures(alloc: Global, text: &mut Vec<u8>, names: &Names) -> Result<(), NoMemory>
+    ensures { OnOk result (text.new.items ≡ text.old.items ++ procedures_text names.now) }
+{
+    let procedures = names.procedures.as_slice();
+    let count = 8.min(procedures.len());
+    push_labels(alloc, text, &procedures[..count])?;
+    Ok(())
+}
+
+/// Appends the beginning of a legend at a height.
+fn push_legend_head(alloc: Global, text: &mut Vec<u8>, y: u64) -> Result<(), NoMemory>
+    ensures { OnOk result (text.new.items ≡ text.old.items ++ legend_head y) }
+{
+    let parts = [
+        Fixed("<g transform=\"translate(6400 "),
+        Number(y),
+        Fixed(")\">\n<text class=\"t\" x=\"-900\" y=\"4000\">"),
+    ];
+    push_markup(alloc, text, &parts)
+}
+
 /// Appends the legend, and the end of the picture. `Err` only where memory is refused.
 pub fn push_legend(
     alloc: Global,
@@ -121,15 +144,9 @@ pub fn push_legend(
 ) -> Result<(), NoMemory>
     ensures { OnOk result (text.new.items ≡ text.old.items ++ legend_text canvas names.now) }
 {
-    let parts = [
-        Fixed("<g transform=\"translate(6400 "),
-        Number(canvas.bottom()),
-        Fixed(")\">\n<text class=\"t\" x=\"-900\" y=\"4000\">"),
-    ];
-    push_markup(alloc, text, &parts)?;
-    let procedures = names.procedures.as_slice();
-    let count = procedures.len().min(8);
-    push_labels(alloc, text, &procedures[..count])?;
+    push_legend_head(alloc, text, canvas.bottom())?;
+    push_procedures(alloc, text, names)?;
     push_markup(alloc, text, &[Fixed("</text>\n")])?;
-    push_markup(alloc, text, &KEY)
+    push_markup(alloc, text, &KEY)?;
+    Ok(())
 }

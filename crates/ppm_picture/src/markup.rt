@@ -53,11 +53,7 @@ fn push_part(alloc: Global, text: &mut Vec<u8>, part: Markup) -> Result<(), NoMe
 }
 
 /// Appends these parts. `Err` only where memory is refused.
-pub fn push_markup(
-    alloc: Global,
-    text: &mut Vec<u8>,
-    parts: &[Markup],
-) -> Result<(), NoMemory>
+pub fn push_markup(alloc: Global, text: &mut Vec<u8>, parts: &[Markup]) -> Result<(), NoMemory>
     ensures { OnOk result (text.new.items ≡ text.old.items ++ markup_text parts.now) }
 {
     let mut left = parts;

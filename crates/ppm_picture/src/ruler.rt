@@ -32,21 +32,21 @@ fn distance_among(among: &[u64], acts: u64) -> u64
     acts
 }
 
-/// Appends the number of a tick, under the last lane.
+/// Appends the number of a tick, at a height.
 fn push_tick_label(
     alloc: Global,
     text: &mut Vec<u8>,
-    canvas: Canvas,
     x: u64,
+    y: u64,
     act: u64,
 ) -> Result<(), NoMemory>
-    ensures { OnOk result (text.new.items ≡ text.old.items ++ tick_label canvas x act) }
+    ensures { OnOk result (text.new.items ≡ text.old.items ++ tick_label x y act) }
 {
     let parts = [
         Fixed("<text class=\"t u m\" x=\""),
         Number(x),
         Fixed("\" y=\""),
-        Number(canvas.bottom() + 1500),
+        Number(y),
         Fixed("\">"),
         Grouped(act),
         Fixed("</text>\n"),
@@ -68,8 +68,10 @@ fn push_tick(
 {
     let act = number * distance;
     let x = canvas.across(act.saturating_sub(canvas.from));
-    push_upright(alloc, text, "g", x, 5600, canvas.bottom())?;
-    push_tick_label(alloc, text, canvas, x, act)
+    let bottom = canvas.bottom();
+    push_upright(alloc, text, "g", x, 5600, bottom)?;
+    push_tick_label(alloc, text, x, bottom + 1500, act)?;
+    Ok(())
 }
 
 /// Appends the ticks from one number on, up to the end.
@@ -110,13 +112,13 @@ fn push_ticks(
     push_ticks_between(alloc, text, canvas, distance, first, end)
 }
 
-/// Appends what the ruler counts.
-fn push_ruler_label(alloc: Global, text: &mut Vec<u8>, canvas: Canvas) -> Result<(), NoMemory>
-    ensures { OnOk result (text.new.items ≡ text.old.items ++ ruler_label canvas) }
+/// Appends what the ruler counts, at a height.
+fn push_ruler_label(alloc: Global, text: &mut Vec<u8>, y: u64) -> Result<(), NoMemory>
+    ensures { OnOk result (text.new.items ≡ text.old.items ++ ruler_label y) }
 {
     let parts = [
         Fixed("<text class=\"t u\" x=\"900\" y=\""),
-        Number(canvas.bottom() + 1500),
+        Number(y),
         Fixed("\">acts</text>\n"),
     ];
     push_markup(alloc, text, &parts)
@@ -128,7 +130,8 @@ pub(crate) fn push_ruler(alloc: Global, text: &mut Vec<u8>, canvas: Canvas) -> R
     ensures { OnOk result (text.new.items ≡ text.old.items ++ ruler_text canvas) }
 {
     push_ticks(alloc, text, canvas, distance_among(&DISTANCES, canvas.acts))?;
-    push_ruler_label(alloc, text, canvas)
+    push_ruler_label(alloc, text, canvas.bottom() + 1500)?;
+    Ok(())
 }
 
 /// Appends an empty lane.

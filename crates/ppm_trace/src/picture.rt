@@ -80,13 +80,7 @@ pub(crate) fn picture(
     let mut text = Vec::new(alloc);
     push_top(alloc, &mut text, canvas, tale.counts.acts, finish)?;
     push_counts(alloc, &mut text, tale.counts, shape.takeover)?;
-    push_middle(
-        alloc,
-        &mut text,
-        canvas,
-        strokes,
-        tale.text.as_slice(),
-    )?;
+    push_middle(alloc, &mut text, canvas, strokes, tale.text.as_slice())?;
     push_legend(alloc, &mut text, canvas, names)?;
     Ok(text)
 }
