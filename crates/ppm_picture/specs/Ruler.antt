@@ -21,21 +21,23 @@ abbrev pub distance_among : List ℕ → (acts : ℕ) → ℕ
 distance_among [] acts = acts
 distance_among (distance ∷ more) acts = if nat_le acts (12 * distance) then distance else distance_among more acts
 
--- the number of a tick, and what the ruler counts, at a height
-abbrev pub tick_label : (x y act : ℕ) → List ℕ
-tick_label x y act =
-    codes "<text class=\"t u m\" x=\"" ++ decimal x ++ codes "\" y=\"" ++ decimal y ++ codes "\">" ++ grouped act ++ codes "</text>\n"
-
+-- what the ruler counts, at a height
 abbrev pub ruler_label : (y : ℕ) → List ℕ
 ruler_label y = codes "<text class=\"t u\" x=\"900\" y=\"" ++ decimal y ++ codes "\">acts</text>\n"
 
 module _ (canvas : Canvas) where
+  -- the number of a tick, under the last lane
+  abbrev pub tick_label : (x act : ℕ) → List ℕ
+  tick_label x act =
+      codes "<text class=\"t u m\" x=\"" ++ decimal x ++ codes "\" y=\"" ++ decimal (bottom canvas + 1500) ++ codes "\">"
+      ++ grouped act ++ codes "</text>\n"
+
   -- a tick at so many distances from the run's first act
   abbrev pub tick_text : (distance number : ℕ) → List ℕ
   tick_text distance number =
       let act = number * distance in
       let x = across canvas (act - canvas.from) in
-      upright (codes "g") x 5600 (bottom canvas) ++ tick_label x (bottom canvas + 1500) act
+      upright (codes "g") x 5600 (bottom canvas) ++ tick_label x act
 
   -- the ticks from the first act that is shown to the end of the last one
   abbrev pub ticks_by : (distance : ℕ) → List ℕ

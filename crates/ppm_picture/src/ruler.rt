@@ -32,21 +32,21 @@ fn distance_among(among: &[u64], acts: u64) -> u64
     acts
 }
 
-/// Appends the number of a tick, at a height.
+/// Appends the number of a tick, under the last lane.
 fn push_tick_label(
     alloc: Global,
     text: &mut Vec<u8>,
+    canvas: Canvas,
     x: u64,
-    y: u64,
     act: u64,
 ) -> Result<(), NoMemory>
-    ensures { OnOk result (text.new.items ≡ text.old.items ++ tick_label x y act) }
+    ensures { OnOk result (text.new.items ≡ text.old.items ++ tick_label canvas x act) }
 {
     let parts = [
         Fixed("<text class=\"t u m\" x=\""),
         Number(x),
         Fixed("\" y=\""),
-        Number(y),
+        Number(canvas.bottom() + 1500),
         Fixed("\">"),
         Grouped(act),
         Fixed("</text>\n"),
@@ -68,10 +68,8 @@ fn push_tick(
 {
     let act = number * distance;
     let x = canvas.across(act.saturating_sub(canvas.from));
-    let bottom = canvas.bottom();
-    push_upright(alloc, text, "g", x, 5600, bottom)?;
-    push_tick_label(alloc, text, x, bottom + 1500, act)?;
-    Ok(())
+    push_upright(alloc, text, "g", x, 5600, canvas.bottom())?;
+    push_tick_label(alloc, text, canvas, x, act)
 }
 
 /// Appends the ticks from one number on, up to the end.
