@@ -4,7 +4,7 @@ use Rattle.std.proofs.Math.Nat.{div-mul-le_self, mul-le-mul_right}
 use Rattle.ppm_picture.specs.Ruler.{distance_among, distances, Fits}
 
 -- all of a list
-all_fit : List ℕ → Type 0
+abbrev all_fit : List ℕ → Type 0
 all_fit [] = 1 ≤ 1
 all_fit (distance ∷ more) = Fits distance × all_fit more
 

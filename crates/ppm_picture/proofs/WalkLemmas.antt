@@ -12,12 +12,13 @@ rest_is drawn more =
 -- one act more is written
 pub walk_more : (at : ℕ → Drawn → List ℕ) (onward : ℕ → List Drawn → List ℕ)
     → ((act : ℕ) (drawn : Drawn) (more : List Drawn) → onward act (drawn ∷ more) ≡ at act drawn ++ onward (act + 1) more)
-    → {all : List ℕ} (text : List ℕ) {new : List ℕ} (act : ℕ) (left : List Drawn) (d : Drawn) → 1 ≤ length left
-    → all ≡ text ++ onward act left → new ≡ text ++ at act (get_or left 0 d)
+    → {all : List ℕ} (text : List ℕ) {new : List ℕ} (act : ℕ) (left : List Drawn) (d : Drawn) → 1 ≤ length left → d ≡ get_or left 0 d
+    → all ≡ text ++ onward act left → new ≡ text ++ at act d
     → all ≡ new ++ onward (act + 1) (take (length left - 1) (drop 1 left))
-walk_more at onward step text act [] d some is pushed = absurd (omega (arith, some))
-walk_more at onward step text {new} act (drawn ∷ more) d some is pushed =
-    piece text (at act drawn) (onward (act + 1) more) (is ∙ ap (λ rest. text ++ rest) (step act drawn more)) pushed
+walk_more at onward step text act [] d some first is pushed = absurd (omega (arith, some))
+walk_more at onward step text {new} act (drawn ∷ more) d some first is pushed =
+    piece text (at act drawn) (onward (act + 1) more) (is ∙ ap (λ rest. text ++ rest) (step act drawn more))
+    (pushed ∙ ap (λ k. text ++ at act k) first)
     ∙ ap (λ rest. new ++ onward (act + 1) rest) (sym (rest_is drawn more))
 
 -- and those that are left are fewer

@@ -25,11 +25,15 @@ from_text from = if from == 0 then [] else codes " from " ++ grouped from
 abbrev pub ending_text : (finish : ℕ) → List ℕ
 ending_text finish = if finish == 0 then codes "not ended" else value_text Finish finish
 
+-- how many processors there are, and acts
+abbrev pub sizes_text : (processors acts : ℕ) → List ℕ
+sizes_text processors acts =
+    codes "<text class=\"t h\" x=\"6400\" y=\"2200\">" ++ decimal processors ++ codes " processors, " ++ grouped acts ++ codes " acts"
+
 -- the first line over the lanes, of so many acts
 abbrev pub title_text : Canvas → (acts finish : ℕ) → List ℕ
 title_text canvas acts finish =
-    codes "<text class=\"t h\" x=\"6400\" y=\"2200\">" ++ decimal canvas.processors ++ codes " processors, " ++ grouped acts ++ codes " acts"
-    ++ from_text canvas.from ++ codes ": " ++ ending_text finish ++ codes "</text>\n"
+    sizes_text canvas.processors acts ++ from_text canvas.from ++ codes ": " ++ ending_text finish ++ codes "</text>\n"
 
 -- the beginning of a picture, up to that line
 abbrev pub top_text : Canvas → (acts finish : ℕ) → List ℕ

@@ -2,7 +2,7 @@
 ghost use Rattle.std.specs.Prelude.{◌≡◌, ◌++◌, ◌≤◌, OnOk, length};
 ghost use Rattle.ppm_picture.specs.Canvas.{IsCanvas};
 ghost use Rattle.ppm_picture.specs.Drawing.{dead_lane_text, ending_text, frame_text, from_text};
-ghost use Rattle.ppm_picture.specs.Drawing.{middle_text, title_text, top_text};
+ghost use Rattle.ppm_picture.specs.Drawing.{middle_text, sizes_text, title_text, top_text};
 
 use crate::arrow::{push_arrows, push_upright};
 use crate::canvas::{Canvas, lane};
@@ -52,6 +52,20 @@ fn push_ending(alloc: Global, text: &mut Vec<u8>, finish: u64) -> Result<(), NoM
     push_value(alloc, text, WordKind::Finish, finish)
 }
 
+/// Appends how many processors there are, and acts.
+fn push_sizes(alloc: Global, text: &mut Vec<u8>, processors: u32, acts: u64) -> Result<(), NoMemory>
+    ensures { OnOk result (text.new.items ≡ text.old.items ++ sizes_text processors acts) }
+{
+    let parts = [
+        Fixed("<text class=\"t h\" x=\"6400\" y=\"2200\">"),
+        Number(u64::from(processors)),
+        Fixed(" processors, "),
+        Grouped(acts),
+        Fixed(" acts"),
+    ];
+    push_markup(alloc, text, &parts)
+}
+
 /// Appends the first line over the lanes.
 fn push_title(
     alloc: Global,
@@ -62,14 +76,7 @@ fn push_title(
 ) -> Result<(), NoMemory>
     ensures { OnOk result (text.new.items ≡ text.old.items ++ title_text canvas acts finish) }
 {
-    let parts = [
-        Fixed("<text class=\"t h\" x=\"6400\" y=\"2200\">"),
-        Number(u64::from(canvas.processors)),
-        Fixed(" processors, "),
-        Grouped(acts),
-        Fixed(" acts"),
-    ];
-    push_markup(alloc, text, &parts)?;
+    push_sizes(alloc, text, canvas.processors, acts)?;
     push_from(alloc, text, canvas.from)?;
     push_markup(alloc, text, &[Fixed(": ")])?;
     push_ending(alloc, text, finish)?;
@@ -121,5 +128,6 @@ pub fn push_middle(
     text.extend_from_slice(dead)?;
     push_arrows(alloc, text, canvas, strokes)?;
     push_signs(alloc, text, canvas, strokes)?;
-    push_upright(alloc, text, "n", 90400, 5600, canvas.bottom())
+    push_upright(alloc, text, "n", 90400, 5600, canvas.bottom())?;
+    Ok(())
 }
