@@ -65,12 +65,12 @@ label_height source target = if nat_lt source target then lane target - 1500 els
 abbrev pub takeover_text : (x source target : ℕ) → List ℕ
 takeover_text x source target = arrow_text Takeover x source target ++ place_label x (label_height source target) source
 
--- what leads to an act with a mark
-abbrev pub mark_arrow : (x : ℕ) → Drawn → Mark → List ℕ
-mark_arrow x drawn mark.Won = arrow_text Theft x drawn.source drawn.processor
-mark_arrow x drawn mark.Heir = arrow_text Takeover x drawn.source drawn.processor
-mark_arrow x drawn mark.Carries = takeover_text x drawn.source drawn.processor
-mark_arrow x drawn _ = []
+-- what leads from a lane to an act with a mark in another
+abbrev pub mark_arrow : (x source target : ℕ) → Mark → List ℕ
+mark_arrow x source target mark.Won = arrow_text Theft x source target
+mark_arrow x source target mark.Heir = arrow_text Takeover x source target
+mark_arrow x source target mark.Carries = takeover_text x source target
+mark_arrow x source target _ = []
 
 -- a cross, by its class and its size, from its upper left end
 abbrev pub cross : (class : List ℕ) (x y size : ℕ) → List ℕ
@@ -105,7 +105,7 @@ module _ (canvas : Canvas) where
   -- the arrows to acts in a row, the first of which comes after so many
   abbrev pub arrows_from : (act : ℕ) → List Drawn → List ℕ
   arrows_from act [] = []
-  arrows_from act (drawn ∷ more) = flat_map (mark_arrow (middle canvas act) drawn) drawn.marks ++ arrows_from (act + 1) more
+  arrows_from act (drawn ∷ more) = flat_map (mark_arrow (middle canvas act) drawn.source drawn.processor) drawn.marks ++ arrows_from (act + 1) more
 
   -- and their marks
   abbrev pub signs_from : (act : ℕ) → List Drawn → List ℕ

@@ -243,19 +243,18 @@ fn push_takeover(
     Ok(())
 }
 
-/// Appends what leads to an act with a mark.
+/// Appends what leads from a lane to an act with a mark in another.
 fn push_mark_arrow(
     alloc: Global,
     text: &mut Vec<u8>,
     x: u64,
-    stroke: &Stroke,
+    source: u32,
+    target: u32,
     mark: Mark,
 ) -> Result<(), NoMemory>
     requires { x ≤ 2 ^ 62 }
-    ensures { OnOk result (text.new.items ≡ text.old.items ++ mark_arrow x stroke.now mark) }
+    ensures { OnOk result (text.new.items ≡ text.old.items ++ mark_arrow x source target mark) }
 {
-    let source = stroke.source;
-    let target = stroke.processor;
     match mark {
         Mark::Won => push_arrow(alloc, text, Arrow::Theft, x, source, target),
         Mark::Heir => push_arrow(alloc, text, Arrow::Takeover, x, source, target),
@@ -284,16 +283,17 @@ fn push_arrow_of(
     alloc: Global,
     text: &mut Vec<u8>,
     x: u64,
-    stroke: &Stroke,
+    source: u32,
+    target: u32,
     mark: Option<Mark>,
 ) -> Result<(), NoMemory>
     requires { x ≤ 2 ^ 62 }
     ensures { OnOk result (text.new.items
-        ≡ text.old.items ++ flat_map (mark_arrow x stroke.now) (listed_one mark)) }
+        ≡ text.old.items ++ flat_map (mark_arrow x source target) (listed_one mark)) }
 {
     match mark {
         None => Ok(()),
-        Some(mark) => push_mark_arrow(alloc, text, x, stroke, mark),
+        Some(mark) => push_mark_arrow(alloc, text, x, source, target, mark),
     }
 }
 
@@ -308,12 +308,14 @@ fn push_arrows_to(
     requires canvas { IsCanvas canvas }
     requires few { act ≤ 2 ^ 41 }
     ensures { OnOk result (text.new.items
-        ≡ text.old.items ++ flat_map (mark_arrow (middle canvas act) stroke.now) stroke.now.marks) }
+        ≡ text.old.items ++ flat_map (mark_arrow (middle canvas act) stroke.now.source stroke.now.processor) stroke.now.marks) }
 {
     let marks = stroke.marks;
+    let source = stroke.source;
+    let target = stroke.processor;
     let x = canvas.middle(act);
-    push_arrow_of(alloc, text, x, stroke, marks.first)?;
-    push_arrow_of(alloc, text, x, stroke, marks.second)
+    push_arrow_of(alloc, text, x, source, target, marks.first)?;
+    push_arrow_of(alloc, text, x, source, target, marks.second)
 }
 
 /// Appends the arrows to all acts.

@@ -118,7 +118,7 @@ fn push_procedures(alloc: Global, text: &mut Vec<u8>, names: &Names) -> Result<(
     ensures { OnOk result (text.new.items ≡ text.old.items ++ procedures_text names.now) }
 {
     let procedures = names.procedures.as_slice();
-    let count = 8.min(procedures.len());
+    let count = 8usize.min(procedures.len());
     push_labels(alloc, text, &procedures[..count])?;
     Ok(())
 }
