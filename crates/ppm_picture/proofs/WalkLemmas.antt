@@ -1,5 +1,5 @@
 -- A walk over what is shown, act by act.
-use Rattle.std.proofs.Common.{◌≡◌, ◌∙◌, List, [], ◌∷◌, ◌++◌, ℕ, ◌+◌, ◌-◌, ◌≤◌, length, take, drop, get_or, ap, arith, subst, sym, take_all, le_refl}
+use Rattle.std.proofs.Common.{◌≡◌, ◌∙◌, List, [], ◌∷◌, ◌++◌, ℕ, ◌+◌, ◌-◌, ◌≤◌, length, take, drop, get_or, ap, arith, sym, take_all, le_refl}
 use Rattle.ppm_picture.proofs.TextLemmas.{piece}
 use Rattle.ppm_picture.specs.Strokes.{Drawn}
 

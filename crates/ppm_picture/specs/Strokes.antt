@@ -5,7 +5,7 @@ use Rattle.ppm_cells.specs.Memory.{read}
 use Rattle.ppm_cells.specs.declared.cell.Cell.TheVariants.{HolderWord}
 use Rattle.ppm_cells.specs.declared.holder.Holder.{Holder}
 use Rattle.ppm_cells.specs.declared.restart.RestartKind.{RestartKind}
-use Rattle.ppm_cells.specs.declared.restart.RestartKind.TheVariants.{Run, Bump, Push1, Push2, Unwind, Arrive, Join, Pop1, Pop2, Seek, Steal, Check, Take, Take2}
+use Rattle.ppm_cells.specs.declared.restart.RestartKind.TheVariants.{Run, Bump, Unwind, Seek, Steal, Check, Take, Take2}
 use Rattle.ppm_cells.specs.declared.shape.Shape.{Shape}
 use Rattle.ppm_cells.specs.declared.shape.Takeover.{Takeover}
 use Rattle.ppm_cells.specs.declared.shape.Takeover.TheVariants.{ByPlaces, ByEntries}
@@ -24,7 +24,7 @@ use Rattle.ppm_picture.specs.declared.paint.Paint.TheVariants.{Placing, Looking,
 use Rattle.ppm_lines.specs.Doing.{doing_of}
 use Rattle.ppm_lines.specs.Events.{edge_of}
 use Rattle.ppm_lines.specs.Line.{scene_of}
-use Rattle.ppm_lines.specs.Scene.{Scene, procedure_of, is_fork_block, word_at}
+use Rattle.ppm_lines.specs.Scene.{Scene, procedure_of, is_fork_block}
 
 -- who acts, as what its lane is painted, whether a row begins or ends, the marks, and the lane from which an arrow leads to it
 pub record Drawn : Type 0 where

@@ -1,4 +1,4 @@
-use Rattle.std.proofs.Common.{◌≡◌, ◌+◌, ◌≤◌, ◌++◌, length}
+use Rattle.std.proofs.Common.{◌≡◌, ◌++◌, length}
 use Rattle.ppm_picture.specs.Markup.{in_threes}
 use Rattle.ppm_picture.proofs.markup.push_digits.Given as goal
 

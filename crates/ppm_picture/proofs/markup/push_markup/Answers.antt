@@ -1,4 +1,3 @@
-use Rattle.std.proofs.Common.{◌≡◌, ◌∙◌, ◌<◌, List, [], ◌∷◌, ℕ, length, arith, sym}
 use Rattle.ppm_picture.proofs.TextLemmas.{markup_last}
 use Rattle.ppm_picture.proofs.markup.push_markup.Goals as goal
 

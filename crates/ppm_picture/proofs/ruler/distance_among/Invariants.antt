@@ -1,4 +1,4 @@
-use Rattle.std.proofs.Common.{◌≡◌, ◌+◌, ◌≤◌, ◌++◌, length}
+use Rattle.std.proofs.Common.{◌≡◌, length}
 use Rattle.ppm_picture.specs.Ruler.{distance_among}
 use Rattle.ppm_picture.proofs.ruler.distance_among.Given as goal
 
