@@ -1,5 +1,6 @@
 //! A program is laid out: names become slots, and blocks are put one behind the other.
-ghost use Rattle.std.specs.Prelude.{◌≡◌, ◌++◌, ◌∷◌, [], length, map, IfOk, IfSome, OnOk};
+ghost use Rattle.std.specs.Prelude.{◌≡◌, ◌++◌, ◌∷◌, [], length, map, FitsSigned, IfOk, IfSome, OnOk};
+ghost use Rattle.std.specs.Int.{w64};
 ghost use Rattle.ppm_serial.specs.declared.code.Value.TheVariants as operand;
 ghost use Rattle.ppm_serial.specs.declared.code.Step.TheVariants as step;
 ghost use Rattle.ppm_tree.specs.Tree.{block_of, expression_of, give_of, procedure_of, side_of};
@@ -107,7 +108,8 @@ fn local_in(value: &Value) -> Option<usize>
 
 /// The number that a literal is.
 fn number_in(value: &Value) -> Option<i64>
-    ensures { IfSome result (λ number. value.now ≡ operand.Number number) }
+    ensures value { IfSome result (λ number. value.now ≡ operand.Number number) }
+    ensures in_range { IfSome result (λ number. FitsSigned w64 number) }
 {
     match value {
         Value::Number(number) => Some(*number),
