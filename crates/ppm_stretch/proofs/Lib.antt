@@ -14,3 +14,4 @@ mod RowLemmas
 mod EndingLemmas
 mod AskingLemmas
 mod WaitingLemmas
+mod SchedulingLemmas

@@ -3,3 +3,4 @@ pub mod Entering
 pub mod Rows
 pub mod Ending
 pub mod Asking
+pub mod Scheduling

@@ -15,6 +15,7 @@ mod entering;
 mod frames;
 mod refusing;
 mod rows;
+mod scheduling;
 mod waiting;
 mod way;
 

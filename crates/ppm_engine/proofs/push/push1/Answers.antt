@@ -1,0 +1,37 @@
+use Rattle.std.proofs.Common.{◌≡◌, ◌+◌, ◌==◌, ℕ, Bool, true, false, ap}
+use Rattle.ppm_step.specs.declared.row.Row.{Row}
+use Rattle.ppm_step.specs.Standings.{stands}
+use Rattle.ppm_cells.specs.declared.shape.Shape.{Shape}
+use Rattle.ppm_cells.specs.declared.shape.Takeover.TheVariants.{ByPlaces, ByEntries}
+use Rattle.ppm_engine.proofs.RowLemmas.{is_slot, no_slot, push_as}
+use Rattle.ppm_engine.proofs.MakingLemmas.{moved}
+use Rattle.ppm_engine.proofs.push.push1.Goals as goal
+
+pub push_inline-requires-clause-stands : goal.push_inline-requires-clause-stands
+push_inline-requires-clause-stands g c κs within =
+    let m = c.args.memory.now in
+    let s = g.M.Memory.shape m in
+    let code = g.M.Memory.code m in
+    let place = c.args.seat.now in
+    let last = is_slot (place.restart.bottom + 1) c.shape-shape.result.slots s.slots c.if-slots.true (ap (λ (x : Shape). x.slots) c.shape-shape.ensures) in
+    moved (g.M.Memory.led m place.own) g.first (ap (λ (r : Row). stands s code place r) (push_as place s.takeover s.takeover c.args.block (place.restart.bottom + 1 == s.slots) true refl last)) c.requires.stands
+
+pub push_above-requires-clause-stands : goal.push_above-requires-clause-stands
+push_above-requires-clause-stands g c κs within =
+    let m = c.args.memory.now in
+    let s = g.M.Memory.shape m in
+    let code = g.M.Memory.code m in
+    let place = c.args.seat.now in
+    let more = no_slot (place.restart.bottom + 1) c.shape-shape.result.slots s.slots c.if-slots.false (ap (λ (x : Shape). x.slots) c.shape-shape.ensures) in
+    let how = sym (ap (λ (x : Shape). x.takeover) c.shape-shape.ensures) ∙ c.in-ByPlaces.is in
+    moved (g.M.Memory.led m place.own) g.first (ap (λ (r : Row). stands s code place r) (push_as place ByPlaces s.takeover c.args.block (place.restart.bottom + 1 == s.slots) false how more)) c.requires.stands
+
+pub push_by_order-requires-clause-stands : goal.push_by_order-requires-clause-stands
+push_by_order-requires-clause-stands g c κs within =
+    let m = c.args.memory.now in
+    let s = g.M.Memory.shape m in
+    let code = g.M.Memory.code m in
+    let place = c.args.seat.now in
+    let more = no_slot (place.restart.bottom + 1) c.shape-shape.result.slots s.slots c.if-slots.false (ap (λ (x : Shape). x.slots) c.shape-shape.ensures) in
+    let how = sym (ap (λ (x : Shape). x.takeover) c.shape-shape.ensures) ∙ c.in-ByEntries.is in
+    moved (g.M.Memory.led m place.own) g.first (ap (λ (r : Row). stands s code place r) (push_as place ByEntries s.takeover c.args.block (place.restart.bottom + 1 == s.slots) false how more)) c.requires.stands

@@ -1,0 +1,14 @@
+use Rattle.std.proofs.Common.{◌≡◌, ◌≤◌, ◌-◌, Some}
+use Rattle.ppm_cells.specs.Restart.{IsRestart}
+use Rattle.ppm_step.specs.Standings.{IsAt}
+use Rattle.ppm_table.specs.Run.{stands_by, deeds_in}
+use Rattle.ppm_stretch.specs.Steady.{Moves}
+use Rattle.ppm_stretch.proofs.scheduling.rows_along.Given as goal
+
+abbrev pub invariant-loop-made : goal.invariant-loop-made
+invariant-loop-made g l = (l.made ≤ l.fn.most) × (l.work ≤ l.made) × (l.looks ≤ l.made) × (l.mine.table_id ≡ l.fn.mine.table_id)
+    × Moves g.W.Watch.told l.words.shared.key l.fn.local.own l.fn.mine.me l.mine.me l.fn.watch l.watch l.made l.work l.looks l.exchanged
+    × (stands_by l.words.shared.key l.fn.local.own (deeds_in l.mine.me.0) ≡ IsAt l.place (Some l.at)) × IsRestart l.at
+
+abbrev pub decreases-loop-made : goal.decreases-loop-made
+decreases-loop-made g l = l.fn.most - l.made

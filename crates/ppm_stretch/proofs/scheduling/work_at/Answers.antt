@@ -1,0 +1,26 @@
+use Rattle.std.proofs.Common.{◌∙◌, true, sym, ap, subst, arith}
+use Rattle.ppm_code.specs.declared.code.CodeParts.{CodeParts}
+use Rattle.ppm_engine.specs.declared.memory.Stop.{Stop}
+use Rattle.ppm_engine.specs.Steps.{StopsAt}
+use Rattle.ppm_seated.specs.Laws.{led_none}
+use Rattle.ppm_step.specs.Rows.{row_of}
+use Rattle.ppm_step.specs.Standings.{stands}
+use Rattle.ppm_stretch.specs.declared.way.Rowed.{Rowed}
+use Rattle.ppm_stretch.specs.Scheduling.{HasWorked}
+use Rattle.ppm_stretch.proofs.SteadyLemmas.{of_told}
+use Rattle.ppm_stretch.proofs.SchedulingLemmas.{refuses_alive, row_works}
+use Rattle.ppm_stretch.proofs.scheduling.work_at.Goals as goal
+
+pub make_row-requires-clause-seat : goal.make_row-requires-clause-seat
+make_row-requires-clause-seat g c κs within = (c.requires.seat.0, row_works c.args.place.now.restart.kind c.requires.seat.1)
+
+pub make_row-requires-clause-stands : goal.make_row-requires-clause-stands
+make_row-requires-clause-stands g c κs within =
+    let words = c.args.words.now.shared in
+    let place = c.args.place.now in
+    let s = c.args.shape.now in
+    led_none words.table_id words.key place.own c.args.mine.now.table_id c.args.mine.now.me _ (g.W.Watch.told c.args.watch.now) (record {
+      of_table = c.requires.table.0;
+      sits = c.requires.sits;
+      stands = c.requires.stands ∙ ap (λ (code : CodeParts). stands s code place (row_of s place place.restart.kind)) (sym c.requires.table.2);
+    })
