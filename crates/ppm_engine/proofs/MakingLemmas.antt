@@ -85,7 +85,7 @@ then_lives s code seat (Enter capsule) = enters_lives s code seat seat.restart.k
 then_lives s code seat Again = λ e. cc
 then_lives s code seat Broken = λ e. cc
 
-stands_lives : (s : Shape) (code : CodeParts) (seat : Seat) (row : Row) → stands s code seat row ≢ IsDone
+pub stands_lives : (s : Shape) (code : CodeParts) (seat : Seat) (row : Row) → stands s code seat row ≢ IsDone
 stands_lives s code seat (Now next) = then_lives s code seat next
 stands_lives s code seat (Store cell content next) = within_lives seat _ _
 stands_lives s code seat (Exchange cell old new next) = within_lives seat _ _

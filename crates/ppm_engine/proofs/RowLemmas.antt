@@ -1,5 +1,5 @@
 -- The rows of work: where each goes on with what it has found.
-use Rattle.std.proofs.Common.{◌≡◌, ◌≢◌, ◌∙◌, ◌+◌, ◌-◌, ◌<◌, ◌^◌, ◌==◌, ne_eqb, eqb-refl, ℕ, zero, suc, Bool, true, false, if◌then◌else◌, Option, Some, None, sym, refl, ap, subst, arith}
+use Rattle.std.proofs.Common.{◌≡◌, ◌≢◌, ◌⊎◌, inl, inr, ◌∙◌, ◌+◌, ◌-◌, ◌<◌, ◌^◌, ◌==◌, ne_eqb, eqb-refl, ℕ, zero, suc, Bool, true, false, if◌then◌else◌, Option, Some, None, sym, refl, ap, subst, arith}
 use Rattle.std.specs.Prelude.{nat_lt}
 use Rattle.ppm_cells.specs.Cells.{word_count}
 use Rattle.ppm_cells.specs.Entry.{IsEntry}
@@ -132,13 +132,13 @@ join_breaks block (Call frame copy) h = refl
 join_breaks block (Branch side other) h = refl
 join_breaks block (ForkLink to copy) h = absurd (h to copy refl)
 
+abbrev some_or : ℕ → Option ℕ → ℕ
+some_or d None = d
+some_or d (Some n) = n
+
 -- by whether an address is one of the words
 if_some : (at word : ℕ) (b : Bool) → Some at ≡ (if b then Some word else None) → (at ≡ word) × (b ≡ true)
-if_some at word true e = (ap (λ (o : Option ℕ). some_or at o) e, refl)
-  where
-    abbrev some_or : ℕ → Option ℕ → ℕ
-    some_or d None = d
-    some_or d (Some n) = n
+if_some at word true e = (let h = ap (λ (o : Option ℕ). some_or at o) e in h, refl)
 if_some at word false e = cc
 
 if_none : (word : ℕ) (b : Bool) → None ≡ (if b then Some word else None) → b ≡ false
@@ -192,3 +192,13 @@ is_slot n at slots e f = subst (λ (x : ℕ). (n == x) ≡ true) (e ∙ f) (eqb-
 
 pub no_slot : (n at slots : ℕ) → n ≢ at → at ≡ slots → (n == slots) ≡ false
 no_slot n at slots h f = ne_eqb n slots (λ e. h (e ∙ sym f))
+
+-- a link of the root or of a branch does not rise
+pub bump_breaks : (seat : Seat) (block size : ℕ) (kind : LinkKind) → (kind ≡ Root) ⊎ ((side : Side) × (other : ℕ) × (kind ≡ Branch side other)) → bumped seat block size kind ≡ Now Broken
+bump_breaks seat block size kind (inl e) = ap (λ (k : LinkKind). bumped seat block size k) e
+bump_breaks seat block size kind (inr h) = ap (λ (k : LinkKind). bumped seat block size k) h.2
+
+-- an entry that is neither local nor taken was not got back
+pub not_got_back : (seat : Seat) (block : ℕ) (entry : Entry) → ((tag : ℕ) × (entry ≡ Empty tag)) ⊎ ((tag : ℕ) × (old : ℕ) × (entry ≡ Job tag old)) → got_back seat block entry ≡ Now Broken
+not_got_back seat block entry (inl h) = ap (λ (e : Entry). got_back seat block e) h.1
+not_got_back seat block entry (inr h) = ap (λ (e : Entry). got_back seat block e) h.2

@@ -67,14 +67,15 @@ pub(crate) fn install<M: Memory, W: Watch>(
     seat: &Seat,
     next: Then,
 ) -> Result<Restart, Stop>
-    ghost first: { Spot M.Own }
     requires seat { IsWorking (M.shape memory.now) seat.now }
     requires next { IsEnd next }
     requires few { tally.old.made < 64 }
-    requires stands { Led (M.led memory.now seat.now.own) first own.old (W.told watch.old) tally.old
+    requires stands { (first : Spot M.Own) × Led (M.led memory.now seat.now.own) first own.old (W.told watch.old) tally.old
         (stands_then (M.shape memory.now) (M.code memory.now) seat.now next) }
     ensures few { tally.new.made ≤ tally.old.made + 1 }
-    ensures came { Came (M.led memory.now seat.now.own) first (M.refused memory.now seat.now.own) (M.over memory.now) seat.now.place own.new (W.told watch.new) tally.new
+    ensures came { (first : Spot M.Own) → Led (M.led memory.now seat.now.own) first own.old (W.told watch.old) tally.old
+        (stands_then (M.shape memory.now) (M.code memory.now) seat.now next)
+        → Came (M.led memory.now seat.now.own) first (M.refused memory.now seat.now.own) (M.over memory.now) seat.now.place own.new (W.told watch.new) tally.new
         IsRestart (λ restart. IsAt seat.now.place (Some restart)) result }
 {
     let shape = memory.shape();
@@ -98,14 +99,13 @@ pub(crate) fn store<M: Memory, W: Watch>(
     seat: &Seat,
     put: Put,
 ) -> Result<(), Stop>
-    ghost first: { Spot M.Own }
     requires seat { IsWorking (M.shape memory.now) seat.now }
     requires put { IsContent put.content }
     requires few { tally.old.made < 64 }
-    requires stands { (next : Then) × Led (M.led memory.now seat.now.own) first own.old (W.told watch.old) tally.old
+    requires stands { (first : Spot M.Own) × (next : Then) × Led (M.led memory.now seat.now.own) first own.old (W.told watch.old) tally.old
         (stands (M.shape memory.now) (M.code memory.now) seat.now (Store put.cell put.content next)) }
     ensures few { tally.new.made ≤ tally.old.made + 1 }
-    ensures came { (next : Then)
+    ensures came { (first : Spot M.Own) (next : Then)
         → Led (M.led memory.now seat.now.own) first own.old (W.told watch.old) tally.old (stands (M.shape memory.now) (M.code memory.now) seat.now (Store put.cell put.content next))
         → Came (M.led memory.now seat.now.own) first (M.refused memory.now seat.now.own) (M.over memory.now) seat.now.place own.new (W.told watch.new) tally.new
         Any (λ done. stands_then (M.shape memory.now) (M.code memory.now) seat.now next) result }
@@ -130,14 +130,15 @@ pub(crate) fn store_then<M: Memory, W: Watch>(
     put: Put,
     next: Then,
 ) -> Result<Restart, Stop>
-    ghost first: { Spot M.Own }
     requires seat { IsWorking (M.shape memory.now) seat.now }
     requires put { IsContent put.content × IsEnd next }
     requires few { tally.old.made < 32 }
-    requires stands { Led (M.led memory.now seat.now.own) first own.old (W.told watch.old) tally.old
+    requires stands { (first : Spot M.Own) × Led (M.led memory.now seat.now.own) first own.old (W.told watch.old) tally.old
         (stands (M.shape memory.now) (M.code memory.now) seat.now (Store put.cell put.content next)) }
     ensures few { tally.new.made ≤ tally.old.made + 2 }
-    ensures came { Came (M.led memory.now seat.now.own) first (M.refused memory.now seat.now.own) (M.over memory.now) seat.now.place own.new (W.told watch.new) tally.new
+    ensures came { (first : Spot M.Own) → Led (M.led memory.now seat.now.own) first own.old (W.told watch.old) tally.old
+        (stands (M.shape memory.now) (M.code memory.now) seat.now (Store put.cell put.content next))
+        → Came (M.led memory.now seat.now.own) first (M.refused memory.now seat.now.own) (M.over memory.now) seat.now.place own.new (W.told watch.new) tally.new
         IsRestart (λ restart. IsAt seat.now.place (Some restart)) result }
 {
     store(memory, own, watch, tally, seat, put)?;
@@ -154,14 +155,13 @@ pub(crate) fn exchange<M: Memory, W: Watch>(
     seat: &Seat,
     change: Change,
 ) -> Result<(), Stop>
-    ghost first: { Spot M.Own }
     requires seat { IsWorking (M.shape memory.now) seat.now }
     requires change { IsContent change.old × IsContent change.new }
     requires few { tally.old.made < 64 }
-    requires stands { (next : Then) × Led (M.led memory.now seat.now.own) first own.old (W.told watch.old) tally.old
+    requires stands { (first : Spot M.Own) × (next : Then) × Led (M.led memory.now seat.now.own) first own.old (W.told watch.old) tally.old
         (stands (M.shape memory.now) (M.code memory.now) seat.now (Exchange change.cell change.old change.new next)) }
     ensures few { tally.new.made ≤ tally.old.made + 1 }
-    ensures came { (next : Then)
+    ensures came { (first : Spot M.Own) (next : Then)
         → Led (M.led memory.now seat.now.own) first own.old (W.told watch.old) tally.old
         (stands (M.shape memory.now) (M.code memory.now) seat.now (Exchange change.cell change.old change.new next))
         → Came (M.led memory.now seat.now.own) first (M.refused memory.now seat.now.own) (M.over memory.now) seat.now.place own.new (W.told watch.new) tally.new
@@ -188,14 +188,15 @@ pub(crate) fn exchange_then<M: Memory, W: Watch>(
     change: Change,
     next: Then,
 ) -> Result<Restart, Stop>
-    ghost first: { Spot M.Own }
     requires seat { IsWorking (M.shape memory.now) seat.now }
     requires change { IsContent change.old × IsContent change.new × IsEnd next }
     requires few { tally.old.made < 32 }
-    requires stands { Led (M.led memory.now seat.now.own) first own.old (W.told watch.old) tally.old
+    requires stands { (first : Spot M.Own) × Led (M.led memory.now seat.now.own) first own.old (W.told watch.old) tally.old
         (stands (M.shape memory.now) (M.code memory.now) seat.now (Exchange change.cell change.old change.new next)) }
     ensures few { tally.new.made ≤ tally.old.made + 2 }
-    ensures came { Came (M.led memory.now seat.now.own) first (M.refused memory.now seat.now.own) (M.over memory.now) seat.now.place own.new (W.told watch.new) tally.new
+    ensures came { (first : Spot M.Own) → Led (M.led memory.now seat.now.own) first own.old (W.told watch.old) tally.old
+        (stands (M.shape memory.now) (M.code memory.now) seat.now (Exchange change.cell change.old change.new next))
+        → Came (M.led memory.now seat.now.own) first (M.refused memory.now seat.now.own) (M.over memory.now) seat.now.place own.new (W.told watch.new) tally.new
         IsRestart (λ restart. IsAt seat.now.place (Some restart)) result }
 {
     exchange(memory, own, watch, tally, seat, change)?;
@@ -212,15 +213,14 @@ pub(crate) fn raise_entry<M: Memory, W: Watch>(
     seat: &Seat,
     change: Raise,
 ) -> Result<(), Stop>
-    ghost first: { Spot M.Own }
     requires seat { IsWorking (M.shape memory.now) seat.now }
     requires entries { IsEntry change.old × (CanRise change.old → IsEntry change.new) }
     requires few { tally.old.made < 64 }
-    requires stands { (next : Then) × Led (M.led memory.now seat.now.own) first own.old (W.told watch.old) tally.old
+    requires stands { (first : Spot M.Own) × (next : Then) × Led (M.led memory.now seat.now.own) first own.old (W.told watch.old) tally.old
         (stands (M.shape memory.now) (M.code memory.now) seat.now
         (raised (EntryWord seat.now.place change.slot) change.old change.new next (nat_lt (tag_of change.old + 1) (2 ^ 34)))) }
     ensures few { tally.new.made ≤ tally.old.made + 1 }
-    ensures came { (next : Then)
+    ensures came { (first : Spot M.Own) (next : Then)
         → Led (M.led memory.now seat.now.own) first own.old (W.told watch.old) tally.old
         (stands (M.shape memory.now) (M.code memory.now) seat.now
         (raised (EntryWord seat.now.place change.slot) change.old change.new next (nat_lt (tag_of change.old + 1) (2 ^ 34))))
@@ -252,15 +252,17 @@ pub(crate) fn raise_then<M: Memory, W: Watch>(
     change: Raise,
     next: Then,
 ) -> Result<Restart, Stop>
-    ghost first: { Spot M.Own }
     requires seat { IsWorking (M.shape memory.now) seat.now }
     requires entries { IsEntry change.old × (CanRise change.old → IsEntry change.new) × IsEnd next }
     requires few { tally.old.made < 32 }
-    requires stands { Led (M.led memory.now seat.now.own) first own.old (W.told watch.old) tally.old
+    requires stands { (first : Spot M.Own) × Led (M.led memory.now seat.now.own) first own.old (W.told watch.old) tally.old
         (stands (M.shape memory.now) (M.code memory.now) seat.now
         (raised (EntryWord seat.now.place change.slot) change.old change.new next (nat_lt (tag_of change.old + 1) (2 ^ 34)))) }
     ensures few { tally.new.made ≤ tally.old.made + 2 }
-    ensures came { Came (M.led memory.now seat.now.own) first (M.refused memory.now seat.now.own) (M.over memory.now) seat.now.place own.new (W.told watch.new) tally.new
+    ensures came { (first : Spot M.Own) → Led (M.led memory.now seat.now.own) first own.old (W.told watch.old) tally.old
+        (stands (M.shape memory.now) (M.code memory.now) seat.now
+        (raised (EntryWord seat.now.place change.slot) change.old change.new next (nat_lt (tag_of change.old + 1) (2 ^ 34))))
+        → Came (M.led memory.now seat.now.own) first (M.refused memory.now seat.now.own) (M.over memory.now) seat.now.place own.new (W.told watch.new) tally.new
         IsRestart (λ restart. IsAt seat.now.place (Some restart)) result }
 {
     raise_entry(memory, own, watch, tally, seat, change)?;

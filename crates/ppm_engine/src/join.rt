@@ -1,5 +1,4 @@
 //! The rows of a branch that has come to its join.
-#![tactic(none)]
 ghost use Rattle.std.specs.Prelude.{◌≡◌, ◌<◌, ◌≤◌, ◌+◌, ◌==◌, ℕ, Some};
 ghost use Rattle.ppm_join.specs.Order.{first as first_of};
 ghost use Rattle.ppm_cells.specs.Restart.{IsRestart};
@@ -35,14 +34,15 @@ pub(crate) fn arrive<M: Memory, W: Watch>(
     block: u32,
     side: Side,
 ) -> Result<Restart, Stop>
-    ghost first: { Spot M.Own }
     requires seat { IsWorking (M.shape memory.now) seat.now }
     requires block { IsAddress block }
     requires few { tally.old.made < 16 }
-    requires stands { Led (M.led memory.now seat.now.own) first own.old (W.told watch.old) tally.old
+    requires stands { (first : Spot M.Own) × Led (M.led memory.now seat.now.own) first own.old (W.told watch.old) tally.old
         (stands (M.shape memory.now) (M.code memory.now) seat.now (row_of (M.shape memory.now) seat.now (Arrive block side))) }
     ensures few { tally.new.made ≤ tally.old.made + 2 }
-    ensures came { Came (M.led memory.now seat.now.own) first (M.refused memory.now seat.now.own) (M.over memory.now) seat.now.place own.new (W.told watch.new) tally.new
+    ensures came { (first : Spot M.Own) → Led (M.led memory.now seat.now.own) first own.old (W.told watch.old) tally.old
+        (stands (M.shape memory.now) (M.code memory.now) seat.now (row_of (M.shape memory.now) seat.now (Arrive block side)))
+        → Came (M.led memory.now seat.now.own) first (M.refused memory.now seat.now.own) (M.over memory.now) seat.now.place own.new (W.told watch.new) tally.new
         IsRestart (λ restart. IsAt seat.now.place (Some restart)) result }
 {
     let change = Change {
@@ -96,14 +96,15 @@ fn join_values<M: Memory, W: Watch>(
     block: u32,
     back: Back,
 ) -> Result<Restart, Stop>
-    ghost first: { Spot M.Own }
     requires seat { IsWorking (M.shape memory.now) seat.now }
     requires block { IsAddress block × IsBack back }
     requires few { tally.old.made < 16 }
-    requires stands { Led (M.led memory.now seat.now.own) first own.old (W.told watch.old) tally.old
+    requires stands { (first : Spot M.Own) × Led (M.led memory.now seat.now.own) first own.old (W.told watch.old) tally.old
         (stands_then (M.shape memory.now) (M.code memory.now) seat.now (Load (Target (block + 5) back.to back.copy (Some block)))) }
     ensures few { tally.new.made ≤ tally.old.made + 8 }
-    ensures came { Came (M.led memory.now seat.now.own) first (M.refused memory.now seat.now.own) (M.over memory.now) seat.now.place own.new (W.told watch.new) tally.new
+    ensures came { (first : Spot M.Own) → Led (M.led memory.now seat.now.own) first own.old (W.told watch.old) tally.old
+        (stands_then (M.shape memory.now) (M.code memory.now) seat.now (Load (Target (block + 5) back.to back.copy (Some block))))
+        → Came (M.led memory.now seat.now.own) first (M.refused memory.now seat.now.own) (M.over memory.now) seat.now.place own.new (W.told watch.new) tally.new
         IsRestart (λ restart. IsAt seat.now.place (Some restart)) result }
 {
     let Back { to, copy } = back;
@@ -142,14 +143,15 @@ fn join_last<M: Memory, W: Watch>(
     seat: &Seat,
     block: u32,
 ) -> Result<Restart, Stop>
-    ghost first: { Spot M.Own }
     requires seat { IsWorking (M.shape memory.now) seat.now }
     requires block { IsAddress block }
     requires few { tally.old.made < 16 }
-    requires stands { Led (M.led memory.now seat.now.own) first own.old (W.told watch.old) tally.old
+    requires stands { (first : Spot M.Own) × Led (M.led memory.now seat.now.own) first own.old (W.told watch.old) tally.old
         (stands_then (M.shape memory.now) (M.code memory.now) seat.now (Load (JoinLink block))) }
     ensures few { tally.new.made ≤ tally.old.made + 11 }
-    ensures came { Came (M.led memory.now seat.now.own) first (M.refused memory.now seat.now.own) (M.over memory.now) seat.now.place own.new (W.told watch.new) tally.new
+    ensures came { (first : Spot M.Own) → Led (M.led memory.now seat.now.own) first own.old (W.told watch.old) tally.old
+        (stands_then (M.shape memory.now) (M.code memory.now) seat.now (Load (JoinLink block)))
+        → Came (M.led memory.now seat.now.own) first (M.refused memory.now seat.now.own) (M.over memory.now) seat.now.place own.new (W.told watch.new) tally.new
         IsRestart (λ restart. IsAt seat.now.place (Some restart)) result }
 {
     let link = load_link(memory, own, watch, tally, seat, Point::JoinLink { block })?;
@@ -183,14 +185,15 @@ pub(crate) fn join<M: Memory, W: Watch>(
     block: u32,
     side: Side,
 ) -> Result<Restart, Stop>
-    ghost first: { Spot M.Own }
     requires seat { IsWorking (M.shape memory.now) seat.now }
     requires block { IsAddress block }
     requires few { tally.old.made < 16 }
-    requires stands { Led (M.led memory.now seat.now.own) first own.old (W.told watch.old) tally.old
+    requires stands { (first : Spot M.Own) × Led (M.led memory.now seat.now.own) first own.old (W.told watch.old) tally.old
         (stands (M.shape memory.now) (M.code memory.now) seat.now (row_of (M.shape memory.now) seat.now (Join block side))) }
     ensures few { tally.new.made ≤ tally.old.made + 12 }
-    ensures came { Came (M.led memory.now seat.now.own) first (M.refused memory.now seat.now.own) (M.over memory.now) seat.now.place own.new (W.told watch.new) tally.new
+    ensures came { (first : Spot M.Own) → Led (M.led memory.now seat.now.own) first own.old (W.told watch.old) tally.old
+        (stands (M.shape memory.now) (M.code memory.now) seat.now (row_of (M.shape memory.now) seat.now (Join block side)))
+        → Came (M.led memory.now seat.now.own) first (M.refused memory.now seat.now.own) (M.over memory.now) seat.now.place own.new (W.told watch.new) tally.new
         IsRestart (λ restart. IsAt seat.now.place (Some restart)) result }
 {
     let bottom = seat.restart.bottom;

@@ -87,14 +87,15 @@ fn load<M: Memory, W: Watch>(
     seat: &Seat,
     point: Point,
 ) -> Result<u64, Stop>
-    ghost first: { Spot M.Own }
     requires seat { IsWorking (M.shape memory.now) seat.now }
     requires point { IsPoint point × IsOfWork point }
     requires few { tally.old.made < 64 }
-    requires stands { Led (M.led memory.now seat.now.own) first own.old (W.told watch.old) tally.old
+    requires stands { (first : Spot M.Own) × Led (M.led memory.now seat.now.own) first own.old (W.told watch.old) tally.old
         (stands_then (M.shape memory.now) (M.code memory.now) seat.now (Load point)) }
     ensures few { tally.new.made ≤ tally.old.made + 1 }
-    ensures came { Came (M.led memory.now seat.now.own) first (M.refused memory.now seat.now.own) (M.over memory.now) seat.now.place own.new (W.told watch.new) tally.new
+    ensures came { (first : Spot M.Own) → Led (M.led memory.now seat.now.own) first own.old (W.told watch.old) tally.old
+        (stands_then (M.shape memory.now) (M.code memory.now) seat.now (Load point))
+        → Came (M.led memory.now seat.now.own) first (M.refused memory.now seat.now.own) (M.over memory.now) seat.now.place own.new (W.told watch.new) tally.new
         Any (λ word. stands (M.shape memory.now) (M.code memory.now) seat.now (found_at (M.shape memory.now) seat.now 0 point (content_of (reading_at point) word))) result }
 {
     let shape = memory.shape();
@@ -116,14 +117,15 @@ pub(crate) fn load_number<M: Memory, W: Watch>(
     seat: &Seat,
     point: Point,
 ) -> Result<u64, Stop>
-    ghost first: { Spot M.Own }
     requires seat { IsWorking (M.shape memory.now) seat.now }
     requires point { IsLoad point AsNumber }
     requires few { tally.old.made < 64 }
-    requires stands { Led (M.led memory.now seat.now.own) first own.old (W.told watch.old) tally.old
+    requires stands { (first : Spot M.Own) × Led (M.led memory.now seat.now.own) first own.old (W.told watch.old) tally.old
         (stands_then (M.shape memory.now) (M.code memory.now) seat.now (Load point)) }
     ensures few { tally.new.made ≤ tally.old.made + 1 }
-    ensures came { Came (M.led memory.now seat.now.own) first (M.refused memory.now seat.now.own) (M.over memory.now) seat.now.place own.new (W.told watch.new) tally.new
+    ensures came { (first : Spot M.Own) → Led (M.led memory.now seat.now.own) first own.old (W.told watch.old) tally.old
+        (stands_then (M.shape memory.now) (M.code memory.now) seat.now (Load point))
+        → Came (M.led memory.now seat.now.own) first (M.refused memory.now seat.now.own) (M.over memory.now) seat.now.place own.new (W.told watch.new) tally.new
         Any (λ number. stands (M.shape memory.now) (M.code memory.now) seat.now (found_at (M.shape memory.now) seat.now 0 point (ANumber number))) result }
 {
     load(memory, own, watch, tally, seat, point)
@@ -139,14 +141,15 @@ pub(crate) fn load_entry<M: Memory, W: Watch>(
     seat: &Seat,
     point: Point,
 ) -> Result<Entry, Stop>
-    ghost first: { Spot M.Own }
     requires seat { IsWorking (M.shape memory.now) seat.now }
     requires point { IsLoad point AsEntry }
     requires few { tally.old.made < 64 }
-    requires stands { Led (M.led memory.now seat.now.own) first own.old (W.told watch.old) tally.old
+    requires stands { (first : Spot M.Own) × Led (M.led memory.now seat.now.own) first own.old (W.told watch.old) tally.old
         (stands_then (M.shape memory.now) (M.code memory.now) seat.now (Load point)) }
     ensures few { tally.new.made ≤ tally.old.made + 1 }
-    ensures came { Came (M.led memory.now seat.now.own) first (M.refused memory.now seat.now.own) (M.over memory.now) seat.now.place own.new (W.told watch.new) tally.new
+    ensures came { (first : Spot M.Own) → Led (M.led memory.now seat.now.own) first own.old (W.told watch.old) tally.old
+        (stands_then (M.shape memory.now) (M.code memory.now) seat.now (Load point))
+        → Came (M.led memory.now seat.now.own) first (M.refused memory.now seat.now.own) (M.over memory.now) seat.now.place own.new (W.told watch.new) tally.new
         IsEntry (λ entry. stands (M.shape memory.now) (M.code memory.now) seat.now (found_at (M.shape memory.now) seat.now 0 point (AnEntry entry))) result }
 {
     let word = load(memory, own, watch, tally, seat, point)?;
@@ -166,14 +169,15 @@ pub(crate) fn load_link<M: Memory, W: Watch>(
     seat: &Seat,
     point: Point,
 ) -> Result<Link, Stop>
-    ghost first: { Spot M.Own }
     requires seat { IsWorking (M.shape memory.now) seat.now }
     requires point { IsLoad point AsLink }
     requires few { tally.old.made < 64 }
-    requires stands { Led (M.led memory.now seat.now.own) first own.old (W.told watch.old) tally.old
+    requires stands { (first : Spot M.Own) × Led (M.led memory.now seat.now.own) first own.old (W.told watch.old) tally.old
         (stands_then (M.shape memory.now) (M.code memory.now) seat.now (Load point)) }
     ensures few { tally.new.made ≤ tally.old.made + 1 }
-    ensures came { Came (M.led memory.now seat.now.own) first (M.refused memory.now seat.now.own) (M.over memory.now) seat.now.place own.new (W.told watch.new) tally.new
+    ensures came { (first : Spot M.Own) → Led (M.led memory.now seat.now.own) first own.old (W.told watch.old) tally.old
+        (stands_then (M.shape memory.now) (M.code memory.now) seat.now (Load point))
+        → Came (M.led memory.now seat.now.own) first (M.refused memory.now seat.now.own) (M.over memory.now) seat.now.place own.new (W.told watch.new) tally.new
         IsLink (λ link. stands (M.shape memory.now) (M.code memory.now) seat.now (found_at (M.shape memory.now) seat.now 0 point (ALink link))) result }
 {
     let word = load(memory, own, watch, tally, seat, point)?;
@@ -193,14 +197,15 @@ pub(crate) fn load_outcome<M: Memory, W: Watch>(
     seat: &Seat,
     point: Point,
 ) -> Result<Finish, Stop>
-    ghost first: { Spot M.Own }
     requires seat { IsWorking (M.shape memory.now) seat.now }
     requires point { IsLoad point AsFinish }
     requires few { tally.old.made < 64 }
-    requires stands { Led (M.led memory.now seat.now.own) first own.old (W.told watch.old) tally.old
+    requires stands { (first : Spot M.Own) × Led (M.led memory.now seat.now.own) first own.old (W.told watch.old) tally.old
         (stands_then (M.shape memory.now) (M.code memory.now) seat.now (Load point)) }
     ensures few { tally.new.made ≤ tally.old.made + 1 }
-    ensures came { Came (M.led memory.now seat.now.own) first (M.refused memory.now seat.now.own) (M.over memory.now) seat.now.place own.new (W.told watch.new) tally.new
+    ensures came { (first : Spot M.Own) → Led (M.led memory.now seat.now.own) first own.old (W.told watch.old) tally.old
+        (stands_then (M.shape memory.now) (M.code memory.now) seat.now (Load point))
+        → Came (M.led memory.now seat.now.own) first (M.refused memory.now seat.now.own) (M.over memory.now) seat.now.place own.new (W.told watch.new) tally.new
         IsOutcomeWord (λ outcome. stands (M.shape memory.now) (M.code memory.now) seat.now (found_at (M.shape memory.now) seat.now 0 point (AFinish outcome))) result }
 {
     let word = load(memory, own, watch, tally, seat, point)?;

@@ -20,14 +20,13 @@ pub(crate) fn make<M: Memory, W: Watch>(
     seat: &Seat,
     want: Want,
 ) -> Result<u64, Stop>
-    ghost first: { Spot M.Own }
     requires seat { IsWorking (M.shape memory.now) seat.now }
     requires step { IsStep (M.shape memory.now) want }
     requires few { tally.old.made < 64 }
-    requires stands { (row : Row) × IsNext (M.shape memory.now) seat.now row want
+    requires stands { (first : Spot M.Own) × (row : Row) × IsNext (M.shape memory.now) seat.now row want
         × Led (M.led memory.now seat.now.own) first own.old (W.told watch.old) tally.old (IsWithin seat.now row) }
     ensures few { tally.new.made ≤ tally.old.made + 1 }
-    ensures came { (row : Row) → IsNext (M.shape memory.now) seat.now row want
+    ensures came { (first : Spot M.Own) (row : Row) → IsNext (M.shape memory.now) seat.now row want
         → Led (M.led memory.now seat.now.own) first own.old (W.told watch.old) tally.old (IsWithin seat.now row)
         → Came (M.led memory.now seat.now.own) first (M.refused memory.now seat.now.own) (M.over memory.now) seat.now.place own.new (W.told watch.new) tally.new
         Any (λ word. went_row (M.shape memory.now) (M.code memory.now) seat.now 0 word row) result }

@@ -1,5 +1,4 @@
 //! The rows by which a place gets its job back, and the right branch of a block begins.
-#![tactic(none)]
 ghost use Rattle.std.specs.Prelude.{◌≡◌, ◌<◌, ◌≤◌, ◌+◌, ℕ, Some};
 ghost use Rattle.ppm_cells.specs.Restart.{IsRestart};
 ghost use Rattle.ppm_cells.specs.declared.restart.Restart.{Restart};
@@ -31,14 +30,15 @@ pub(crate) fn begin_right<M: Memory, W: Watch>(
     block: u32,
     bottom: u32,
 ) -> Result<Restart, Stop>
-    ghost first: { Spot M.Own }
     requires seat { IsWorking (M.shape memory.now) seat.now }
     requires block { IsAddress block }
     requires few { tally.old.made < 32 }
-    requires stands { Led (M.led memory.now seat.now.own) first own.old (W.told watch.old) tally.old
+    requires stands { (first : Spot M.Own) × Led (M.led memory.now seat.now.own) first own.old (W.told watch.old) tally.old
         (stands_then (M.shape memory.now) (M.code memory.now) seat.now (Load (Offset block bottom))) }
     ensures few { tally.new.made ≤ tally.old.made + 2 }
-    ensures came { Came (M.led memory.now seat.now.own) first (M.refused memory.now seat.now.own) (M.over memory.now) seat.now.place own.new (W.told watch.new) tally.new
+    ensures came { (first : Spot M.Own) → Led (M.led memory.now seat.now.own) first own.old (W.told watch.old) tally.old
+        (stands_then (M.shape memory.now) (M.code memory.now) seat.now (Load (Offset block bottom)))
+        → Came (M.led memory.now seat.now.own) first (M.refused memory.now seat.now.own) (M.over memory.now) seat.now.place own.new (W.told watch.new) tally.new
         IsRestart (λ restart. IsAt seat.now.place (Some restart)) result }
 {
     let offset = load_number(memory, own, watch, tally, seat, Point::Offset { block, bottom })?;
@@ -63,13 +63,14 @@ pub(crate) fn pop1<M: Memory, W: Watch>(
     tally: &mut Tally,
     seat: &Seat,
 ) -> Result<Restart, Stop>
-    ghost first: { Spot M.Own }
     requires seat { IsWorking (M.shape memory.now) seat.now }
     requires few { tally.old.made < 16 }
-    requires stands { Led (M.led memory.now seat.now.own) first own.old (W.told watch.old) tally.old
+    requires stands { (first : Spot M.Own) × Led (M.led memory.now seat.now.own) first own.old (W.told watch.old) tally.old
         (stands (M.shape memory.now) (M.code memory.now) seat.now (row_of (M.shape memory.now) seat.now (Pop1))) }
     ensures few { tally.new.made ≤ tally.old.made + 3 }
-    ensures came { Came (M.led memory.now seat.now.own) first (M.refused memory.now seat.now.own) (M.over memory.now) seat.now.place own.new (W.told watch.new) tally.new
+    ensures came { (first : Spot M.Own) → Led (M.led memory.now seat.now.own) first own.old (W.told watch.old) tally.old
+        (stands (M.shape memory.now) (M.code memory.now) seat.now (row_of (M.shape memory.now) seat.now (Pop1)))
+        → Came (M.led memory.now seat.now.own) first (M.refused memory.now seat.now.own) (M.over memory.now) seat.now.place own.new (W.told watch.new) tally.new
         IsRestart (λ restart. IsAt seat.now.place (Some restart)) result }
 {
     let bottom = seat.restart.bottom;
@@ -110,14 +111,15 @@ fn empty_above<M: Memory, W: Watch>(
     seat: &Seat,
     block: u32,
 ) -> Result<Restart, Stop>
-    ghost first: { Spot M.Own }
     requires seat { IsWorking (M.shape memory.now) seat.now }
     requires block { IsAddress block }
     requires few { tally.old.made < 16 }
-    requires stands { Led (M.led memory.now seat.now.own) first own.old (W.told watch.old) tally.old
+    requires stands { (first : Spot M.Own) × Led (M.led memory.now seat.now.own) first own.old (W.told watch.old) tally.old
         (stands_then (M.shape memory.now) (M.code memory.now) seat.now (Load (PopAbove block))) }
     ensures few { tally.new.made ≤ tally.old.made + 4 }
-    ensures came { Came (M.led memory.now seat.now.own) first (M.refused memory.now seat.now.own) (M.over memory.now) seat.now.place own.new (W.told watch.new) tally.new
+    ensures came { (first : Spot M.Own) → Led (M.led memory.now seat.now.own) first own.old (W.told watch.old) tally.old
+        (stands_then (M.shape memory.now) (M.code memory.now) seat.now (Load (PopAbove block)))
+        → Came (M.led memory.now seat.now.own) first (M.refused memory.now seat.now.own) (M.over memory.now) seat.now.place own.new (W.told watch.new) tally.new
         IsRestart (λ restart. IsAt seat.now.place (Some restart)) result }
 {
     let bottom = seat.restart.bottom;
@@ -144,14 +146,15 @@ pub(crate) fn pop2<M: Memory, W: Watch>(
     seat: &Seat,
     block: u32,
 ) -> Result<Restart, Stop>
-    ghost first: { Spot M.Own }
     requires seat { IsWorking (M.shape memory.now) seat.now }
     requires block { IsAddress block }
     requires few { tally.old.made < 16 }
-    requires stands { Led (M.led memory.now seat.now.own) first own.old (W.told watch.old) tally.old
+    requires stands { (first : Spot M.Own) × Led (M.led memory.now seat.now.own) first own.old (W.told watch.old) tally.old
         (stands (M.shape memory.now) (M.code memory.now) seat.now (row_of (M.shape memory.now) seat.now (Pop2 block))) }
     ensures few { tally.new.made ≤ tally.old.made + 5 }
-    ensures came { Came (M.led memory.now seat.now.own) first (M.refused memory.now seat.now.own) (M.over memory.now) seat.now.place own.new (W.told watch.new) tally.new
+    ensures came { (first : Spot M.Own) → Led (M.led memory.now seat.now.own) first own.old (W.told watch.old) tally.old
+        (stands (M.shape memory.now) (M.code memory.now) seat.now (row_of (M.shape memory.now) seat.now (Pop2 block)))
+        → Came (M.led memory.now seat.now.own) first (M.refused memory.now seat.now.own) (M.over memory.now) seat.now.place own.new (W.told watch.new) tally.new
         IsRestart (λ restart. IsAt seat.now.place (Some restart)) result }
 {
     let bottom = seat.restart.bottom;

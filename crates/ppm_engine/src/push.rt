@@ -1,6 +1,5 @@
 //! The rows that take a new block in: its words are taken from the pool, and the right branch of a
 //! fork becomes a job.
-#![tactic(none)]
 ghost use Rattle.std.specs.Prelude.{◌≡◌, ◌<◌, ◌≤◌, ◌+◌, ℕ, true, Some};
 ghost use Rattle.ppm_cells.specs.Restart.{IsRestart};
 ghost use Rattle.ppm_cells.specs.declared.restart.Restart.{Restart};
@@ -31,14 +30,15 @@ pub(crate) fn bump<M: Memory, W: Watch>(
     seat: &Seat,
     block: u32,
 ) -> Result<Restart, Stop>
-    ghost first: { Spot M.Own }
     requires seat { IsWorking (M.shape memory.now) seat.now }
     requires block { IsAddress block }
     requires few { tally.old.made < 16 }
-    requires stands { Led (M.led memory.now seat.now.own) first own.old (W.told watch.old) tally.old
+    requires stands { (first : Spot M.Own) × Led (M.led memory.now seat.now.own) first own.old (W.told watch.old) tally.old
         (stands (M.shape memory.now) (M.code memory.now) seat.now (row_of (M.shape memory.now) seat.now (Bump block))) }
     ensures few { tally.new.made ≤ tally.old.made + 3 }
-    ensures came { Came (M.led memory.now seat.now.own) first (M.refused memory.now seat.now.own) (M.over memory.now) seat.now.place own.new (W.told watch.new) tally.new
+    ensures came { (first : Spot M.Own) → Led (M.led memory.now seat.now.own) first own.old (W.told watch.old) tally.old
+        (stands (M.shape memory.now) (M.code memory.now) seat.now (row_of (M.shape memory.now) seat.now (Bump block)))
+        → Came (M.led memory.now seat.now.own) first (M.refused memory.now seat.now.own) (M.over memory.now) seat.now.place own.new (W.told watch.new) tally.new
         IsRestart (λ restart. IsAt seat.now.place (Some restart)) result }
 {
     let bottom = seat.restart.bottom;
@@ -73,14 +73,15 @@ fn push_inline<M: Memory, W: Watch>(
     seat: &Seat,
     block: u32,
 ) -> Result<Restart, Stop>
-    ghost first: { Spot M.Own }
     requires seat { IsWorking (M.shape memory.now) seat.now }
     requires block { IsAddress block }
     requires few { tally.old.made < 32 }
-    requires stands { Led (M.led memory.now seat.now.own) first own.old (W.told watch.old) tally.old
+    requires stands { (first : Spot M.Own) × Led (M.led memory.now seat.now.own) first own.old (W.told watch.old) tally.old
         (stands (M.shape memory.now) (M.code memory.now) seat.now (push_at seat.now (M.shape memory.now).takeover block true)) }
     ensures few { tally.new.made ≤ tally.old.made + 2 }
-    ensures came { Came (M.led memory.now seat.now.own) first (M.refused memory.now seat.now.own) (M.over memory.now) seat.now.place own.new (W.told watch.new) tally.new
+    ensures came { (first : Spot M.Own) → Led (M.led memory.now seat.now.own) first own.old (W.told watch.old) tally.old
+        (stands (M.shape memory.now) (M.code memory.now) seat.now (push_at seat.now (M.shape memory.now).takeover block true))
+        → Came (M.led memory.now seat.now.own) first (M.refused memory.now seat.now.own) (M.over memory.now) seat.now.place own.new (W.told watch.new) tally.new
         IsRestart (λ restart. IsAt seat.now.place (Some restart)) result }
 {
     let put = Put {
@@ -105,14 +106,15 @@ fn push_above<M: Memory, W: Watch>(
     seat: &Seat,
     block: u32,
 ) -> Result<Restart, Stop>
-    ghost first: { Spot M.Own }
     requires seat { IsWorking (M.shape memory.now) seat.now }
     requires block { IsAddress block }
     requires few { tally.old.made < 16 }
-    requires stands { Led (M.led memory.now seat.now.own) first own.old (W.told watch.old) tally.old
+    requires stands { (first : Spot M.Own) × Led (M.led memory.now seat.now.own) first own.old (W.told watch.old) tally.old
         (stands_then (M.shape memory.now) (M.code memory.now) seat.now (Load (PushAbove block))) }
     ensures few { tally.new.made ≤ tally.old.made + 3 }
-    ensures came { Came (M.led memory.now seat.now.own) first (M.refused memory.now seat.now.own) (M.over memory.now) seat.now.place own.new (W.told watch.new) tally.new
+    ensures came { (first : Spot M.Own) → Led (M.led memory.now seat.now.own) first own.old (W.told watch.old) tally.old
+        (stands_then (M.shape memory.now) (M.code memory.now) seat.now (Load (PushAbove block)))
+        → Came (M.led memory.now seat.now.own) first (M.refused memory.now seat.now.own) (M.over memory.now) seat.now.place own.new (W.told watch.new) tally.new
         IsRestart (λ restart. IsAt seat.now.place (Some restart)) result }
 {
     let entry = load_entry(memory, own, watch, tally, seat, Point::PushAbove { block })?;
@@ -143,14 +145,15 @@ fn push_by_order<M: Memory, W: Watch>(
     seat: &Seat,
     block: u32,
 ) -> Result<Restart, Stop>
-    ghost first: { Spot M.Own }
     requires seat { IsWorking (M.shape memory.now) seat.now }
     requires block { IsAddress block }
     requires few { tally.old.made < 16 }
-    requires stands { Led (M.led memory.now seat.now.own) first own.old (W.told watch.old) tally.old
+    requires stands { (first : Spot M.Own) × Led (M.led memory.now seat.now.own) first own.old (W.told watch.old) tally.old
         (stands_then (M.shape memory.now) (M.code memory.now) seat.now (Load (PushOrder block))) }
     ensures few { tally.new.made ≤ tally.old.made + 4 }
-    ensures came { Came (M.led memory.now seat.now.own) first (M.refused memory.now seat.now.own) (M.over memory.now) seat.now.place own.new (W.told watch.new) tally.new
+    ensures came { (first : Spot M.Own) → Led (M.led memory.now seat.now.own) first own.old (W.told watch.old) tally.old
+        (stands_then (M.shape memory.now) (M.code memory.now) seat.now (Load (PushOrder block)))
+        → Came (M.led memory.now seat.now.own) first (M.refused memory.now seat.now.own) (M.over memory.now) seat.now.place own.new (W.told watch.new) tally.new
         IsRestart (λ restart. IsAt seat.now.place (Some restart)) result }
 {
     let order = load_number(memory, own, watch, tally, seat, Point::PushOrder { block })?;
@@ -175,14 +178,15 @@ pub(crate) fn push1<M: Memory, W: Watch>(
     seat: &Seat,
     block: u32,
 ) -> Result<Restart, Stop>
-    ghost first: { Spot M.Own }
     requires seat { IsWorking (M.shape memory.now) seat.now }
     requires block { IsAddress block }
     requires few { tally.old.made < 16 }
-    requires stands { Led (M.led memory.now seat.now.own) first own.old (W.told watch.old) tally.old
+    requires stands { (first : Spot M.Own) × Led (M.led memory.now seat.now.own) first own.old (W.told watch.old) tally.old
         (stands (M.shape memory.now) (M.code memory.now) seat.now (row_of (M.shape memory.now) seat.now (Push1 block))) }
     ensures few { tally.new.made ≤ tally.old.made + 4 }
-    ensures came { Came (M.led memory.now seat.now.own) first (M.refused memory.now seat.now.own) (M.over memory.now) seat.now.place own.new (W.told watch.new) tally.new
+    ensures came { (first : Spot M.Own) → Led (M.led memory.now seat.now.own) first own.old (W.told watch.old) tally.old
+        (stands (M.shape memory.now) (M.code memory.now) seat.now (row_of (M.shape memory.now) seat.now (Push1 block)))
+        → Came (M.led memory.now seat.now.own) first (M.refused memory.now seat.now.own) (M.over memory.now) seat.now.place own.new (W.told watch.new) tally.new
         IsRestart (λ restart. IsAt seat.now.place (Some restart)) result }
 {
     let shape = memory.shape();
@@ -205,14 +209,15 @@ pub(crate) fn push2<M: Memory, W: Watch>(
     seat: &Seat,
     block: u32,
 ) -> Result<Restart, Stop>
-    ghost first: { Spot M.Own }
     requires seat { IsWorking (M.shape memory.now) seat.now }
     requires block { IsAddress block }
     requires few { tally.old.made < 16 }
-    requires stands { Led (M.led memory.now seat.now.own) first own.old (W.told watch.old) tally.old
+    requires stands { (first : Spot M.Own) × Led (M.led memory.now seat.now.own) first own.old (W.told watch.old) tally.old
         (stands (M.shape memory.now) (M.code memory.now) seat.now (row_of (M.shape memory.now) seat.now (Push2 block))) }
     ensures few { tally.new.made ≤ tally.old.made + 3 }
-    ensures came { Came (M.led memory.now seat.now.own) first (M.refused memory.now seat.now.own) (M.over memory.now) seat.now.place own.new (W.told watch.new) tally.new
+    ensures came { (first : Spot M.Own) → Led (M.led memory.now seat.now.own) first own.old (W.told watch.old) tally.old
+        (stands (M.shape memory.now) (M.code memory.now) seat.now (row_of (M.shape memory.now) seat.now (Push2 block)))
+        → Came (M.led memory.now seat.now.own) first (M.refused memory.now seat.now.own) (M.over memory.now) seat.now.place own.new (W.told watch.new) tally.new
         IsRestart (λ restart. IsAt seat.now.place (Some restart)) result }
 {
     let entry = load_entry(memory, own, watch, tally, seat, Point::PushBottom { block })?;

@@ -1,5 +1,4 @@
 //! The row of a restart of work, whole.
-#![tactic(none)]
 ghost use Rattle.std.specs.Prelude.{◌≡◌, ◌<◌, ◌≤◌, ◌+◌, ℕ, Some};
 ghost use Rattle.ppm_cells.specs.Restart.{IsRestart};
 ghost use Rattle.ppm_cells.specs.declared.restart.Restart.{Restart};
@@ -28,14 +27,15 @@ pub fn make_row<M: Memory, W: Watch>(
     tally: &mut Tally,
     seat: &Seat,
 ) -> Result<Restart, Stop>
-    ghost first: { Spot M.Own }
     requires seat { IsWorking (M.shape memory.now) seat.now }
     requires kind { HasRow seat.now.restart.kind }
     requires few { tally.old.made < 16 }
-    requires stands { Led (M.led memory.now seat.now.own) first own.old (W.told watch.old) tally.old
+    requires stands { (first : Spot M.Own) × Led (M.led memory.now seat.now.own) first own.old (W.told watch.old) tally.old
         (stands (M.shape memory.now) (M.code memory.now) seat.now (row_of (M.shape memory.now) seat.now seat.now.restart.kind)) }
     ensures few { tally.new.made ≤ tally.old.made + 12 }
-    ensures came { Came (M.led memory.now seat.now.own) first (M.refused memory.now seat.now.own) (M.over memory.now) seat.now.place own.new (W.told watch.new) tally.new
+    ensures came { (first : Spot M.Own) → Led (M.led memory.now seat.now.own) first own.old (W.told watch.old) tally.old
+        (stands (M.shape memory.now) (M.code memory.now) seat.now (row_of (M.shape memory.now) seat.now seat.now.restart.kind))
+        → Came (M.led memory.now seat.now.own) first (M.refused memory.now seat.now.own) (M.over memory.now) seat.now.place own.new (W.told watch.new) tally.new
         IsRestart (λ restart. IsAt seat.now.place (Some restart)) result }
 {
     match seat.restart.kind {

@@ -1,17 +1,27 @@
 -- The rows of work of the scheduler.
-use Rattle.std.proofs.Common.{◌≡◌, ◌≢◌, ◌∙◌, ◌+◌, ◌≤◌, ℕ, zero, Bool, true, false, List, Option, Some, sym, refl, ap, subst, arith}
+use Rattle.std.proofs.Common.{◌≡◌, ◌≢◌, ◌∙◌, ◌+◌, ◌≤◌, ◌==◌, ◌||◌, ℕ, Bool, true, false, if◌then◌else◌, List, Option, Some, sym, refl, ap, subst, arith}
 use Rattle.atomic_table.specs.Seated.{TableId}
 use Rattle.ppm_cells.specs.declared.restart.RestartKind.{RestartKind}
 use Rattle.ppm_cells.specs.declared.restart.RestartKind.TheVariants.{Run, Bump, Push1, Push2, Unwind, Arrive, Join, Pop1, Pop2, Seek, Steal, Check, Take, Take2}
+use Rattle.ppm_cells.specs.declared.shape.Shape.{Shape}
+use Rattle.ppm_code.specs.declared.code.CodeParts.{CodeParts}
+use Rattle.ppm_engine.proofs.MakingLemmas.{stands_lives}
 use Rattle.ppm_engine.specs.Steps.{HasRow}
-use Rattle.ppm_moves.specs.Moves.{Moves, Refuses, Lives, itself}
-use Rattle.ppm_moves.proofs.MovesLemmas.{refuses_within}
+use Rattle.ppm_moves.specs.Moves.{Moves, Refuses, Lives, itself, looks_behind}
+use Rattle.ppm_moves.proofs.MovesLemmas.{moves_both, refuses_then, refuses_within}
 use Rattle.ppm_seated.specs.Seated.{Refused}
-use Rattle.ppm_step.specs.Standings.{Standing, IsDone}
+use Rattle.ppm_step.specs.declared.row.Seat.{Seat}
+use Rattle.ppm_step.specs.Rows.{row_of}
+use Rattle.ppm_step.specs.Standings.{Standing, IsDone, at_finish, begins_if}
+use Rattle.ppm_step.specs.There.{restart_is_there}
 use Rattle.ppm_step.specs.State.{before_kind, is_work}
 use Rattle.ppm_step.specs.declared.turn.Next.TheVariants.{Look}
 use Rattle.ppm_table.specs.declared.view.Opening.{Opening}
 use Rattle.ppm_table.specs.Run.{Mine, stands_by, deeds_in}
+use Rattle.ppm_stretch.specs.declared.way.RowEnd.{RowEnd}
+use Rattle.ppm_stretch.specs.declared.way.RowEnd.TheVariants.{Installed, Broken, Over, Refused as RefusedAt}
+use Rattle.ppm_stretch.specs.declared.way.Steps.{Steps}
+use Rattle.ppm_stretch.specs.Scheduling.{HasRowed, HasWorked, most_of_a_row}
 use Rattle.ppm_words.specs.declared.event.Event.{Event}
 
 -- the load of the finish word before a row of work is a look, and its steps are work
@@ -75,3 +85,49 @@ module _ {W : Type 0} (told : W → Option (List Event)) (table : TableId) (k : 
       by false e =
           let f = subst (λ (c : Bool). Refuses itself k own me me' (told w) (told w') c n) e r.refuses in
           absurd (lives (sym r.to.stands ∙ f.stays.1))
+
+-- after the load of a finish word that is 0 the row begins, if what its restart names is there
+pub finish_goes_on : (s : Shape) (code : CodeParts) (seat : Seat) (found : ℕ) (b : Bool) → found ≡ 0 → b ≡ restart_is_there s seat.restart
+    → at_finish s code seat.own seat.place (Some seat.restart) found ≡ begins_if s code seat b
+finish_goes_on s code seat found b none e =
+    ap (λ (n : ℕ). at_finish s code seat.own seat.place (Some seat.restart) n) none ∙ ap (λ (x : Bool). begins_if s code seat x) (sym e)
+
+pub begins_lives : (s : Shape) (code : CodeParts) (seat : Seat) (b : Bool) → begins_if s code seat b ≢ IsDone
+begins_lives s code seat true = stands_lives s code seat (row_of s seat seat.restart.kind)
+begins_lives s code seat false = λ e. cc
+
+module _ {W : Type 0} (told : W → Option (List Event)) where
+  -- the steps of a row after the load of the finish word
+  pub row_after : (k : Opening) (seat : Seat) (a b c : Mine) (w0 w1 w2 : W) (work : ℕ) (exchanged : Bool) (end : RowEnd) → Moves told k seat.own a b w0 w1 1 0 1 false
+      → HasWorked told k seat b c w1 w2 work exchanged end → HasRowed told k seat a c w0 w2 work exchanged end
+  row_after k seat a b c w0 w1 w2 work exchanged (Installed restart) f h =
+      (moves_both told k seat.own a b c w0 w1 w2 1 work 0 work 1 0 (work + 1) work (looks_behind 1 work 0) false exchanged (omega arith) (omega arith) refl f h.0, h.1, h.2)
+  row_after k seat a b c w0 w1 w2 work exchanged Broken f h =
+      (moves_both told k seat.own a b c w0 w1 w2 1 work 0 work 1 0 (work + 1) work (looks_behind 1 work 0) false exchanged (omega arith) (omega arith) refl f h.0, h.1)
+  row_after k seat a b c w0 w1 w2 work exchanged Over f h = absurd h
+  row_after k seat a b c w0 w1 w2 work exchanged (RefusedAt lives) f h = refuses_then told k seat.own a b c w0 w1 w2 1 0 1 lives 13 most_of_a_row (omega arith) f h
+
+  -- and those of rows before it
+  pub rows_after : (k : Opening) (own : ℕ) (a b c : Mine) (w0 w1 w2 : W) (steps sum : Steps) (work : ℕ) (exchanged : Bool)
+      → sum ≡ record { made = steps.made + (work + 1); work = steps.work + work; looks = looks_behind steps.looks work (looks_behind 1 work 0); exchanged = (steps.exchanged || exchanged); refused = steps.refused }
+      → Moves told k own a b w0 w1 steps.made steps.work steps.looks steps.exchanged → Moves told k own b c w1 w2 (work + 1) work (looks_behind 1 work 0) exchanged
+      → Moves told k own a c w0 w2 sum.made sum.work sum.looks sum.exchanged
+  rows_after k own a b c w0 w1 w2 steps sum work exchanged is f g =
+      subst (λ (x : Steps). Moves told k own a c w0 w2 x.made x.work x.looks x.exchanged) (sym is)
+      (moves_both told k own a b c w0 w1 w2 steps.made (work + 1) steps.work work steps.looks (looks_behind 1 work 0) _ _ _ steps.exchanged exchanged refl refl refl f g)
+
+pub looks_few_by : (work : ℕ) (b : Bool) → (if b then 1 + 0 else 0) ≤ work + 1
+looks_few_by work true = omega arith
+looks_few_by work false = omega arith
+
+pub sum_few_by : (before made work last : ℕ) (b : Bool) → before ≤ made → last ≤ work + 1 → (if b then before + last else last) ≤ made + (work + 1)
+sum_few_by before made work last true f g = omega (arith, f, g)
+sum_few_by before made work last false f g = omega (arith, f, g)
+
+-- their numbers
+pub sum_few : (steps sum : Steps) (work : ℕ) (exchanged : Bool)
+    → sum ≡ record { made = steps.made + (work + 1); work = steps.work + work; looks = looks_behind steps.looks work (looks_behind 1 work 0); exchanged = (steps.exchanged || exchanged); refused = steps.refused }
+    → steps.work ≤ steps.made → steps.looks ≤ steps.made → (sum.made ≡ steps.made + (work + 1)) × (sum.work ≤ sum.made) × (sum.looks ≤ sum.made) × (sum.refused ≡ steps.refused)
+sum_few steps sum work exchanged is few looks =
+    subst (λ (x : Steps). (x.made ≡ steps.made + (work + 1)) × (x.work ≤ x.made) × (x.looks ≤ x.made) × (x.refused ≡ steps.refused)) (sym is)
+    (refl, omega (arith, few), sum_few_by steps.looks steps.made work (looks_behind 1 work 0) (work == 0) looks (looks_few_by work (work == 0)), refl)

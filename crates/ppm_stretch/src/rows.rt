@@ -18,7 +18,7 @@ use crate::asking::fills;
 use crate::frames::{ends, rounds};
 use crate::refusing::give_way;
 use crate::scheduling::{MOST_OF_A_ROW, has_row, rows_along};
-use crate::way::{NONE, OneStep, REFUSED, Steps, looks_behind, row};
+use crate::way::{NONE, OneStep, REFUSED, Steps, looks_behind, one_of, row};
 use atomic_table::Seat;
 use ppm_cells::{RestartKind, Shape};
 use ppm_code::{Code, Step};
@@ -344,14 +344,6 @@ pub(crate) fn steps_along<W: Watch>(
         work += more.work;
     }
     row(made, work, looks, exchanged)
-}
-
-/// Whether one of them holds.
-#[inline(always)]
-fn one_of(first: bool, second: bool) -> bool
-    ensures { result ≡ (first || second) }
-{
-    first || second
 }
 
 /// Makes steps of a processor in a row, at most so many, up to one for which something is to be

@@ -1,5 +1,5 @@
 //! The rows of work of the scheduler, each made whole on the words of a table.
-ghost use Rattle.std.specs.Prelude.{◌≡◌, ◌≤◌, ◌<◌, true, Some};
+ghost use Rattle.std.specs.Prelude.{◌≡◌, ◌≤◌, ◌<◌, ◌+◌, ◌^◌, ◌||◌, true, Some};
 ghost use Rattle.ppm_cells.specs.Restart.{IsRestart};
 ghost use Rattle.ppm_engine.specs.Steps.{HasRow};
 ghost use Rattle.ppm_step.specs.Facts.{IsSeat as IsPlace};
@@ -10,10 +10,11 @@ ghost use Rattle.ppm_table.specs.Run.{stands_by, deeds_in, IsAtCode, IsSeat};
 ghost use Rattle.ppm_stretch.specs.Entering.{StandsBefore};
 ghost use Rattle.ppm_stretch.specs.Rows.{Makes, GivesUpIfRefused};
 ghost use Rattle.ppm_stretch.specs.Scheduling.{HasRowed, HasWorked};
+ghost use Rattle.ppm_stretch.specs.Steady.{looks_behind};
 
 use crate::entering::load_finish;
 use crate::refusing::withdraw;
-use crate::way::{REFUSED, RowEnd, Rowed, Steps, looks_behind, row};
+use crate::way::{NONE, REFUSED, RowEnd, Rowed, Steps, looks_behind, one_of};
 use atomic_table::Seat;
 use ppm_cells::{Restart, RestartKind, Shape};
 use ppm_code::Code;
@@ -78,24 +79,24 @@ fn work_at<W: Watch>(
         exchanged: false,
     };
     match make_row(&memory, mine, watch, &mut tally, place) {
-        Ok(restart) => worked(tally, RowEnd::Installed(restart)),
+        Ok(restart) => Rowed {
+            work: tally.made,
+            exchanged: tally.exchanged,
+            end: RowEnd::Installed(restart),
+        },
         Err(stop) => match stop {
-            Stop::Broken => worked(tally, RowEnd::Broken),
-            Stop::Refused => worked(tally, RowEnd::Refused(true)),
+            Stop::Broken => Rowed {
+                work: tally.made,
+                exchanged: tally.exchanged,
+                end: RowEnd::Broken,
+            },
+            Stop::Refused => Rowed {
+                work: 0,
+                exchanged: false,
+                end: RowEnd::Refused(true),
+            },
             Stop::Over => unreachable!(),
         },
-    }
-}
-
-/// The steps of a row that are counted, and how it ended.
-#[inline(always)]
-fn worked(tally: Tally, end: RowEnd) -> Rowed
-    ensures { result ≡ record { work = tally.made; exchanged = tally.exchanged; end = end } }
-{
-    Rowed {
-        work: tally.made,
-        exchanged: tally.exchanged,
-        end,
     }
 }
 
@@ -118,30 +119,50 @@ fn row_at<W: Watch>(
 {
     let finish = load_finish(words, shape, code, mine, watch, place);
     if finish.word != 0 {
-        return if finish.fine {
-            ended(RowEnd::Over)
-        } else {
-            ended(RowEnd::Refused(false))
+        if finish.fine {
+            return Rowed {
+                work: 0,
+                exchanged: false,
+                end: RowEnd::Over,
+            };
+        }
+        return Rowed {
+            work: 0,
+            exchanged: false,
+            end: RowEnd::Refused(false),
         };
     }
     if !finish.fine {
-        return ended(RowEnd::Refused(true));
+        return Rowed {
+            work: 0,
+            exchanged: false,
+            end: RowEnd::Refused(true),
+        };
     }
     if !restart_there(shape, place.restart) {
-        return ended(RowEnd::Broken);
+        return Rowed {
+            work: 0,
+            exchanged: false,
+            end: RowEnd::Broken,
+        };
     }
     work_at(words, shape, code, mine, watch, place)
 }
 
-/// A row that ends at its beginning.
+/// These steps, and then those of a row.
 #[inline(always)]
-fn ended(end: RowEnd) -> Rowed
-    ensures { result ≡ record { work = 0; exchanged = false; end = end } }
+fn with_row(steps: Steps, rowed: Rowed) -> Steps
+    requires few { (steps.made < 2 ^ 63) × (steps.work ≤ steps.made) × (steps.looks ≤ steps.made) × (rowed.work ≤ 12) }
+    ensures { result ≡ record { made = steps.made + (rowed.work + 1); work = steps.work + rowed.work;
+        looks = looks_behind steps.looks rowed.work (looks_behind 1 rowed.work 0); exchanged = (steps.exchanged || rowed.exchanged); refused = steps.refused } }
 {
-    Rowed {
-        work: 0,
-        exchanged: false,
-        end,
+    let last = looks_behind(1, rowed.work, 0);
+    Steps {
+        made: steps.made + (rowed.work + 1),
+        work: steps.work + rowed.work,
+        looks: looks_behind(steps.looks, rowed.work, last),
+        exchanged: one_of(steps.exchanged, rowed.exchanged),
+        refused: steps.refused,
     }
 }
 
@@ -176,14 +197,11 @@ pub(crate) fn rows_along<W: Watch>(
     let sizes = *shape;
     let own = local.own;
     let mut at = restart;
-    let mut made = 0;
-    let mut work = 0;
-    let mut looks = 0;
-    let mut exchanged = false;
-    while most - made >= MOST_OF_A_ROW {
+    let mut so_far = NONE;
+    while most - so_far.made >= MOST_OF_A_ROW {
         if !has_row(at.kind) {
             wait_at(local, shape, code, place, at);
-            return row(made, work, looks, exchanged);
+            return so_far;
         }
         let seat = Place {
             own,
@@ -195,23 +213,20 @@ pub(crate) fn rows_along<W: Watch>(
             withdraw(local, words, mine, shape, code, lives);
             return REFUSED;
         }
-        made += rowed.work + 1;
-        work += rowed.work;
-        looks = looks_behind(looks, rowed.work, looks_behind(1, rowed.work, 0));
-        exchanged = exchanged || rowed.exchanged;
+        so_far = with_row(so_far, rowed);
         match rowed.end {
             RowEnd::Installed(next) => at = next,
             RowEnd::Broken => {
                 wait_broken(local, shape, code, place);
-                return row(made, work, looks, exchanged);
+                return so_far;
             }
             RowEnd::Over => {
                 local.stand = Stand::Done;
-                return row(made, work, looks, exchanged);
+                return so_far;
             }
             RowEnd::Refused(_) => unreachable!(),
         }
     }
     wait_at(local, shape, code, place, at);
-    row(made, work, looks, exchanged)
+    so_far
 }

@@ -1,5 +1,5 @@
 //! What comes of the steps of a capsule, and of steps in a row.
-ghost use Rattle.std.specs.Prelude.{◌≡◌, ◌<◌, ◌+◌, ◌^◌, false};
+ghost use Rattle.std.specs.Prelude.{◌≡◌, ◌<◌, ◌+◌, ◌^◌, ◌||◌, false};
 ghost use Rattle.ppm_stretch.specs.Steady.{looks_behind};
 
 use ppm_cells::Restart;
@@ -210,4 +210,12 @@ pub(crate) fn looks_behind(before: u64, work: u64, looks: u64) -> u64
     ensures { result ≡ looks_behind before work looks }
 {
     if work == 0 { before + looks } else { looks }
+}
+
+/// Whether one of them holds.
+#[inline(always)]
+pub(crate) fn one_of(first: bool, second: bool) -> bool
+    ensures { result ≡ (first || second) }
+{
+    first || second
 }

@@ -1,14 +1,10 @@
 use Rattle.std.proofs.Common.{◌∙◌, true, sym, ap, subst, arith}
 use Rattle.ppm_code.specs.declared.code.CodeParts.{CodeParts}
 use Rattle.ppm_engine.specs.declared.memory.Stop.{Stop}
-use Rattle.ppm_engine.specs.Steps.{StopsAt}
 use Rattle.ppm_seated.specs.Laws.{led_none}
 use Rattle.ppm_step.specs.Rows.{row_of}
 use Rattle.ppm_step.specs.Standings.{stands}
-use Rattle.ppm_stretch.specs.declared.way.Rowed.{Rowed}
-use Rattle.ppm_stretch.specs.Scheduling.{HasWorked}
-use Rattle.ppm_stretch.proofs.SteadyLemmas.{of_told}
-use Rattle.ppm_stretch.proofs.SchedulingLemmas.{refuses_alive, row_works}
+use Rattle.ppm_stretch.proofs.SchedulingLemmas.{row_works}
 use Rattle.ppm_stretch.proofs.scheduling.work_at.Goals as goal
 
 pub make_row-requires-clause-seat : goal.make_row-requires-clause-seat

@@ -1,4 +1,0 @@
-use Rattle.ppm_engine.proofs.push.push_inline.Given as goal
-
-abbrev pub ghost-store_then : goal.ghost-store_then
-ghost-store_then g a = g.first
