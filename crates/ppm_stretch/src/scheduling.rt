@@ -152,7 +152,7 @@ fn row_at<W: Watch>(
 /// These steps, and then those of a row.
 #[inline(always)]
 fn with_row(steps: Steps, rowed: Rowed) -> Steps
-    requires few { (steps.made < 2 ^ 63) × (steps.work ≤ steps.made) × (steps.looks ≤ steps.made) × (rowed.work ≤ 12) }
+    requires few { (steps.made + 13 < 2 ^ 64) × (steps.work ≤ steps.made) × (steps.looks ≤ steps.made) × (rowed.work ≤ 12) }
     ensures { result ≡ record { made = steps.made + (rowed.work + 1); work = steps.work + rowed.work;
         looks = looks_behind steps.looks rowed.work (looks_behind 1 rowed.work 0); exchanged = (steps.exchanged || rowed.exchanged); refused = steps.refused } }
 {
