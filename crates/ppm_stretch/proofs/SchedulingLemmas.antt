@@ -1,18 +1,24 @@
 -- The rows of work of the scheduler.
-use Rattle.std.proofs.Common.{◌≡◌, ◌≢◌, ◌∙◌, ◌+◌, ◌≤◌, ◌==◌, ◌||◌, ℕ, Bool, true, false, if◌then◌else◌, List, Option, Some, sym, refl, ap, subst, arith}
+use Rattle.std.proofs.Common.{◌≡◌, ◌≢◌, ◌∙◌, ◌+◌, ◌≤◌, ◌==◌, ◌||◌, ℕ, Bool, true, false, if◌then◌else◌, List, Option, Some, Result, Ok, Err, sym, refl, ap, subst, arith}
 use Rattle.atomic_table.specs.Seated.{TableId}
 use Rattle.ppm_cells.specs.declared.restart.RestartKind.{RestartKind}
 use Rattle.ppm_cells.specs.declared.restart.RestartKind.TheVariants.{Run, Bump, Push1, Push2, Unwind, Arrive, Join, Pop1, Pop2, Seek, Steal, Check, Take, Take2}
 use Rattle.ppm_cells.specs.declared.shape.Shape.{Shape}
 use Rattle.ppm_code.specs.declared.code.CodeParts.{CodeParts}
 use Rattle.ppm_engine.proofs.MakingLemmas.{stands_lives}
-use Rattle.ppm_engine.specs.Steps.{HasRow}
+use Rattle.ppm_cells.specs.Restart.{IsRestart}
+use Rattle.ppm_cells.specs.declared.restart.Restart.{Restart}
+use Rattle.ppm_engine.specs.declared.memory.Stop.{Stop}
+use Rattle.ppm_engine.specs.declared.memory.Stop.TheVariants as stops
+use Rattle.ppm_engine.specs.declared.tally.Tally.{Tally}
+use Rattle.ppm_engine.specs.Memory.{Counts, Spot, spot}
+use Rattle.ppm_engine.specs.Steps.{Came, HasRow}
 use Rattle.ppm_moves.specs.Moves.{Moves, Refuses, Lives, itself, looks_behind}
-use Rattle.ppm_moves.proofs.MovesLemmas.{moves_both, refuses_then, refuses_within}
-use Rattle.ppm_seated.specs.Seated.{Refused}
+use Rattle.ppm_moves.proofs.MovesLemmas.{moves_both, of_told, refuses_then, refuses_within}
+use Rattle.ppm_seated.specs.Seated.{Led, Refused}
 use Rattle.ppm_step.specs.declared.row.Seat.{Seat}
 use Rattle.ppm_step.specs.Rows.{row_of}
-use Rattle.ppm_step.specs.Standings.{Standing, IsDone, at_finish, begins_if}
+use Rattle.ppm_step.specs.Standings.{Standing, IsAt, IsDone, at_finish, begins_if}
 use Rattle.ppm_step.specs.There.{restart_is_there}
 use Rattle.ppm_step.specs.State.{before_kind, is_work}
 use Rattle.ppm_step.specs.declared.turn.Next.TheVariants.{Look}
@@ -131,3 +137,27 @@ pub sum_few : (steps sum : Steps) (work : ℕ) (exchanged : Bool)
 sum_few steps sum work exchanged is few looks =
     subst (λ (x : Steps). (x.made ≡ steps.made + (work + 1)) × (x.work ≤ x.made) × (x.looks ≤ x.made) × (x.refused ≡ steps.refused)) (sym is)
     (refl, omega (arith, few), sum_few_by steps.looks steps.made work (looks_behind 1 work 0) (work == 0) looks (looks_few_by work (work == 0)), refl)
+
+-- what the engine says of a row of a seat, in the words of steps in a row
+module _ {W Own : Type 0} (told : W → Option (List Event)) (table : TableId) (k : Opening) (place : Seat) (id : Own → TableId) (me : Own → Mine) where
+  abbrev pub led_by : Spot Own → Spot Own → Counts → Type 0
+  led_by a b c = Led table k place.own (id a.own) (me a.own) a.stands a.told (id b.own) (me b.own) b.stands b.told c
+
+  abbrev pub refused_by : Spot Own → Spot Own → ℕ → Type 0
+  refused_by a b most = Refused table k place.own (id a.own) (me a.own) a.stands a.told (id b.own) (me b.own) b.stands b.told most
+
+  -- by its answer
+  abbrev pub HasMade : (o o' : Own) → W → W → Tally → Result Restart Stop → Type 0
+  HasMade o o' w w' tally (Ok restart) = HasWorked told k place (me o) (me o') w w' tally.made tally.exchanged (Installed restart)
+  HasMade o o' w w' tally (Err stops.Broken) = HasWorked told k place (me o) (me o') w w' tally.made tally.exchanged Broken
+  HasMade o o' w w' tally (Err stops.Refused) = HasWorked told k place (me o) (me o') w w' 0 false (RefusedAt true)
+  HasMade o o' w w' tally (Err stops.Over) = ⊥
+
+  pub made_so : (x : Standing) (o o' : Own) (w w' : W) (tally : Tally) (r : Result Restart Stop) → tally.made ≤ 12
+      → Came led_by (spot o x (told w)) refused_by ⊥ place.place o' (told w') tally IsRestart (λ restart. IsAt place.place (Some restart)) r → HasMade o o' w w' tally r
+  made_so x o o' w w' tally (Ok restart) few h =
+      (of_told told k place.own (me o) (me o') w w' tally.made tally.made 0 tally.exchanged h.1.moves, h.1.to.stands, h.0)
+  made_so x o o' w w' tally (Err stops.Broken) few h = (of_told told k place.own (me o) (me o') w w' tally.made tally.made 0 tally.exchanged h.moves, h.to.stands)
+  made_so x o o' w w' tally (Err stops.Refused) few h =
+      refuses_alive told table k place.own (id o) (id o') (me o) (me o') x h.0 w w' (tally.made + 1) 13 h.1 (omega (arith, few)) h.2
+  made_so x o o' w w' tally (Err stops.Over) few h = h.1
