@@ -155,9 +155,9 @@ swept_takeovers = choice "takeover" ("place" ∷ "entry" ∷ "both" ∷ []) "bot
 abbrev pub idle : OptionRule
 idle = choice "idle" ("leave" ∷ "park" ∷ []) "leave"
 
--- the form of a trace: lines of text, or events in JSON for a viewer
+-- the form of a trace: lines of text, events in JSON for a viewer, or a picture in SVG
 abbrev pub traced_form : OptionRule
-traced_form = choice "form" ("text" ∷ "json" ∷ []) "text"
+traced_form = choice "form" ("text" ∷ "json" ∷ "svg" ∷ []) "text"
 
 -- which lines of a trace are written: all, those that end a row, or those with a mark
 abbrev pub only : OptionRule

@@ -71,7 +71,7 @@ idle_given rows = choice_given idle (Leave ∷ Park ∷ []) rows
 
 -- the form of a trace
 abbrev pub traced_form_given : List Row → Option TracedForm
-traced_form_given rows = choice_given traced_form (forms.Text ∷ forms.Json ∷ []) rows
+traced_form_given rows = choice_given traced_form (forms.Text ∷ forms.Json ∷ forms.Svg ∷ []) rows
 
 -- which lines of a trace are written
 abbrev pub traced_lines_given : List Row → Option TracedLines

@@ -274,7 +274,7 @@ pub(crate) const IDLE: ChoiceOption = ChoiceOption {
 /// The form of a trace.
 pub(crate) const TRACED_FORM: ChoiceOption = ChoiceOption {
     name: "form",
-    words: &["text", "json"],
+    words: &["text", "json", "svg"],
     default: "text",
 };
 

@@ -26,6 +26,8 @@ pub enum TracedForm {
     Text,
     /// Events in JSON, for a viewer of traces.
     Json,
+    /// A picture in SVG.
+    Svg,
 }
 
 /// Which lines of a trace are written.
@@ -121,11 +123,16 @@ fn trace_options(matches: &ArgMatches<'_>) -> Option<TraceOptions>
     })
 }
 
-/// The form of a trace, if the matches name it by one of the two words: `text` or `json`.
+/// The form of a trace, if the matches name it by one of the three words: `text`, `json` or
+/// `svg`.
 fn traced_form_of(matches: &ArgMatches<'_>) -> Option<TracedForm>
     ensures { result ≡ traced_form_given (rows_of (found_of matches.now)) }
 {
-    choice_of(matches, TRACED_FORM, &[TracedForm::Text, TracedForm::Json])
+    choice_of(
+        matches,
+        TRACED_FORM,
+        &[TracedForm::Text, TracedForm::Json, TracedForm::Svg],
+    )
 }
 
 /// Which lines of a trace are written, if the matches name them by one of the three words: `turns`,

@@ -30,7 +30,7 @@ use Rattle.ppm_marks.specs.declared.shown.Only.{Only}
 use Rattle.ppm_marks.specs.declared.shown.Only.TheVariants as shown
 use Rattle.ppm_naming.specs.declared.names.Names.{Names}
 use Rattle.ppm_trace.specs.declared.form.Form.{Form}
-use Rattle.ppm_trace.specs.declared.form.Form.TheVariants.{Lines, Events}
+use Rattle.ppm_trace.specs.declared.form.Form.TheVariants.{Lines, Events, Picture}
 use Rattle.ppm_trace.specs.Json.{trace_as}
 use Rattle.ppm_driver.specs.TraceNames.{program_names}
 
@@ -48,6 +48,7 @@ only_of asked.Marks = shown.Marks
 abbrev pub form_by : TracedForm → TracedLines → Form
 form_by forms.Text lines = Lines (only_of lines)
 form_by forms.Json lines = Events
+form_by forms.Svg lines = Picture
 
 abbrev pub form_of : TraceOptions → Form
 form_of o = form_by o.form o.only

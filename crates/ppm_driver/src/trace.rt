@@ -136,6 +136,7 @@ fn form_of(options: TraceOptions) -> Form
     match options.form {
         TracedForm::Text => Form::Lines(only_of(options.only)),
         TracedForm::Json => Form::Events,
+        TracedForm::Svg => Form::Picture,
     }
 }
 

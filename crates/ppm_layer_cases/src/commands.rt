@@ -31,6 +31,7 @@ fn form_word(form: TracedForm) -> &'static str {
     match form {
         TracedForm::Text => "text",
         TracedForm::Json => "json",
+        TracedForm::Svg => "svg",
     }
 }
 

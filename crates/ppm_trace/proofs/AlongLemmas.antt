@@ -10,7 +10,7 @@ use Rattle.ppm_naming.specs.declared.names.Names.{Names}
 use Rattle.ppm_step.specs.declared.turn.Turn.{Turn}
 use Rattle.ppm_trace.specs.Laws.{thinned_line}
 use Rattle.ppm_trace.specs.Telling.{HasTold}
-use Rattle.ppm_trace.specs.Json.{told_if}
+use Rattle.ppm_trace.specs.Json.{drawn_if, told_if}
 use Rattle.ppm_trace.specs.Trace.{along_turns, counts_along, is_told, shown_line, told_counts}
 use Rattle.ppm_trace.specs.declared.counts.Counts.{Counts}
 use Rattle.ppm_trace.specs.declared.tale.Tale.{Tale}
@@ -33,17 +33,22 @@ counts_both from c m (turn ∷ turns) more =
 
 module _ (names : Names) (excerpt : Excerpt) where
   pub none_told : (m : Situation) (tale : Tale) → HasTold names excerpt m [] tale tale
-  none_told m tale = record { text = sym (append-nil tale.text.items); counts = refl }
+  none_told m tale = record { text = sym (append-nil tale.text.items); strokes = sym (append-nil tale.strokes.items); counts = refl }
 
   pub told_both : (m : Situation) (first more : List Turn) (a b c : Tale) → HasTold names excerpt m first a b
       → HasTold names excerpt (run_on m first) more b c → HasTold names excerpt m (first ++ more) a c
   told_both m first more a b c d e =
       let told = told_if names excerpt.form excerpt.from in
+      let drawn = drawn_if names excerpt.form excerpt.from in
       let one = along_turns told m first in
       let two = along_turns told (run_on m first) more in
+      let some = along_turns drawn m first in
+      let others = along_turns drawn (run_on m first) more in
       record {
         text = e.text ∙ ap (λ text. text ++ two) d.text ∙ append_assoc a.text.items one two
             ∙ ap (λ rest. a.text.items ++ rest) (sym (along_both told m first more));
+        strokes = e.strokes ∙ ap (λ strokes. strokes ++ others) d.strokes ∙ append_assoc a.strokes.items some others
+            ∙ ap (λ rest. a.strokes.items ++ rest) (sym (along_both drawn m first more));
         counts = e.counts ∙ ap (λ n. counts_along excerpt.from n (run_on m first) more) d.counts
             ∙ sym (counts_both excerpt.from a.counts m first more);
       }

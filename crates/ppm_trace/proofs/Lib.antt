@@ -9,3 +9,4 @@ pub mod ForkLemmas
 pub mod OneLemmas
 pub mod TextLemmas
 pub mod EventLemmas
+pub mod PictureLemmas

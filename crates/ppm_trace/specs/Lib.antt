@@ -1,5 +1,6 @@
 pub mod Counts
 pub mod Trace
+pub mod Picture
 pub mod Json
 pub mod Telling
 pub mod Laws

@@ -39,6 +39,7 @@ pub fn count_run(
     };
     let mut tale = Tale {
         text: Vec::new(alloc),
+        strokes: Vec::new(alloc),
         counts: Counts::none(),
     };
     let mut way = Way::first(turns);

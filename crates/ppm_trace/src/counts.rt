@@ -4,7 +4,7 @@ ghost use Rattle.std.specs.Prelude.{◌≡◌, ◌<◌, ◌+◌, ◌^◌};
 use ppm_marks::{Mark, Marks};
 
 /// How often each thing was done in the turns that are told: acts, forks, right branches that were
-/// taken, thefts that were tried and won, faults, and takeovers.
+/// taken, thefts that were tried, won and lost, faults, and takeovers.
 #[derive(Clone, Copy, Debug, PartialEq, Eq)]
 pub struct Counts {
     pub acts: u64,
@@ -12,6 +12,7 @@ pub struct Counts {
     pub takes: u64,
     pub tries: u64,
     pub won: u64,
+    pub lost: u64,
     pub soft: u64,
     pub hard: u64,
     pub takeovers: u64,
@@ -32,6 +33,7 @@ impl Counts {
             takes: 0,
             tries: 0,
             won: 0,
+            lost: 0,
             soft: 0,
             hard: 0,
             takeovers: 0,
@@ -49,13 +51,13 @@ impl Counts {
             Mark::Take => self.takes += 1,
             Mark::Try => self.tries += 1,
             Mark::Won => self.won += 1,
+            Mark::Lost => self.lost += 1,
             Mark::Soft => self.soft += 1,
             Mark::Hard => self.hard += 1,
             Mark::Carries | Mark::Heir => self.takeovers += 1,
             Mark::Push
             | Mark::Pop
             | Mark::Inherit
-            | Mark::Lost
             | Mark::First
             | Mark::Last
             | Mark::Inline

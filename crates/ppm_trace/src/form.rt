@@ -8,4 +8,6 @@ pub enum Form {
     Lines(Only),
     /// As events of the trace event format.
     Events,
+    /// As a picture in SVG.
+    Picture,
 }

@@ -1,9 +1,11 @@
-//! A run of a schedule, told turn by turn as a text, or as events for a viewer of traces.
+//! A run of a schedule, told turn by turn as a text, as events for a viewer of traces, or as a
+//! picture.
 //! Model: a trace is a head, a line for each turn that is shown, and a tail of what was counted
-//! (`specs/Trace`); or a head, the events of each turn, and a tail (`specs/Json`).
+//! (`specs/Trace`); or a head, the events of each turn, and a tail (`specs/Json`); or a picture with
+//! each turn in its processor's lane (`specs/Picture`).
 //! Contract: `trace` makes the run of a schedule and answers exactly its trace in a form, from an act
 //! on; `count_run` makes it and answers what is counted in it.
-//! Stands on `ppm_lines`, `ppm_marks`, `ppm_core` and `ppm_following`; the commands `trace` and
+//! Stands on `ppm_lines`, `ppm_picture`, `ppm_marks`, `ppm_core` and `ppm_following`; the commands `trace` and
 //! `replay` stand on it.
 //! The text form is this project's.
 #![tactic(auto)]
@@ -14,6 +16,8 @@ mod ends;
 mod events;
 mod form;
 mod laws;
+mod picture;
+mod strokes;
 mod tale;
 mod telling;
 mod tracing;

@@ -6,17 +6,19 @@ ghost use Rattle.ppm_marks.specs.Marks.{marks_of};
 ghost use Rattle.ppm_marks.specs.Shown.{is_shown as is_shown_by};
 ghost use Rattle.ppm_step.specs.Among.{IsTurnAmong};
 ghost use Rattle.ppm_trace.specs.Counts.{counted, total};
-ghost use Rattle.ppm_trace.specs.Json.{written_as, written_if};
+ghost use Rattle.ppm_trace.specs.Json.{kept_as, kept_if, written_as, written_if};
 ghost use Rattle.ppm_trace.specs.Telling.{HasTold};
 ghost use Rattle.ppm_trace.specs.declared.form.Form.TheVariants.{Lines};
 
 use crate::counts::Counts;
 use crate::events::push_written_events;
 use crate::form::Form;
+use crate::strokes::{push_dead_lanes, push_stroke};
 use ppm_core::Machine;
 use ppm_lines::{Scene, push_line};
 use ppm_marks::{Only, is_shown_at, marks_at};
 use ppm_naming::Names;
+use ppm_picture::Stroke;
 use ppm_step::Turn;
 use ppm_words::NoMemory;
 use std::alloc::Global;
@@ -29,10 +31,11 @@ pub struct Excerpt {
     pub from: u64,
 }
 
-/// What was told so far.
-#[derive(Debug, Drop)]
+/// What was told so far, and what is kept of acts for their picture.
+#[derive(Drop)]
 pub struct Tale {
     pub text: Vec<u8>,
+    pub strokes: Vec<Stroke>,
     pub counts: Counts,
 }
 
@@ -116,6 +119,25 @@ fn push_written(
     match form {
         Form::Lines(only) => push_if_shown(alloc, text, machine, names, only, turn),
         Form::Events => push_written_events(alloc, text, machine, names, from, turn),
+        Form::Picture => push_dead_lanes(alloc, text, machine, from),
+    }
+}
+
+/// Keeps what is shown of a turn, if there is to be a picture.
+fn keep(
+    strokes: &mut Vec<Stroke>,
+    machine: &Machine,
+    names: &Names,
+    form: Form,
+    turn: Turn,
+) -> Result<(), NoMemory>
+    requires { IsTurnAmong (seen machine.now).shape.processors turn }
+    ensures { OnOk result (strokes.new.items
+        ≡ strokes.old.items ++ kept_as names.now form (seen machine.now) turn) }
+{
+    match form {
+        Form::Lines(_) | Form::Events => Ok(()),
+        Form::Picture => push_stroke(strokes, machine, names, turn),
     }
 }
 
@@ -137,6 +159,24 @@ fn push_if_written(
         return Ok(());
     };
     push_written(alloc, text, machine, names, form, excerpt.from, turn)
+}
+
+/// Keeps what is shown of a turn, if a form is asked for that is made of it.
+fn keep_if_asked(
+    strokes: &mut Vec<Stroke>,
+    machine: &Machine,
+    names: &Names,
+    form: Option<Form>,
+    turn: Turn,
+) -> Result<(), NoMemory>
+    requires { IsTurnAmong (seen machine.now).shape.processors turn }
+    ensures { OnOk result (strokes.new.items
+        ≡ strokes.old.items ++ kept_if names.now form (seen machine.now) turn) }
+{
+    let Some(form) = form else {
+        return Ok(());
+    };
+    keep(strokes, machine, names, form, turn)
 }
 
 /// Counts a turn with its marks.
@@ -174,5 +214,6 @@ pub(crate) fn tell(
     }
     count(machine, &mut tale.counts, turn);
     push_if_written(alloc, &mut tale.text, machine, names, excerpt, turn)?;
+    keep_if_asked(&mut tale.strokes, machine, names, excerpt.form, turn)?;
     Ok(())
 }

@@ -4,11 +4,13 @@ ghost use Rattle.ppm_choice.specs.Schedules.{schedule_turns};
 ghost use Rattle.ppm_core.specs.Machine.{seen};
 ghost use Rattle.ppm_core.specs.Situation.{run_on};
 ghost use Rattle.ppm_trace.specs.Json.{trace_as, trace_events};
+ghost use Rattle.ppm_trace.specs.Picture.{trace_picture};
 ghost use Rattle.ppm_trace.specs.Trace.{trace_text};
 
 use crate::counts::Counts;
 use crate::ends::{push_head, push_tail};
 use crate::form::Form;
+use crate::picture::picture;
 use crate::tale::{Excerpt, Tale};
 use crate::telling::follow_told;
 use ppm_core::Machine;
@@ -41,6 +43,7 @@ fn trace_lines(
 {
     let mut tale = Tale {
         text: Vec::new(alloc),
+        strokes: Vec::new(alloc),
         counts: Counts::none(),
     };
     push_head(alloc, &mut tale.text, &machine.shape(), from)?;
@@ -82,6 +85,7 @@ fn trace_json(
 {
     let mut tale = Tale {
         text: Vec::new(alloc),
+        strokes: Vec::new(alloc),
         counts: Counts::none(),
     };
     push_json_head(alloc, &mut tale.text, machine.processors())?;
@@ -101,6 +105,48 @@ fn trace_json(
     )?;
     push_json_tail(&mut tale.text)?;
     Ok(tale.text)
+}
+
+/// The trace of a run as a picture.
+fn trace_svg(
+    alloc: Global,
+    machine: &mut Machine,
+    schedule: &Schedule,
+    names: &Names,
+    from: u64,
+    acts: u64,
+) -> Result<Vec<u8>, NoMemory>
+    requires processors { schedule.now.processors ≡ (seen machine.old).shape.processors }
+    requires acts { from + acts ≤ 2 ^ 40 }
+    requires few { (seen machine.old).turns ≤ 2 ^ 61 }
+    ensures text { IfOk result (λ text. text.items
+        ≡ trace_picture names.now from (seen machine.old)
+        (schedule_turns (seen machine.old).shape (seen machine.old).code (seen machine.old).state schedule.now.items (from + acts))) }
+    ensures made { OnOk result (seen machine.new ≡ run_on (seen machine.old)
+        (schedule_turns (seen machine.old).shape (seen machine.old).code (seen machine.old).state schedule.now.items (from + acts))) }
+{
+    let mut tale = Tale {
+        text: Vec::new(alloc),
+        strokes: Vec::new(alloc),
+        counts: Counts::none(),
+    };
+    let mut way = Way::first(from + acts);
+    let excerpt = Excerpt {
+        form: Some(Form::Picture),
+        from,
+    };
+    follow_told(
+        alloc,
+        machine,
+        &mut way,
+        &mut tale,
+        names,
+        excerpt,
+        schedule.items(),
+    )?;
+    let shape = machine.shape();
+    let text = picture(alloc, &shape, names, from, &tale, machine.finish_word())?;
+    Ok(text)
 }
 
 /// Makes the run of a schedule, of `from` and `acts` acts at most, and answers its trace in this
@@ -127,5 +173,6 @@ pub fn trace(
     match form {
         Form::Lines(only) => trace_lines(alloc, machine, schedule, names, only, from, acts),
         Form::Events => trace_json(alloc, machine, schedule, names, from, acts),
+        Form::Picture => trace_svg(alloc, machine, schedule, names, from, acts),
     }
 }

@@ -19,7 +19,7 @@ follow_told-requires-clause-is c = record {
 pub returns-clause-text : goal.returns-clause-text
 returns-clause-text c =
     events_are c.args.names.now c.args.from (seen c.args.machine.now) (seen c.follow_told.new.machine)
-    c.first-way.result c.follow_told.new.way (record { text = c.push_json_head.new.text; counts = c.none.result }) c.follow_told.new.tale
+    c.first-way.result c.follow_told.new.way (record { text = c.push_json_head.new.text; strokes = c.new-2.result; counts = c.none.result }) c.follow_told.new.tale
     c.items.result.now c.args.schedule.now.items (c.args.from + c.args.acts) c.push_json_tail.new.text.items
     c.items.ensures.items c.first-way.ensures
     (c.in_ok-push_json_head.ensures
@@ -31,6 +31,6 @@ returns-clause-text c =
 pub returns-clause-made : goal.returns-clause-made
 returns-clause-made c =
     run_is c.args.names.now (events c.args.names.now c.args.from) (seen c.args.machine.now) (seen c.follow_told.new.machine)
-    c.first-way.result c.follow_told.new.way (record { text = c.push_json_head.new.text; counts = c.none.result }) c.follow_told.new.tale
+    c.first-way.result c.follow_told.new.way (record { text = c.push_json_head.new.text; strokes = c.new-2.result; counts = c.none.result }) c.follow_told.new.tale
     c.items.result.now c.args.schedule.now.items (c.args.from + c.args.acts)
     c.items.ensures.items c.first-way.ensures c.in_ok-follow_told.ensures.tells

@@ -20,7 +20,7 @@ pub returns-clause-text : goal.returns-clause-text
 returns-clause-text c =
     let tale = c.follow_told.new.tale in
     trace_is c.args.names.now c.args.only c.args.from (seen c.args.machine.now) (seen c.follow_told.new.machine)
-    c.first-way.result c.follow_told.new.way (record { text = c.push_head.new.text; counts = c.none.result }) tale
+    c.first-way.result c.follow_told.new.way (record { text = c.push_head.new.text; strokes = c.new-2.result; counts = c.none.result }) tale
     c.items.result.now c.args.schedule.now.items (c.args.from + c.args.acts) c.push_tail.new.text.items
     c.items.ensures.items c.first-way.ensures
     (c.in_ok-push_head.ensures
@@ -33,6 +33,6 @@ returns-clause-text c =
 pub returns-clause-made : goal.returns-clause-made
 returns-clause-made c =
     run_is c.args.names.now (lines c.args.names.now c.args.only c.args.from) (seen c.args.machine.now) (seen c.follow_told.new.machine)
-    c.first-way.result c.follow_told.new.way (record { text = c.push_head.new.text; counts = c.none.result }) c.follow_told.new.tale
+    c.first-way.result c.follow_told.new.way (record { text = c.push_head.new.text; strokes = c.new-2.result; counts = c.none.result }) c.follow_told.new.tale
     c.items.result.now c.args.schedule.now.items (c.args.from + c.args.acts)
     c.items.ensures.items c.first-way.ensures c.in_ok-follow_told.ensures.tells
