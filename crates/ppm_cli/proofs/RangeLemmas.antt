@@ -23,11 +23,14 @@ use Rattle.ppm_cli.specs.Values.{fitting_room, room_given}
 use Rattle.ppm_cli.specs.Words.{sweep_options, AreSwept, trace_options, AreTraced}
 use Rattle.ppm_cli.specs.Values.{swept_takeovers_given, traced_form_given, traced_lines_given}
 use Rattle.ppm_cli.specs.Words.{by_input, replay_by, replay_with, code_in, capsule_limit, with_input}
-use Rattle.ppm_cli.specs.Values.{are_counts_given, choice_given, is_case_given}
+use Rattle.ppm_cli.specs.Words.{by_any_input, command_for, replay_saved, stop_saved, with_any_input}
+use Rattle.ppm_cli.specs.Values.{are_counts_given, choice_given, input_given, is_case_given}
 use Rattle.ppm_cli.specs.declared.capsules.CapsuleLimit.{CapsuleLimit}
 use Rattle.ppm_cli.specs.declared.command.Command.{Command}
 use Rattle.ppm_cli.specs.declared.command.Command.TheVariants as commands
 use Rattle.ppm_cli.specs.declared.example.SelfOptions.{SelfOptions}
+use Rattle.ppm_cli.specs.declared.input.InputKind.{InputKind}
+use Rattle.ppm_cli.specs.declared.input.InputKind.TheVariants as kinds
 use Rattle.ppm_cli.specs.declared.replay.ReplayOptions.{ReplayOptions}
 
 -- a value with what came of it
@@ -110,6 +113,24 @@ with_input_are P of_source of_case text (Some o) rows source_in case_in h =
     bound IsInRange (text_given text rows) (λ t. by_input (of_source o t) (of_case o t) rows)
     (λ t e. by_input_are (of_source o t) (of_case o t) rows (source_in o t h) (case_in o t h))
 
+-- and so is one over a source, a case or a saved text
+by_any_input_are : (a b c : Command) (rows : List Row) → IsInRange a → IsInRange b → IsInRange c → IfSome (by_any_input a b c rows) IsInRange
+by_any_input_are a b c rows h k l = go (input_given rows) where
+  go : (kind : Option InputKind) → IfSome (option_map (command_for a b c) kind) IsInRange
+  go None = tt
+  go (Some kinds.Source) = h
+  go (Some kinds.Case) = k
+  go (Some kinds.Saved) = l
+
+with_any_input_are : {O : Type 0} (P : O → Type 0) (of_source of_case of_saved : O → Text → Command) (text : OptionRule) (options : Option O)
+    (rows : List Row) → ((o : O) (t : Text) → P o → IsInRange (of_source o t)) → ((o : O) (t : Text) → P o → IsInRange (of_case o t))
+    → ((o : O) (t : Text) → P o → IsInRange (of_saved o t)) → IfSome options P
+    → IfSome (with_any_input of_source of_case of_saved text options rows) IsInRange
+with_any_input_are P of_source of_case of_saved text None rows source_in case_in saved_in h = tt
+with_any_input_are P of_source of_case of_saved text (Some o) rows source_in case_in saved_in h =
+    bound IsInRange (text_given text rows) (λ t. by_any_input (of_source o t) (of_case o t) (of_saved o t) rows)
+    (λ t e. by_any_input_are (of_source o t) (of_case o t) (of_saved o t) rows (source_in o t h) (case_in o t h) (saved_in o t h))
+
 -- ---- the options of each command
 
 run_are : (rows : List Row) → IfSome (run_options rows) AreRun
@@ -145,7 +166,7 @@ replay_are rows =
 -- a replay is in range where its options are, whether its counts are told or not
 replays_by : (is_counted : Bool) (o : ReplayOptions) (t : Text) (rows : List Row) → AreReplayed o → IfSome (replay_by is_counted o t rows) IsInRange
 replays_by true o t rows h = by_input_are (commands.CountedReplay o t) (commands.CountedReplayCase o t) rows h h
-replays_by false o t rows h = by_input_are (commands.Replay o t) (commands.ReplayCase o t) rows h h
+replays_by false o t rows h = by_any_input_are (commands.Replay o t) (commands.ReplayCase o t) (replay_saved o t) rows h h h.1
 
 replays_are : (options : Option ReplayOptions) (rows : List Row) → IfSome options AreReplayed
     → IfSome (option_and_then (λ o. option_and_then (λ t. replay_with o t rows) (text_given schedule rows)) options) IsInRange
@@ -272,7 +293,8 @@ named_are name rows =
     (replays_are (replay_options rows) rows (replay_are rows))
     (either IsInRange (bytes_eq name (codes "self")) _ _ (example_are rows)
     (either IsInRange (bytes_eq name (codes "stop")) _ _
-    (with_input_are AreStopped commands.Stop commands.StopCase schedule (stop_options rows) rows (λ o t h. h) (λ o t h. h) (stop_are rows))
+    (with_any_input_are AreStopped commands.Stop commands.StopCase stop_saved schedule (stop_options rows) rows (λ o t h. h) (λ o t h. h)
+    (λ o t h. h.1) (stop_are rows))
     (either IsInRange (bytes_eq name (codes "resume")) _ _
     (with_text_are AreResumed commands.Resume faults (resume_options rows) rows (λ o t h. h) (resume_are rows))
     (either IsInRange (bytes_eq name (codes "sweep")) _ _

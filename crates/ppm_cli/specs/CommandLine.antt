@@ -174,6 +174,9 @@ input = choice "input" ("source" ∷ "case" ∷ []) "source"
 -- whether what is counted in the run is told
 abbrev pub counts : OptionRule
 counts = choice "counts" ("no" ∷ "yes" ∷ []) "no"
+-- and where the run may go on from a saved text, whether it is that
+abbrev pub any_input : OptionRule
+any_input = choice "input" ("source" ∷ "case" ∷ "saved" ∷ []) "source"
 
 -- ---- the commands
 
@@ -187,9 +190,9 @@ command_line =
     ∷ command "check" []
     ∷ command "depth" (capsules ∷ [])
     ∷ command "races" (capsules ∷ [])
-    ∷ command "replay" (processors ∷ turns ∷ room ∷ slots ∷ takeover ∷ schedule ∷ input ∷ counts ∷ [])
+    ∷ command "replay" (processors ∷ turns ∷ room ∷ slots ∷ takeover ∷ schedule ∷ any_input ∷ counts ∷ [])
     ∷ command "self" (few_processors ∷ size ∷ seed ∷ count ∷ [])
-    ∷ command "stop" (few_processors ∷ after ∷ small_room ∷ few_slots ∷ schedule ∷ input ∷ [])
+    ∷ command "stop" (few_processors ∷ after ∷ small_room ∷ few_slots ∷ schedule ∷ any_input ∷ [])
     ∷ command "resume" (turns ∷ looks ∷ seed ∷ faults ∷ [])
     ∷ command "sweep"
     (processors ∷ turns ∷ copied_room ∷ copied_slots ∷ swept_takeovers ∷ schedule ∷ met ∷ from ∷ acts ∷ runs ∷ seed ∷ capsules ∷ input ∷ [])

@@ -10,15 +10,19 @@ use Rattle.ppm_cli.specs.CommandLine.{few_processors, after, small_room, few_slo
 use Rattle.ppm_cli.specs.CommandLine.{copied_room, copied_slots, met, from, acts, runs}
 use Rattle.ppm_cli.specs.CommandLine.{traced_from, traced_acts}
 use Rattle.ppm_cli.specs.Values.{and_then, are_counts_given, choice_given, idle_given, is_case_given, number_given, room_given, swept_takeovers_given, takeover_given, text_given}
-use Rattle.ppm_cli.specs.Values.{traced_form_given, traced_lines_given}
+use Rattle.ppm_cli.specs.Values.{input_given, traced_form_given, traced_lines_given}
 use Rattle.ppm_cli.specs.declared.capsules.CapsuleLimit.{CapsuleLimit}
 use Rattle.ppm_cli.specs.declared.command.Command.{Command}
 use Rattle.ppm_cli.specs.declared.command.Command.TheVariants as commands
 use Rattle.ppm_cli.specs.declared.example.SelfOptions.{SelfOptions}
+use Rattle.ppm_cli.specs.declared.input.InputKind.{InputKind}
+use Rattle.ppm_cli.specs.declared.input.InputKind.TheVariants as kinds
 use Rattle.ppm_cli.specs.declared.replay.ReplayOptions.{ReplayOptions}
+use Rattle.ppm_cli.specs.declared.replay.ReplaySavedOptions.{ReplaySavedOptions}
 use Rattle.ppm_cli.specs.declared.resume.ResumeOptions.{ResumeOptions}
 use Rattle.ppm_cli.specs.declared.run.RunOptions.{RunOptions}
 use Rattle.ppm_cli.specs.declared.stop.StopOptions.{StopOptions}
+use Rattle.ppm_cli.specs.declared.stop.StopSavedOptions.{StopSavedOptions}
 use Rattle.ppm_cli.specs.declared.sweep.SweepOptions.{SweepOptions}
 use Rattle.ppm_cli.specs.declared.trace.TraceOptions.{TraceOptions}
 
@@ -34,6 +38,20 @@ by_input of_source of_case rows = option_map (λ is_case. if is_case then of_cas
 abbrev pub with_input : {O : Type 0} → (of_source of_case : O → Text → Command) → OptionRule → Option O → List Row → Option Command
 with_input of_source of_case text options rows =
     and_then options (λ o. and_then (text_given text rows) (λ t. by_input (of_source o t) (of_case o t) rows))
+
+-- of three commands that of a source, that of a case, or that of a saved text
+abbrev pub command_for : (of_source of_case of_saved : Command) → InputKind → Command
+command_for of_source of_case of_saved kinds.Source = of_source
+command_for of_source of_case of_saved kinds.Case = of_case
+command_for of_source of_case of_saved kinds.Saved = of_saved
+
+abbrev pub by_any_input : (of_source of_case of_saved : Command) → List Row → Option Command
+by_any_input of_source of_case of_saved rows = option_map (command_for of_source of_case of_saved) (input_given rows)
+
+-- one over any of the three that has options and a text, if each has a value of its form
+abbrev pub with_any_input : {O : Type 0} → (of_source of_case of_saved : O → Text → Command) → OptionRule → Option O → List Row → Option Command
+with_any_input of_source of_case of_saved text options rows =
+    and_then options (λ o. and_then (text_given text rows) (λ t. by_any_input (of_source o t) (of_case o t) (of_saved o t) rows))
 
 -- the options of `run` and of `ram` but for its plan, if each has a value of its form
 abbrev pub run_options : List Row → Option RunOptions
@@ -70,10 +88,15 @@ replay_options rows =
     and_then (takeover_given rows) (λ t.
     Some (record { processors = p; turns = n; room = w; slots = e; takeover = t }))))))
 
--- the command `replay` with its options and its schedule, over a source or over a case; if what is counted is told, it is another command
+-- `replay` of a saved text, which has the sizes: of the options the most acts alone count
+abbrev pub replay_saved : ReplayOptions → Text → Command
+replay_saved options t = commands.ReplaySaved (record { turns = options.turns }) t
+
+-- the command `replay` with its options and its schedule, over a source, a case or a saved text; if what is counted is told, it is another command,
+-- and over a saved text there is none
 abbrev pub replay_by : (is_counted : Bool) → ReplayOptions → Text → List Row → Option Command
 replay_by true options text rows = by_input (commands.CountedReplay options text) (commands.CountedReplayCase options text) rows
-replay_by false options text rows = by_input (commands.Replay options text) (commands.ReplayCase options text) rows
+replay_by false options text rows = by_any_input (commands.Replay options text) (commands.ReplayCase options text) (replay_saved options text) rows
 
 abbrev pub replay_with : ReplayOptions → Text → List Row → Option Command
 replay_with options text rows = and_then (are_counts_given rows) (λ is_counted. replay_by is_counted options text rows)
@@ -90,9 +113,13 @@ stop_options rows =
     and_then (number_given few_slots rows) (λ e.
     Some (record { processors = p; after = n; room = w; slots = e })))))
 
--- the command `stop` with its options and its schedule, over a source or over a case
+-- `stop` of a saved text, which has the sizes: of the options the acts alone count
+abbrev pub stop_saved : StopOptions → Text → Command
+stop_saved options t = commands.StopSaved (record { after = options.after }) t
+
+-- the command `stop` with its options and its schedule, over a source, a case or a saved text
 abbrev pub stop_in : List Row → Option Command
-stop_in rows = with_input commands.Stop commands.StopCase schedule (stop_options rows) rows
+stop_in rows = with_any_input commands.Stop commands.StopCase stop_saved schedule (stop_options rows) rows
 
 -- the options of `resume` but for its plan, if each has a value of its form
 abbrev pub resume_options : List Row → Option ResumeOptions
@@ -238,6 +265,10 @@ AreReplayed options =
     IsOfForm processors.form options.processors × IsOfForm turns.form options.turns × IsOfForm room.form options.room
     × IsOfForm slots.form options.slots × DoPoolsFit options.processors options.room
 
+-- of a replay that goes on from a saved text the most acts are in their range
+abbrev pub AreSavedReplayed : ReplaySavedOptions → Type 0
+AreSavedReplayed options = IsOfForm turns.form options.turns
+
 -- each option of a run of the program's own example is in its range
 abbrev pub AreSelf : SelfOptions → Type 0
 AreSelf options =
@@ -249,6 +280,10 @@ abbrev pub AreStopped : StopOptions → Type 0
 AreStopped options =
     IsOfForm few_processors.form options.processors × IsOfForm after.form options.after × IsOfForm small_room.form options.room
     × IsOfForm few_slots.form options.slots
+
+-- of a stop that goes on from a saved text the acts are in their range
+abbrev pub AreSavedStopped : StopSavedOptions → Type 0
+AreSavedStopped options = IsOfForm after.form options.after
 
 -- each option of a resumption is in its range
 abbrev pub AreResumed : ResumeOptions → Type 0
@@ -297,3 +332,5 @@ IsInRange (commands.Ram options _) = AreRun options
 IsInRange (commands.Trace options _) = AreTraced options
 IsInRange (commands.TraceCase options _) = AreTraced options
 IsInRange commands.Show = ⊤
+IsInRange (commands.StopSaved options _) = AreSavedStopped options
+IsInRange (commands.ReplaySaved options _) = AreSavedReplayed options

@@ -7,11 +7,11 @@ use crate::capsules::{CapsuleLimit, depth_from, races_from};
 use crate::code::code_from;
 use crate::example::{SelfOptions, self_from};
 use crate::ram::ram_from;
-use crate::replay::{ReplayOptions, replay_from};
+use crate::replay::{ReplayOptions, ReplaySavedOptions, replay_from};
 use crate::resume::{ResumeOptions, resume_from};
 use crate::run::{RunOptions, run_from};
 use crate::serial::{SerialOptions, serial_from};
-use crate::stop::{StopOptions, stop_from};
+use crate::stop::{StopOptions, StopSavedOptions, stop_from};
 use crate::sweep::{SweepOptions, sweep_from};
 use crate::trace::{TraceOptions, trace_from};
 use clap::ArgMatches;
@@ -73,6 +73,12 @@ pub enum Command {
     TraceCase(TraceOptions, Items<u8>),
     /// To tell the state of the saved text that is read.
     Show,
+    /// To go on from the words of the saved text that is read, by a schedule, of which these are the
+    /// bytes, to stop that run too, and to save the machine's words again.
+    StopSaved(StopSavedOptions, Items<u8>),
+    /// To go on from the words of the saved text that is read, by a schedule, of which these are the
+    /// bytes.
+    ReplaySaved(ReplaySavedOptions, Items<u8>),
 }
 
 /// The command of the subcommand that was met, with its options.

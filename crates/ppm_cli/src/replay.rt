@@ -2,13 +2,13 @@
 ghost use Rattle.std.specs.Prelude.{◌≡◌, IfOk, IfSome};
 ghost use Rattle.clap.specs.Words.{found_of, rows_of};
 ghost use Rattle.ppm_cli.specs.declared.command.Command.TheVariants as commands;
-ghost use Rattle.ppm_cli.specs.Words.{AreReplayed, IsInRange, by_input, replay_in, replay_with};
-ghost use Rattle.ppm_cli.specs.Words.{replay_options as options_in};
+ghost use Rattle.ppm_cli.specs.Words.{AreReplayed, IsInRange, by_any_input, by_input, replay_in};
+ghost use Rattle.ppm_cli.specs.Words.{replay_options as options_in, replay_saved, replay_with};
 
 use crate::command::Command;
 use crate::counts::are_counted;
 use crate::getters::{bytes_of, number_of};
-use crate::input::is_case;
+use crate::input::{InputKind, input_of, is_case};
 use crate::room::room_of;
 use crate::table::{PROCESSORS, ROOM, SCHEDULE, SLOTS, TURNS};
 use crate::takeover::takeover_of;
@@ -32,6 +32,15 @@ pub struct ReplayOptions {
     pub slots: u32,
     /// What is taken over of a processor that stopped for ever: its place by default.
     pub takeover: Takeover,
+}
+
+/// The options of `replay` but for its schedule where it goes on from a saved text: this has the
+/// sizes.
+#[derive(Clone, Copy, Debug, PartialEq, Eq)]
+pub struct ReplaySavedOptions {
+    /// How many acts there are at most, those of the schedule among them: from 1 to 268435456, and
+    /// 16777216 by default.
+    pub turns: u64,
 }
 
 /// The command with the options and the schedule in its matches.
@@ -70,7 +79,8 @@ fn replay_of(
     }
 }
 
-/// The command that tells its counts: over a source or over a case, as the matches say.
+/// The command that tells its counts: over a source or over a case, as the matches say. Over a
+/// saved text nothing is counted, and there is none.
 fn counted_replay_of(
     matches: &ArgMatches<'_>,
     options: ReplayOptions,
@@ -90,7 +100,7 @@ fn counted_replay_of(
     }
 }
 
-/// The command that tells none: over a source or over a case, as the matches say.
+/// The command that tells none: over a source, a case or a saved text, as the matches say.
 fn plain_replay_of(
     matches: &ArgMatches<'_>,
     options: ReplayOptions,
@@ -98,15 +108,18 @@ fn plain_replay_of(
 ) -> Option<Command>
     requires { AreReplayed options }
     ensures value { result
-        ≡ by_input (commands.Replay options schedule) (commands.ReplayCase options schedule)
-        (rows_of (found_of matches.now)) }
+        ≡ by_any_input (commands.Replay options schedule) (commands.ReplayCase options schedule)
+        (replay_saved options schedule) (rows_of (found_of matches.now)) }
     ensures in_range { IfSome result IsInRange }
 {
-    let of_case = is_case(matches)?;
-    if of_case {
-        Some(Command::ReplayCase(options, schedule))
-    } else {
-        Some(Command::Replay(options, schedule))
+    let kind = input_of(matches)?;
+    match kind {
+        InputKind::Source => Some(Command::Replay(options, schedule)),
+        InputKind::Case => Some(Command::ReplayCase(options, schedule)),
+        InputKind::Saved => {
+            let turns = options.turns;
+            Some(Command::ReplaySaved(ReplaySavedOptions { turns }, schedule))
+        }
     }
 }
 

@@ -2,12 +2,12 @@
 ghost use Rattle.std.specs.Prelude.{◌≡◌, IfOk, IfSome};
 ghost use Rattle.clap.specs.Words.{found_of, rows_of};
 ghost use Rattle.ppm_cli.specs.declared.command.Command.TheVariants as commands;
-ghost use Rattle.ppm_cli.specs.Words.{AreStopped, IsInRange, by_input, stop_in};
-ghost use Rattle.ppm_cli.specs.Words.{stop_options as options_in};
+ghost use Rattle.ppm_cli.specs.Words.{AreStopped, IsInRange, by_any_input, stop_in};
+ghost use Rattle.ppm_cli.specs.Words.{stop_options as options_in, stop_saved};
 
 use crate::command::Command;
 use crate::getters::{bytes_of, number_of};
-use crate::input::is_case;
+use crate::input::{InputKind, input_of};
 use crate::table::{AFTER, FEW_PROCESSORS, FEW_SLOTS, SCHEDULE, SMALL_ROOM};
 use clap::ArgMatches;
 use ppm_words::Items;
@@ -27,6 +27,15 @@ pub struct StopOptions {
     pub slots: u32,
 }
 
+/// The options of `stop` but for its schedule where it goes on from a saved text: this has the
+/// sizes.
+#[derive(Clone, Copy, Debug, PartialEq, Eq)]
+pub struct StopSavedOptions {
+    /// After how many acts the run is stopped, those of the schedule among them: from 0 to
+    /// 268435456, and 0 by default.
+    pub after: u64,
+}
+
 /// The command with the options and the schedule in its matches.
 pub(crate) fn stop_from(
     alloc: Global,
@@ -44,20 +53,23 @@ pub(crate) fn stop_from(
     }
 }
 
-/// The command with these options and this schedule: over a source or over a case, as the matches
-/// say.
+/// The command with these options and this schedule: over a source, a case or a saved text, as the
+/// matches say.
 fn stop_of(matches: &ArgMatches<'_>, options: StopOptions, schedule: Items<u8>) -> Option<Command>
     requires { AreStopped options }
     ensures value { result
-        ≡ by_input (commands.Stop options schedule) (commands.StopCase options schedule)
-        (rows_of (found_of matches.now)) }
+        ≡ by_any_input (commands.Stop options schedule) (commands.StopCase options schedule)
+        (stop_saved options schedule) (rows_of (found_of matches.now)) }
     ensures in_range { IfSome result IsInRange }
 {
-    let of_case = is_case(matches)?;
-    if of_case {
-        Some(Command::StopCase(options, schedule))
-    } else {
-        Some(Command::Stop(options, schedule))
+    let kind = input_of(matches)?;
+    match kind {
+        InputKind::Source => Some(Command::Stop(options, schedule)),
+        InputKind::Case => Some(Command::StopCase(options, schedule)),
+        InputKind::Saved => {
+            let after = options.after;
+            Some(Command::StopSaved(StopSavedOptions { after }, schedule))
+        }
     }
 }
 

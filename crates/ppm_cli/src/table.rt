@@ -306,6 +306,13 @@ pub(crate) const COUNTS: ChoiceOption = ChoiceOption {
     default: "no",
 };
 
+/// And where the run may go on from a saved text, whether it is that.
+pub(crate) const ANY_INPUT: ChoiceOption = ChoiceOption {
+    name: "input",
+    words: &["source", "case", "saved"],
+    default: "source",
+};
+
 /// The schedule of acts.
 pub(crate) const SCHEDULE: TextOption = TextOption {
     name: "schedule",
@@ -358,7 +365,7 @@ pub const COMMANDS: [CommandRow; 14] = [
             OptionRow::Number(SLOTS),
             OptionRow::Choice(TAKEOVER),
             OptionRow::Text(SCHEDULE),
-            OptionRow::Choice(INPUT),
+            OptionRow::Choice(ANY_INPUT),
             OptionRow::Choice(COUNTS),
         ],
     },
@@ -379,7 +386,7 @@ pub const COMMANDS: [CommandRow; 14] = [
             OptionRow::Number(SMALL_ROOM),
             OptionRow::Number(FEW_SLOTS),
             OptionRow::Text(SCHEDULE),
-            OptionRow::Choice(INPUT),
+            OptionRow::Choice(ANY_INPUT),
         ],
     },
     CommandRow {

@@ -80,11 +80,9 @@ fn meaning_of(status: Status) -> &'static str {
             "not within: `serial` did not end within --turns, or the depth-first run of `depth`,\n       \
              `races` or `sweep` within --capsules"
         }
-        Status::SavedRefused => {
-            "saved text refused by `resume` or `show`: the fault and its line (docs/SAVED.md)"
-        }
+        Status::SavedRefused => { "saved text refused: the fault and its line (docs/SAVED.md)" }
         Status::Broken => {
-            "saved words broken: place P, of `resume`, or of a case that isn't sound: the machine\n       \
+            "saved words broken: place P, of `resume`, `stop`, or a case that isn't sound: the machine\n       \
              can't go on from a word at place P; P is 64 where no place is known, or where the\n       \
              saved finish word means nothing"
         }

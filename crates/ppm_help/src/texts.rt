@@ -12,9 +12,9 @@ Ppm: a small fork-join language, its capsules, and the machine that runs them wh
 
 Input is standard input alone: a source (docs/LANGUAGE.md), of `check` a listing, of `depth`,
 `races` and wherever `--input case` stands a case, which is arrays and a listing (docs/CODE.md),
-of `resume` and `show` a saved text (docs/SAVED.md), of `ram` a RAM (docs/RAM.md), of `self`
-nothing. A source and a RAM have at most 1,048,576 bytes, a listing and a case 536,870,912, a saved
-text 671,088,640.
+of `resume` and `show`, and wherever `--input saved` stands, a saved text (docs/SAVED.md), of `ram`
+a RAM (docs/RAM.md), of `self` nothing. A source and a RAM have at most 1,048,576 bytes, a listing
+and a case 536,870,912, a saved text 671,088,640.
 An option is given as `--turns 5` or `--turns=5`, at most once. A value never begins with `-`.
 ";
 
@@ -83,9 +83,17 @@ pub(crate) fn meaning_of(command: &str, option: &str) -> &'static str {
         "idle" => "one that rests makes no more acts, or sleeps",
         "form" => "lines, or events for a viewer of traces",
         "only" => "lines: all, those that end a row, or those with a mark",
-        "input" => "what is read; the code of a case runs, sound or not",
+        "input" => input_of(command),
         "counts" => "with yes a last line counts what was done",
         _ => NO_WORDS,
+    }
+}
+
+/// What the input of a command is.
+fn input_of(command: &str) -> &'static str {
+    match command {
+        "replay" | "stop" => "what is read; a saved text says its sizes",
+        _ => "what is read; the code of a case runs, sound or not",
     }
 }
 

@@ -181,6 +181,16 @@ fn line_of(alloc: Global, command: &Command) -> Result<Vec<u8>, Fault> {
             plan = schedule.as_slice();
             stop_line(alloc, "stop of a case", it)?
         }
+        Command::ReplaySaved(it, schedule) => {
+            front = " schedule=";
+            plan = schedule.as_slice();
+            format!(in alloc; "replay of a saved text turns {}", it.turns)?
+        }
+        Command::StopSaved(it, schedule) => {
+            front = " schedule=";
+            plan = schedule.as_slice();
+            format!(in alloc; "stop of a saved text after {}", it.after)?
+        }
         Command::Sweep(it, schedule) => {
             front = " schedule=";
             plan = schedule.as_slice();

@@ -39,6 +39,8 @@ use Rattle.ppm_driver.specs.Stops.{TextReads as StopTextReads}
 use Rattle.ppm_driver.specs.Sweeps.{TextHas as SweepTextHas}
 use Rattle.ppm_driver.specs.Traces.{TextHas as TraceTextHas}
 use Rattle.ppm_driver.specs.Runs.{TextHas as RunTextHas}
+use Rattle.ppm_legs.specs.Replays.{ReplayHas as ReplaySavedHas}
+use Rattle.ppm_legs.specs.Stops.{StopReads as StopSavedReads}
 use Rattle.ppm_loading.proofs.PlannedLemmas as planned
 use Rattle.ppm_driver.proofs.ResumeLemmas.{untold_source}
 use Rattle.ppm_driver.proofs.WatchLemmas.{untold}
@@ -62,6 +64,8 @@ memory_before (Some (commands.Resume options plan)) o h =
     judged.memory_before saved_limit (ResumeTextHas options plan o.told_before o.told_now) o.source h
 memory_before (Some (commands.Stop options schedule)) o h =
     planned.memory_before schedule_form schedule options.processors (StopTextReads options) text_limit o.source h
+memory_before (Some (commands.ReplaySaved options schedule)) o h = judged.memory_before saved_limit (ReplaySavedHas options schedule) o.source h
+memory_before (Some (commands.StopSaved options schedule)) o h = judged.memory_before saved_limit (StopSavedReads options schedule) o.source h
 memory_before (Some (commands.RunCase options plan)) o h =
     planned.memory_before plan_form plan options.processors (RunCaseTextHas options options.processors o.told_before o.told_now) case_limit o.source h
 memory_before (Some (commands.ReplayCase options schedule)) o h =
@@ -119,6 +123,8 @@ told_nothing (Some (commands.Races limit)) o answer lists = refl
 told_nothing (Some (commands.Replay options schedule)) o answer lists = refl
 told_nothing (Some (commands.Resume options plan)) o answer lists = untold_source options plan o.source answer lists
 told_nothing (Some (commands.Stop options schedule)) o answer lists = refl
+told_nothing (Some (commands.ReplaySaved options schedule)) o answer lists = refl
+told_nothing (Some (commands.StopSaved options schedule)) o answer lists = refl
 told_nothing (Some (commands.RunCase options plan)) o answer lists = untold options.processors _ _ answer lists
 told_nothing (Some (commands.ReplayCase options schedule)) o answer lists = refl
 told_nothing (Some (commands.StopCase options schedule)) o answer lists = refl

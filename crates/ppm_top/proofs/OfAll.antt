@@ -54,6 +54,8 @@ use Rattle.ppm_driver.specs.Runs.{TextHas as RunTextHas}
 use Rattle.ppm_driver.specs.Stops.{TextReads as StopTextReads}
 use Rattle.ppm_driver.specs.Sweeps.{TextHas as SweepTextHas}
 use Rattle.ppm_driver.specs.Traces.{TextHas as TraceTextHas}
+use Rattle.ppm_legs.specs.Replays.{ReplayHas as ReplaySavedHas}
+use Rattle.ppm_legs.specs.Stops.{StopReads as StopSavedReads}
 use Rattle.ppm_driver.proofs.OfStop as of_stop
 use Rattle.ppm_driver.proofs.OfExample as of_example
 use Rattle.ppm_driver.proofs.OfReplay as of_replay
@@ -70,6 +72,7 @@ use Rattle.ppm_top.specs.Laws.{ProgramLaws}
 use Rattle.ppm_top.specs.Rows.{ReportsFaults, ProgramRows}
 use Rattle.ppm_top.proofs.OfCases as of_cases
 use Rattle.ppm_top.proofs.OfCounts as of_counts
+use Rattle.ppm_top.proofs.OfLegs as of_legs
 use Rattle.ppm_top.proofs.OfRams as of_rams
 use Rattle.ppm_top.proofs.OfSweeps as of_sweeps
 use Rattle.ppm_top.proofs.OfTraces as of_traces
@@ -141,6 +144,8 @@ command_reports o (Some (commands.Replay options schedule)) =
 command_reports o (Some (commands.Resume options plan)) = judging_reports saved_limit (ResumeTextHas options plan o.told_before o.told_now) o
 command_reports o (Some (commands.Stop options schedule)) =
     planned_reports schedule_form schedule options.processors (StopTextReads options) text_limit o
+command_reports o (Some (commands.ReplaySaved options schedule)) = judging_reports saved_limit (ReplaySavedHas options schedule) o
+command_reports o (Some (commands.StopSaved options schedule)) = judging_reports saved_limit (StopSavedReads options schedule) o
 command_reports o (Some (commands.Example options)) = example_reports options o
 
 -- an answer of status 7 is a read fault
@@ -226,6 +231,8 @@ program_rows laws words o status a = record {
         },
       );
   stop_case = of_cases.stops_case laws words o status a;
+  stop_saved = of_legs.stops_saved laws words o status a;
+  replay_saved = of_legs.replays_saved laws words o status a;
   example = λ options e.
       let range = is_in_range words (commands.Example options) e in
       let x = answered (Some (commands.Example options)) e in (

@@ -14,6 +14,8 @@ use Rattle.ppm_answers.proofs.Delivered as delivered
 use Rattle.ppm_cli.specs.declared.command.Command.{Command}
 use Rattle.ppm_cli.specs.declared.command.Command.TheVariants as commands
 use Rattle.ppm_cli.specs.declared.resume.ResumeOptions.{ResumeOptions}
+use Rattle.ppm_cli.specs.declared.replay.ReplaySavedOptions.{ReplaySavedOptions}
+use Rattle.ppm_cli.specs.declared.stop.StopSavedOptions.{StopSavedOptions}
 use Rattle.ppm_cli.specs.Words.{command_of}
 use Rattle.ppm_cli.proofs.RangeLemmas.{is_in_range}
 use Rattle.ppm_plan.specs.Forms.{plan_form, schedule_form}
@@ -27,9 +29,10 @@ use Rattle.ppm_driver.proofs.OfStop as of_stop
 use Rattle.ppm_top.specs.Causes.{NoCommandMay, CommandMay, CommandTells, IsAnswered}
 use Rattle.ppm_top.specs.Laws.{ProgramLaws}
 use Rattle.ppm_top.specs.Orders.{Orders, plan_of, schedule_of}
-use Rattle.ppm_top.specs.Rows.{HasRefusedPlan, OfPlan, OfSchedule, OfResume, RefusesWords}
+use Rattle.ppm_top.specs.Rows.{HasRefusedPlan, OfPlan, OfSchedule, OfResume, OfStopSaved, OfReplaySaved, RefusesWords}
 use Rattle.ppm_top.proofs.OfCases as of_cases
 use Rattle.ppm_top.proofs.OfCounts as of_counts
+use Rattle.ppm_top.proofs.OfLegs as of_legs
 use Rattle.ppm_top.proofs.OfRams as of_rams
 use Rattle.ppm_top.proofs.OfSweeps as of_sweeps
 use Rattle.ppm_top.proofs.OfTraces as of_traces
@@ -39,6 +42,8 @@ data IsPlanned (command : Option Command) : Type 0 where
   ByPlan : (c : Command) (orders : Orders) → command ≡ Some c → plan_of c ≡ Some orders → IsPlanned command
   BySchedule : (c : Command) (orders : Orders) → command ≡ Some c → schedule_of c ≡ Some orders → IsPlanned command
   IsResume : (options : ResumeOptions) (plan : List ℕ) → command ≡ Some (commands.Resume options plan) → IsPlanned command
+  IsStopSaved : (options : StopSavedOptions) (schedule : List ℕ) → command ≡ Some (commands.StopSaved options schedule) → IsPlanned command
+  IsReplaySaved : (options : ReplaySavedOptions) (schedule : List ℕ) → command ≡ Some (commands.ReplaySaved options schedule) → IsPlanned command
 
 no_command : (command : Option Command) (o : Outside) (answer : Answer) → CommandMay command o answer →
     status_of answer ≡ statuses.WordsRefused → (command ≡ None) ⊎ IsPlanned command
@@ -46,6 +51,8 @@ no_command None o answer h e = inl refl
 no_command (Some (commands.Run options plan)) o answer h e = inr (ByPlan (commands.Run options plan) _ refl refl)
 no_command (Some (commands.RunCase options plan)) o answer h e = inr (ByPlan (commands.RunCase options plan) _ refl refl)
 no_command (Some (commands.Resume options plan)) o answer h e = inr (IsResume options plan refl)
+no_command (Some (commands.ReplaySaved options schedule)) o answer h e = inr (IsReplaySaved options schedule refl)
+no_command (Some (commands.StopSaved options schedule)) o answer h e = inr (IsStopSaved options schedule refl)
 no_command (Some (commands.Replay options schedule)) o answer h e = inr (BySchedule (commands.Replay options schedule) _ refl refl)
 no_command (Some (commands.ReplayCase options schedule)) o answer h e = inr (BySchedule (commands.ReplayCase options schedule) _ refl refl)
 no_command (Some (commands.Stop options schedule)) o answer h e = inr (BySchedule (commands.Stop options schedule) _ refl refl)
@@ -159,6 +166,10 @@ module _ (laws : ProgramLaws) (words : List (List ℕ)) (o : Outside) (status : 
     by_words (inr (IsResume options plan c)) =
         inr (OfResume options plan c
         (of_resume.plan_refused laws.resumes options plan o status (answered (Some (commands.Resume options plan)) c) refused))
+    by_words (inr (IsStopSaved options schedule c)) =
+        inr (OfStopSaved options schedule c (of_legs.schedule_refused laws words o status a options schedule c refused))
+    by_words (inr (IsReplaySaved options schedule c)) =
+        inr (OfReplaySaved options schedule c (of_legs.replay_refused laws words o status a options schedule c refused))
 
   -- status 3 comes only of words without a command, or of a plan or a schedule
   only : status ≡ statuses.WordsRefused → (command_of words ≡ None) ⊎ HasRefusedPlan words o

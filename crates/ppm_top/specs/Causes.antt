@@ -30,6 +30,8 @@ use Rattle.ppm_driver.specs.Runs.{RunMay, RunTells}
 use Rattle.ppm_driver.specs.Stops.{StopMay}
 use Rattle.ppm_driver.specs.Sweeps.{SweepMay}
 use Rattle.ppm_driver.specs.Traces.{TraceMay}
+use Rattle.ppm_legs.specs.Replays.{ReplayMay as ReplaySavedMay}
+use Rattle.ppm_legs.specs.Stops.{StopMay as StopSavedMay}
 
 -- the answers where the words give no command
 abbrev pub NoCommandMay : Outside → Answer → Type 0
@@ -51,6 +53,8 @@ CommandMay (Some (commands.Races limit)) o answer = RacesMay limit.capsules o.so
 CommandMay (Some (commands.Replay options schedule)) o answer = ReplayMay options schedule o.source answer
 CommandMay (Some (commands.Resume options plan)) o answer = ResumeMay options plan o.told_before o.told_now o.source answer
 CommandMay (Some (commands.Stop options schedule)) o answer = StopMay options schedule o.source answer
+CommandMay (Some (commands.ReplaySaved options schedule)) o answer = ReplaySavedMay options schedule o.source answer
+CommandMay (Some (commands.StopSaved options schedule)) o answer = StopSavedMay options schedule o.source answer
 CommandMay (Some (commands.RunCase options plan)) o answer = RunCaseMay options options.processors plan o.told_before o.told_now o.source answer
 CommandMay (Some (commands.ReplayCase options schedule)) o answer = ReplayCaseMay options schedule o.source answer
 CommandMay (Some (commands.CountedReplay options schedule)) o answer = CountedMay options schedule o.source answer
@@ -78,6 +82,8 @@ CommandTells (Some (commands.Races limit)) o = TellsNothing
 CommandTells (Some (commands.Replay options schedule)) o = TellsNothing
 CommandTells (Some (commands.Resume options plan)) o = ResumeTells options plan o.source
 CommandTells (Some (commands.Stop options schedule)) o = TellsNothing
+CommandTells (Some (commands.ReplaySaved options schedule)) o = TellsNothing
+CommandTells (Some (commands.StopSaved options schedule)) o = TellsNothing
 CommandTells (Some (commands.RunCase options plan)) o = RunCaseTells options options.processors plan o.source
 CommandTells (Some (commands.ReplayCase options schedule)) o = TellsNothing
 CommandTells (Some (commands.CountedReplay options schedule)) o = TellsNothing

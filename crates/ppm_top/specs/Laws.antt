@@ -33,6 +33,9 @@ use Rattle.ppm_driver.specs.Stops.{HaveOneAnswer as StopsHaveOneAnswer}
 use Rattle.ppm_driver.specs.SweepRows.{SweepsAreAsCode}
 use Rattle.ppm_driver.specs.Sweeps.{HaveOneAnswer as SweepsHaveOneAnswer}
 use Rattle.ppm_driver.specs.Traces.{HaveOneAnswer as TracesHaveOneAnswer}
+use Rattle.ppm_legs.specs.Chains.{StopsGoOnChains}
+use Rattle.ppm_legs.specs.Replays.{HaveOneAnswer as SavedReplaysHaveOneAnswer}
+use Rattle.ppm_legs.specs.Stops.{HaveOneAnswer as SavedStopsHaveOneAnswer}
 
 -- what the crates of the commands show of every text
 pub record ProgramLaws : Type 0 where
@@ -56,6 +59,9 @@ pub record ProgramLaws : Type 0 where
   pub plans : PlansHaveOneAnswer
   pub replays : ReplaysHaveOneAnswer
   pub stops : StopsHaveOneAnswer
+  pub saved_stops : SavedStopsHaveOneAnswer
+  pub saved_replays : SavedReplaysHaveOneAnswer
+  pub chains : StopsGoOnChains
   pub case_runs : AnswersAreAsCode
   pub case_replays : ReplaysAreAsCode
   pub case_faults : FaultsTellCases

@@ -15,7 +15,7 @@ plan_of (commands.RunCase options plan) = Some (record { processors = options.pr
 plan_of (commands.Ram options plan) = Some (record { processors = options.processors; bytes = plan })
 plan_of _ = None
 
--- the schedule that a command follows
+-- the schedule that a command follows; those of `stop` and `replay` of a saved text are for the processors of this text
 abbrev pub schedule_of : Command → Option Orders
 schedule_of (commands.Replay options schedule) = Some (record { processors = options.processors; bytes = schedule })
 schedule_of (commands.ReplayCase options schedule) = Some (record { processors = options.processors; bytes = schedule })

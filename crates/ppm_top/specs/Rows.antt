@@ -14,12 +14,14 @@ use Rattle.ppm_cli.specs.declared.command.Command.TheVariants as commands
 use Rattle.ppm_cli.specs.declared.example.SelfOptions.{SelfOptions}
 use Rattle.ppm_cli.specs.declared.serial.SerialOptions.{SerialOptions}
 use Rattle.ppm_cli.specs.declared.replay.ReplayOptions.{ReplayOptions}
+use Rattle.ppm_cli.specs.declared.replay.ReplaySavedOptions.{ReplaySavedOptions}
 use Rattle.ppm_cli.specs.declared.resume.ResumeOptions.{ResumeOptions}
 use Rattle.ppm_cli.specs.declared.run.RunOptions.{RunOptions}
 use Rattle.ppm_cli.specs.declared.stop.StopOptions.{StopOptions}
+use Rattle.ppm_cli.specs.declared.stop.StopSavedOptions.{StopSavedOptions}
 use Rattle.ppm_cli.specs.declared.sweep.SweepOptions.{SweepOptions}
 use Rattle.ppm_cli.specs.declared.trace.TraceOptions.{TraceOptions}
-use Rattle.ppm_cli.specs.Words.{command_of, AreReplayed, AreResumed, AreRun, AreSelf, AreStopped, AreSwept, AreTraced, IsLimit}
+use Rattle.ppm_cli.specs.Words.{command_of, AreReplayed, AreResumed, AreRun, AreSavedReplayed, AreSavedStopped, AreSelf, AreStopped, AreSwept, AreTraced, IsLimit}
 use Rattle.ppm_commands.specs.Case.{CaseRows}
 use Rattle.ppm_commands.specs.Check.{CheckRows}
 use Rattle.ppm_commands.specs.Show.{ShowRows}
@@ -47,6 +49,8 @@ use Rattle.ppm_driver.specs.CodeResumes.{IsTextLeftByCode}
 use Rattle.ppm_driver.specs.StopRows.{HasRead, StopRows}
 use Rattle.ppm_driver.specs.SweepRows.{SweepRows}
 use Rattle.ppm_driver.specs.TraceRows.{TraceRows}
+use Rattle.ppm_legs.specs.ReplayRows.{ReplayRows as ReplaySavedRows, RefusesSchedule as RefusesReplayed}
+use Rattle.ppm_legs.specs.StopRows.{StopRows as StopSavedRows, RefusesSchedule}
 use Rattle.ppm_plan.specs.Forms.{plan_form, schedule_form}
 use Rattle.ppm_top.specs.Orders.{Orders, plan_of, schedule_of}
 
@@ -174,6 +178,16 @@ abbrev pub StopsCaseByWords : List (List ℕ) → Outside → Status → Type 0
 StopsCaseByWords words o status = (options : StopOptions) (schedule : List ℕ) → command_of words ≡ Some (commands.StopCase options schedule) →
     AreStopped options × StopsCaseLeaving options schedule (ports_of o) status
 
+-- those of `stop` of a saved text where they ask for that, with these options, which are in their ranges, and this schedule
+abbrev pub StopsSavedByWords : List (List ℕ) → Outside → Status → Type 0
+StopsSavedByWords words o status = (options : StopSavedOptions) (schedule : List ℕ) → command_of words ≡ Some (commands.StopSaved options schedule) →
+    AreSavedStopped options × StopSavedRows options schedule (ports_of o) status
+
+-- those of `replay` of a saved text where they ask for that, with these options, which are in their ranges, and this schedule
+abbrev pub ReplaysSavedByWords : List (List ℕ) → Outside → Status → Type 0
+ReplaysSavedByWords words o status = (options : ReplaySavedOptions) (schedule : List ℕ) → command_of words ≡ Some (commands.ReplaySaved options schedule)
+    → AreSavedReplayed options × ReplaySavedRows options schedule (ports_of o) status
+
 -- where they ask for the program's own example, with options in their ranges, nothing is read, and its rows hold
 abbrev pub SumsByWords : List (List ℕ) → Outside → Status → Type 0
 SumsByWords words o status = (options : SelfOptions) → command_of words ≡ Some (commands.Example options)
@@ -187,6 +201,10 @@ pub data HasRefusedPlan (words : List (List ℕ)) (o : Outside) : Type 0 where
       → RefusesPlan schedule_form orders.bytes orders.processors (ports_of o) → HasRefusedPlan words o
   OfResume : (options : ResumeOptions) (plan : List ℕ) → command_of words ≡ Some (commands.Resume options plan)
       → RefusesResumed options plan o → HasRefusedPlan words o
+  OfStopSaved : (options : StopSavedOptions) (schedule : List ℕ) → command_of words ≡ Some (commands.StopSaved options schedule)
+      → RefusesSchedule options schedule (ports_of o) → HasRefusedPlan words o
+  OfReplaySaved : (options : ReplaySavedOptions) (schedule : List ℕ) → command_of words ≡ Some (commands.ReplaySaved options schedule)
+      → RefusesReplayed options schedule (ports_of o) → HasRefusedPlan words o
 
 -- Status 3 comes only where the words give no command, or name a plan or a schedule that is refused. Where they give no command,
 -- nothing is read, and the status is 3, or 8 or 9.
@@ -232,6 +250,8 @@ pub record ProgramRows (words : List (List ℕ)) (o : Outside) (status : Status)
   pub resume : ResumesByWords words o status
   pub stop : StopsByWords words o status
   pub stop_case : StopsCaseByWords words o status
+  pub stop_saved : StopsSavedByWords words o status
+  pub replay_saved : ReplaysSavedByWords words o status
   pub example : SumsByWords words o status
   pub words_refused : RefusesWords words o status
   pub faults : ReportsFaults o status

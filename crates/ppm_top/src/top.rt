@@ -19,6 +19,7 @@ use ppm_driver::{
     replay_command, resume_command, run_case_command, run_command, self_command, stop_case_command,
     stop_command, sweep_case_command, sweep_command, trace_case_command, trace_command,
 };
+use ppm_legs::{replay_saved_command, stop_saved_command};
 use ppm_ports::{Sink, Source, Watch};
 use ppm_words::NoMemory;
 use std::alloc::Global;
@@ -161,6 +162,22 @@ fn answer_words<R: Threads + Wait + Sync, S: Source, K: Sink, E: Sink, W: Watch>
             alloc,
             options,
             case_acts.as_slice(),
+            source,
+            out,
+            err,
+        ),
+        Ok(Some(Command::ReplaySaved(options, leg_acts))) => replay_saved_command(
+            alloc,
+            options,
+            leg_acts.as_slice(),
+            source,
+            out,
+            err,
+        ),
+        Ok(Some(Command::StopSaved(options, more_acts))) => stop_saved_command(
+            alloc,
+            options,
+            more_acts.as_slice(),
             source,
             out,
             err,

@@ -1,20 +1,17 @@
-//! The program of the trials: with the word `leg` it adds a leg to a history; else it does what
-//! `ppm` does, with watchers that count, and after a run it says on err what its processors met.
-//! Model: none; a leg is a row of calls, and each count is of events that are told (`Counts`).
-//! Contract: none beyond those of what it calls. It is a tool for `trials/stops`, as no command
-//! saves a state that `resume` has left, and for `trials/storm`.
-//! Stands on `ppm_top`, and on what reads, follows and writes a saved state; nothing stands on it.
+//! The program of the trials: it does what `ppm` does, with watchers that count, and after a run it
+//! says on err what its processors met.
+//! Model: none; each count is of events that are told (`Counts`).
+//! Contract: none beyond those of what it calls. It is a tool for `trials/storm`.
+//! Stands on `ppm_top`; nothing stands on it.
 //! After the steals and takeovers of Blelloch et al., SPAA 2018; its words are this project's.
 #![tactic(auto)]
 
 mod counts;
-mod legs;
 mod watchers;
 
 use crate::counts::Counts;
-use crate::legs::leg_answer;
 use crate::watchers::watchers_of;
-use ppm_answers::{Status, deliver};
+use ppm_answers::Status;
 use ppm_ports::{StdSink, StdSource};
 use ppm_top::{WATCHERS, ppm};
 use ppm_words::NoMemory;
@@ -31,11 +28,6 @@ fn main(rt: HostRuntime) -> ExitCode {
     let Ok(words) = words_of(alloc, env::args(&rt)) else {
         return ExitCode::from(Status::NoMemory.number());
     };
-    if asks_for_leg(&words) {
-        let answer = leg_answer(alloc, &words, &mut source);
-        let status = deliver(alloc, &answer, &mut out, &mut err);
-        return ExitCode::from(status.number());
-    }
     let Ok((mut watch, counted)) = watchers_of(alloc, &words) else {
         return ExitCode::from(Status::NoMemory.number());
     };
@@ -68,12 +60,4 @@ fn words_of(alloc: Global, given: std::io::Result<Args>) -> Result<Vec<String>, 
         }
     }
     Ok(words)
-}
-
-/// Whether these words ask for a leg.
-fn asks_for_leg(words: &[String]) -> bool {
-    match words.get(1) {
-        Some(word) => word.as_str() == "leg",
-        None => false,
-    }
 }

@@ -103,6 +103,18 @@ returns-in-Ok-Some-StopCase-clause-answers g c = by_ports (map string_bytes c.ar
     (cc (c.in-Ok-Some-StopCase.ensures.value, c.in-Ok-Some-StopCase.field-0-is, c.in-Ok-Some-StopCase.field-0-0-is)) refl refl
     c.stop_case_command.ensures.delivers
 
+-- the words ask for a replay of a saved text, which was answered
+pub returns-in-Ok-Some-ReplaySaved-clause-answers : goal.returns-in-Ok-Some-ReplaySaved-clause-answers
+returns-in-Ok-Some-ReplaySaved-clause-answers g c = by_ports (map string_bytes c.args.words.now) _ _ (Some (commands.ReplaySaved _ _))
+    (cc (c.in-Ok-Some-ReplaySaved.ensures.value, c.in-Ok-Some-ReplaySaved.field-0-is, c.in-Ok-Some-ReplaySaved.field-0-0-is)) refl refl
+    c.replay_saved_command.ensures.delivers
+
+-- the words ask for a stop of a saved text, which was answered
+pub returns-in-Ok-Some-StopSaved-clause-answers : goal.returns-in-Ok-Some-StopSaved-clause-answers
+returns-in-Ok-Some-StopSaved-clause-answers g c = by_ports (map string_bytes c.args.words.now) _ _ (Some (commands.StopSaved _ _))
+    (cc (c.in-Ok-Some-StopSaved.ensures.value, c.in-Ok-Some-StopSaved.field-0-is, c.in-Ok-Some-StopSaved.field-0-0-is)) refl refl
+    c.stop_saved_command.ensures.delivers
+
 -- the words ask for a sweep, which was answered
 pub returns-in-Ok-Some-Sweep-clause-answers : goal.returns-in-Ok-Some-Sweep-clause-answers
 returns-in-Ok-Some-Sweep-clause-answers g c = by_ports (map string_bytes c.args.words.now) _ _ (Some (commands.Sweep _ _))
