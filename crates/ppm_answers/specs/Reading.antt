@@ -77,6 +77,7 @@ TellsOfRun Tells answers.ReadFault before now = TellsNothing answers.ReadFault b
 TellsOfRun Tells answers.WordsRefused before now = TellsNothing answers.WordsRefused before now
 TellsOfRun Tells (answers.PlanRefused number) before now = TellsNothing (answers.PlanRefused number) before now
 TellsOfRun Tells (answers.SourceRefused r) before now = TellsNothing (answers.SourceRefused r) before now
+TellsOfRun Tells (answers.SourceExplained r notes) before now = TellsNothing (answers.SourceExplained r notes) before now
 TellsOfRun Tells (answers.ListingRefused r) before now = TellsNothing (answers.ListingRefused r) before now
 TellsOfRun Tells (answers.SavedRefused r) before now = TellsNothing (answers.SavedRefused r) before now
 TellsOfRun Tells (answers.Conflicting c) before now = TellsNothing (answers.Conflicting c) before now

@@ -33,6 +33,7 @@ status_of (answers.Saved text) = statuses.Ended
 status_of (answers.Traced text) = statuses.Ended
 status_of (answers.Shown text) = statuses.Ended
 status_of (answers.SourceRefused r) = statuses.SourceRefused
+status_of (answers.SourceExplained r notes) = statuses.SourceRefused
 status_of answers.Accepted = statuses.Ended
 status_of (answers.Conflicting c) = statuses.CodeRefused
 status_of (answers.ListingRefused r) = statuses.CodeRefused

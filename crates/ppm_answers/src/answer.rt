@@ -49,6 +49,8 @@ pub enum Answer {
     Shown(Items<u8>),
     /// The text is refused for this reason.
     SourceRefused(Refusal),
+    /// The text is refused for this reason, and these notes explain it.
+    SourceExplained(Refusal, Items<u8>),
     /// The text is the listing of a code without conflicts.
     Accepted,
     /// The text is the listing of a code with this conflict.

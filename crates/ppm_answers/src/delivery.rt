@@ -65,7 +65,7 @@ fn own_status(answer: &Answer) -> Status
         Answer::OutOfTurns(_) | Answer::Unfinished(_) => Status::OutOfTurns,
         Answer::OutOfRoom(_) => Status::OutOfRoom,
         Answer::Broken(_) => Status::Broken,
-        Answer::SourceRefused(_) => Status::SourceRefused,
+        Answer::SourceRefused(_) | Answer::SourceExplained(_, _) => Status::SourceRefused,
         Answer::Summed(_) | Answer::Listed(_) | Answer::Saved(_) => Status::Ended,
         Answer::Shown(_) => Status::Ended,
         Answer::Accepted | Answer::Sound(_) | Answer::Swept(_) | Answer::Traced(_) => Status::Ended,

@@ -1,5 +1,5 @@
 //! The texts of answers.
-ghost use Rattle.std.specs.Prelude.{◌≡◌, IfOk, IsOk};
+ghost use Rattle.std.specs.Prelude.{◌≡◌, ◌++◌, IfOk, IsOk};
 ghost use Rattle.std.specs.Cow.{cow_slice_items};
 ghost use Rattle.ppm_answers.specs.Texts.{IsFixed, out_text, err_text, refusal_text, fault_text};
 ghost use Rattle.ppm_answers.specs.Texts.{pass_name as name_of_pass, place_name as name_of_place};
@@ -101,6 +101,10 @@ pub fn texts_of(alloc: Global, answer: &Answer) -> Result<(Text, Text), AllocErr
         Answer::SourceRefused(refusal) => Ok((
             CowSlice::Borrowed(none),
             CowSlice::Owned(refusal_text_of(alloc, *refusal)?),
+        )),
+        Answer::SourceExplained(refusal, notes) => Ok((
+            CowSlice::Borrowed(none),
+            CowSlice::Owned(explained_text_of(alloc, *refusal, notes.as_slice())?),
         )),
         Answer::NotWithin(turns) => Ok((
             CowSlice::Borrowed(none),
@@ -212,6 +216,19 @@ fn refusal_text_of(alloc: Global, refusal: Refusal) -> Result<Vec<u8>, AllocErro
     let pass = pass_name(refusal.pass);
     let at = place_name(refusal.pass);
     fault_text_of(alloc, pass, refusal.number, at, refusal.place)
+}
+
+/// The line of a refusal, with the notes that explain it.
+fn explained_text_of(
+    alloc: Global,
+    refusal: Refusal,
+    notes: &[u8],
+) -> Result<Vec<u8>, AllocError>
+    ensures { IfOk result (λ text. text.items ≡ refusal_text refusal ++ notes.now) }
+{
+    let mut text = refusal_text_of(alloc, refusal)?;
+    text.extend_from_slice(notes)?;
+    Ok(text)
 }
 
 /// The line of a fault: the pass and the number, and where it is.

@@ -304,7 +304,8 @@ named_are name rows =
     (either IsInRange (bytes_eq name (codes "trace")) _ _
     (with_input_are AreTraced commands.Trace commands.TraceCase schedule (trace_options rows) rows (λ o t h. h) (λ o t h. h) (trace_are rows))
     (either IsInRange (bytes_eq name (codes "show")) _ _ tt
-    tt)))))))))))))
+    (either IsInRange (bytes_eq name (codes "explain")) _ _ tt
+    tt))))))))))))))
 
 -- the options of a command that words give
 pub is_in_range : (words : List Text) (command : Command) → command_of words ≡ Some command → IsInRange command

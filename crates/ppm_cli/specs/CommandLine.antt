@@ -200,4 +200,5 @@ command_line =
     ∷ command "trace"
     (processors ∷ traced_from ∷ traced_acts ∷ room ∷ slots ∷ takeover ∷ schedule ∷ traced_form ∷ only ∷ input ∷ [])
     ∷ command "show" []
+    ∷ command "explain" []
     ∷ []

@@ -228,6 +228,7 @@ command_named name rows =
     else if bytes_eq name (codes "ram") then ram_in rows
     else if bytes_eq name (codes "trace") then trace_in rows
     else if bytes_eq name (codes "show") then Some commands.Show
+    else if bytes_eq name (codes "explain") then Some commands.Explain
     else None
 
 -- the command of the subcommand that was met, with its options
@@ -334,3 +335,4 @@ IsInRange (commands.TraceCase options _) = AreTraced options
 IsInRange commands.Show = ⊤
 IsInRange (commands.StopSaved options _) = AreSavedStopped options
 IsInRange (commands.ReplaySaved options _) = AreSavedReplayed options
+IsInRange commands.Explain = ⊤

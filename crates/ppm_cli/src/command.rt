@@ -79,6 +79,8 @@ pub enum Command {
     /// To go on from the words of the saved text that is read, by a schedule, of which these are the
     /// bytes.
     ReplaySaved(ReplaySavedOptions, Items<u8>),
+    /// To judge the source that is read, and to explain why it is refused.
+    Explain,
 }
 
 /// The command of the subcommand that was met, with its options.
@@ -119,6 +121,7 @@ fn command_named(
         "ram" => ram_from(alloc, matches),
         "trace" => trace_from(alloc, matches),
         "show" => Ok(Some(Command::Show)),
+        "explain" => Ok(Some(Command::Explain)),
         _ => Ok(None),
     }
 }

@@ -320,7 +320,7 @@ pub(crate) const SCHEDULE: TextOption = TextOption {
 };
 
 /// The commands, in the order of the help page.
-pub const COMMANDS: [CommandRow; 14] = [
+pub const COMMANDS: [CommandRow; 15] = [
     CommandRow {
         name: "run",
         options: &[
@@ -447,6 +447,10 @@ pub const COMMANDS: [CommandRow; 14] = [
     },
     CommandRow {
         name: "show",
+        options: &[],
+    },
+    CommandRow {
+        name: "explain",
         options: &[],
     },
 ];

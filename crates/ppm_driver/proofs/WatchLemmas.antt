@@ -39,6 +39,7 @@ told_none answers.ReadFault lists = refl
 told_none answers.WordsRefused lists = refl
 told_none (answers.PlanRefused number) lists = refl
 told_none (answers.SourceRefused r) lists = refl
+told_none (answers.SourceExplained r notes) lists = refl
 told_none (answers.ListingRefused r) lists = refl
 told_none (answers.SavedRefused r) lists = refl
 told_none (answers.Conflicting c) lists = refl

@@ -42,7 +42,7 @@ fn meaning_of(status: Status) -> &'static str {
     match status {
         Status::Ended => {
             "ended: the arrays, and of `replay` its forks and takes, of `depth` its counts; of `code`\n       \
-             the listing or the case; of `check` the line `ok`, of `races` the line `sound: ..`, of\n       \
+             the listing or the case; of `check` and `explain` `ok`, of `races` the line `sound: ..`, of\n       \
              `sweep` the line `ok: R runs, M met, A acts`, and with more than 0 `, L left out`;\n       \
              of `stop` the saved text (docs/SAVED.md); of `trace` the trace (docs/TRACE.md); of `show`\n       \
              the state's lines (docs/SHOW.md); of `self` `size n forks g sum s last l`"

@@ -35,6 +35,7 @@ pub(crate) fn purpose_of(command: &str) -> &'static str {
         "ram" => "compiles a RAM, and threads run its capsules under a plan of faults",
         "trace" => "compiles a source, and tells what processors do along a schedule, act by act",
         "show" => "tells in words the state of a saved text: what runs, what waits, and the arrays",
+        "explain" => "judges a source, and says of a refusal what stands there and what could",
         _ => NO_WORDS,
     }
 }
@@ -55,6 +56,7 @@ pub(crate) fn example_of(command: &str) -> &'static str {
         "sweep" => "--processors 2 --faults 2 --runs 3 < examples/sum.ppm",
         "ram" => "--processors 2 --faults 0@5s,0@90h < examples/ram/sum.ram",
         "show" => "< sum.saved",
+        "explain" => "< examples/sum.ppm",
         "trace" => { "--processors 3 --only marks --schedule '0*200,1*30,1!h' < examples/sum.ppm" }
         _ => NO_WORDS,
     }

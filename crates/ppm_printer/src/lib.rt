@@ -16,3 +16,4 @@ mod token;
 
 pub use laws::{canonical_texts_tell_programs, printed_texts_have_their_tree};
 pub use program::print;
+pub use spelling::{keyword_spelling, sign_spelling};

@@ -5,7 +5,7 @@ ghost use Rattle.ppm_printer.specs.Spelled.{keyword_text, sign_text, blank_behin
 use ppm_text::{Keyword, Sign};
 
 /// The spelling of a keyword.
-pub(crate) fn keyword_spelling(keyword: Keyword) -> &'static str
+pub fn keyword_spelling(keyword: Keyword) -> &'static str
     ensures { result.now ≡ keyword_text keyword }
 {
     match keyword {
@@ -33,7 +33,7 @@ pub(crate) fn keyword_spelling(keyword: Keyword) -> &'static str
 }
 
 /// The spelling of a sign.
-pub(crate) fn sign_spelling(sign: Sign) -> &'static str
+pub fn sign_spelling(sign: Sign) -> &'static str
     ensures { result.now ≡ sign_text sign }
 {
     match sign {

@@ -24,6 +24,8 @@ use Rattle.ppm_cli.specs.Words.{command_of}
 use Rattle.ppm_cli.proofs.RangeLemmas.{is_in_range}
 use Rattle.ppm_commands.specs.Case.{CaseReads}
 use Rattle.ppm_commands.specs.Check.{CheckHas}
+use Rattle.ppm_explain.specs.Explaining.{ExplainHas}
+use Rattle.ppm_explain.proofs.ExplainRows.{explain_rows}
 use Rattle.ppm_commands.specs.Code.{CodeReads}
 use Rattle.ppm_commands.specs.Depth.{DepthHas}
 use Rattle.ppm_commands.specs.Races.{RacesHas}
@@ -137,6 +139,7 @@ command_reports o (Some commands.Code) = judging_reports text_limit CodeReads o
 command_reports o (Some commands.CodeCase) = judging_reports text_limit CaseReads o
 command_reports o (Some commands.Check) = judging_reports listing_limit CheckHas o
 command_reports o (Some commands.Show) = judging_reports saved_limit ShowHas o
+command_reports o (Some commands.Explain) = judging_reports text_limit ExplainHas o
 command_reports o (Some (commands.Depth limit)) = judging_reports case_limit (DepthHas limit.capsules) o
 command_reports o (Some (commands.Races limit)) = judging_reports case_limit (RacesHas limit.capsules) o
 command_reports o (Some (commands.Replay options schedule)) =
@@ -197,6 +200,7 @@ program_rows laws words o status a = record {
   case = λ e. case_rows laws.texts laws.cases laws.faithful (ports_of o) status (by_words (Some commands.CodeCase) e);
   check = λ e. check_rows (ports_of o) laws.listings status (by_words (Some commands.Check) e);
   show = λ e. show_rows (ports_of o) laws.states status (by_words (Some commands.Show) e);
+  explain = λ e. explain_rows (ports_of o) laws.explained status (by_words (Some commands.Explain) e);
   depth = λ limit e. (
     is_in_range words (commands.Depth limit) e,
     depth_rows limit.capsules (ports_of o) (laws.depths limit.capsules) status (by_words (Some (commands.Depth limit)) e),

@@ -25,6 +25,7 @@ use Rattle.ppm_cli.specs.Words.{command_of, AreReplayed, AreResumed, AreRun, Are
 use Rattle.ppm_commands.specs.Case.{CaseRows}
 use Rattle.ppm_commands.specs.Check.{CheckRows}
 use Rattle.ppm_commands.specs.Show.{ShowRows}
+use Rattle.ppm_explain.specs.Explaining.{ExplainRows}
 use Rattle.ppm_commands.specs.Code.{CodeRows}
 use Rattle.ppm_commands.specs.Depth.{DepthRows}
 use Rattle.ppm_commands.specs.Races.{RacesRows}
@@ -94,6 +95,10 @@ ChecksByWords words o status = command_of words ≡ Some commands.Check → Chec
 -- those of `show` where they ask for that
 abbrev pub ShowsByWords : List (List ℕ) → Outside → Status → Type 0
 ShowsByWords words o status = command_of words ≡ Some commands.Show → ShowRows (ports_of o) status
+
+-- and those of `explain` where they ask for that
+abbrev pub ExplainsByWords : List (List ℕ) → Outside → Status → Type 0
+ExplainsByWords words o status = command_of words ≡ Some commands.Explain → ExplainRows (ports_of o) status
 
 -- those of `replay` where they ask for that, with these options, which are in their ranges, and this schedule
 abbrev pub ReplaysByWords : List (List ℕ) → Outside → Status → Type 0
@@ -236,6 +241,7 @@ pub record ProgramRows (words : List (List ℕ)) (o : Outside) (status : Status)
   pub case : ListsCaseByWords words o status
   pub check : ChecksByWords words o status
   pub show : ShowsByWords words o status
+  pub explain : ExplainsByWords words o status
   pub depth : RunsDepthFirstByWords words o status
   pub races : SeeksRacesByWords words o status
   pub replay : ReplaysByWords words o status

@@ -20,6 +20,7 @@ use ppm_driver::{
 use ppm_legs::{
     saved_replays_have_one_answer, saved_stops_have_one_answer, stops_go_on_chains,
 };
+use ppm_explain::fronts_are_explained;
 use ppm_plan::have_one_answer as plans_have_one_answer;
 use ppm_ram::texts_are_of_rams;
 
@@ -39,6 +40,7 @@ pub fn program_laws()
     codes_are_faithful();
     listings_have_one_answer();
     saved_texts_have_one_answer();
+    fronts_are_explained();
     depth_runs_have_one_answer();
     cases_have_one_answer();
     case_texts_have_one_answer();

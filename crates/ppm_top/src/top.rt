@@ -20,6 +20,7 @@ use ppm_driver::{
     stop_command, sweep_case_command, sweep_command, trace_case_command, trace_command,
 };
 use ppm_legs::{replay_saved_command, stop_saved_command};
+use ppm_explain::explain_command;
 use ppm_ports::{Sink, Source, Watch};
 use ppm_words::NoMemory;
 use std::alloc::Global;
@@ -106,6 +107,7 @@ fn answer_words<R: Threads + Wait + Sync, S: Source, K: Sink, E: Sink, W: Watch>
         Ok(Some(Command::CodeCase)) => case_command(alloc, source, out, err),
         Ok(Some(Command::Check)) => check_command(alloc, source, out, err),
         Ok(Some(Command::Show)) => show_command(alloc, source, out, err),
+        Ok(Some(Command::Explain)) => explain_command(alloc, source, out, err),
         Ok(Some(Command::Depth(limit))) => depth_command(alloc, limit.capsules, source, out, err),
         Ok(Some(Command::Races(limit))) => races_command(alloc, limit.capsules, source, out, err),
         Ok(Some(Command::Replay(options, schedule))) => replay_command(

@@ -17,6 +17,7 @@ returns c = record {
     faithful = c.codes_are_faithful.ensures.law;
     listings = c.listings_have_one_answer.ensures.law;
     states = c.saved_texts_have_one_answer.ensures.law;
+    explained = c.fronts_are_explained.ensures.law;
     depths = c.depth_runs_have_one_answer.ensures.law;
     races = c.cases_have_one_answer.ensures.law;
     texts = c.case_texts_have_one_answer.ensures.law;

@@ -1,0 +1,3 @@
+pub mod PlaceLemmas
+pub mod FrontLemmas
+pub mod ExplainRows

@@ -1,0 +1,6 @@
+pub mod Places
+pub mod Words
+pub mod Meanings
+pub mod Names
+pub mod Sources
+pub mod Explaining

@@ -1,0 +1,86 @@
+-- What is said of a source that is refused, behind the line of the refusal.
+use Rattle.std.specs.Prelude.{◌≡◌, ◌≤◌, ◌<◌, ◌==◌, ℕ, if◌then◌else◌, List, [], ◌++◌, map, None}
+use Rattle.ppm_grammar.specs.Faults.{IsFirstUnexpected, IsEnded}
+use Rattle.ppm_text.specs.declared.token.Token.{Token}
+use Rattle.ppm_rows.specs.Language.{language}
+use Rattle.ppm_rows.specs.Limits.{limits}
+use Rattle.ppm_expected.specs.declared.expected.Expected.{Expected}
+use Rattle.ppm_expected.specs.Language.{terminal_of}
+use Rattle.ppm_expected.specs.Correct.{CanFollow, CanGoOn}
+use Rattle.ppm_answers.specs.declared.refusal.Pass.{Pass}
+use Rattle.ppm_answers.specs.declared.refusal.Pass.TheVariants as pass
+use Rattle.ppm_answers.specs.declared.refusal.Refusal.{Refusal}
+use Rattle.ppm_program.specs.Programs.{HasTokens}
+use Rattle.ppm_explain.specs.declared.declaring.Before.TheVariants as before
+use Rattle.ppm_explain.specs.Places.{spot_text, line_text, line_bytes, shown_text}
+use Rattle.ppm_explain.specs.Words.{token_in, found_text, expected_text}
+use Rattle.ppm_explain.specs.Meanings.{meaning_text, hint_text}
+use Rattle.ppm_explain.specs.Names.{names_text, heading_above, heading_at, procedure_text}
+
+-- the place of a fault of bytes; where the text is too long nothing
+abbrev pub bytes_spot : List ℕ → Refusal → List ℕ
+bytes_spot text r = if r.number == 5 then [] else spot_text text r.place
+
+-- of a fault of bytes: its place
+abbrev pub bytes_notes : List ℕ → Refusal → List ℕ
+bytes_notes text r = bytes_spot text r ++ meaning_text r
+
+-- of a token that cannot come, or of the end: what stands there, what could, and a hint
+abbrev pub stop_notes : List ℕ → List Token → Expected → Refusal → List ℕ
+stop_notes text tokens e r =
+    spot_text text r.place ++ found_text (token_in r.place tokens) ++ expected_text (map terminal_of e.terminals.items) e.end
+    ++ hint_text (token_in r.place tokens) ++ meaning_text r
+
+-- of a token that passes a limit: what stands there
+abbrev pub limit_notes : List ℕ → List Token → Refusal → List ℕ
+limit_notes text tokens r = spot_text text r.place ++ found_text (token_in r.place tokens) ++ meaning_text r
+
+-- of a fault of names and regions: its line, the names in it, and the procedure around it; of a missing `main` none of these
+abbrev pub line_notes : List ℕ → List Token → Refusal → List ℕ
+line_notes text tokens r =
+    if r.place == 0
+    then meaning_text r
+    else line_text r.place ++ shown_text (line_bytes text r.place) ++ names_text tokens r.place
+    ++ procedure_text (heading_above None before.Other r.place tokens) ++ meaning_text r
+
+-- the procedure that passes a bound; of that on capsules, which all procedures share, none
+abbrev pub bound_procedure : List Token → Refusal → List ℕ
+bound_procedure tokens r = if r.number == 2 then [] else procedure_text (heading_at before.Other r.place tokens)
+
+-- of a bound that is passed: the procedure
+abbrev pub bound_notes : List Token → Refusal → List ℕ
+bound_notes tokens r = bound_procedure tokens r ++ meaning_text r
+
+-- the notes by the tokens of the text
+pub record ByTokens (text : List ℕ) (notes_of : List Token → List ℕ) (notes : List ℕ) : Type 0 where
+  pub tokens : List Token
+  pub lexed : HasTokens text tokens
+  pub is : notes ≡ notes_of tokens
+
+-- The notes by the tokens, and by what could stand where these go no further: just the tokens with which some text of the grammar goes on
+-- from those in front. At a token that cannot come that is its place, and so it is at the end.
+pub record ByStop (text : List ℕ) (r : Refusal) (notes : List ℕ) : Type 0 where
+  pub tokens : List Token
+  pub lexed : HasTokens text tokens
+  pub expected : Expected
+  pub goes_on : CanGoOn tokens expected
+  pub unexpected : (place : ℕ) (fault : IsFirstUnexpected language limits tokens place) → CanFollow fault.front expected
+  pub ended : IsEnded language limits tokens → CanFollow tokens expected
+  pub is : notes ≡ stop_notes text tokens expected r
+
+-- the notes of a fault of tokens: of the numbers 1 and 2 with what could stand there
+pub record BySyntax (text : List ℕ) (r : Refusal) (notes : List ℕ) : Type 0 where
+  pub stops : r.number < 3 → ByStop text r notes
+  pub passes : 3 ≤ r.number → ByTokens text (λ tokens. limit_notes text tokens r) notes
+
+-- the notes of a refusal, by its pass
+abbrev pub ExplainedBy : Pass → List ℕ → Refusal → List ℕ → Type 0
+ExplainedBy pass.Text text r notes = notes ≡ bytes_notes text r
+ExplainedBy pass.Syntax text r notes = BySyntax text r notes
+ExplainedBy pass.Region text r notes = ByTokens text (λ tokens. line_notes text tokens r) notes
+ExplainedBy pass.Cut text r notes = ByTokens text (λ tokens. bound_notes tokens r) notes
+ExplainedBy pass.Ram text r notes = notes ≡ meaning_text r
+
+-- these are the notes of a text that is refused for this reason
+abbrev pub AreNotes : List ℕ → Refusal → List ℕ → Type 0
+AreNotes text r notes = ExplainedBy r.pass text r notes

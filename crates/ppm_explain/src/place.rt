@@ -1,0 +1,148 @@
+//! Places of a text: lines and columns.
+ghost use Rattle.std.specs.Prelude.{◌≡◌, ◌≤◌, ◌==◌, ◌++◌, OnOk, take, length};
+ghost use Rattle.std.specs.List.{filter};
+ghost use Rattle.ppm_pieces.specs.Pieces.{split};
+ghost use Rattle.ppm_explain.specs.Places.{line_of, column_of, line_bytes, place_text, line_text};
+ghost use Rattle.ppm_explain.specs.Places.{shown_text, mark_text, spot_text};
+ghost use Rattle.ppm_explain.specs.Places.{under as byte_under, last_of};
+
+use crate::words::push_word;
+use ppm_pieces::{push_number, split_once};
+use ppm_words::NoMemory;
+use std::alloc::Global;
+
+/// The first so many items, or all where there are no more.
+#[tactic(auto, using(std::proofs::lemmas::List::take_all))]
+fn front(items: &[u8], count: usize) -> &[u8]
+    ensures { result.now ≡ take count items.now }
+{
+    if count < items.len() {
+        &items[..count]
+    } else {
+        items
+    }
+}
+
+/// How many line feeds there are.
+#[tactic(auto, using(crate::proofs::PlaceLemmas::feeds_few))]
+fn line_feeds(bytes: &[u8]) -> usize
+    ensures count { result ≡ length (filter (λ b. b == 10) bytes.now) }
+    ensures few { result ≤ length bytes.now }
+{
+    bytes.iter().filter(|byte| **byte == b'\n').count()
+}
+
+/// The bytes after the last line feed, or all.
+#[tactic(auto, using(crate::proofs::PlaceLemmas::last_kept, crate::proofs::PlaceLemmas::last_one))]
+fn last_line(bytes: &[u8]) -> &[u8]
+    ensures { result.now ≡ last_of (split 10 bytes.now) }
+{
+    let mut left = bytes;
+    'lines: while let Some((_, rest)) = split_once(left, b'\n') {
+        left = rest;
+    }
+    left
+}
+
+/// The line of a place, from 1.
+fn line_at(text: &[u8], place: u32) -> usize
+    ensures { result ≡ line_of text.now place }
+{
+    line_feeds(front(text, place as usize)) + 1
+}
+
+/// The column of a place, from 1, in bytes.
+fn column_at(text: &[u8], place: u32) -> usize
+    ensures { result ≡ column_of text.now place }
+{
+    last_line(front(text, place as usize)).len() + 1
+}
+
+/// The bytes of a line, which counts from 1; none where the text has no such line.
+#[tactic(auto, using(crate::proofs::PlaceLemmas::line_next, crate::proofs::PlaceLemmas::line_here, crate::proofs::PlaceLemmas::line_none))]
+fn bytes_of_line(text: &[u8], line: usize) -> &[u8]
+    ensures { result.now ≡ line_bytes text.now line }
+{
+    let mut left = text;
+    let mut ahead = line.saturating_sub(1);
+    'lines: while let Some((bytes, rest)) = split_once(left, b'\n') {
+        if ahead == 0 {
+            return bytes;
+        }
+        left = rest;
+        ahead -= 1;
+    }
+    if ahead == 0 { left } else { front(left, 0) }
+}
+
+/// What stands under a byte in front of a mark.
+fn under(byte: u8) -> u8
+    ensures { result ≡ byte_under byte }
+{
+    if byte == b'\t' { b'\t' } else { b' ' }
+}
+
+/// Appends a mark under a column.
+fn push_mark(text: &mut Vec<u8>, line: &[u8], column: usize) -> Result<(), NoMemory>
+    ensures { OnOk result (text.new.items ≡ text.old.items ++ mark_text line.now column) }
+{
+    push_word(text, "  ")?;
+    let before = front(line, column.saturating_sub(1));
+    for byte in before {
+        text.push(under(*byte))?;
+    }
+    push_word(text, "^\n")
+}
+
+/// Appends the bytes of a line.
+fn push_shown(text: &mut Vec<u8>, line: &[u8]) -> Result<(), NoMemory>
+    ensures { OnOk result (text.new.items ≡ text.old.items ++ shown_text line.now) }
+{
+    push_word(text, "  ")?;
+    text.extend_from_slice(line)?;
+    push_word(text, "\n")
+}
+
+/// Appends the line and the column of a place.
+fn push_place(alloc: Global, text: &mut Vec<u8>, line: usize, column: usize) -> Result<(), NoMemory>
+    ensures { OnOk result (text.new.items ≡ text.old.items ++ place_text line column) }
+{
+    push_word(text, "line ")?;
+    push_number(alloc, text, line as u64)?;
+    push_word(text, " column ")?;
+    push_number(alloc, text, column as u64)?;
+    push_word(text, "\n")
+}
+
+/// Appends a place of a text: its line and column, that line, and a mark under the place.
+pub(crate) fn push_spot(
+    alloc: Global,
+    text: &mut Vec<u8>,
+    source: &[u8],
+    place: u32,
+) -> Result<(), NoMemory>
+    ensures { OnOk result (text.new.items ≡ text.old.items ++ spot_text source.now place) }
+{
+    let line = line_at(source, place);
+    let column = column_at(source, place);
+    let bytes = bytes_of_line(source, line);
+    push_place(alloc, text, line, column)?;
+    push_shown(text, bytes)?;
+    push_mark(text, bytes, column)
+}
+
+/// Appends a line of a text, with its number from 1.
+pub(crate) fn push_line(
+    alloc: Global,
+    text: &mut Vec<u8>,
+    source: &[u8],
+    line: u32,
+) -> Result<(), NoMemory>
+    ensures { OnOk result (text.new.items
+        ≡ text.old.items ++ line_text line ++ shown_text (line_bytes source.now line)) }
+{
+    push_word(text, "line ")?;
+    push_number(alloc, text, u64::from(line))?;
+    push_word(text, "\n")?;
+    push_shown(text, bytes_of_line(source, line as usize))
+}

@@ -1,0 +1,201 @@
+//! What is said of a source that is refused.
+ghost use Rattle.std.specs.Prelude.{◌≡◌, ◌++◌, OnOk, IfOk, length};
+ghost use Rattle.ppm_text.specs.Lexing.{IsTextOf};
+ghost use Rattle.ppm_program.specs.Programs.{HasTokens};
+ghost use Rattle.ppm_explain.specs.Sources.{bytes_notes as notes_of_bytes, stop_notes as notes_of_stop};
+ghost use Rattle.ppm_explain.specs.Sources.{limit_notes as notes_of_limit, line_notes as notes_of_line};
+ghost use Rattle.ppm_explain.specs.Meanings.{meaning_text};
+ghost use Rattle.ppm_explain.specs.Sources.{bound_notes as notes_of_bound, AreNotes, ByStop, BySyntax};
+ghost use Rattle.ppm_explain.specs.Sources.{bytes_spot, bound_procedure};
+
+use crate::meaning::{push_hint, push_meaning};
+use crate::names::{push_around, push_names, push_numbered};
+use crate::place::{push_line, push_spot};
+use crate::words::{push_expected, push_found};
+use ppm_answers::{Pass, Refusal};
+use ppm_expected::{Expected, expected_at_fault};
+use ppm_text::{Token, Tokens, tokens};
+use ppm_words::NoMemory;
+use std::alloc::Global;
+
+/// Appends the place of a fault of bytes; where the text is too long nothing.
+fn push_bytes_spot(
+    alloc: Global,
+    text: &mut Vec<u8>,
+    source: &[u8],
+    refusal: Refusal,
+) -> Result<(), NoMemory>
+    ensures { OnOk result (text.new.items ≡ text.old.items ++ bytes_spot source.now refusal) }
+{
+    if refusal.number == 5 {
+        return Ok(());
+    }
+    push_spot(alloc, text, source, refusal.place)
+}
+
+/// What is said of a fault of bytes.
+fn bytes_notes(alloc: Global, source: &[u8], refusal: Refusal) -> Result<Vec<u8>, NoMemory>
+    ensures { IfOk result (λ text. text.items ≡ notes_of_bytes source.now refusal) }
+{
+    let mut text = Vec::new(alloc);
+    push_bytes_spot(alloc, &mut text, source, refusal)?;
+    push_meaning(&mut text, refusal)?;
+    Ok(text)
+}
+
+/// What is said of a token that cannot come, or of the end, by what could stand there.
+fn stop_notes(
+    alloc: Global,
+    source: &[u8],
+    tokens: &[Token],
+    expected: &Expected,
+    refusal: Refusal,
+) -> Result<Vec<u8>, NoMemory>
+    ensures { IfOk result (λ text. text.items
+        ≡ notes_of_stop source.now tokens.now expected.now refusal) }
+{
+    let mut text = Vec::new(alloc);
+    push_spot(alloc, &mut text, source, refusal.place)?;
+    push_found(alloc, &mut text, tokens, refusal.place)?;
+    push_expected(&mut text, expected)?;
+    push_hint(&mut text, tokens, refusal.place)?;
+    push_meaning(&mut text, refusal)?;
+    Ok(text)
+}
+
+/// What is said of a token that passes a limit.
+fn limit_notes(
+    alloc: Global,
+    source: &[u8],
+    tokens: &[Token],
+    refusal: Refusal,
+) -> Result<Vec<u8>, NoMemory>
+    ensures { IfOk result (λ text. text.items ≡ notes_of_limit source.now tokens.now refusal) }
+{
+    let mut text = Vec::new(alloc);
+    push_spot(alloc, &mut text, source, refusal.place)?;
+    push_found(alloc, &mut text, tokens, refusal.place)?;
+    push_meaning(&mut text, refusal)?;
+    Ok(text)
+}
+
+/// What is said of a fault of names and regions.
+fn line_notes(
+    alloc: Global,
+    source: &[u8],
+    tokens: &[Token],
+    refusal: Refusal,
+) -> Result<Vec<u8>, NoMemory>
+    ensures { IfOk result (λ text. text.items ≡ notes_of_line source.now tokens.now refusal) }
+{
+    let mut text = Vec::new(alloc);
+    if refusal.place == 0 {
+        push_meaning(&mut text, refusal)?;
+        return Ok(text);
+    }
+    push_line(alloc, &mut text, source, refusal.place)?;
+    push_names(alloc, &mut text, tokens, refusal.place)?;
+    push_around(alloc, &mut text, tokens, refusal.place)?;
+    push_meaning(&mut text, refusal)?;
+    Ok(text)
+}
+
+/// Appends the procedure that passes a bound; of the bound on capsules nothing.
+fn push_bound_procedure(
+    alloc: Global,
+    text: &mut Vec<u8>,
+    tokens: &[Token],
+    refusal: Refusal,
+) -> Result<(), NoMemory>
+    ensures { OnOk result (text.new.items ≡ text.old.items ++ bound_procedure tokens.now refusal) }
+{
+    if refusal.number == 2 {
+        return Ok(());
+    }
+    push_numbered(alloc, text, tokens, refusal.place)
+}
+
+/// What is said of a bound that is passed.
+fn bound_notes(alloc: Global, tokens: &[Token], refusal: Refusal) -> Result<Vec<u8>, NoMemory>
+    ensures { IfOk result (λ text. text.items ≡ notes_of_bound tokens.now refusal) }
+{
+    let mut text = Vec::new(alloc);
+    push_bound_procedure(alloc, &mut text, tokens, refusal)?;
+    push_meaning(&mut text, refusal)?;
+    Ok(text)
+}
+
+/// What is said of a refusal without a place.
+fn plain_notes(alloc: Global, refusal: Refusal) -> Result<Vec<u8>, NoMemory>
+    ensures { IfOk result (λ text. text.items ≡ meaning_text refusal) }
+{
+    let mut text = Vec::new(alloc);
+    push_meaning(&mut text, refusal)?;
+    Ok(text)
+}
+
+/// The tokens of a text that has some: it is refused for what is behind them, so only want of
+/// memory stops this.
+fn tokens_of(alloc: Global, source: &[u8]) -> Result<Tokens, NoMemory>
+    ensures { IfOk result (λ all. HasTokens source.now all.tokens) }
+{
+    match tokens(alloc, source) {
+        Ok(all) => Ok(all),
+        Err(_) => Err(NoMemory),
+    }
+}
+
+/// What is said of a token that cannot come, or of the end.
+fn stopped_notes(
+    alloc: Global,
+    source: &[u8],
+    all: &Tokens,
+    refusal: Refusal,
+) -> Result<Vec<u8>, NoMemory>
+    requires lexed { HasTokens source.now all.now.tokens }
+    ensures { IfOk result (λ text. ByStop source.now refusal text.items) }
+{
+    let expected = expected_at_fault(alloc, all)?;
+    stop_notes(alloc, source, all.as_slice(), &expected, refusal)
+}
+
+/// What is said of a fault of tokens.
+fn syntax_notes(
+    alloc: Global,
+    source: &[u8],
+    all: &Tokens,
+    refusal: Refusal,
+) -> Result<Vec<u8>, NoMemory>
+    requires lexed { HasTokens source.now all.now.tokens }
+    ensures { IfOk result (λ text. BySyntax source.now refusal text.items) }
+{
+    if refusal.number < 3 {
+        stopped_notes(alloc, source, all, refusal)
+    } else {
+        limit_notes(alloc, source, all.as_slice(), refusal)
+    }
+}
+
+/// What is said, after the line of its refusal, of a source that is refused for this reason: the
+/// place, the line with a mark, what stands there and what could, the names of a line, the
+/// procedure, and what the refusal means.
+pub fn source_notes(alloc: Global, source: &[u8], refusal: Refusal) -> Result<Vec<u8>, NoMemory>
+    ensures { IfOk result (λ text. AreNotes source.now refusal text.items) }
+{
+    match refusal.pass {
+        Pass::Text => bytes_notes(alloc, source, refusal),
+        Pass::Syntax => {
+            let all = tokens_of(alloc, source)?;
+            syntax_notes(alloc, source, &all, refusal)
+        }
+        Pass::Region => {
+            let all = tokens_of(alloc, source)?;
+            line_notes(alloc, source, all.as_slice(), refusal)
+        }
+        Pass::Cut => {
+            let all = tokens_of(alloc, source)?;
+            bound_notes(alloc, all.as_slice(), refusal)
+        }
+        Pass::Ram => plain_notes(alloc, refusal),
+    }
+}
