@@ -1,4 +1,6 @@
 pub mod CausesLemmas
+pub mod UnfinishedLemmas
+pub mod CompleteReplay
 pub mod OfCases
 pub mod OfRams
 pub mod OfSweeps

@@ -72,6 +72,7 @@ use Rattle.ppm_answers.specs.Rows.{IsOneOf}
 use Rattle.ppm_top.specs.Causes.{NoCommandMay, CommandMay, CommandTells, IsAnswered}
 use Rattle.ppm_top.specs.Laws.{ProgramLaws}
 use Rattle.ppm_top.specs.Rows.{ReportsFaults, ProgramRows}
+use Rattle.ppm_top.proofs.CompleteReplay.{replay_ends}
 use Rattle.ppm_top.proofs.OfCases as of_cases
 use Rattle.ppm_top.proofs.OfCounts as of_counts
 use Rattle.ppm_top.proofs.OfLegs as of_legs
@@ -209,11 +210,11 @@ program_rows laws words o status a = record {
     is_in_range words (commands.Races limit) e,
     races_rows limit.capsules (ports_of o) (laws.races limit.capsules) status (by_words (Some (commands.Races limit)) e),
   );
-  replay = λ options schedule e. (
-    is_in_range words (commands.Replay options schedule) e,
-    of_replay.replay_rows laws.meant options (is_in_range words (commands.Replay options schedule) e) schedule (ports_of o) status
-        (by_words (Some (commands.Replay options schedule)) e) laws.plans laws.replays,
-  );
+  replay = λ options schedule e.
+      let are = is_in_range words (commands.Replay options schedule) e in
+      let rows = of_replay.replay_rows laws.meant options are schedule (ports_of o) status (by_words (Some (commands.Replay options schedule)) e)
+      laws.plans laws.replays in
+      (are, rows, replay_ends options are schedule (ports_of o) status laws.unfinished laws.complete_replays rows);
   replay_case = of_cases.replays_case laws words o status a;
   sweep = of_sweeps.sweeps laws words o status a;
   sweep_case = of_sweeps.sweeps_case laws words o status a;

@@ -10,12 +10,12 @@ use Rattle.ppm_cli.specs.declared.command.Command.TheVariants as commands
 use Rattle.ppm_cli.specs.declared.replay.ReplayOptions.{ReplayOptions}
 use Rattle.ppm_cli.specs.declared.run.RunOptions.{RunOptions}
 use Rattle.ppm_cli.specs.declared.stop.StopOptions.{StopOptions}
-use Rattle.ppm_cli.specs.Words.{command_of}
+use Rattle.ppm_cli.specs.Words.{command_of, AreReplayed}
 use Rattle.ppm_cli.proofs.RangeLemmas.{is_in_range}
 use Rattle.ppm_plan.specs.Forms.{plan_form, schedule_form}
 use Rattle.ppm_loading.specs.MachineRows.{RefusesPlan}
 use Rattle.ppm_driver.specs.CaseHeadline.{CaseHeadline}
-use Rattle.ppm_driver.specs.CaseReplayRows.{ReplayCaseSays}
+use Rattle.ppm_driver.specs.CaseReplayRows.{ReplayCaseRows, ReplayCaseSays}
 use Rattle.ppm_driver.specs.CaseStopRows.{StopCaseSays}
 use Rattle.ppm_driver.proofs.OfReplayCase.{replay_case_rows}
 use Rattle.ppm_driver.proofs.OfRunCase.{case_rows}
@@ -23,6 +23,7 @@ use Rattle.ppm_driver.proofs.CaseStoppedLemmas.{saved_by_code}
 use Rattle.ppm_driver.proofs.OfStopCase.{stop_case_rows}
 use Rattle.ppm_top.specs.Causes.{CommandMay, CommandTells, IsAnswered}
 use Rattle.ppm_top.specs.Laws.{ProgramLaws}
+use Rattle.ppm_top.proofs.CompleteReplay.{case_replay_ends}
 use Rattle.ppm_top.specs.Rows.{RunsCaseByWords, ReplaysCaseByWords, StopsCaseByWords}
 
 module _ (laws : ProgramLaws) (words : List (List ℕ)) (o : Outside) (status : Status) (a : IsAnswered words o status) where
@@ -49,12 +50,18 @@ module _ (laws : ProgramLaws) (words : List (List ℕ)) (o : Outside) (status : 
       )
 
   -- of `replay`
+  replayed : (options : ReplayOptions) → AreReplayed options → (schedule : List ℕ) → command_of words ≡ Some (commands.ReplayCase options schedule)
+      → ReplayCaseRows options schedule (ports_of o) status
+  replayed options are schedule e =
+      replay_case_rows laws.case_replays options are schedule (ports_of o) status (delivered (commands.ReplayCase options schedule) e) laws.plans
+      laws.replayed_cases
+
   pub replays_case : ReplaysCaseByWords words o status
   replays_case options schedule e =
       let are = is_in_range words (commands.ReplayCase options schedule) e in (
         are,
-        replay_case_rows laws.case_replays options are schedule (ports_of o) status
-            (delivered (commands.ReplayCase options schedule) e) laws.plans laws.replayed_cases,
+        replayed options are schedule e,
+        case_replay_ends options are schedule (ports_of o) status laws.unfinished_codes laws.complete_cases (replayed options are schedule e),
       )
 
   -- of `stop`

@@ -37,6 +37,7 @@ use Rattle.ppm_driver.specs.Traces.{HaveOneAnswer as TracesHaveOneAnswer}
 use Rattle.ppm_legs.specs.Chains.{StopsGoOnChains}
 use Rattle.ppm_legs.specs.Replays.{HaveOneAnswer as SavedReplaysHaveOneAnswer}
 use Rattle.ppm_legs.specs.Stops.{HaveOneAnswer as SavedStopsHaveOneAnswer}
+use Rattle.ppm_top.specs.ReplayLaws.{CaseReplaysComplete, ReplaysComplete, UnfinishedNeedMore, UnfinishedProgramsNeedMore}
 
 -- what the crates of the commands show of every text
 pub record ProgramLaws : Type 0 where
@@ -44,6 +45,10 @@ pub record ProgramLaws : Type 0 where
   pub fronts : FrontsDecideAnswers
   pub meant : RunsAreAsPrograms
   pub complete : RunsComplete
+  pub unfinished : UnfinishedProgramsNeedMore
+  pub unfinished_codes : UnfinishedNeedMore
+  pub complete_replays : ReplaysComplete
+  pub complete_cases : CaseReplaysComplete
   pub sums : ExamplesSumUp
   pub resumes : ResumeLaws
   pub leave : StopsLeaveStates

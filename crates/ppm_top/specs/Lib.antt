@@ -1,5 +1,7 @@
 pub mod Causes
+pub mod CompleteReplays
 pub mod Laws
 pub mod Orders
+pub mod ReplayLaws
 pub mod Rows
 pub mod SoundCases

@@ -40,6 +40,7 @@ use Rattle.ppm_driver.specs.CountedReplayRows.{CountedRows}
 use Rattle.ppm_driver.specs.ExampleRows.{ExampleRows}
 use Rattle.ppm_driver.specs.RamRows.{RamRows}
 use Rattle.ppm_driver.specs.ReplayRows.{ReplayRows}
+use Rattle.ppm_top.specs.CompleteReplays.{CaseReplayEnds, ReplayEnds}
 use Rattle.ppm_driver.specs.ResumeRows.{ResumeRows, RefusesPlan as RefusesResumed}
 use Rattle.ppm_driver.specs.Resumes.{IsTextLeftBy}
 use Rattle.ppm_loading.specs.Telling.{MayBeRun}
@@ -103,12 +104,12 @@ ExplainsByWords words o status = command_of words ≡ Some commands.Explain → 
 -- those of `replay` where they ask for that, with these options, which are in their ranges, and this schedule
 abbrev pub ReplaysByWords : List (List ℕ) → Outside → Status → Type 0
 ReplaysByWords words o status = (options : ReplayOptions) (schedule : List ℕ) → command_of words ≡ Some (commands.Replay options schedule) →
-    AreReplayed options × ReplayRows options schedule (ports_of o) status
+    AreReplayed options × ReplayRows options schedule (ports_of o) status × ReplayEnds options schedule (ports_of o) status
 
 -- those of `replay` of a case where they ask for that, with these options, which are in their ranges, and this schedule
 abbrev pub ReplaysCaseByWords : List (List ℕ) → Outside → Status → Type 0
 ReplaysCaseByWords words o status = (options : ReplayOptions) (schedule : List ℕ) → command_of words ≡ Some (commands.ReplayCase options schedule)
-    → AreReplayed options × ReplayCaseRows options schedule (ports_of o) status
+    → AreReplayed options × ReplayCaseRows options schedule (ports_of o) status × CaseReplayEnds options schedule (ports_of o) status
 
 -- those of `replay` with its counts where they ask for that, with these options, which are in their ranges, and this schedule
 abbrev pub CountsByWords : List (List ℕ) → Outside → Status → Type 0

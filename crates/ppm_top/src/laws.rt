@@ -2,6 +2,7 @@
 ghost use Rattle.ppm_top.specs.Laws.{ProgramLaws};
 ghost use Rattle.ppm_top.specs.SoundCases.{SoundCasesRunAsDepth};
 
+use crate::complete_replay::{replays_complete, replays_of_code_complete};
 use ppm_case::faults_tell_cases;
 use ppm_commands::{
     case_texts_are_cases, case_texts_have_one_answer, cases_have_one_answer, codes_are_faithful,
@@ -32,6 +33,8 @@ pub fn program_laws()
     runs_have_one_answer();
     runs_are_as_programs();
     runs_complete();
+    replays_of_code_complete();
+    replays_complete();
     examples_sum_up();
     resume_laws();
     stops_leave_states();

@@ -9,9 +9,11 @@
 //! The commands are this project's.
 #![tactic(auto)]
 
+mod complete_replay;
 mod laws;
 mod top;
 
+pub use complete_replay::{replays_complete, replays_of_code_complete};
 pub use laws::{program_laws, sound_cases_run_as_depth};
 pub use ppm_driver::WATCHERS;
 pub use top::ppm;
