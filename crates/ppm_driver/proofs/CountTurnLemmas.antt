@@ -4,9 +4,9 @@ use Rattle.std.proofs.lemmas.List.{length-append}
 use Rattle.ppm_core.specs.Situation.{Situation, run_on, turned}
 use Rattle.ppm_driver.specs.RunCounts.{run_counts}
 use Rattle.ppm_driver.specs.CountLaws.{CountsAreOfTurns, IsOfTurns}
-use Rattle.ppm_marks.specs.Marks.{marks_of}
-use Rattle.ppm_marks.specs.declared.mark.Mark.{Mark}
-use Rattle.ppm_marks.specs.declared.mark.Mark.TheVariants as mark
+use Rattle.ppm_lines.specs.Marks.{marks_of}
+use Rattle.ppm_lines.specs.declared.mark.Mark.{Mark}
+use Rattle.ppm_lines.specs.declared.mark.Mark.TheVariants as mark
 use Rattle.ppm_step.specs.State.{State, along, happens, stand_of, is_work_turn, forks_of, takes_of, work_of}
 use Rattle.ppm_step.specs.declared.turn.Turn.{Turn}
 use Rattle.ppm_trace.specs.Counts.{all_marked, counted, marked, no_counts}

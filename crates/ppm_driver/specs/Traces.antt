@@ -26,8 +26,8 @@ use Rattle.ppm_loading.specs.Loading.{OpensRun}
 use Rattle.ppm_loading.specs.Planned.{PlannedHas, PlannedMay, HasSomeAnswer}
 use Rattle.ppm_loading.specs.Programs as programs
 use Rattle.ppm_choice.specs.Schedules.{schedule_turns}
-use Rattle.ppm_marks.specs.declared.shown.Only.{Only}
-use Rattle.ppm_marks.specs.declared.shown.Only.TheVariants as shown
+use Rattle.ppm_lines.specs.declared.shown.Only.{Only}
+use Rattle.ppm_lines.specs.declared.shown.Only.TheVariants as shown
 use Rattle.ppm_naming.specs.declared.names.Names.{Names}
 use Rattle.ppm_trace.specs.declared.form.Form.{Form}
 use Rattle.ppm_trace.specs.declared.form.Form.TheVariants.{Lines, Events, Picture}

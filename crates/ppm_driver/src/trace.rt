@@ -19,7 +19,7 @@ use ppm_answers::{Answer, Status, deliver};
 use ppm_cli::{TraceOptions, TracedForm, TracedLines};
 use ppm_code::Code;
 use ppm_loading::{Sizes, load_code, program_code};
-use ppm_marks::Only;
+use ppm_lines::Only;
 use ppm_naming::Names;
 use ppm_plan::{Schedule, have_one_answer as schedules_have_one_answer};
 use ppm_ports::{Sink, Source};

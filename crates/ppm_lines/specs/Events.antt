@@ -7,9 +7,9 @@ use Rattle.ppm_cells.specs.declared.restart.RestartKind.{RestartKind}
 use Rattle.ppm_cells.specs.declared.restart.RestartKind.TheVariants.{Run}
 use Rattle.ppm_cells.specs.declared.shape.Shape.{Shape}
 use Rattle.ppm_code.specs.declared.code.CodeParts.{CodeParts}
-use Rattle.ppm_marks.specs.Marks.{marks_at}
-use Rattle.ppm_marks.specs.declared.mark.Mark.{Mark}
-use Rattle.ppm_marks.specs.declared.mark.Mark.TheVariants as mark
+use Rattle.ppm_lines.specs.Marks.{marks_at}
+use Rattle.ppm_lines.specs.declared.mark.Mark.{Mark}
+use Rattle.ppm_lines.specs.declared.mark.Mark.TheVariants as mark
 use Rattle.ppm_naming.specs.declared.names.Names.{Names}
 use Rattle.ppm_naming.specs.Values.{restart_name}
 use Rattle.ppm_step.specs.Standings.{Standing, IsWithin, IsRunning}

@@ -2,6 +2,9 @@ pub mod Scene
 pub mod Doing
 pub mod Parts
 pub mod Texts
+pub mod Marks
+pub mod Shown
+pub mod MarkTexts
 pub mod Line
 pub mod Flows
 pub mod Events

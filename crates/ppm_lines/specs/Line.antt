@@ -3,8 +3,8 @@ use Rattle.std.specs.Prelude.{ℕ, ◌-◌, ◌==◌, if◌then◌else◌, List,
 use Rattle.std.specs.List.{flat_map}
 use Rattle.ppm_cells.specs.declared.shape.Shape.{Shape}
 use Rattle.ppm_code.specs.declared.code.CodeParts.{CodeParts}
-use Rattle.ppm_marks.specs.Marks.{marks_at}
-use Rattle.ppm_marks.specs.Text.{mark_text}
+use Rattle.ppm_lines.specs.Marks.{marks_at}
+use Rattle.ppm_lines.specs.MarkTexts.{mark_text}
 use Rattle.ppm_naming.specs.declared.names.Names.{Names}
 use Rattle.ppm_step.specs.Standings.{Standing, unknown_place}
 use Rattle.ppm_step.specs.State.{State, stand_of}

@@ -10,13 +10,14 @@ ghost use Rattle.ppm_step.specs.Told.{place_of};
 
 use crate::column::fill;
 use crate::doing::{Doing, doing_of, push_of, row_text};
+use crate::mark::push_marks;
+use crate::marking::marks_at;
 use crate::name::{push_part, push_word};
 use crate::part::Part;
 use crate::place::{coming, part_of};
 use crate::scene::Scene;
 use crate::value::{before, part_kind, push_worth, step_text, stores_link};
 use ppm_cells::UNKNOWN_PLACE;
-use ppm_marks::{marks_at, push_marks};
 use ppm_pieces::push_number;
 use ppm_step::{Local, Turn};
 use ppm_words::NoMemory;

@@ -5,8 +5,8 @@ use Rattle.ppm_lines.specs.declared.edge.Edge.{Edge}
 use Rattle.ppm_lines.specs.Doing.{doing_of}
 use Rattle.ppm_lines.specs.Events.{edge_of}
 use Rattle.ppm_lines.specs.Scene.{Scene}
-use Rattle.ppm_marks.specs.Marks.{marks_at}
-use Rattle.ppm_marks.specs.declared.mark.Mark.{Mark}
+use Rattle.ppm_lines.specs.Marks.{marks_at}
+use Rattle.ppm_lines.specs.declared.mark.Mark.{Mark}
 use Rattle.ppm_picture.specs.Strokes.{drawn_at, paint_of, source_of}
 use Rattle.ppm_picture.specs.declared.paint.Paint.{Paint}
 use Rattle.ppm_step.specs.Standings.{Standing}

@@ -2,8 +2,8 @@
 use Rattle.std.specs.Prelude.{ℕ, ◌+◌, ◌-◌, ◌==◌, nat_le, nat_lt, if◌then◌else◌, List, [], ◌∷◌, ◌++◌, codes, decimal}
 use Rattle.std.specs.List.{flat_map}
 use Rattle.ppm_picture.specs.Strokes.{Drawn}
-use Rattle.ppm_marks.specs.declared.mark.Mark.{Mark}
-use Rattle.ppm_marks.specs.declared.mark.Mark.TheVariants as mark
+use Rattle.ppm_lines.specs.declared.mark.Mark.{Mark}
+use Rattle.ppm_lines.specs.declared.mark.Mark.TheVariants as mark
 use Rattle.ppm_picture.specs.Canvas.{lane, middle}
 use Rattle.ppm_picture.specs.declared.arrow.Arrow.{Arrow}
 use Rattle.ppm_picture.specs.declared.arrow.Arrow.TheVariants.{Theft, Takeover}

@@ -10,8 +10,8 @@ use Rattle.ppm_cells.specs.declared.shape.Shape.{Shape}
 use Rattle.ppm_cells.specs.declared.shape.Takeover.{Takeover}
 use Rattle.ppm_cells.specs.declared.shape.Takeover.TheVariants.{ByPlaces, ByEntries}
 use Rattle.ppm_code.specs.declared.code.CodeParts.{CodeParts}
-use Rattle.ppm_marks.specs.Marks.{marks_at}
-use Rattle.ppm_marks.specs.declared.mark.Mark.{Mark}
+use Rattle.ppm_lines.specs.Marks.{marks_at}
+use Rattle.ppm_lines.specs.declared.mark.Mark.{Mark}
 use Rattle.ppm_naming.specs.declared.names.Names.{Names}
 use Rattle.ppm_step.specs.Standings.{Standing}
 use Rattle.ppm_step.specs.State.{State, stand_of}

@@ -1,7 +1,7 @@
 //! Arrows between the lanes of a picture, and the marks at an act.
 ghost use Rattle.std.specs.Prelude.{◌≡◌, ◌++◌, ◌≤◌, ◌^◌, OnOk, length};
 ghost use Rattle.std.specs.List.{flat_map};
-ghost use Rattle.ppm_marks.specs.Marks.{listed_one};
+ghost use Rattle.ppm_lines.specs.Marks.{listed_one};
 ghost use Rattle.ppm_picture.specs.Arrows.{arrow_text, arrows_from, disc, downward};
 ghost use Rattle.ppm_picture.specs.Arrows.{label_height, mark_arrow, path_from, place_label};
 ghost use Rattle.ppm_picture.specs.Arrows.{shaft, takeover_text, upright, upward};
@@ -11,7 +11,7 @@ use crate::canvas::{Canvas, lane};
 use crate::markup::Markup::{Fixed, Number};
 use crate::markup::push_markup;
 use crate::stroke::Stroke;
-use ppm_marks::Mark;
+use ppm_lines::Mark;
 use ppm_words::NoMemory;
 use std::alloc::Global;
 

@@ -3,7 +3,7 @@
 //! (`specs/Strokes`); each act stands in its processor's lane at its number, to scale (`specs/Canvas`).
 //! Contract: `stroke_of` answers what is shown of a turn, and each `push_` appends exactly the text
 //! that its definition says, and fails only where memory is refused.
-//! Stands on `ppm_lines`, `ppm_marks` and `ppm_naming`; no command draws a run by it yet.
+//! Stands on `ppm_lines` and `ppm_naming`; `ppm_trace` draws a run by it.
 //! The picture is this project's; its form is SVG.
 #![tactic(auto)]
 

@@ -1,7 +1,7 @@
 //! The marks at an act of a picture.
 ghost use Rattle.std.specs.Prelude.{◌≡◌, ◌++◌, ◌≤◌, ◌^◌, OnOk, length};
 ghost use Rattle.std.specs.List.{flat_map};
-ghost use Rattle.ppm_marks.specs.Marks.{listed_one};
+ghost use Rattle.ppm_lines.specs.Marks.{listed_one};
 ghost use Rattle.ppm_picture.specs.Arrows.{cross, dotted, fine_sign, fine_where_few};
 ghost use Rattle.ppm_picture.specs.Arrows.{mark_sign, signs_from};
 ghost use Rattle.ppm_picture.specs.Canvas.{IsCanvas, lane as lane_at, middle};
@@ -11,7 +11,7 @@ use crate::canvas::{Canvas, lane};
 use crate::markup::Markup::{Fixed, Number};
 use crate::markup::push_markup;
 use crate::stroke::Stroke;
-use ppm_marks::Mark;
+use ppm_lines::Mark;
 use ppm_words::NoMemory;
 use std::alloc::Global;
 

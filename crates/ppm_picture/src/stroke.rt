@@ -7,8 +7,7 @@ ghost use Rattle.ppm_step.specs.Locals.{IsLocal, standing_of};
 
 use crate::paint::{Paint, paint_of};
 use ppm_cells::{Cell, Holder, RestartKind, Takeover};
-use ppm_lines::{Doing, Edge, Scene, doing_of, edge_of};
-use ppm_marks::{Marks, marks_at};
+use ppm_lines::{Doing, Edge, Marks, Scene, doing_of, edge_of, marks_at};
 use ppm_step::{Local, Turn};
 use std::marker::Model;
 
@@ -25,7 +24,7 @@ pub struct Stroke {
 
 impl Model for Stroke {
     ghost use Rattle.ppm_picture.specs.Strokes as strokes;
-    ghost use Rattle.ppm_marks.specs.Marks.{listed};
+    ghost use Rattle.ppm_lines.specs.Marks.{listed};
 
     ghost Value = { strokes.Drawn };
 

@@ -4,8 +4,8 @@ use Rattle.std.proofs.lemmas.List.{append-nil, append_assoc}
 use Rattle.ppm_core.specs.Situation.{Situation, run_on, turned}
 use Rattle.ppm_core.proofs.RunLemmas.{run_none, run_step}
 use Rattle.ppm_lines.specs.Line.{line_text}
-use Rattle.ppm_marks.specs.Shown.{is_shown}
-use Rattle.ppm_marks.specs.declared.shown.Only.{Only}
+use Rattle.ppm_lines.specs.Shown.{is_shown}
+use Rattle.ppm_lines.specs.declared.shown.Only.{Only}
 use Rattle.ppm_naming.specs.declared.names.Names.{Names}
 use Rattle.ppm_step.specs.declared.turn.Turn.{Turn}
 use Rattle.ppm_trace.specs.Laws.{thinned_line}

@@ -2,9 +2,9 @@
 use Rattle.std.proofs.Common.{◌≡◌, ◌∙◌, ℕ, ◌+◌, ◌≤◌, true, if◌then◌else◌, List, [], ◌∷◌, ap, arith, refl}
 use Rattle.ppm_core.specs.Situation.{Situation, run_on, turned}
 use Rattle.ppm_core.proofs.RunLemmas.{run_step}
-use Rattle.ppm_marks.specs.Marks.{marks_of}
-use Rattle.ppm_marks.specs.declared.mark.Mark.{Mark}
-use Rattle.ppm_marks.specs.declared.mark.Mark.TheVariants as mark
+use Rattle.ppm_lines.specs.Marks.{marks_of}
+use Rattle.ppm_lines.specs.declared.mark.Mark.{Mark}
+use Rattle.ppm_lines.specs.declared.mark.Mark.TheVariants as mark
 use Rattle.ppm_step.specs.State.{stand_of}
 use Rattle.ppm_step.specs.declared.turn.Turn.{Turn}
 use Rattle.ppm_trace.specs.Counts.{all_marked, counted, marked, no_counts}

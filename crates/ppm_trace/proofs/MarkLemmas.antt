@@ -10,10 +10,10 @@ use Rattle.ppm_cells.specs.declared.restart.RestartKind.{RestartKind}
 use Rattle.ppm_cells.specs.declared.restart.RestartKind.TheVariants as kind
 use Rattle.ppm_cells.specs.declared.shape.Shape.{Shape}
 use Rattle.ppm_code.specs.declared.code.CodeParts.{CodeParts}
-use Rattle.ppm_marks.specs.Marks.{act_marks, bid_marks, cell_marks, check_marks, checked, exchange_marks, going_on, has, is_local, join_marks, joined}
-use Rattle.ppm_marks.specs.Marks.{learns, marked_if, marks_at, plain_marks, rest_marks, row_marks, step_marks, then_marks, tries}
-use Rattle.ppm_marks.specs.declared.mark.Mark.{Mark}
-use Rattle.ppm_marks.specs.declared.mark.Mark.TheVariants as mark
+use Rattle.ppm_lines.specs.Marks.{act_marks, bid_marks, cell_marks, check_marks, checked, exchange_marks, going_on, has, is_local, join_marks, joined}
+use Rattle.ppm_lines.specs.Marks.{learns, marked_if, marks_at, plain_marks, rest_marks, row_marks, step_marks, then_marks, tries}
+use Rattle.ppm_lines.specs.declared.mark.Mark.{Mark}
+use Rattle.ppm_lines.specs.declared.mark.Mark.TheVariants as mark
 use Rattle.ppm_step.specs.Contents.{word_of}
 use Rattle.ppm_step.specs.Frames.{Rest, Loads, Stores, Full, Installs, Breaks}
 use Rattle.ppm_step.specs.Standings.{Standing, IsLost, IsPlaced, IsAt, IsWithin, IsRunning, IsBroken, IsDone}

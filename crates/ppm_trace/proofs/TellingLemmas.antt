@@ -10,7 +10,7 @@ use Rattle.ppm_following.proofs.ListLemmas.{listed_rest}
 use Rattle.ppm_following.specs.Following.{course}
 use Rattle.ppm_following.specs.declared.following.Way.{Way}
 use Rattle.ppm_lines.specs.Events.{json_head, json_tail}
-use Rattle.ppm_marks.specs.declared.shown.Only.{Only}
+use Rattle.ppm_lines.specs.declared.shown.Only.{Only}
 use Rattle.ppm_naming.specs.declared.names.Names.{Names}
 use Rattle.ppm_plan.specs.declared.schedule_item.ScheduleItem.{ScheduleItem}
 use Rattle.ppm_step.specs.declared.turn.Turn.{Turn}

@@ -2,8 +2,8 @@
 use Rattle.std.proofs.Common.{◌≡◌, ◌∙◌, Bool, true, false, ◌&&◌, if◌then◌else◌, List, [], ◌∷◌, ◌++◌, ℕ, ◌+◌, ◌≤◌, length, ap, arith, refl, sym}
 use Rattle.ppm_core.specs.Situation.{Situation, run_on, turned}
 use Rattle.ppm_lines.specs.Line.{line_text}
-use Rattle.ppm_marks.specs.Shown.{is_shown}
-use Rattle.ppm_marks.specs.declared.shown.Only.{Only}
+use Rattle.ppm_lines.specs.Shown.{is_shown}
+use Rattle.ppm_lines.specs.declared.shown.Only.{Only}
 use Rattle.ppm_naming.specs.declared.names.Names.{Names}
 use Rattle.ppm_step.specs.declared.turn.Turn.{Turn}
 use Rattle.ppm_trace.proofs.AlongLemmas.{along_both}

@@ -1,7 +1,7 @@
 -- How often each thing was done in the turns that are told.
 use Rattle.std.specs.Prelude.{ℕ, ◌+◌, List, [], ◌∷◌}
-use Rattle.ppm_marks.specs.declared.mark.Mark.{Mark}
-use Rattle.ppm_marks.specs.declared.mark.Mark.TheVariants.{Fork, Take, Try, Won, Lost, Soft, Hard, Carries, Heir}
+use Rattle.ppm_lines.specs.declared.mark.Mark.{Mark}
+use Rattle.ppm_lines.specs.declared.mark.Mark.TheVariants.{Fork, Take, Try, Won, Lost, Soft, Hard, Carries, Heir}
 use Rattle.ppm_trace.specs.declared.counts.Counts.{Counts}
 
 -- nothing yet

@@ -5,7 +5,7 @@ use Rattle.ppm_core.specs.Situation.{Situation}
 use Rattle.ppm_lines.specs.Events.{begun_text, events_text, json_head, json_tail}
 use Rattle.ppm_lines.specs.Line.{line_text}
 use Rattle.ppm_picture.specs.Strokes.{Drawn, drawn_of}
-use Rattle.ppm_marks.specs.Shown.{is_shown}
+use Rattle.ppm_lines.specs.Shown.{is_shown}
 use Rattle.ppm_naming.specs.declared.names.Names.{Names}
 use Rattle.ppm_step.specs.declared.turn.Turn.{Turn}
 use Rattle.ppm_trace.specs.Picture.{dead_lanes, told_dead, told_drawn, trace_picture}

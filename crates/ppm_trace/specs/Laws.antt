@@ -1,9 +1,9 @@
 -- Laws of traces.
 use Rattle.std.specs.Prelude.{◌≡◌, ℕ, ◌+◌, ◌≤◌, if◌then◌else◌, List, [], ◌++◌, length}
 use Rattle.ppm_core.specs.Situation.{Situation, run_on}
-use Rattle.ppm_marks.specs.Shown.{is_shown}
-use Rattle.ppm_marks.specs.declared.shown.Only.{Only}
-use Rattle.ppm_marks.specs.declared.shown.Only.TheVariants.{Turns}
+use Rattle.ppm_lines.specs.Shown.{is_shown}
+use Rattle.ppm_lines.specs.declared.shown.Only.{Only}
+use Rattle.ppm_lines.specs.declared.shown.Only.TheVariants.{Turns}
 use Rattle.ppm_naming.specs.declared.names.Names.{Names}
 use Rattle.ppm_step.specs.declared.turn.Turn.{Turn}
 use Rattle.ppm_trace.specs.Counts.{no_counts}

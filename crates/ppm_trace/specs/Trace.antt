@@ -5,9 +5,9 @@ use Rattle.ppm_cells.specs.declared.shape.Takeover.{Takeover}
 use Rattle.ppm_cells.specs.declared.shape.Takeover.TheVariants.{ByPlaces, ByEntries}
 use Rattle.ppm_core.specs.Situation.{Situation, finish_in, run_on, turned}
 use Rattle.ppm_lines.specs.Line.{line_text}
-use Rattle.ppm_marks.specs.Marks.{marks_of}
-use Rattle.ppm_marks.specs.Shown.{is_shown}
-use Rattle.ppm_marks.specs.declared.shown.Only.{Only}
+use Rattle.ppm_lines.specs.Marks.{marks_of}
+use Rattle.ppm_lines.specs.Shown.{is_shown}
+use Rattle.ppm_lines.specs.declared.shown.Only.{Only}
 use Rattle.ppm_naming.specs.Values.{value_text}
 use Rattle.ppm_naming.specs.declared.kind.WordKind.TheVariants.{Finish}
 use Rattle.ppm_naming.specs.declared.names.Names.{Names}

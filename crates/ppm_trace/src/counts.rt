@@ -1,7 +1,7 @@
 //! What is counted along a run that is told.
 ghost use Rattle.std.specs.Prelude.{◌≡◌, ◌<◌, ◌+◌, ◌^◌};
 
-use ppm_marks::{Mark, Marks};
+use ppm_lines::{Mark, Marks};
 
 /// How often each thing was done in the turns that are told: acts, forks, right branches that were
 /// taken, thefts that were tried, won and lost, faults, and takeovers.
@@ -20,7 +20,7 @@ pub struct Counts {
 
 impl Counts {
     ghost use Rattle.std.specs.Prelude.{◌≡◌, ◌<◌, ◌≤◌, ◌+◌, ◌^◌, length};
-    ghost use Rattle.ppm_marks.specs.Marks.{listed, listed_one};
+    ghost use Rattle.ppm_lines.specs.Marks.{listed, listed_one};
     ghost use Rattle.ppm_trace.specs.Counts.{all_marked, counted, marked, no_counts, total};
 
     /// Nothing yet.

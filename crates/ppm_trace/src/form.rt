@@ -1,5 +1,5 @@
 //! In which form a run is told.
-use ppm_marks::Only;
+use ppm_lines::Only;
 
 /// In which form a run is told.
 #[derive(Clone, Copy, Debug, PartialEq, Eq)]

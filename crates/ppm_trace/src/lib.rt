@@ -5,7 +5,7 @@
 //! each turn in its processor's lane (`specs/Picture`).
 //! Contract: `trace` makes the run of a schedule and answers exactly its trace in a form, from an act
 //! on; `count_run` makes it and answers what is counted in it.
-//! Stands on `ppm_lines`, `ppm_picture`, `ppm_marks`, `ppm_core` and `ppm_following`; the commands `trace` and
+//! Stands on `ppm_lines`, `ppm_picture`, `ppm_core` and `ppm_following`; the commands `trace` and
 //! `replay` stand on it.
 //! The text form is this project's.
 #![tactic(auto)]

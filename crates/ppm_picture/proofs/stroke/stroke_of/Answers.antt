@@ -1,5 +1,5 @@
 use Rattle.std.proofs.Common.{rules}
-use Rattle.ppm_marks.specs.Marks.{listed}
+use Rattle.ppm_lines.specs.Marks.{listed}
 use Rattle.ppm_step.specs.Locals.{standing_of}
 use Rattle.ppm_picture.proofs.StrokeLemmas.{stroke_is}
 use Rattle.ppm_picture.proofs.stroke.stroke_of.Goals as goal

@@ -1,8 +1,8 @@
 //! Which turns a reader is shown.
 ghost use Rattle.std.specs.Prelude.{◌≡◌};
 ghost use Rattle.ppm_cells.specs.Memory.{AreWordsOf};
-ghost use Rattle.ppm_marks.specs.Shown.{act_ends, exchange_ends, goes_back, is_shown_at, leaves};
-ghost use Rattle.ppm_marks.specs.Shown.{rest_ends, row_ends, row_is_shown, step_ends};
+ghost use Rattle.ppm_lines.specs.Shown.{act_ends, exchange_ends, goes_back, is_shown_at, leaves};
+ghost use Rattle.ppm_lines.specs.Shown.{rest_ends, row_ends, row_is_shown, step_ends};
 ghost use Rattle.ppm_step.specs.Locals.{IsLocal, standing_of};
 ghost use Rattle.ppm_step.specs.Stages.{rest_at, IsUnderWay};
 

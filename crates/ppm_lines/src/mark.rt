@@ -1,8 +1,8 @@
 //! Marks, and how they are written.
 ghost use Rattle.std.specs.Prelude.{◌≡◌, ◌++◌, [], ◌∷◌, OnOk};
 ghost use Rattle.std.specs.List.{flat_map};
-ghost use Rattle.ppm_marks.specs.Marks.{listed, listed_one};
-ghost use Rattle.ppm_marks.specs.Text.{mark_text, mark_word};
+ghost use Rattle.ppm_lines.specs.Marks.{listed, listed_one};
+ghost use Rattle.ppm_lines.specs.MarkTexts.{mark_text, mark_word};
 
 use ppm_words::NoMemory;
 use std::alloc::Global;
@@ -89,7 +89,7 @@ pub struct Marks {
 
 impl Marks {
     ghost use Rattle.std.specs.Prelude.{◌≡◌, [], ◌∷◌, length, nat_lt};
-    ghost use Rattle.ppm_marks.specs.Marks.{listed, marked_if};
+    ghost use Rattle.ppm_lines.specs.Marks.{listed, marked_if};
 
     /// No mark.
     pub fn none() -> Marks

@@ -6,9 +6,9 @@ use Rattle.ppm_cells.specs.declared.restart.RestartKind.{RestartKind}
 use Rattle.ppm_cells.specs.declared.restart.RestartKind.TheVariants as kind
 use Rattle.ppm_cells.specs.declared.shape.Shape.{Shape}
 use Rattle.ppm_code.specs.declared.code.CodeParts.{CodeParts}
-use Rattle.ppm_marks.specs.Marks.{marks_at}
-use Rattle.ppm_marks.specs.declared.shown.Only.{Only}
-use Rattle.ppm_marks.specs.declared.shown.Only.TheVariants as shows
+use Rattle.ppm_lines.specs.Marks.{marks_at}
+use Rattle.ppm_lines.specs.declared.shown.Only.{Only}
+use Rattle.ppm_lines.specs.declared.shown.Only.TheVariants as shows
 use Rattle.ppm_step.specs.Frames.{Rest, Full, Installs}
 use Rattle.ppm_step.specs.Standings.{Standing, IsPlaced, IsAt, IsWithin, IsRunning, IsBroken, IsDone}
 use Rattle.ppm_step.specs.State.{State, stand_of}

@@ -1,8 +1,8 @@
 -- How marks are written.
 use Rattle.std.specs.Prelude.{ℕ, List, ◌++◌, codes}
-use Rattle.ppm_marks.specs.declared.mark.Mark.{Mark}
-use Rattle.ppm_marks.specs.declared.mark.Mark.TheVariants.{Fork, Push, Pop, Try, Inherit, Won, Heir, Lost, Take, First, Last, Inline}
-use Rattle.ppm_marks.specs.declared.mark.Mark.TheVariants.{Bid, Carries, Outbid, Soft, Hard, End, Done}
+use Rattle.ppm_lines.specs.declared.mark.Mark.{Mark}
+use Rattle.ppm_lines.specs.declared.mark.Mark.TheVariants.{Fork, Push, Pop, Try, Inherit, Won, Heir, Lost, Take, First, Last, Inline}
+use Rattle.ppm_lines.specs.declared.mark.Mark.TheVariants.{Bid, Carries, Outbid, Soft, Hard, End, Done}
 
 -- the word of a mark
 abbrev pub mark_word : Mark → List ℕ

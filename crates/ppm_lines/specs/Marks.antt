@@ -10,9 +10,9 @@ use Rattle.ppm_cells.specs.declared.restart.RestartKind.{RestartKind}
 use Rattle.ppm_cells.specs.declared.restart.RestartKind.TheVariants as kind
 use Rattle.ppm_cells.specs.declared.shape.Shape.{Shape}
 use Rattle.ppm_code.specs.declared.code.CodeParts.{CodeParts}
-use Rattle.ppm_marks.specs.declared.mark.Mark.{Mark}
-use Rattle.ppm_marks.specs.declared.mark.Mark.TheVariants as mark
-use Rattle.ppm_marks.specs.declared.mark.Marks.{Marks}
+use Rattle.ppm_lines.specs.declared.mark.Mark.{Mark}
+use Rattle.ppm_lines.specs.declared.mark.Mark.TheVariants as mark
+use Rattle.ppm_lines.specs.declared.mark.Marks.{Marks}
 use Rattle.ppm_step.specs.Contents.{word_of}
 use Rattle.ppm_step.specs.Frames.{Rest, Full}
 use Rattle.ppm_step.specs.Standings.{Standing, IsAt, IsWithin, IsRunning, IsBroken, IsDone}
