@@ -31,7 +31,7 @@ use Rattle.ppm_driver.specs.CountedReplayRows.{HasRead, Replays, WritesUnfinishe
 use Rattle.ppm_driver.specs.Halts.{with_tally}
 use Rattle.ppm_driver.specs.Meant.{RunsAreAsPrograms}
 use Rattle.ppm_driver.proofs.CountedLemmas.{of_program}
-use Rattle.ppm_driver.proofs.MeantRows.{replay_ends, replay_traps, replay_needs, replay_unbroken, replay_once}
+use Rattle.ppm_driver.proofs.MeantRows.{replay_is, replay_ends, replay_traps, replay_needs, replay_unbroken, replay_once}
 use Rattle.ppm_driver.proofs.ReplayLemmas as plain
 
 module _ (law : RunsAreAsPrograms) (options : ReplayOptions) (are : AreReplayed options) (schedule : List ℕ) (o : Ports) where
@@ -127,4 +127,5 @@ module _ (law : RunsAreAsPrograms) (options : ReplayOptions) (are : AreReplayed 
       shown = λ all e well answer h.
           let k = (planned_rows plans one).rows.known all e well in
           subst (λ (x : Answer). IsWritten o.out o.err x status) (one.one options schedule all k.0 answer k.1 h) k.2;
+      meant = λ items accepted text t has answer h. replay_is law text t has options schedule items accepted answer h;
     }

@@ -113,4 +113,5 @@ module _ (law : ReplaysAreAsCode) (options : ReplayOptions) (are : AreReplayed o
       shown = λ all e well answer h.
           let k = (planned_rows plans one).rows.known all e well in
           subst (λ (x : Answer). IsWritten o.out o.err x status) (one.one options schedule all k.0 answer k.1 h) k.2;
+      meant = λ items accepted code input may answer h. law options are schedule items accepted code input may answer h;
     }

@@ -30,6 +30,7 @@ use Rattle.ppm_loading.specs.Planned.{IsRefusedBy, HasByItems}
 use Rattle.ppm_driver.specs.AsCode.{IsAsCode}
 use Rattle.ppm_driver.specs.CaseRefusals.{RefusesCase}
 use Rattle.ppm_driver.specs.CodeReplays.{SaysAsReplay, turns_in}
+use Rattle.ppm_driver.specs.CaseReplayRows.{AreAsCode}
 use Rattle.ppm_driver.specs.CountedCases.{CountedCaseHas, CountedCaseMay, TextHas}
 use Rattle.ppm_driver.specs.Halts.{with_tally}
 
@@ -107,11 +108,12 @@ module _ (options : ReplayOptions) (schedule : List ℕ) (o : Ports) where
   CountedCaseSays status = PortsSay o status
 
   -- The rows of such a `replay` of a case with such options, in their ranges, and such a schedule. The answer that a text has is written, whichever
-  -- it is.
+  -- it is. What is in `meant` is a law of all replays.
   pub record CountedCaseRows (status : Status) : Type 0 where
     pub rows : PlannedRows (IsRefusedBy schedule_form schedule options.processors)
         (HasByItems schedule_form schedule options.processors (TextHas options)) case_limit CountedCaseSays o status
     pub shown : IsShown (CountedCaseHas options schedule) o status
+    pub meant : AreAsCode options schedule o
 
 -- such a replay of a case is done: an answer that may come was delivered, and its rows hold
 abbrev pub IsCountedCaseReplay : ReplayOptions → (schedule : List ℕ) → Ports → Status → Type 0

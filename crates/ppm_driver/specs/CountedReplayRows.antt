@@ -32,6 +32,7 @@ use Rattle.ppm_driver.specs.RunCounts.{run_counts}
 use Rattle.ppm_driver.specs.OrderedFaults.{ordered_faults}
 use Rattle.ppm_driver.specs.CodeReplays.{turns_in}
 use Rattle.ppm_driver.specs.CountedReplays.{ProgramHas, CountedHas, CountedMay, TextHas}
+use Rattle.ppm_driver.specs.ReplayRows.{AreAsPrograms}
 use Rattle.ppm_driver.specs.Meant.{NeedsMoreRoom, forked_in, NoneIsTakenTwice, EndsAsProgram, IsAsProgram}
 
 module _ (options : ReplayOptions) (schedule : List ℕ) (o : Ports) where
@@ -103,10 +104,12 @@ module _ (options : ReplayOptions) (schedule : List ℕ) (o : Ports) where
   CountedSays status = PortsSay o status
 
   -- The rows of such a `replay` with such options, in their ranges, and such a schedule. The answer that a text has is written, whichever it is.
+  -- What is in `meant` is a law of all replays.
   pub record CountedRows (status : Status) : Type 0 where
     pub rows : PlannedRows (IsRefusedBy schedule_form schedule options.processors)
         (HasByItems schedule_form schedule options.processors (TextHas options)) text_limit CountedSays o status
     pub shown : IsShown (CountedHas options schedule) o status
+    pub meant : AreAsPrograms options schedule o
 
 -- such a replay is done: an answer that may come was delivered, and its rows hold
 abbrev pub IsCountedReplay : ReplayOptions → (schedule : List ℕ) → Ports → Status → Type 0
