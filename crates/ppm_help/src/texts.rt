@@ -94,7 +94,7 @@ pub(crate) fn meaning_of(command: &str, option: &str) -> &'static str {
 /// What the input of a command is.
 fn input_of(command: &str) -> &'static str {
     match command {
-        "replay" | "stop" => "what is read; a saved text says its sizes",
+        "replay" | "stop" | "trace" => "what is read; a saved text says its sizes",
         _ => "what is read; the code of a case runs, sound or not",
     }
 }
