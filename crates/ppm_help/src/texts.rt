@@ -83,7 +83,7 @@ pub(crate) fn meaning_of(command: &str, option: &str) -> &'static str {
         "schedule" => "as 0*9,1>0,1!h: acts, a victim, a hard fault",
         "takeover" => takeover_of(command),
         "idle" => "one that rests makes no more acts, or sleeps",
-        "form" => "lines, or events for a viewer of traces",
+        "form" => "lines, events for a viewer of traces, or a picture",
         "only" => "lines: all, those that end a row, or those with a mark",
         "input" => input_of(command),
         "counts" => "with yes a last line counts what was done",
