@@ -1,6 +1,6 @@
 -- Tokens and their words: what is written of a token is read as it, and what is read as a token is what is written of it.
-use Rattle.std.proofs.Common.{◌≡◌, ◌∙◌, ℕ, suc, ◌^◌, ◌<◌, ◌==◌, Bool, true, false, not, ◌&&◌, cond, List, [], ◌∷◌, get_or, decimal, bytes_eq}
-use Rattle.std.proofs.Common.{Option, Some, None, refl, sym, ap, arith}
+use Rattle.std.proofs.Common.{◌≡◌, ◌∙◌, ℕ, suc, ◌^◌, ◌<◌, ◌≤◌, ◌==◌, Bool, true, false, not, ◌&&◌, cond, List, [], ◌∷◌, length, get_or, decimal, bytes_eq}
+use Rattle.std.proofs.Common.{Option, Some, None, refl, sym, ap, subst, arith}
 use Rattle.std.proofs.Common.{eqb-true, ne_eqb}
 use Rattle.std.specs.Prelude.{pos, negsuc}
 use Rattle.std.proofs.lemmas.Bool.{both_ways}
@@ -44,6 +44,60 @@ text_of_spelled (j ∷ ks) bytes k h = go (bytes_eq (keyword_text j) bytes) refl
         → cond same (Some j) (spelled ks bytes) ≡ Some k → keyword_text k ≡ bytes
     go true e f h = let is : j ≡ k = cc in ap keyword_text (sym is) ∙ (bytes_eq-Decides (keyword_text j) bytes).0 e
     go false e f h = f h
+
+-- a byte with which no keyword begins
+module _ (b : ℕ) (no_a : b ≡ 97 → ⊥) (no_b : b ≡ 98 → ⊥) (no_c : b ≡ 99 → ⊥) (no_d : b ≡ 100 → ⊥) (no_e : b ≡ 101 → ⊥) (no_f : b ≡ 102 → ⊥) (no_g : b ≡ 103 → ⊥) (no_l : b ≡ 108 → ⊥) (no_m : b ≡ 109 → ⊥) (no_n : b ≡ 110 → ⊥) (no_p : b ≡ 112 → ⊥) (no_r : b ≡ 114 → ⊥) (no_s : b ≡ 115 → ⊥) (no_t : b ≡ 116 → ⊥) where
+  begins : (k : Keyword) (bs : List ℕ) → keyword_text k ≡ b ∷ bs → ⊥
+  begins keyword.Ppm bs e = no_p (sym (ap (λ l. get_or l 0 0) e))
+  begins keyword.Root bs e = no_r (sym (ap (λ l. get_or l 0 0) e))
+  begins keyword.Proc bs e = no_p (sym (ap (λ l. get_or l 0 0) e))
+  begins keyword.Slots bs e = no_s (sym (ap (λ l. get_or l 0 0) e))
+  begins keyword.Entry bs e = no_e (sym (ap (λ l. get_or l 0 0) e))
+  begins keyword.Capsule bs e = no_c (sym (ap (λ l. get_or l 0 0) e))
+  begins keyword.Const bs e = no_c (sym (ap (λ l. get_or l 0 0) e))
+  begins keyword.Move bs e = no_m (sym (ap (λ l. get_or l 0 0) e))
+  begins keyword.Add bs e = no_a (sym (ap (λ l. get_or l 0 0) e))
+  begins keyword.Sub bs e = no_s (sym (ap (λ l. get_or l 0 0) e))
+  begins keyword.Mul bs e = no_m (sym (ap (λ l. get_or l 0 0) e))
+  begins keyword.Div bs e = no_d (sym (ap (λ l. get_or l 0 0) e))
+  begins keyword.Rem bs e = no_r (sym (ap (λ l. get_or l 0 0) e))
+  begins keyword.Equal bs e = no_e (sym (ap (λ l. get_or l 0 0) e))
+  begins keyword.NotEqual bs e = no_n (sym (ap (λ l. get_or l 0 0) e))
+  begins keyword.Less bs e = no_l (sym (ap (λ l. get_or l 0 0) e))
+  begins keyword.AtMost bs e = no_l (sym (ap (λ l. get_or l 0 0) e))
+  begins keyword.Len bs e = no_l (sym (ap (λ l. get_or l 0 0) e))
+  begins keyword.CutLeft bs e = no_c (sym (ap (λ l. get_or l 0 0) e))
+  begins keyword.CutRight bs e = no_c (sym (ap (λ l. get_or l 0 0) e))
+  begins keyword.LoadSlot bs e = no_l (sym (ap (λ l. get_or l 0 0) e))
+  begins keyword.StoreCur bs e = no_s (sym (ap (λ l. get_or l 0 0) e))
+  begins keyword.Give bs e = no_g (sym (ap (λ l. get_or l 0 0) e))
+  begins keyword.Get bs e = no_g (sym (ap (λ l. get_or l 0 0) e))
+  begins keyword.Put bs e = no_p (sym (ap (λ l. get_or l 0 0) e))
+  begins keyword.BranchZero bs e = no_b (sym (ap (λ l. get_or l 0 0) e))
+  begins keyword.BranchNonZero bs e = no_b (sym (ap (λ l. get_or l 0 0) e))
+  begins keyword.Room bs e = no_r (sym (ap (λ l. get_or l 0 0) e))
+  begins keyword.StoreNew bs e = no_s (sym (ap (λ l. get_or l 0 0) e))
+  begins keyword.Next bs e = no_n (sym (ap (λ l. get_or l 0 0) e))
+  begins keyword.End bs e = no_e (sym (ap (λ l. get_or l 0 0) e))
+  begins keyword.Trap bs e = no_t (sym (ap (λ l. get_or l 0 0) e))
+  begins keyword.Call bs e = no_c (sym (ap (λ l. get_or l 0 0) e))
+  begins keyword.CallTo bs e = no_c (sym (ap (λ l. get_or l 0 0) e))
+  begins keyword.Fork bs e = no_f (sym (ap (λ l. get_or l 0 0) e))
+  begins keyword.ForkTo bs e = no_f (sym (ap (λ l. get_or l 0 0) e))
+
+  begins_none : (bs : List ℕ) (found : Option Keyword) → spelled keywords (b ∷ bs) ≡ found → found ≡ None
+  begins_none bs None e = refl
+  begins_none bs (Some k) e = absurd (begins k bs (text_of_spelled keywords (b ∷ bs) k e))
+
+  pub none_begins : (bs : List ℕ) → spelled keywords (b ∷ bs) ≡ None
+  none_begins bs = begins_none bs (spelled keywords (b ∷ bs)) refl
+
+-- what a list of keywords comes to at bytes that begin so is what all come to
+pub by_first : (bytes : List ℕ) (ks : List Keyword) (b : ℕ) → 1 ≤ length bytes → b ≡ get_or bytes 0 0
+    → ((rest : List ℕ) → spelled ks (b ∷ rest) ≡ spelled keywords (b ∷ rest)) → spelled ks bytes ≡ keyword_of bytes
+unfolding keyword_of
+by_first [] ks b l e h = absurd (omega (arith, l))
+by_first (x ∷ xs) ks b l e h = subst (λ (b : ℕ). spelled ks (b ∷ xs) ≡ spelled keywords (b ∷ xs)) e (h xs)
 
 word_of-named : (bytes : List ℕ) (found : Option Keyword) → spelled keywords bytes ≡ found → IsWhole (named found) → bytes ≡ word_of (named found)
 word_of-named bytes None e h = absurd h

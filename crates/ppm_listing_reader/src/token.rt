@@ -1,6 +1,6 @@
 //! The tokens of a line as they are written, with numbers of any size.
-ghost use Rattle.std.specs.Prelude.{◌≡◌, OnOk};
-ghost use Rattle.ppm_listing_reader.specs.Tokens.{spelled, keyword_of, named as named_token};
+ghost use Rattle.std.specs.Prelude.{◌≡◌, ◌∷◌, ℕ, List, OnOk};
+ghost use Rattle.ppm_listing_reader.specs.Tokens.{keyword_of, keywords, named as named_token, spelled};
 ghost use Rattle.ppm_listing_reader.specs.Tokens.{minus as minus_token, token_of};
 ghost use Rattle.ppm_listing_reader.specs.Forms.{part_in, line_of, may_go_on as goes_on};
 
@@ -27,46 +27,6 @@ pub enum Token {
     Other,
 }
 
-/// All keywords.
-const KEYWORDS: [Keyword; 36] = [
-    Keyword::Ppm,
-    Keyword::Root,
-    Keyword::Proc,
-    Keyword::Slots,
-    Keyword::Entry,
-    Keyword::Capsule,
-    Keyword::Const,
-    Keyword::Move,
-    Keyword::Add,
-    Keyword::Sub,
-    Keyword::Mul,
-    Keyword::Div,
-    Keyword::Rem,
-    Keyword::Equal,
-    Keyword::NotEqual,
-    Keyword::Less,
-    Keyword::AtMost,
-    Keyword::Len,
-    Keyword::CutLeft,
-    Keyword::CutRight,
-    Keyword::LoadSlot,
-    Keyword::StoreCur,
-    Keyword::Give,
-    Keyword::Get,
-    Keyword::Put,
-    Keyword::BranchZero,
-    Keyword::BranchNonZero,
-    Keyword::Room,
-    Keyword::StoreNew,
-    Keyword::Next,
-    Keyword::End,
-    Keyword::Trap,
-    Keyword::Call,
-    Keyword::CallTo,
-    Keyword::Fork,
-    Keyword::ForkTo,
-];
-
 /// The first of some keywords that has this spelling.
 fn first_spelled(mut table: &[Keyword], bytes: &[u8]) -> Option<Keyword>
     ensures { result ≡ spelled table.entry.now bytes.now }
@@ -80,11 +40,54 @@ fn first_spelled(mut table: &[Keyword], bytes: &[u8]) -> Option<Keyword>
     None
 }
 
-/// The keyword of this spelling.
+/// The keywords whose spelling begins with a byte.
+fn beginning_with(first: u8) -> &'static [Keyword]
+    ensures { (rest : List ℕ) → spelled result.now (first ∷ rest) ≡ spelled keywords (first ∷ rest) }
+{
+    match first {
+        b'a' => &[Keyword::Add],
+        b'b' => &[Keyword::BranchZero, Keyword::BranchNonZero],
+        b'c' => &[
+            Keyword::Capsule,
+            Keyword::Const,
+            Keyword::CutLeft,
+            Keyword::CutRight,
+            Keyword::Call,
+            Keyword::CallTo,
+        ],
+        b'd' => &[Keyword::Div],
+        b'e' => &[Keyword::Entry, Keyword::Equal, Keyword::End],
+        b'f' => &[Keyword::Fork, Keyword::ForkTo],
+        b'g' => &[Keyword::Give, Keyword::Get],
+        b'l' => &[
+            Keyword::Less,
+            Keyword::AtMost,
+            Keyword::Len,
+            Keyword::LoadSlot,
+        ],
+        b'm' => &[Keyword::Move, Keyword::Mul],
+        b'n' => &[Keyword::NotEqual, Keyword::Next],
+        b'p' => &[Keyword::Ppm, Keyword::Proc, Keyword::Put],
+        b'r' => &[Keyword::Root, Keyword::Rem, Keyword::Room],
+        b's' => &[
+            Keyword::Slots,
+            Keyword::Sub,
+            Keyword::StoreCur,
+            Keyword::StoreNew,
+        ],
+        b't' => &[Keyword::Trap],
+        _ => &[],
+    }
+}
+
+/// The keyword of this spelling: those that begin with its first byte are compared with it.
 fn keyword(bytes: &[u8]) -> Option<Keyword>
     ensures { result ≡ keyword_of bytes.now }
 {
-    first_spelled(&KEYWORDS, bytes)
+    match bytes {
+        [] => None,
+        [first, ..] => first_spelled(beginning_with(*first), bytes),
+    }
 }
 
 /// The token of a keyword, if it is one.

@@ -1,8 +1,13 @@
-use Rattle.std.proofs.Common.{rules}
+-- The keywords that begin with the first byte are enough.
+use Rattle.std.proofs.Common.{◌∙◌, refl, rules}
 use Rattle.ppm_listing_reader.specs.Tokens.{keyword_of}
+use Rattle.ppm_listing_reader.proofs.WordLemmas.{by_first}
 use Rattle.ppm_listing_reader.proofs.token.keyword.Goals as goal
 
--- the code's table is the definition's
-pub returns : goal.returns
+pub returns-in-empty : goal.returns-in-empty
 unfolding keyword_of
-returns c = search rules
+returns-in-empty c = search rules
+
+pub returns-in-len1-up : goal.returns-in-len1-up
+returns-in-len1-up c =
+    c.first_spelled.ensures ∙ by_first c.args.bytes.now _ _ c.in-len1-up.len_at_least refl c.beginning_with.ensures
