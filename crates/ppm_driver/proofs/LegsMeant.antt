@@ -1,6 +1,6 @@
 -- With takeover by places runs in legs end as their programs do: a program's code is sound, so they end as that does, run depth first
 -- (`LegsOfCode`), and its outcome is the program's (`MeantLemmas`).
-use Rattle.std.proofs.Common.{List}
+use Rattle.std.proofs.Common.{ℕ, ◌+◌, ◌<◌, ◌^◌, List, arith}
 use Rattle.ppm_words.specs.declared.named_array.NamedArray.{NamedArray}
 use Rattle.ppm_words.specs.declared.outcome.Outcome.{Outcome}
 use Rattle.ppm_code.specs.declared.code.CodeParts.{CodeParts}
@@ -41,7 +41,7 @@ module _ (t : ProgramTree) (its : IsAsItsCode t) (m : Situation) (legs : List Le
     full = λ place says. let k = h.full place says in (k.0, its.more_room m.shape.room k.1);
     pools = h.pools;
     stands = h.stands;
-    unbroken = h.unbroken;
+    unbroken = λ low place says. let much = h.unbroken low place says in omega (arith, much);
   }
 
 -- this holds with each text's program

@@ -234,7 +234,7 @@ module _ (law : RunsInLegsAreAsCode) (comes : CodeWordsComeBack) (code : CodePar
         times_more n k = grind arith
 
     -- broken words are met late
-    pub resumed_breaks : (place : ℕ) (h : Resumed (answers.Broken place)) → 2 ^ 34 < worked_in_all m (legs_of left h.start.state.words) h.run.turns
+    pub resumed_breaks : (place : ℕ) (h : Resumed (answers.Broken place)) → 2 ^ 34 + 2 ^ 28 < worked_in_all m (legs_of left h.start.state.words) h.run.turns
     resumed_breaks place h =
         let a = answers.Broken place in
         let k = said a h in
@@ -248,7 +248,7 @@ module _ (law : RunsInLegsAreAsCode) (comes : CodeWordsComeBack) (code : CodePar
     says (answers.Trapped trap line) h = resumed_traps trap line h
     says (answers.OutOfTurns c) h = resumed_needs_turns c h (spent_has options before now items z c h).1
     says (answers.OutOfRoom place) h = resumed_full place h
-    says (answers.Broken place) h = resumed_breaks place h
+    says (answers.Broken place) h = let much = resumed_breaks place h in omega (arith, much)
     says a h = absurd (has_kind options before now items z a h)
 
     pub resumed_as_code : (a : Answer) (h : Resumed a) → IsAsResumed h left

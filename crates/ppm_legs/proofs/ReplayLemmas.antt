@@ -269,7 +269,8 @@ module _ (law : RunsInLegsAreAsCode) (comes : CodeWordsComeBack) (options : Repl
       let k = said a h (λ e. cc) in
       let e = broken_replay m.shape m.array_lengths m.state.words (named z.arrays) options.turns (tally_of m) k.0 place k.2 in
       let few = left.few in
-      (as_code a h).unbroken (omega (arith, few)) place (at_last a h (λ e. cc) _ e)
+      let much = (as_code a h).unbroken (omega (arith, few)) place (at_last a h (λ e. cc) _ e) in
+      omega (arith, much)
   says a h = absurd (replay_kind options items z a h)
 
   pub as_replayed : (a : Answer) (h : HasIt a) → IsAsReplayed h left
