@@ -14,6 +14,10 @@ use Rattle.ppm_driver.specs.Legs.{EndsAsProgramInAll, IsAsProgramInAll, RunsInLe
 use Rattle.ppm_driver.specs.LegsAsCode.{EndsAsCodeInAll, IsAsCodeInAll, RunsInLegsAreAsCode, TagsMayRiseInLegsOfCode}
 use Rattle.ppm_driver.specs.ProgramsAsCode.{IsAsItsCode, ProgramsAreAsCode}
 
+-- what is more than the work that breaks nothing over legs is more than 2^34
+pub less_work : (n : ℕ) → 2 ^ 34 + 2 ^ 28 < n → 2 ^ 34 < n
+less_work n h = omega (arith, h)
+
 module _ (t : ProgramTree) (its : IsAsItsCode t) (m : Situation) (legs : List Leg) (turns : List Turn) where
   abbrev code : CodeParts
   code = code_of t
@@ -41,7 +45,7 @@ module _ (t : ProgramTree) (its : IsAsItsCode t) (m : Situation) (legs : List Le
     full = λ place says. let k = h.full place says in (k.0, its.more_room m.shape.room k.1);
     pools = h.pools;
     stands = h.stands;
-    unbroken = λ low place says. let much = h.unbroken low place says in omega (arith, much);
+    unbroken = λ low place says. less_work _ (h.unbroken low place says);
   }
 
 -- this holds with each text's program

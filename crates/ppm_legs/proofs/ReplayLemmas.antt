@@ -44,6 +44,7 @@ use Rattle.ppm_driver.specs.Legs.{finish_at_last, worked_in_all}
 use Rattle.ppm_driver.specs.LegsAsCode.{EndsAsCodeInAll, IsAsCodeInAll, RunsInLegsAreAsCode}
 use Rattle.ppm_driver.specs.Replays.{IsSaid, tally_of}
 use Rattle.ppm_driver.specs.Resumes.{SavedState, saved_finish, GoesOnFrom, IsTextOf, named}
+use Rattle.ppm_driver.proofs.LegsMeant.{less_work}
 use Rattle.ppm_driver.proofs.MeantRows.{ended_replay, trapped_replay, full_replay, broken_replay, no_other}
 use Rattle.ppm_driver.proofs.ReplayLemmas.{one_said}
 use Rattle.ppm_driver.proofs.ResumedOfCode.{arrays_are, finish_is, is_as_code}
@@ -269,8 +270,7 @@ module _ (law : RunsInLegsAreAsCode) (comes : CodeWordsComeBack) (options : Repl
       let k = said a h (λ e. cc) in
       let e = broken_replay m.shape m.array_lengths m.state.words (named z.arrays) options.turns (tally_of m) k.0 place k.2 in
       let few = left.few in
-      let much = (as_code a h).unbroken (omega (arith, few)) place (at_last a h (λ e. cc) _ e) in
-      omega (arith, much)
+      less_work _ ((as_code a h).unbroken (omega (arith, few)) place (at_last a h (λ e. cc) _ e))
   says a h = absurd (replay_kind options items z a h)
 
   pub as_replayed : (a : Answer) (h : HasIt a) → IsAsReplayed h left
