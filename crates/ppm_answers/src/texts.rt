@@ -219,11 +219,7 @@ fn refusal_text_of(alloc: Global, refusal: Refusal) -> Result<Vec<u8>, AllocErro
 }
 
 /// The line of a refusal, with the notes that explain it.
-fn explained_text_of(
-    alloc: Global,
-    refusal: Refusal,
-    notes: &[u8],
-) -> Result<Vec<u8>, AllocError>
+fn explained_text_of(alloc: Global, refusal: Refusal, notes: &[u8]) -> Result<Vec<u8>, AllocError>
     ensures { IfOk result (λ text. text.items ≡ refusal_text refusal ++ notes.now) }
 {
     let mut text = refusal_text_of(alloc, refusal)?;

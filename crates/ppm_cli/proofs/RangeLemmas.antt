@@ -24,7 +24,7 @@ use Rattle.ppm_cli.specs.Values.{fitting_room, fitting_saved_room, room_given, s
 use Rattle.ppm_cli.specs.Words.{sweep_options, AreSwept, trace_options, AreTraced}
 use Rattle.ppm_cli.specs.Values.{swept_takeovers_given, traced_form_given, traced_lines_given}
 use Rattle.ppm_cli.specs.Words.{by_input, replay_by, replay_with, code_in, capsule_limit, with_input}
-use Rattle.ppm_cli.specs.Words.{by_any_input, command_for, replay_saved, stop_saved, with_any_input}
+use Rattle.ppm_cli.specs.Words.{by_any_input, command_for, replay_saved, stop_saved, trace_saved, with_any_input}
 use Rattle.ppm_cli.specs.Values.{are_counts_given, choice_given, input_given, is_case_given}
 use Rattle.ppm_cli.specs.declared.capsules.CapsuleLimit.{CapsuleLimit}
 use Rattle.ppm_cli.specs.declared.command.Command.{Command}
@@ -318,7 +318,8 @@ named_are name rows =
     (either IsInRange (bytes_eq name (codes "ram")) _ _
     (with_text_are AreRun commands.Ram faults (run_options rows) rows (λ o t h. h) (run_are rows))
     (either IsInRange (bytes_eq name (codes "trace")) _ _
-    (with_input_are AreTraced commands.Trace commands.TraceCase schedule (trace_options rows) rows (λ o t h. h) (λ o t h. h) (trace_are rows))
+    (with_any_input_are AreTraced commands.Trace commands.TraceCase trace_saved schedule (trace_options rows) rows (λ o t h. h) (λ o t h. h)
+    (λ o t h. (h.1, h.2)) (trace_are rows))
     (either IsInRange (bytes_eq name (codes "show")) _ _ tt
     (either IsInRange (bytes_eq name (codes "explain")) _ _ tt
     tt))))))))))))))

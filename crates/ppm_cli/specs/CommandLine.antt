@@ -178,6 +178,7 @@ input = choice "input" ("source" ∷ "case" ∷ []) "source"
 -- whether what is counted in the run is told
 abbrev pub counts : OptionRule
 counts = choice "counts" ("no" ∷ "yes" ∷ []) "no"
+
 -- and where the run may go on from a saved text, whether it is that
 abbrev pub any_input : OptionRule
 any_input = choice "input" ("source" ∷ "case" ∷ "saved" ∷ []) "source"
@@ -202,7 +203,7 @@ command_line =
     (processors ∷ turns ∷ copied_room ∷ copied_slots ∷ swept_takeovers ∷ schedule ∷ met ∷ from ∷ acts ∷ runs ∷ seed ∷ capsules ∷ input ∷ [])
     ∷ command "ram" (processors ∷ turns ∷ room ∷ slots ∷ looks ∷ seed ∷ faults ∷ takeover ∷ idle ∷ [])
     ∷ command "trace"
-    (processors ∷ traced_from ∷ traced_acts ∷ room ∷ slots ∷ takeover ∷ schedule ∷ traced_form ∷ only ∷ input ∷ [])
+    (processors ∷ traced_from ∷ traced_acts ∷ room ∷ slots ∷ takeover ∷ schedule ∷ traced_form ∷ only ∷ any_input ∷ [])
     ∷ command "show" []
     ∷ command "explain" []
     ∷ []

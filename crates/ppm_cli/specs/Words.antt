@@ -26,6 +26,7 @@ use Rattle.ppm_cli.specs.declared.stop.StopOptions.{StopOptions}
 use Rattle.ppm_cli.specs.declared.stop.StopSavedOptions.{StopSavedOptions}
 use Rattle.ppm_cli.specs.declared.sweep.SweepOptions.{SweepOptions}
 use Rattle.ppm_cli.specs.declared.trace.TraceOptions.{TraceOptions}
+use Rattle.ppm_cli.specs.declared.trace.TraceSavedOptions.{TraceSavedOptions}
 
 -- a command that has options and a text, if each has a value of its form
 abbrev pub with_text : {O : Type 0} → (O → Text → Command) → OptionRule → Option O → List Row → Option Command
@@ -179,9 +180,13 @@ trace_options rows =
     and_then (traced_lines_given rows) (λ l.
     Some (record { processors = p; from = f; acts = a; room = w; slots = e; takeover = t; form = m; only = l })))))))))
 
--- the command `trace` with its options and its schedule, over a source or over a case
+-- `trace` of a saved text, which has the sizes
+abbrev pub trace_saved : TraceOptions → Text → Command
+trace_saved o t = commands.TraceSaved (record { from = o.from; acts = o.acts; form = o.form; only = o.only }) t
+
+-- the command `trace` with its options and its schedule, over a source, a case or a saved text
 abbrev pub trace_in : List Row → Option Command
-trace_in rows = with_input commands.Trace commands.TraceCase schedule (trace_options rows) rows
+trace_in rows = with_any_input commands.Trace commands.TraceCase trace_saved schedule (trace_options rows) rows
 
 -- the options of `self`, if each has a value of its form
 abbrev pub self_options : List Row → Option SelfOptions
@@ -310,6 +315,10 @@ AreTraced options =
     IsOfForm processors.form options.processors × IsOfForm traced_from.form options.from × IsOfForm traced_acts.form options.acts
     × IsOfForm room.form options.room × IsOfForm slots.form options.slots × DoPoolsFit options.processors options.room
 
+-- of a trace that goes on from a saved text the acts are in their ranges
+abbrev pub AreSavedTraced : TraceSavedOptions → Type 0
+AreSavedTraced options = IsOfForm traced_from.form options.from × IsOfForm traced_acts.form options.acts
+
 -- the limit of a depth-first run is in its range
 abbrev pub IsLimit : CapsuleLimit → Type 0
 IsLimit limit = IsOfForm capsules.form limit.capsules
@@ -340,4 +349,5 @@ IsInRange (commands.TraceCase options _) = AreTraced options
 IsInRange commands.Show = ⊤
 IsInRange (commands.StopSaved options _) = AreSavedStopped options
 IsInRange (commands.ReplaySaved options _) = AreSavedReplayed options
+IsInRange (commands.TraceSaved options _) = AreSavedTraced options
 IsInRange commands.Explain = ⊤

@@ -13,7 +13,7 @@ use crate::run::{RunOptions, run_from};
 use crate::serial::{SerialOptions, serial_from};
 use crate::stop::{StopOptions, StopSavedOptions, stop_from};
 use crate::sweep::{SweepOptions, sweep_from};
-use crate::trace::{TraceOptions, trace_from};
+use crate::trace::{TraceOptions, TraceSavedOptions, trace_from};
 use clap::ArgMatches;
 use ppm_words::Items;
 use std::alloc::{AllocError, Global};
@@ -81,6 +81,9 @@ pub enum Command {
     ReplaySaved(ReplaySavedOptions, Items<u8>),
     /// To judge the source that is read, and to explain why it is refused.
     Explain,
+    /// To go on from the words of the saved text that is read, by a schedule, of which these are the
+    /// bytes, and to tell the acts.
+    TraceSaved(TraceSavedOptions, Items<u8>),
 }
 
 /// The command of the subcommand that was met, with its options.

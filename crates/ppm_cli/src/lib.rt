@@ -43,4 +43,4 @@ pub use stop::{StopOptions, StopSavedOptions};
 pub use sweep::SweepOptions;
 pub use table::{COMMANDS, ChoiceOption, CommandRow, NumberOption, OptionRow, TextOption};
 pub use takeover::SweptTakeovers;
-pub use trace::{TraceOptions, TracedForm, TracedLines};
+pub use trace::{TraceOptions, TraceSavedOptions, TracedForm, TracedLines};

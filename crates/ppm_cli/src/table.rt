@@ -443,7 +443,7 @@ pub const COMMANDS: [CommandRow; 15] = [
             OptionRow::Text(SCHEDULE),
             OptionRow::Choice(TRACED_FORM),
             OptionRow::Choice(ONLY),
-            OptionRow::Choice(INPUT),
+            OptionRow::Choice(ANY_INPUT),
         ],
     },
     CommandRow {

@@ -3,12 +3,12 @@ ghost use Rattle.std.specs.Prelude.{◌≡◌, IfOk, IfSome};
 ghost use Rattle.clap.specs.Words.{found_of, rows_of};
 ghost use Rattle.ppm_cli.specs.declared.command.Command.TheVariants as commands;
 ghost use Rattle.ppm_cli.specs.Values.{traced_form_given, traced_lines_given};
-ghost use Rattle.ppm_cli.specs.Words.{AreTraced, IsInRange, by_input, trace_in};
-ghost use Rattle.ppm_cli.specs.Words.{trace_options as options_in};
+ghost use Rattle.ppm_cli.specs.Words.{AreTraced, IsInRange, by_any_input, trace_in};
+ghost use Rattle.ppm_cli.specs.Words.{trace_options as options_in, trace_saved};
 
 use crate::command::Command;
 use crate::getters::{bytes_of, choice_of, number_of};
-use crate::input::is_case;
+use crate::input::{InputKind, input_of};
 use crate::room::room_of;
 use crate::table::{
     ONLY, PROCESSORS, ROOM, SCHEDULE, SLOTS, TRACED_ACTS, TRACED_FORM, TRACED_FROM,
@@ -64,6 +64,21 @@ pub struct TraceOptions {
     pub only: TracedLines,
 }
 
+/// The options of `trace` but for its schedule where it goes on from a saved text: this has the
+/// sizes.
+#[derive(Clone, Copy, Debug, PartialEq, Eq)]
+pub struct TraceSavedOptions {
+    /// How many acts are made before the first one that is told: from 0 to 268435456, and 0 by
+    /// default.
+    pub from: u64,
+    /// How many acts are told at most: from 1 to 1048576, and 65536 by default.
+    pub acts: u64,
+    /// The form: lines of text by default.
+    pub form: TracedForm,
+    /// Which lines are written, where the form is text: those of all acts by default.
+    pub only: TracedLines,
+}
+
 /// The command with the options and the schedule in its matches.
 pub(crate) fn trace_from(
     alloc: Global,
@@ -81,20 +96,33 @@ pub(crate) fn trace_from(
     }
 }
 
-/// The command with these options and this schedule: over a source or over a case, as the matches
-/// say.
+/// The command with these options and this schedule: over a source, a case or a saved text, as the
+/// matches say.
 fn trace_of(matches: &ArgMatches<'_>, options: TraceOptions, schedule: Items<u8>) -> Option<Command>
     requires { AreTraced options }
     ensures value { result
-        ≡ by_input (commands.Trace options schedule) (commands.TraceCase options schedule)
-        (rows_of (found_of matches.now)) }
+        ≡ by_any_input (commands.Trace options schedule) (commands.TraceCase options schedule)
+        (trace_saved options schedule) (rows_of (found_of matches.now)) }
     ensures in_range { IfSome result IsInRange }
 {
-    let of_case = is_case(matches)?;
-    if of_case {
-        Some(Command::TraceCase(options, schedule))
-    } else {
-        Some(Command::Trace(options, schedule))
+    let kind = input_of(matches)?;
+    match kind {
+        InputKind::Source => Some(Command::Trace(options, schedule)),
+        InputKind::Case => Some(Command::TraceCase(options, schedule)),
+        InputKind::Saved => Some(Command::TraceSaved(saved_options(options), schedule)),
+    }
+}
+
+/// What the options say where the run goes on from a saved text.
+fn saved_options(options: TraceOptions) -> TraceSavedOptions
+    ensures { result
+        ≡ record { from = options.from; acts = options.acts; form = options.form; only = options.only } }
+{
+    TraceSavedOptions {
+        from: options.from,
+        acts: options.acts,
+        form: options.form,
+        only: options.only,
     }
 }
 

@@ -114,5 +114,5 @@ pub use stopped::{stopped_cases_go_on, stopped_runs_go_on};
 pub use sums::examples_sum_up;
 pub use sweep::sweep_command;
 pub use sweep_case::sweep_case_command;
-pub use trace::trace_command;
+pub use trace::{form_by, trace_command};
 pub use trace_case::trace_case_command;

@@ -8,7 +8,7 @@ ghost use Rattle.ppm_depth.specs.Start.{NamesArrays};
 ghost use Rattle.ppm_tree.specs.Tree.{tree_of};
 ghost use Rattle.ppm_cut_bounds.specs.Bounds.{IsWithinBounds};
 ghost use Rattle.ppm_driver.specs.Traces.{CodeHas, ProgramHas, TraceMay};
-ghost use Rattle.ppm_driver.specs.Traces.{form_of as form_in, only_of as only_in};
+ghost use Rattle.ppm_driver.specs.Traces.{form_by as form_in, only_of as only_in};
 ghost use Rattle.ppm_driver.specs.Traces.{sizes_of as sizes_in};
 ghost use Rattle.ppm_driver.specs.TraceRows.{IsTraced};
 
@@ -18,8 +18,8 @@ use crate::trace_names::program_names;
 use ppm_answers::{Answer, Status, deliver};
 use ppm_cli::{TraceOptions, TracedForm, TracedLines};
 use ppm_code::Code;
-use ppm_loading::{Sizes, load_code, program_code};
 use ppm_lines::Only;
+use ppm_loading::{Sizes, load_code, program_code};
 use ppm_naming::Names;
 use ppm_plan::{Schedule, have_one_answer as schedules_have_one_answer};
 use ppm_ports::{Sink, Source};
@@ -104,7 +104,7 @@ pub(crate) fn traced_code(
     ensures { IfOk result (λ text. CodeHas options names.now schedule.now.items code input.now (answers.Traced text.items)) }
 {
     let mut machine = load_code(alloc, sizes_of(options), code, input, schedule.keeper())?;
-    let form = form_of(options);
+    let form = form_by(options.form, options.only);
     let text = trace(
         alloc,
         &mut machine,
@@ -130,11 +130,11 @@ fn sizes_of(options: TraceOptions) -> Sizes
 }
 
 /// The form in which a run is told, as the options say it.
-fn form_of(options: TraceOptions) -> Form
-    ensures { result ≡ form_in options }
+pub fn form_by(form: TracedForm, lines: TracedLines) -> Form
+    ensures { result ≡ form_in form lines }
 {
-    match options.form {
-        TracedForm::Text => Form::Lines(only_of(options.only)),
+    match form {
+        TracedForm::Text => Form::Lines(only_of(lines)),
         TracedForm::Json => Form::Events,
         TracedForm::Svg => Form::Picture,
     }

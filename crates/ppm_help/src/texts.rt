@@ -83,7 +83,7 @@ pub(crate) fn meaning_of(command: &str, option: &str) -> &'static str {
         "schedule" => "as 0*9,1>0,1!h: acts, a victim, a hard fault",
         "takeover" => takeover_of(command),
         "idle" => "one that rests makes no more acts, or sleeps",
-        "form" => "lines, or events for a viewer of traces",
+        "form" => "lines, events for a viewer of traces, or a picture",
         "only" => "lines: all, those that end a row, or those with a mark",
         "input" => input_of(command),
         "counts" => "with yes a last line counts what was done",
@@ -94,7 +94,7 @@ pub(crate) fn meaning_of(command: &str, option: &str) -> &'static str {
 /// What the input of a command is.
 fn input_of(command: &str) -> &'static str {
     match command {
-        "replay" | "stop" => "what is read; a saved text says its sizes",
+        "replay" | "stop" | "trace" => "what is read; a saved text says its sizes",
         _ => "what is read; the code of a case runs, sound or not",
     }
 }

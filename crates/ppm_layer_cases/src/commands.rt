@@ -145,6 +145,7 @@ fn line_of(alloc: Global, command: &Command) -> Result<Vec<u8>, Fault> {
         Command::CodeCase => String::from_str(alloc, "code with arrays")?,
         Command::Check => String::from_str(alloc, "check")?,
         Command::Show => String::from_str(alloc, "show")?,
+        Command::Explain => String::from_str(alloc, "explain")?,
         Command::Depth(it) => format!(in alloc; "depth capsules {}", it.capsules)?,
         Command::Races(it) => format!(in alloc; "races capsules {}", it.capsules)?,
         Command::Replay(it, schedule) => {
@@ -205,6 +206,17 @@ fn line_of(alloc: Global, command: &Command) -> Result<Vec<u8>, Fault> {
             front = " schedule=";
             plan = schedule.as_slice();
             trace_line(alloc, "trace", it)?
+        }
+        Command::TraceSaved(it, schedule) => {
+            front = " schedule=";
+            plan = schedule.as_slice();
+            format!(in alloc;
+                "trace of a saved text from {} acts {} form {} only {}",
+                it.from,
+                it.acts,
+                form_word(it.form),
+                lines_word(it.only)
+            )?
         }
         Command::TraceCase(it, schedule) => {
             front = " schedule=";

@@ -9,3 +9,5 @@ pub mod ChainLemmas
 pub mod OfStop
 pub mod ReplayLemmas
 pub mod OfReplay
+pub mod TraceLemmas
+pub mod OfTrace

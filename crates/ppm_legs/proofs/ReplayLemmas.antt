@@ -1,6 +1,6 @@
 -- The answers that a state has where it is replayed: what its words say after the leg; and what they say of each sound code that left it.
 use Rattle.std.proofs.Common.{◌≡◌, ◌≢◌, ◌⊎◌, ◌<◌, ◌^◌, ℕ, zero, suc, List, [], Option, Some, None, Bool, true, false, ◌==◌, inl, inr, refl, sym, ap, ◌∙◌, subst, arith}
-use Rattle.std.proofs.lemmas.Nat.{eqb_tells}
+use Rattle.std.proofs.lemmas.Bool.Decides.{eqb_tells}
 use Rattle.std.specs.List.{AllByRecursion}
 use Rattle.ppm_words.specs.declared.named_array.NamedArray.{NamedArray}
 use Rattle.ppm_words.specs.declared.outcome.Outcome.TheVariants as outcome
@@ -12,6 +12,7 @@ use Rattle.ppm_cells.specs.declared.ending.Ending.{Ending}
 use Rattle.ppm_cells.specs.declared.ending.Ending.TheVariants.{NotYet, With, Unknown}
 use Rattle.ppm_cells.specs.declared.finish.Finish.{Finish}
 use Rattle.ppm_cells.specs.declared.finish.Finish.TheVariants as finishes
+use Rattle.ppm_cells.specs.declared.shape.Shape.{Shape}
 use Rattle.ppm_cells.proofs.ExactLemmas.{pack-unpack}
 use Rattle.ppm_cells.proofs.FinishLemmas.{finishes_exact}
 use Rattle.ppm_code.specs.Code.{IsCode}
@@ -45,7 +46,8 @@ use Rattle.ppm_driver.specs.LegsAsCode.{EndsAsCodeInAll, IsAsCodeInAll, RunsInLe
 use Rattle.ppm_driver.specs.Replays.{IsSaid, tally_of}
 use Rattle.ppm_driver.specs.Resumes.{SavedState, saved_finish, GoesOnFrom, IsTextOf, named}
 use Rattle.ppm_driver.proofs.LegsMeant.{less_work}
-use Rattle.ppm_driver.proofs.MeantRows.{ended_replay, trapped_replay, full_replay, broken_replay, no_other}
+use Rattle.ppm_driver.proofs.MeantRows.{ended_replay, trapped_replay, full_replay, broken_replay}
+use Rattle.ppm_driver.proofs.MeantRows.{no_other, no_other_trap, no_other_room, no_other_broken}
 use Rattle.ppm_driver.proofs.ReplayLemmas.{one_said}
 use Rattle.ppm_driver.proofs.ResumedOfCode.{arrays_are, finish_is, is_as_code}
 use Rattle.ppm_legs.specs.Replays.{HasCause, Unended, Proposed, Stood, IsLasting, StateReplays, HaveOneAnswer, IsAsReplayed, ReplaysAreAsCode, SaysAsReplayed, turns_by}
@@ -253,24 +255,24 @@ module _ (law : RunsInLegsAreAsCode) (comes : CodeWordsComeBack) (options : Repl
   says (answers.TrappedWith trap line tally) h =
       let a = answers.TrappedWith trap line tally in
       let m = followed h.start items options.turns in
-      let k = said a h (λ e. cc) in
+      let k = said a h (no_other_trap options.turns trap line tally) in
       let e = trapped_replay m.shape m.array_lengths m.state.words (named z.arrays) options.turns (tally_of m) k.0 trap line tally k.2 in
-      (as_code a h).trapped trap line (at_last a h (λ e. cc) _ e.0)
+      (as_code a h).trapped trap line (at_last a h (no_other_trap options.turns trap line tally) _ e.0)
   says (answers.Unfinished acts) h = tt
   says (answers.OutOfRoom place) h =
       let a = answers.OutOfRoom place in
       let m = followed h.start items options.turns in
-      let k = said a h (λ e. cc) in
+      let k = said a h (no_other_room options.turns place) in
       let e = full_replay m.shape m.array_lengths m.state.words (named z.arrays) options.turns (tally_of m) k.0 place k.2 in
-      subst (λ (s : _). (place < s.processors) × CodeNeedsMoreRoom code input s.room) (sym left.shape_is)
-      ((as_code a h).full place (at_last a h (λ e. cc) _ e))
+      subst (λ (s : Shape). (place < s.processors) × CodeNeedsMoreRoom code input s.room) (sym left.shape_is)
+      ((as_code a h).full place (at_last a h (no_other_room options.turns place) _ e))
   says (answers.Broken place) h =
       let a = answers.Broken place in
       let m = followed h.start items options.turns in
-      let k = said a h (λ e. cc) in
+      let k = said a h (no_other_broken options.turns place) in
       let e = broken_replay m.shape m.array_lengths m.state.words (named z.arrays) options.turns (tally_of m) k.0 place k.2 in
       let few = left.few in
-      less_work _ ((as_code a h).unbroken (omega (arith, few)) place (at_last a h (λ e. cc) _ e))
+      less_work _ ((as_code a h).unbroken (omega (arith, few)) place (at_last a h (no_other_broken options.turns place) _ e))
   says a h = absurd (replay_kind options items z a h)
 
   pub as_replayed : (a : Answer) (h : HasIt a) → IsAsReplayed h left

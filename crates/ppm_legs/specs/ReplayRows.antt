@@ -33,8 +33,8 @@ module _ (options : ReplaySavedOptions) (schedule : List ℕ) (o : Ports) where
 
   -- the run ends as each sound code that left the state of the text that was read, over all legs
   abbrev pub IsMeant : {items : List ScheduleItem} {z : SavedState} {answer : Answer} → StateReplays options items z answer → Outcome → Type 0
-  IsMeant {items} {z} h outcome = (code : CodeParts) (input : List NamedArray) → MayRun code input → (left : IsLeftByCode code input z)
-      → EndsAsCodeInAll left.start (legs_of left h.start.state.words) (turns_by options items h.start) code input outcome
+  IsMeant {items} {z} h end = (code : CodeParts) (input : List NamedArray) → MayRun code input → (left : IsLeftByCode code input z)
+      → EndsAsCodeInAll left.start (legs_of left h.start.state.words) (turns_by options items h.start) code input end
 
   -- the run ends with arrays, those with which each such code ends, and out got exactly their text, and how many forks and takes this run had
   pub record WritesArrays : Type 0 where

@@ -1,6 +1,7 @@
 -- What a command answers that goes on from the state of a saved text by a schedule, and when it may.
 use Rattle.std.specs.Prelude.{◌≡◌, ◌≢◌, ◌⊎◌, ℕ, List, None}
-use Rattle.ppm_ports.specs.Ports.{Port}
+use Rattle.ppm_ports.specs.Ports.{Gets, Port}
+use Rattle.ppm_ports.specs.Outside.{Ports}
 use Rattle.ppm_cells.specs.Finish.{finish_of}
 use Rattle.ppm_core.specs.Situation.{Situation}
 use Rattle.ppm_plan.specs.declared.schedule_item.ScheduleItem.{ScheduleItem}
@@ -11,7 +12,8 @@ use Rattle.ppm_following.specs.Followed.{followed}
 use Rattle.ppm_saved_reader.specs.Rules.{saved_limit}
 use Rattle.ppm_answers.specs.declared.answer.Answer.{Answer}
 use Rattle.ppm_answers.specs.declared.answer.Answer.TheVariants as answers
-use Rattle.ppm_answers.specs.Reading.{JudgingMay, Reads}
+use Rattle.ppm_answers.specs.Reading.{JudgingMay, ReadHas, Reads}
+use Rattle.ppm_answers.specs.Texts.{plan_text}
 use Rattle.ppm_loading.specs.Planned.{IsRefusedBy}
 use Rattle.ppm_driver.specs.Resumes.{SavedState, saved_finish, GoesOnFrom, IsNoText, IsTextOf, OfState}
 
@@ -54,6 +56,11 @@ module _ (Has : List ScheduleItem → SavedState → Answer → Type 0) where
 -- those where nothing is run: the text or the schedule is refused, or the words are broken; or it was not read whole
 abbrev pub NoLegMay : (schedule : List ℕ) → Port → Answer → Type 0
 NoLegMay schedule source answer = LegMay (λ items z a. ⊥) schedule source answer
+
+-- the text that was read is that of a state, and the schedule is refused for its processors, by a number; err got exactly the line with the number
+abbrev pub RefusesSchedule : (schedule : List ℕ) → Ports → Type 0
+RefusesSchedule schedule o =
+    (number : ℕ) × ReadHas saved_limit (TextHas (λ items z a. ⊥) schedule) o.source (answers.PlanRefused number) × Gets o.err (plan_text number)
 
 -- the answer of a text that is that of no state
 abbrev pub RefusedHas : List ℕ → Answer → Type 0

@@ -2,6 +2,7 @@
 //! nothing.
 ghost use Rattle.ppm_legs.specs.Replays.{HaveOneAnswer as ReplaysHaveOneAnswer};
 ghost use Rattle.ppm_legs.specs.Stops.{HaveOneAnswer};
+ghost use Rattle.ppm_legs.specs.Traces.{HaveOneAnswer as TracesHaveOneAnswer};
 
 use ppm_plan::have_one_answer as schedules_have_one_answer;
 use ppm_saved_reader::faults_tell_saved_texts;
@@ -22,6 +23,17 @@ pub fn saved_stops_have_one_answer()
 /// after its leg say one thing.
 pub fn saved_replays_have_one_answer()
     ensures law { ReplaysHaveOneAnswer }
+{
+    // The law rests on these; the calls do nothing.
+    faults_tell_saved_texts();
+    schedules_have_one_answer();
+}
+
+/// With all options and each schedule a saved text has one answer at most where it is traced: it is
+/// refused for one fault, or the schedule is for one number, or its words are broken, or its leg is
+/// told by one text.
+pub fn saved_traces_have_one_answer()
+    ensures law { TracesHaveOneAnswer }
 {
     // The law rests on these; the calls do nothing.
     faults_tell_saved_texts();

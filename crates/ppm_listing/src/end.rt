@@ -10,7 +10,6 @@ use crate::line::{number_token, push_line};
 use crate::token::Token;
 use ppm_code::End;
 use ppm_words::{NoMemory, Trap};
-use std::alloc::Global;
 
 /// The token of a slot, if one is named.
 fn slot_token(slot: Option<u32>) -> Token
@@ -35,15 +34,14 @@ fn trap_number(trap: Trap) -> u32
 }
 
 /// Appends the line of an end.
-pub(crate) fn push_end(alloc: Global, text: &mut Vec<u8>, end: End) -> Result<(), NoMemory>
+pub(crate) fn push_end(text: &mut Vec<u8>, end: End) -> Result<(), NoMemory>
     ensures text { OnOk result (text.new.items ≡ text.old.items ++ line_text (end_line end)) }
     ensures fits { LineFits (end_line end) }
 {
     match end {
-        End::Next { capsule } => push_line(alloc, text, Keyword::Next, &[number_token(capsule)]),
-        End::Finish => push_line(alloc, text, Keyword::End, &[]),
+        End::Next { capsule } => push_line(text, Keyword::Next, &[number_token(capsule)]),
+        End::Finish => push_line(text, Keyword::End, &[]),
         End::Trap { trap, line } => push_line(
-            alloc,
             text,
             Keyword::Trap,
             &[number_token(trap_number(trap)), number_token(line)],
@@ -53,7 +51,6 @@ pub(crate) fn push_end(alloc: Global, text: &mut Vec<u8>, end: End) -> Result<()
             capsule,
             to: None,
         } => push_line(
-            alloc,
             text,
             Keyword::Call,
             &[number_token(procedure), number_token(capsule)],
@@ -63,7 +60,6 @@ pub(crate) fn push_end(alloc: Global, text: &mut Vec<u8>, end: End) -> Result<()
             capsule,
             to: Some(slot),
         } => push_line(
-            alloc,
             text,
             Keyword::CallTo,
             &[
@@ -79,7 +75,6 @@ pub(crate) fn push_end(alloc: Global, text: &mut Vec<u8>, end: End) -> Result<()
             left_to: None,
             right_to: None,
         } => push_line(
-            alloc,
             text,
             Keyword::Fork,
             &[
@@ -95,7 +90,6 @@ pub(crate) fn push_end(alloc: Global, text: &mut Vec<u8>, end: End) -> Result<()
             left_to: None,
             right_to: Some(slot),
         } => push_line(
-            alloc,
             text,
             Keyword::ForkTo,
             &[
@@ -113,7 +107,6 @@ pub(crate) fn push_end(alloc: Global, text: &mut Vec<u8>, end: End) -> Result<()
             left_to: Some(slot),
             right_to,
         } => push_line(
-            alloc,
             text,
             Keyword::ForkTo,
             &[

@@ -10,22 +10,19 @@ use crate::line::{number_token, push_line};
 use crate::token::Token;
 use ppm_code::Instr;
 use ppm_words::NoMemory;
-use std::alloc::Global;
 
 /// Appends the line of an instruction.
-pub(crate) fn push_instr(alloc: Global, text: &mut Vec<u8>, instr: Instr) -> Result<(), NoMemory>
+pub(crate) fn push_instr(text: &mut Vec<u8>, instr: Instr) -> Result<(), NoMemory>
     ensures text { OnOk result (text.new.items ≡ text.old.items ++ line_text (instr_line instr)) }
     ensures fits { LineFits (instr_line instr) }
 {
     match instr {
         Instr::Const { to, value } => push_line(
-            alloc,
             text,
             Keyword::Const,
             &[Token::Register(to), Token::Number(value)],
         ),
         Instr::Move { to, from } => push_line(
-            alloc,
             text,
             Keyword::Move,
             &[Token::Register(to), Token::Register(from)],
@@ -36,7 +33,6 @@ pub(crate) fn push_instr(alloc: Global, text: &mut Vec<u8>, instr: Instr) -> Res
             right,
             line,
         } => push_line(
-            alloc,
             text,
             Keyword::Add,
             &[
@@ -52,7 +48,6 @@ pub(crate) fn push_instr(alloc: Global, text: &mut Vec<u8>, instr: Instr) -> Res
             right,
             line,
         } => push_line(
-            alloc,
             text,
             Keyword::Sub,
             &[
@@ -68,7 +63,6 @@ pub(crate) fn push_instr(alloc: Global, text: &mut Vec<u8>, instr: Instr) -> Res
             right,
             line,
         } => push_line(
-            alloc,
             text,
             Keyword::Mul,
             &[
@@ -84,7 +78,6 @@ pub(crate) fn push_instr(alloc: Global, text: &mut Vec<u8>, instr: Instr) -> Res
             right,
             line,
         } => push_line(
-            alloc,
             text,
             Keyword::Div,
             &[
@@ -100,7 +93,6 @@ pub(crate) fn push_instr(alloc: Global, text: &mut Vec<u8>, instr: Instr) -> Res
             right,
             line,
         } => push_line(
-            alloc,
             text,
             Keyword::Rem,
             &[
@@ -111,7 +103,6 @@ pub(crate) fn push_instr(alloc: Global, text: &mut Vec<u8>, instr: Instr) -> Res
             ],
         ),
         Instr::Equal { to, left, right } => push_line(
-            alloc,
             text,
             Keyword::Equal,
             &[
@@ -121,7 +112,6 @@ pub(crate) fn push_instr(alloc: Global, text: &mut Vec<u8>, instr: Instr) -> Res
             ],
         ),
         Instr::NotEqual { to, left, right } => push_line(
-            alloc,
             text,
             Keyword::NotEqual,
             &[
@@ -131,7 +121,6 @@ pub(crate) fn push_instr(alloc: Global, text: &mut Vec<u8>, instr: Instr) -> Res
             ],
         ),
         Instr::Less { to, left, right } => push_line(
-            alloc,
             text,
             Keyword::Less,
             &[
@@ -141,7 +130,6 @@ pub(crate) fn push_instr(alloc: Global, text: &mut Vec<u8>, instr: Instr) -> Res
             ],
         ),
         Instr::AtMost { to, left, right } => push_line(
-            alloc,
             text,
             Keyword::AtMost,
             &[
@@ -151,7 +139,6 @@ pub(crate) fn push_instr(alloc: Global, text: &mut Vec<u8>, instr: Instr) -> Res
             ],
         ),
         Instr::Len { to, region } => push_line(
-            alloc,
             text,
             Keyword::Len,
             &[Token::Register(to), Token::Register(region)],
@@ -162,7 +149,6 @@ pub(crate) fn push_instr(alloc: Global, text: &mut Vec<u8>, instr: Instr) -> Res
             at,
             line,
         } => push_line(
-            alloc,
             text,
             Keyword::CutLeft,
             &[
@@ -178,7 +164,6 @@ pub(crate) fn push_instr(alloc: Global, text: &mut Vec<u8>, instr: Instr) -> Res
             at,
             line,
         } => push_line(
-            alloc,
             text,
             Keyword::CutRight,
             &[
@@ -189,25 +174,22 @@ pub(crate) fn push_instr(alloc: Global, text: &mut Vec<u8>, instr: Instr) -> Res
             ],
         ),
         Instr::LoadSlot { to, slot } => push_line(
-            alloc,
             text,
             Keyword::LoadSlot,
             &[Token::Register(to), number_token(slot)],
         ),
         Instr::StoreCur { slot, from } => push_line(
-            alloc,
             text,
             Keyword::StoreCur,
             &[number_token(slot), Token::Register(from)],
         ),
-        Instr::Give { from } => push_line(alloc, text, Keyword::Give, &[Token::Register(from)]),
+        Instr::Give { from } => push_line(text, Keyword::Give, &[Token::Register(from)]),
         Instr::Get {
             to,
             region,
             index,
             line,
         } => push_line(
-            alloc,
             text,
             Keyword::Get,
             &[
@@ -223,7 +205,6 @@ pub(crate) fn push_instr(alloc: Global, text: &mut Vec<u8>, instr: Instr) -> Res
             from,
             line,
         } => push_line(
-            alloc,
             text,
             Keyword::Put,
             &[
@@ -234,24 +215,21 @@ pub(crate) fn push_instr(alloc: Global, text: &mut Vec<u8>, instr: Instr) -> Res
             ],
         ),
         Instr::BranchZero { tested, target } => push_line(
-            alloc,
             text,
             Keyword::BranchZero,
             &[Token::Register(tested), number_token(target)],
         ),
         Instr::BranchNonZero { tested, target } => push_line(
-            alloc,
             text,
             Keyword::BranchNonZero,
             &[Token::Register(tested), number_token(target)],
         ),
-        Instr::Room { words } => push_line(alloc, text, Keyword::Room, &[number_token(words)]),
+        Instr::Room { words } => push_line(text, Keyword::Room, &[number_token(words)]),
         Instr::StoreNew { offset, from } => push_line(
-            alloc,
             text,
             Keyword::StoreNew,
             &[number_token(offset), Token::Register(from)],
         ),
-        Instr::Ends(end) => push_end(alloc, text, end),
+        Instr::Ends(end) => push_end(text, end),
     }
 }

@@ -7,11 +7,9 @@ ghost use Rattle.ppm_listing.specs.Correct.{Fits};
 use crate::keyword::Keyword;
 use crate::token::{Token, push_operands};
 use ppm_words::NoMemory;
-use std::alloc::Global;
 
 /// Appends a line: its keyword and its other tokens, with one space between two, and a line feed.
 pub(crate) fn push_line(
-    alloc: Global,
     text: &mut Vec<u8>,
     keyword: Keyword,
     operands: &[Token],
@@ -20,7 +18,7 @@ pub(crate) fn push_line(
         ≡ text.old.items ++ line_text (line keyword operands.now)) }
 {
     text.extend_from_slice(keyword.spelling().as_bytes())?;
-    push_operands(alloc, text, operands)?;
+    push_operands(text, operands)?;
     text.push(b'\n')?;
     Ok(())
 }

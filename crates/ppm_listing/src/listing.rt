@@ -29,16 +29,12 @@ fn push_root(alloc: Global, text: &mut Vec<u8>, root: u32, arrays: &[u32]) -> Re
         operands.push(number_token(*array))?;
         left = rest;
     }
-    push_line(alloc, text, Keyword::Root, &operands)?;
+    push_line(text, Keyword::Root, &operands)?;
     Ok(())
 }
 
 /// Appends the lines of procedures, numbered from 0 on.
-fn push_procedures(
-    alloc: Global,
-    text: &mut Vec<u8>,
-    procedures: &[Procedure],
-) -> Result<(), NoMemory>
+fn push_procedures(text: &mut Vec<u8>, procedures: &[Procedure]) -> Result<(), NoMemory>
     requires { length procedures.now ≤ procedure_limit }
     ensures text { OnOk result (text.new.items
         ≡ text.old.items ++ text_of (procedure_lines 0 procedures.now)) }
@@ -47,7 +43,7 @@ fn push_procedures(
     let mut number: u32 = 0;
     let mut left = procedures;
     while let [procedure, rest @ ..] = left {
-        push_procedure(alloc, text, number, procedure)?;
+        push_procedure(text, number, procedure)?;
         number += 1;
         left = rest;
     }
@@ -55,18 +51,12 @@ fn push_procedures(
 }
 
 /// Appends the line of a procedure.
-fn push_procedure(
-    alloc: Global,
-    text: &mut Vec<u8>,
-    number: u32,
-    procedure: &Procedure,
-) -> Result<(), NoMemory>
+fn push_procedure(text: &mut Vec<u8>, number: u32, procedure: &Procedure) -> Result<(), NoMemory>
     ensures text { OnOk result (text.new.items
         ≡ text.old.items ++ line_text (line_of_procedure number procedure.now)) }
     ensures fits { LineFits (line_of_procedure number procedure.now) }
 {
     push_line(
-        alloc,
         text,
         Keyword::Proc,
         &[
@@ -80,7 +70,7 @@ fn push_procedure(
 }
 
 /// Appends the lines of capsules, numbered from 0 on.
-fn push_capsules(alloc: Global, text: &mut Vec<u8>, capsules: &[Capsule]) -> Result<(), NoMemory>
+fn push_capsules(text: &mut Vec<u8>, capsules: &[Capsule]) -> Result<(), NoMemory>
     requires { length capsules.now ≤ capsule_limit }
     ensures text { OnOk result (text.new.items
         ≡ text.old.items ++ text_of (capsule_lines 0 capsules.now)) }
@@ -89,7 +79,7 @@ fn push_capsules(alloc: Global, text: &mut Vec<u8>, capsules: &[Capsule]) -> Res
     let mut number: u32 = 0;
     let mut left = capsules;
     while let [capsule, rest @ ..] = left {
-        push_capsule(alloc, text, number, capsule)?;
+        push_capsule(text, number, capsule)?;
         number += 1;
         left = rest;
     }
@@ -97,18 +87,12 @@ fn push_capsules(alloc: Global, text: &mut Vec<u8>, capsules: &[Capsule]) -> Res
 }
 
 /// Appends the lines of a capsule.
-fn push_capsule(
-    alloc: Global,
-    text: &mut Vec<u8>,
-    number: u32,
-    capsule: &Capsule,
-) -> Result<(), NoMemory>
+fn push_capsule(text: &mut Vec<u8>, number: u32, capsule: &Capsule) -> Result<(), NoMemory>
     ensures text { OnOk result (text.new.items
         ≡ text.old.items ++ text_of (lines_of_capsule number capsule.now)) }
     ensures fits { OnOk result (AllByRecursion LineFits (lines_of_capsule number capsule.now)) }
 {
     push_line(
-        alloc,
         text,
         Keyword::Capsule,
         &[
@@ -117,19 +101,19 @@ fn push_capsule(
             number_token(capsule.procedure),
         ],
     )?;
-    push_instrs(alloc, text, capsule.instrs.as_slice())?;
+    push_instrs(text, capsule.instrs.as_slice())?;
     Ok(())
 }
 
 /// Appends the lines of instructions.
-fn push_instrs(alloc: Global, text: &mut Vec<u8>, instrs: &[Instr]) -> Result<(), NoMemory>
+fn push_instrs(text: &mut Vec<u8>, instrs: &[Instr]) -> Result<(), NoMemory>
     ensures text { OnOk result (text.new.items
         ≡ text.old.items ++ text_of (map instr_line instrs.now)) }
     ensures fits { OnOk result (AllByRecursion LineFits (map instr_line instrs.now)) }
 {
     let mut left = instrs;
     while let [instr, rest @ ..] = left {
-        push_instr(alloc, text, *instr)?;
+        push_instr(text, *instr)?;
         left = rest;
     }
     Ok(())
@@ -146,10 +130,10 @@ pub(crate) fn push_parts(
     ensures text { OnOk result (text.new.items ≡ text.old.items ++ listing_of parts.now) }
     ensures fits { OnOk result (NumbersFit parts.now) }
 {
-    push_line(alloc, text, Keyword::Ppm, &[number_token(1)])?;
+    push_line(text, Keyword::Ppm, &[number_token(1)])?;
     push_root(alloc, text, parts.root, parts.arrays.as_slice())?;
-    push_procedures(alloc, text, parts.procedures.as_slice())?;
-    push_capsules(alloc, text, parts.capsules.as_slice())?;
+    push_procedures(text, parts.procedures.as_slice())?;
+    push_capsules(text, parts.capsules.as_slice())?;
     Ok(())
 }
 

@@ -35,11 +35,7 @@ fn procedure_numbers(alloc: Global, count: u32) -> Result<Vec<ProcedureName>, No
 }
 
 /// The names of the arrays and the procedures of a saved state. `Err` only where memory is refused.
-pub(crate) fn saved_names(
-    alloc: Global,
-    arrays: &[NamedLength],
-    code: &Code,
-) -> Result<Names, NoMemory>
+pub fn saved_names(alloc: Global, arrays: &[NamedLength], code: &Code) -> Result<Names, NoMemory>
     ensures { IfOk result (λ names. names ≡ names_of_saved arrays.now code.now) }
 {
     let count = code.parts().procedures.as_slice().len() as u32;

@@ -42,6 +42,7 @@ use Rattle.ppm_driver.specs.Traces.{TextHas as TraceTextHas}
 use Rattle.ppm_driver.specs.Runs.{TextHas as RunTextHas}
 use Rattle.ppm_legs.specs.Replays.{ReplayHas as ReplaySavedHas}
 use Rattle.ppm_legs.specs.Stops.{StopReads as StopSavedReads}
+use Rattle.ppm_legs.specs.Traces.{TraceHas as TraceSavedHas}
 use Rattle.ppm_loading.proofs.PlannedLemmas as planned
 use Rattle.ppm_driver.proofs.ResumeLemmas.{untold_source}
 use Rattle.ppm_driver.proofs.WatchLemmas.{untold}
@@ -68,6 +69,7 @@ memory_before (Some (commands.Stop options schedule)) o h =
     planned.memory_before schedule_form schedule options.processors (StopTextReads options) text_limit o.source h
 memory_before (Some (commands.ReplaySaved options schedule)) o h = judged.memory_before saved_limit (ReplaySavedHas options schedule) o.source h
 memory_before (Some (commands.StopSaved options schedule)) o h = judged.memory_before saved_limit (StopSavedReads options schedule) o.source h
+memory_before (Some (commands.TraceSaved options schedule)) o h = judged.memory_before saved_limit (TraceSavedHas options schedule) o.source h
 memory_before (Some (commands.RunCase options plan)) o h =
     planned.memory_before plan_form plan options.processors (RunCaseTextHas options options.processors o.told_before o.told_now) case_limit o.source h
 memory_before (Some (commands.ReplayCase options schedule)) o h =
@@ -128,6 +130,7 @@ told_nothing (Some (commands.Resume options plan)) o answer lists = untold_sourc
 told_nothing (Some (commands.Stop options schedule)) o answer lists = refl
 told_nothing (Some (commands.ReplaySaved options schedule)) o answer lists = refl
 told_nothing (Some (commands.StopSaved options schedule)) o answer lists = refl
+told_nothing (Some (commands.TraceSaved options schedule)) o answer lists = refl
 told_nothing (Some (commands.RunCase options plan)) o answer lists = untold options.processors _ _ answer lists
 told_nothing (Some (commands.ReplayCase options schedule)) o answer lists = refl
 told_nothing (Some (commands.StopCase options schedule)) o answer lists = refl

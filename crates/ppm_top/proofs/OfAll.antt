@@ -58,6 +58,7 @@ use Rattle.ppm_driver.specs.Sweeps.{TextHas as SweepTextHas}
 use Rattle.ppm_driver.specs.Traces.{TextHas as TraceTextHas}
 use Rattle.ppm_legs.specs.Replays.{ReplayHas as ReplaySavedHas}
 use Rattle.ppm_legs.specs.Stops.{StopReads as StopSavedReads}
+use Rattle.ppm_legs.specs.Traces.{TraceHas as TraceSavedHas}
 use Rattle.ppm_driver.proofs.OfStop as of_stop
 use Rattle.ppm_driver.proofs.OfExample as of_example
 use Rattle.ppm_driver.proofs.OfReplay as of_replay
@@ -150,6 +151,7 @@ command_reports o (Some (commands.Stop options schedule)) =
     planned_reports schedule_form schedule options.processors (StopTextReads options) text_limit o
 command_reports o (Some (commands.ReplaySaved options schedule)) = judging_reports saved_limit (ReplaySavedHas options schedule) o
 command_reports o (Some (commands.StopSaved options schedule)) = judging_reports saved_limit (StopSavedReads options schedule) o
+command_reports o (Some (commands.TraceSaved options schedule)) = judging_reports saved_limit (TraceSavedHas options schedule) o
 command_reports o (Some (commands.Example options)) = example_reports options o
 
 -- an answer of status 7 is a read fault
@@ -238,6 +240,7 @@ program_rows laws words o status a = record {
   stop_case = of_cases.stops_case laws words o status a;
   stop_saved = of_legs.stops_saved laws words o status a;
   replay_saved = of_legs.replays_saved laws words o status a;
+  trace_saved = of_legs.traces_saved laws words o status a;
   example = λ options e.
       let range = is_in_range words (commands.Example options) e in
       let x = answered (Some (commands.Example options)) e in (

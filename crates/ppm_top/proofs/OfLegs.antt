@@ -9,15 +9,19 @@ use Rattle.ppm_cli.specs.declared.command.Command.{Command}
 use Rattle.ppm_cli.specs.declared.command.Command.TheVariants as commands
 use Rattle.ppm_cli.specs.declared.replay.ReplaySavedOptions.{ReplaySavedOptions}
 use Rattle.ppm_cli.specs.declared.stop.StopSavedOptions.{StopSavedOptions}
+use Rattle.ppm_cli.specs.declared.trace.TraceSavedOptions.{TraceSavedOptions}
 use Rattle.ppm_cli.specs.Words.{command_of}
 use Rattle.ppm_cli.proofs.RangeLemmas.{is_in_range}
-use Rattle.ppm_legs.specs.ReplayRows.{ReplaySays, RefusesSchedule as RefusesReplayed}
-use Rattle.ppm_legs.specs.StopRows.{RefusesSchedule, StopSays}
+use Rattle.ppm_legs.specs.ReplayRows.{ReplaySays}
+use Rattle.ppm_legs.specs.SavedTexts.{RefusesSchedule}
+use Rattle.ppm_legs.specs.StopRows.{StopSays}
+use Rattle.ppm_legs.specs.TraceRows.{TraceSays}
 use Rattle.ppm_legs.proofs.OfReplay.{replay_rows}
 use Rattle.ppm_legs.proofs.OfStop.{stop_rows}
+use Rattle.ppm_legs.proofs.OfTrace.{trace_rows}
 use Rattle.ppm_top.specs.Causes.{CommandMay, CommandTells, IsAnswered}
 use Rattle.ppm_top.specs.Laws.{ProgramLaws}
-use Rattle.ppm_top.specs.Rows.{ReplaysSavedByWords, StopsSavedByWords}
+use Rattle.ppm_top.specs.Rows.{ReplaysSavedByWords, StopsSavedByWords, TracesSavedByWords}
 
 module _ (laws : ProgramLaws) (words : List (List ℕ)) (o : Outside) (status : Status) (a : IsAnswered words o status) where
   -- what was delivered of the command that the words give
@@ -36,9 +40,9 @@ module _ (laws : ProgramLaws) (words : List (List ℕ)) (o : Outside) (status : 
       )
 
   -- status 3 comes of the schedule alone
-  pub schedule_refused : (options : StopSavedOptions) (schedule : List ℕ) → command_of words ≡ Some (commands.StopSaved options schedule)
-      → status ≡ statuses.WordsRefused → RefusesSchedule options schedule (ports_of o)
-  schedule_refused options schedule e refused =
+  pub stop_refused : (options : StopSavedOptions) (schedule : List ℕ) → command_of words ≡ Some (commands.StopSaved options schedule)
+      → status ≡ statuses.WordsRefused → RefusesSchedule schedule (ports_of o)
+  stop_refused options schedule e refused =
       subst (StopSays options schedule (ports_of o)) refused (stops_saved options schedule e).1.rows.says
 
   -- of a replay
@@ -50,6 +54,19 @@ module _ (laws : ProgramLaws) (words : List (List ℕ)) (o : Outside) (status : 
 
   -- status 3 comes of its schedule alone
   pub replay_refused : (options : ReplaySavedOptions) (schedule : List ℕ) → command_of words ≡ Some (commands.ReplaySaved options schedule)
-      → status ≡ statuses.WordsRefused → RefusesReplayed options schedule (ports_of o)
+      → status ≡ statuses.WordsRefused → RefusesSchedule schedule (ports_of o)
   replay_refused options schedule e refused =
       subst (ReplaySays options schedule (ports_of o)) refused (replays_saved options schedule e).1.rows.says
+
+  -- of a trace
+  pub traces_saved : TracesSavedByWords words o status
+  traces_saved options schedule e = (
+    is_in_range words (commands.TraceSaved options schedule) e,
+    trace_rows laws.resumes options schedule (ports_of o) status (delivered (commands.TraceSaved options schedule) e) laws.saved_traces,
+  )
+
+  -- status 3 comes of its schedule alone
+  pub trace_refused : (options : TraceSavedOptions) (schedule : List ℕ) → command_of words ≡ Some (commands.TraceSaved options schedule)
+      → status ≡ statuses.WordsRefused → RefusesSchedule schedule (ports_of o)
+  trace_refused options schedule e refused =
+      subst (TraceSays options schedule (ports_of o)) refused (traces_saved options schedule e).1.rows.says

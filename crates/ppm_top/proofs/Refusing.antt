@@ -14,8 +14,6 @@ use Rattle.ppm_answers.proofs.Delivered as delivered
 use Rattle.ppm_cli.specs.declared.command.Command.{Command}
 use Rattle.ppm_cli.specs.declared.command.Command.TheVariants as commands
 use Rattle.ppm_cli.specs.declared.resume.ResumeOptions.{ResumeOptions}
-use Rattle.ppm_cli.specs.declared.replay.ReplaySavedOptions.{ReplaySavedOptions}
-use Rattle.ppm_cli.specs.declared.stop.StopSavedOptions.{StopSavedOptions}
 use Rattle.ppm_cli.specs.Words.{command_of}
 use Rattle.ppm_cli.proofs.RangeLemmas.{is_in_range}
 use Rattle.ppm_plan.specs.Forms.{plan_form, schedule_form}
@@ -26,10 +24,11 @@ use Rattle.ppm_driver.proofs.OfReplay as of_replay
 use Rattle.ppm_driver.proofs.OfResume as of_resume
 use Rattle.ppm_driver.proofs.OfRun as of_run
 use Rattle.ppm_driver.proofs.OfStop as of_stop
+use Rattle.ppm_legs.specs.SavedTexts.{RefusesSchedule}
 use Rattle.ppm_top.specs.Causes.{NoCommandMay, CommandMay, CommandTells, IsAnswered}
 use Rattle.ppm_top.specs.Laws.{ProgramLaws}
-use Rattle.ppm_top.specs.Orders.{Orders, plan_of, schedule_of}
-use Rattle.ppm_top.specs.Rows.{HasRefusedPlan, OfPlan, OfSchedule, OfResume, OfStopSaved, OfReplaySaved, RefusesWords}
+use Rattle.ppm_top.specs.Orders.{Orders, plan_of, saved_schedule_of, schedule_of}
+use Rattle.ppm_top.specs.Rows.{HasRefusedPlan, OfPlan, OfSchedule, OfResume, OfSaved, RefusesWords}
 use Rattle.ppm_top.proofs.OfCases as of_cases
 use Rattle.ppm_top.proofs.OfCounts as of_counts
 use Rattle.ppm_top.proofs.OfLegs as of_legs
@@ -42,8 +41,7 @@ data IsPlanned (command : Option Command) : Type 0 where
   ByPlan : (c : Command) (orders : Orders) → command ≡ Some c → plan_of c ≡ Some orders → IsPlanned command
   BySchedule : (c : Command) (orders : Orders) → command ≡ Some c → schedule_of c ≡ Some orders → IsPlanned command
   IsResume : (options : ResumeOptions) (plan : List ℕ) → command ≡ Some (commands.Resume options plan) → IsPlanned command
-  IsStopSaved : (options : StopSavedOptions) (schedule : List ℕ) → command ≡ Some (commands.StopSaved options schedule) → IsPlanned command
-  IsReplaySaved : (options : ReplaySavedOptions) (schedule : List ℕ) → command ≡ Some (commands.ReplaySaved options schedule) → IsPlanned command
+  BySaved : (c : Command) (schedule : List ℕ) → command ≡ Some c → saved_schedule_of c ≡ Some schedule → IsPlanned command
 
 no_command : (command : Option Command) (o : Outside) (answer : Answer) → CommandMay command o answer →
     status_of answer ≡ statuses.WordsRefused → (command ≡ None) ⊎ IsPlanned command
@@ -51,8 +49,9 @@ no_command None o answer h e = inl refl
 no_command (Some (commands.Run options plan)) o answer h e = inr (ByPlan (commands.Run options plan) _ refl refl)
 no_command (Some (commands.RunCase options plan)) o answer h e = inr (ByPlan (commands.RunCase options plan) _ refl refl)
 no_command (Some (commands.Resume options plan)) o answer h e = inr (IsResume options plan refl)
-no_command (Some (commands.ReplaySaved options schedule)) o answer h e = inr (IsReplaySaved options schedule refl)
-no_command (Some (commands.StopSaved options schedule)) o answer h e = inr (IsStopSaved options schedule refl)
+no_command (Some (commands.ReplaySaved options schedule)) o answer h e = inr (BySaved (commands.ReplaySaved options schedule) schedule refl refl)
+no_command (Some (commands.StopSaved options schedule)) o answer h e = inr (BySaved (commands.StopSaved options schedule) schedule refl refl)
+no_command (Some (commands.TraceSaved options schedule)) o answer h e = inr (BySaved (commands.TraceSaved options schedule) schedule refl refl)
 no_command (Some (commands.Replay options schedule)) o answer h e = inr (BySchedule (commands.Replay options schedule) _ refl refl)
 no_command (Some (commands.ReplayCase options schedule)) o answer h e = inr (BySchedule (commands.ReplayCase options schedule) _ refl refl)
 no_command (Some (commands.Stop options schedule)) o answer h e = inr (BySchedule (commands.Stop options schedule) _ refl refl)
@@ -97,6 +96,9 @@ refusal o answer h = absurd h
 
 some_is : {a b : Orders} → Some a ≡ Some b → a ≡ b
 some_is e = cc
+
+same_bytes : {a b : List ℕ} → Some a ≡ Some b → a ≡ b
+same_bytes e = cc
 
 module _ (laws : ProgramLaws) (words : List (List ℕ)) (o : Outside) (status : Status) (a : IsAnswered words o status) where
   -- what was answered of the command that the words give
@@ -160,6 +162,17 @@ module _ (laws : ProgramLaws) (words : List (List ℕ)) (o : Outside) (status : 
         (of_counts.counted_case_refused laws words o status a options schedule c refused)
     schedule_refused command orders c is = cc
 
+    -- a schedule by which a command goes on from a saved text is refused
+    saved_refused : (command : Command) (schedule : List ℕ) → command_of words ≡ Some command → saved_schedule_of command ≡ Some schedule
+        → RefusesSchedule schedule (ports_of o)
+    saved_refused (commands.StopSaved options given) schedule c is =
+        subst (λ (x : List ℕ). RefusesSchedule x (ports_of o)) (same_bytes is) (of_legs.stop_refused laws words o status a options given c refused)
+    saved_refused (commands.ReplaySaved options given) schedule c is =
+        subst (λ (x : List ℕ). RefusesSchedule x (ports_of o)) (same_bytes is) (of_legs.replay_refused laws words o status a options given c refused)
+    saved_refused (commands.TraceSaved options given) schedule c is =
+        subst (λ (x : List ℕ). RefusesSchedule x (ports_of o)) (same_bytes is) (of_legs.trace_refused laws words o status a options given c refused)
+    saved_refused command schedule c is = cc
+
     -- whichever plan or schedule the words name
     by_words : (command_of words ≡ None) ⊎ IsPlanned (command_of words) → (command_of words ≡ None) ⊎ HasRefusedPlan words o
     by_words (inl n) = inl n
@@ -168,10 +181,7 @@ module _ (laws : ProgramLaws) (words : List (List ℕ)) (o : Outside) (status : 
     by_words (inr (IsResume options plan c)) =
         inr (OfResume options plan c
         (of_resume.plan_refused laws.resumes options plan o status (answered (Some (commands.Resume options plan)) c) refused))
-    by_words (inr (IsStopSaved options schedule c)) =
-        inr (OfStopSaved options schedule c (of_legs.schedule_refused laws words o status a options schedule c refused))
-    by_words (inr (IsReplaySaved options schedule c)) =
-        inr (OfReplaySaved options schedule c (of_legs.replay_refused laws words o status a options schedule c refused))
+    by_words (inr (BySaved command schedule c is)) = inr (OfSaved command schedule c is (saved_refused command schedule c is))
 
   -- status 3 comes only of words without a command, or of a plan or a schedule
   only : status ≡ statuses.WordsRefused → (command_of words ≡ None) ⊎ HasRefusedPlan words o

@@ -33,6 +33,7 @@ use Rattle.ppm_driver.specs.Sweeps.{SweepMay}
 use Rattle.ppm_driver.specs.Traces.{TraceMay}
 use Rattle.ppm_legs.specs.Replays.{ReplayMay as ReplaySavedMay}
 use Rattle.ppm_legs.specs.Stops.{StopMay as StopSavedMay}
+use Rattle.ppm_legs.specs.Traces.{TraceMay as TraceSavedMay}
 
 -- the answers where the words give no command
 abbrev pub NoCommandMay : Outside → Answer → Type 0
@@ -57,6 +58,7 @@ CommandMay (Some (commands.Resume options plan)) o answer = ResumeMay options pl
 CommandMay (Some (commands.Stop options schedule)) o answer = StopMay options schedule o.source answer
 CommandMay (Some (commands.ReplaySaved options schedule)) o answer = ReplaySavedMay options schedule o.source answer
 CommandMay (Some (commands.StopSaved options schedule)) o answer = StopSavedMay options schedule o.source answer
+CommandMay (Some (commands.TraceSaved options schedule)) o answer = TraceSavedMay options schedule o.source answer
 CommandMay (Some (commands.RunCase options plan)) o answer = RunCaseMay options options.processors plan o.told_before o.told_now o.source answer
 CommandMay (Some (commands.ReplayCase options schedule)) o answer = ReplayCaseMay options schedule o.source answer
 CommandMay (Some (commands.CountedReplay options schedule)) o answer = CountedMay options schedule o.source answer
@@ -87,6 +89,7 @@ CommandTells (Some (commands.Resume options plan)) o = ResumeTells options plan 
 CommandTells (Some (commands.Stop options schedule)) o = TellsNothing
 CommandTells (Some (commands.ReplaySaved options schedule)) o = TellsNothing
 CommandTells (Some (commands.StopSaved options schedule)) o = TellsNothing
+CommandTells (Some (commands.TraceSaved options schedule)) o = TellsNothing
 CommandTells (Some (commands.RunCase options plan)) o = RunCaseTells options options.processors plan o.source
 CommandTells (Some (commands.ReplayCase options schedule)) o = TellsNothing
 CommandTells (Some (commands.CountedReplay options schedule)) o = TellsNothing

@@ -37,6 +37,7 @@ use Rattle.ppm_driver.specs.Traces.{HaveOneAnswer as TracesHaveOneAnswer}
 use Rattle.ppm_legs.specs.Chains.{StopsGoOnChains}
 use Rattle.ppm_legs.specs.Replays.{HaveOneAnswer as SavedReplaysHaveOneAnswer}
 use Rattle.ppm_legs.specs.Stops.{HaveOneAnswer as SavedStopsHaveOneAnswer}
+use Rattle.ppm_legs.specs.Traces.{HaveOneAnswer as SavedTracesHaveOneAnswer}
 use Rattle.ppm_top.specs.ReplayLaws.{CaseReplaysComplete, ReplaysComplete, UnfinishedNeedMore, UnfinishedProgramsNeedMore}
 
 -- what the crates of the commands show of every text
@@ -68,6 +69,7 @@ pub record ProgramLaws : Type 0 where
   pub stops : StopsHaveOneAnswer
   pub saved_stops : SavedStopsHaveOneAnswer
   pub saved_replays : SavedReplaysHaveOneAnswer
+  pub saved_traces : SavedTracesHaveOneAnswer
   pub chains : StopsGoOnChains
   pub case_runs : AnswersAreAsCode
   pub case_replays : ReplaysAreAsCode

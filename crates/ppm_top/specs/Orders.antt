@@ -15,7 +15,7 @@ plan_of (commands.RunCase options plan) = Some (record { processors = options.pr
 plan_of (commands.Ram options plan) = Some (record { processors = options.processors; bytes = plan })
 plan_of _ = None
 
--- the schedule that a command follows; those of `stop` and `replay` of a saved text are for the processors of this text
+-- the schedule that a command follows; one that goes on from a saved text is for the processors of this text
 abbrev pub schedule_of : Command → Option Orders
 schedule_of (commands.Replay options schedule) = Some (record { processors = options.processors; bytes = schedule })
 schedule_of (commands.ReplayCase options schedule) = Some (record { processors = options.processors; bytes = schedule })
@@ -28,3 +28,10 @@ schedule_of (commands.SweepCase options schedule) = Some (record { processors = 
 schedule_of (commands.Trace options schedule) = Some (record { processors = options.processors; bytes = schedule })
 schedule_of (commands.TraceCase options schedule) = Some (record { processors = options.processors; bytes = schedule })
 schedule_of _ = None
+
+-- the schedule by which a command goes on from a saved text
+abbrev pub saved_schedule_of : Command → Option (List ℕ)
+saved_schedule_of (commands.StopSaved options schedule) = Some schedule
+saved_schedule_of (commands.ReplaySaved options schedule) = Some schedule
+saved_schedule_of (commands.TraceSaved options schedule) = Some schedule
+saved_schedule_of _ = None

@@ -21,7 +21,8 @@ use Rattle.ppm_cli.specs.declared.stop.StopOptions.{StopOptions}
 use Rattle.ppm_cli.specs.declared.stop.StopSavedOptions.{StopSavedOptions}
 use Rattle.ppm_cli.specs.declared.sweep.SweepOptions.{SweepOptions}
 use Rattle.ppm_cli.specs.declared.trace.TraceOptions.{TraceOptions}
-use Rattle.ppm_cli.specs.Words.{command_of, AreReplayed, AreResumed, AreRun, AreSavedReplayed, AreSavedStopped, AreSelf, AreStopped, AreSwept, AreTraced, IsLimit}
+use Rattle.ppm_cli.specs.declared.trace.TraceSavedOptions.{TraceSavedOptions}
+use Rattle.ppm_cli.specs.Words.{command_of, AreReplayed, AreResumed, AreRun, AreSavedReplayed, AreSavedStopped, AreSavedTraced, AreSelf, AreStopped, AreSwept, AreTraced, IsLimit}
 use Rattle.ppm_commands.specs.Case.{CaseRows}
 use Rattle.ppm_commands.specs.Check.{CheckRows}
 use Rattle.ppm_commands.specs.Show.{ShowRows}
@@ -51,10 +52,12 @@ use Rattle.ppm_driver.specs.CodeResumes.{IsTextLeftByCode}
 use Rattle.ppm_driver.specs.StopRows.{HasRead, StopRows}
 use Rattle.ppm_driver.specs.SweepRows.{SweepRows}
 use Rattle.ppm_driver.specs.TraceRows.{TraceRows}
-use Rattle.ppm_legs.specs.ReplayRows.{ReplayRows as ReplaySavedRows, RefusesSchedule as RefusesReplayed}
-use Rattle.ppm_legs.specs.StopRows.{StopRows as StopSavedRows, RefusesSchedule}
+use Rattle.ppm_legs.specs.ReplayRows.{ReplayRows as ReplaySavedRows}
+use Rattle.ppm_legs.specs.SavedTexts.{RefusesSchedule}
+use Rattle.ppm_legs.specs.StopRows.{StopRows as StopSavedRows}
+use Rattle.ppm_legs.specs.TraceRows.{TraceRows as TraceSavedRows}
 use Rattle.ppm_plan.specs.Forms.{plan_form, schedule_form}
-use Rattle.ppm_top.specs.Orders.{Orders, plan_of, schedule_of}
+use Rattle.ppm_top.specs.Orders.{Orders, plan_of, saved_schedule_of, schedule_of}
 
 -- the rows of `run` hold where the words ask for a run, with these options, which are in their ranges, and this plan
 abbrev pub RunsByWords : List (List ℕ) → Outside → Status → Type 0
@@ -194,6 +197,11 @@ abbrev pub ReplaysSavedByWords : List (List ℕ) → Outside → Status → Type
 ReplaysSavedByWords words o status = (options : ReplaySavedOptions) (schedule : List ℕ) → command_of words ≡ Some (commands.ReplaySaved options schedule)
     → AreSavedReplayed options × ReplaySavedRows options schedule (ports_of o) status
 
+-- those of `trace` of a saved text where they ask for that, with these options, which are in their ranges, and this schedule
+abbrev pub TracesSavedByWords : List (List ℕ) → Outside → Status → Type 0
+TracesSavedByWords words o status = (options : TraceSavedOptions) (schedule : List ℕ) → command_of words ≡ Some (commands.TraceSaved options schedule) →
+    AreSavedTraced options × TraceSavedRows options schedule (ports_of o) status
+
 -- where they ask for the program's own example, with options in their ranges, nothing is read, and its rows hold
 abbrev pub SumsByWords : List (List ℕ) → Outside → Status → Type 0
 SumsByWords words o status = (options : SelfOptions) → command_of words ≡ Some (commands.Example options)
@@ -207,10 +215,8 @@ pub data HasRefusedPlan (words : List (List ℕ)) (o : Outside) : Type 0 where
       → RefusesPlan schedule_form orders.bytes orders.processors (ports_of o) → HasRefusedPlan words o
   OfResume : (options : ResumeOptions) (plan : List ℕ) → command_of words ≡ Some (commands.Resume options plan)
       → RefusesResumed options plan o → HasRefusedPlan words o
-  OfStopSaved : (options : StopSavedOptions) (schedule : List ℕ) → command_of words ≡ Some (commands.StopSaved options schedule)
-      → RefusesSchedule options schedule (ports_of o) → HasRefusedPlan words o
-  OfReplaySaved : (options : ReplaySavedOptions) (schedule : List ℕ) → command_of words ≡ Some (commands.ReplaySaved options schedule)
-      → RefusesReplayed options schedule (ports_of o) → HasRefusedPlan words o
+  OfSaved : (command : Command) (schedule : List ℕ) → command_of words ≡ Some command → saved_schedule_of command ≡ Some schedule
+      → RefusesSchedule schedule (ports_of o) → HasRefusedPlan words o
 
 -- Status 3 comes only where the words give no command, or name a plan or a schedule that is refused. Where they give no command,
 -- nothing is read, and the status is 3, or 8 or 9.
@@ -259,6 +265,7 @@ pub record ProgramRows (words : List (List ℕ)) (o : Outside) (status : Status)
   pub stop_case : StopsCaseByWords words o status
   pub stop_saved : StopsSavedByWords words o status
   pub replay_saved : ReplaysSavedByWords words o status
+  pub trace_saved : TracesSavedByWords words o status
   pub example : SumsByWords words o status
   pub words_refused : RefusesWords words o status
   pub faults : ReportsFaults o status

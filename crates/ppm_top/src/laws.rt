@@ -18,10 +18,11 @@ use ppm_driver::{
     stops_have_one_answer, stops_leave_states, sweeps_are_as_code, sweeps_have_one_answer,
     traces_have_one_answer,
 };
-use ppm_legs::{
-    saved_replays_have_one_answer, saved_stops_have_one_answer, stops_go_on_chains,
-};
 use ppm_explain::fronts_are_explained;
+use ppm_legs::{
+    saved_replays_have_one_answer, saved_stops_have_one_answer, saved_traces_have_one_answer,
+    stops_go_on_chains,
+};
 use ppm_plan::have_one_answer as plans_have_one_answer;
 use ppm_ram::texts_are_of_rams;
 
@@ -53,6 +54,7 @@ pub fn program_laws()
     stops_have_one_answer();
     saved_stops_have_one_answer();
     saved_replays_have_one_answer();
+    saved_traces_have_one_answer();
     stops_go_on_chains();
     answers_are_as_code();
     replays_are_as_code();

@@ -19,8 +19,8 @@ use ppm_driver::{
     replay_command, resume_command, run_case_command, run_command, self_command, stop_case_command,
     stop_command, sweep_case_command, sweep_command, trace_case_command, trace_command,
 };
-use ppm_legs::{replay_saved_command, stop_saved_command};
 use ppm_explain::explain_command;
+use ppm_legs::{replay_saved_command, stop_saved_command, trace_saved_command};
 use ppm_ports::{Sink, Source, Watch};
 use ppm_words::NoMemory;
 use std::alloc::Global;
@@ -180,6 +180,14 @@ fn answer_words<R: Threads + Wait + Sync, S: Source, K: Sink, E: Sink, W: Watch>
             alloc,
             options,
             more_acts.as_slice(),
+            source,
+            out,
+            err,
+        ),
+        Ok(Some(Command::TraceSaved(options, told_acts))) => trace_saved_command(
+            alloc,
+            options,
+            told_acts.as_slice(),
             source,
             out,
             err,

@@ -11,4 +11,4 @@ load_code-requires-clause-sizes c = subst AreSizes (sym c.sizes_of.ensures) (tra
 pub returns : goal.returns
 returns c =
     code_tells c.args.options c.args.schedule.now.items c.args.names.now c.args.code c.args.input.now _ _ c.keeper.ensures.keeper _ _ _
-    c.sizes_of.ensures c.form_of-form.ensures c.in_ok-machine.ensures c.in_ok-text.ensures.text
+    c.sizes_of.ensures c.form_by-form.ensures c.in_ok-machine.ensures c.in_ok-text.ensures.text

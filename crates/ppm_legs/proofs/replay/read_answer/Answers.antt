@@ -5,10 +5,10 @@ use Rattle.ppm_legs.proofs.ReplayLemmas.{kinds}
 use Rattle.ppm_legs.proofs.replay.read_answer.Goals as goal
 
 -- what the leg comes to
-pub returns-in-Ok-Ok : goal.returns-in-Ok-Ok
-returns-in-Ok-Ok g c =
+pub returns-in-Ok-replayed : goal.returns-in-Ok-replayed
+returns-in-Ok-replayed g c =
     leg_has (StateReplays c.args.options) c.args.schedule.now _ (state_of c.in-Ok.saved) c.in-Ok.schedule.items c.in-Ok.ensures.leg (kinds c.args.options) _
-    c.in-Ok-Ok.ensures
+    c.in-Ok-replayed.ensures
 
 -- memory was wanting in it
 pub returns-in-Ok : goal.returns-in-Ok

@@ -121,6 +121,12 @@ returns-in-Ok-Some-StopSaved-clause-answers g c = by_ports (map string_bytes c.a
     (cc (c.in-Ok-Some-StopSaved.ensures.value, c.in-Ok-Some-StopSaved.field-0-is, c.in-Ok-Some-StopSaved.field-0-0-is)) refl refl
     c.stop_saved_command.ensures.delivers
 
+-- the words ask for a trace of a saved text, which was answered
+pub returns-in-Ok-Some-TraceSaved-clause-answers : goal.returns-in-Ok-Some-TraceSaved-clause-answers
+returns-in-Ok-Some-TraceSaved-clause-answers g c = by_ports (map string_bytes c.args.words.now) _ _ (Some (commands.TraceSaved _ _))
+    (cc (c.in-Ok-Some-TraceSaved.ensures.value, c.in-Ok-Some-TraceSaved.field-0-is, c.in-Ok-Some-TraceSaved.field-0-0-is)) refl refl
+    c.trace_saved_command.ensures.delivers
+
 -- the words ask for a sweep, which was answered
 pub returns-in-Ok-Some-Sweep-clause-answers : goal.returns-in-Ok-Some-Sweep-clause-answers
 returns-in-Ok-Some-Sweep-clause-answers g c = by_ports (map string_bytes c.args.words.now) _ _ (Some (commands.Sweep _ _))
