@@ -11,15 +11,16 @@ use Rattle.clap.proofs.ValueTestLemmas.{accepts-Accepts}
 use Rattle.ppm_cells.specs.Limits.{most_pool_words}
 use Rattle.ppm_cli.specs.Application.{ppm_application}
 use Rattle.ppm_cli.specs.CommandLine.{Number, OptionRule, processors, turns, room, slots, looks, seed, faults, schedule}
-use Rattle.ppm_cli.specs.CommandLine.{few_processors, after, small_room, few_slots, size, count, capsules, arrays}
+use Rattle.ppm_cli.specs.CommandLine.{most_saved_pool_words}
+use Rattle.ppm_cli.specs.CommandLine.{few_processors, after, saved_room, few_slots, size, count, capsules, arrays}
 use Rattle.ppm_cli.specs.CommandLine.{copied_room, copied_slots, met, from, acts, runs}
 use Rattle.ppm_cli.specs.CommandLine.{traced_from, traced_acts}
 use Rattle.ppm_cli.specs.Words.{run_options, serial_in, replay_options, resume_options, self_in, self_options, stop_options}
 use Rattle.ppm_cli.specs.Values.{number_in, number_given, value_of_digits, text_given}
 use Rattle.ppm_cli.specs.Words.{command_named, command_in, without_fault, command_of}
 use Rattle.ppm_cli.specs.Values.{takeover_given, idle_given}
-use Rattle.ppm_cli.specs.Words.{with_text, AreReplayed, AreResumed, AreRun, AreSelf, AreStopped, DoPoolsFit, IsInRange, IsLimit, IsOfForm}
-use Rattle.ppm_cli.specs.Values.{fitting_room, room_given}
+use Rattle.ppm_cli.specs.Words.{with_text, AreReplayed, AreResumed, AreRun, AreSelf, AreStopped, DoPoolsFit, DoSavedPoolsFit, IsInRange, IsLimit, IsOfForm}
+use Rattle.ppm_cli.specs.Values.{fitting_room, fitting_saved_room, room_given, saved_room_given}
 use Rattle.ppm_cli.specs.Words.{sweep_options, AreSwept, trace_options, AreTraced}
 use Rattle.ppm_cli.specs.Values.{swept_takeovers_given, traced_form_given, traced_lines_given}
 use Rattle.ppm_cli.specs.Words.{by_input, replay_by, replay_with, code_in, capsule_limit, with_input}
@@ -73,6 +74,20 @@ room_fits o low high p n rows is e =
     let c = came (number_given o rows) (fitting_room p) n e in
     let f = fits p c.value n c.came in
     subst (λ words. ((low ≤ words) × (words ≤ high)) × DoPoolsFit p words) f.0 (given o low high c.value rows is c.there, f.1)
+
+-- and where all words are written out
+saved_fits : (p words n : ℕ) → fitting_saved_room p words ≡ Some n → (words ≡ n) × DoSavedPoolsFit p words
+saved_fits p words n e = go (nat_le (p * words) most_saved_pool_words) refl e where
+  go : (b : Bool) → nat_le (p * words) most_saved_pool_words ≡ b → (if b then Some words else None) ≡ Some n → (words ≡ n) × DoSavedPoolsFit p words
+  go true h e = (some_is e, leb-true _ _ h)
+  go false h e = cc
+
+saved_room_fits : (o : OptionRule) (low high p n : ℕ) (rows : List Row) → o.form ≡ Number low high → saved_room_given o p rows ≡ Some n
+    → ((low ≤ n) × (n ≤ high)) × DoSavedPoolsFit p n
+saved_room_fits o low high p n rows is e =
+    let c = came (number_given o rows) (fitting_saved_room p) n e in
+    let f = saved_fits p c.value n c.came in
+    subst (λ words. ((low ≤ words) × (words ≤ high)) × DoSavedPoolsFit p words) f.0 (given o low high c.value rows is c.there, f.1)
 
 -- ---- what each value has that may come of options
 
@@ -183,11 +198,12 @@ serial_are rows = go (number_given turns rows) (λ n e. given turns _ _ n rows r
 
 stop_are : (rows : List Row) → IfSome (stop_options rows) AreStopped
 stop_are rows =
-    bound AreStopped (number_given few_processors rows) _ (λ p a.
+    bound AreStopped (number_given processors rows) _ (λ p a.
     bound AreStopped (number_given after rows) _ (λ n b.
-    bound AreStopped (number_given small_room rows) _ (λ w c.
+    bound AreStopped (saved_room_given saved_room p rows) _ (λ w c.
     bound AreStopped (number_given few_slots rows) _ (λ s d.
-    (given few_processors _ _ p rows refl a, given after _ _ n rows refl b, given small_room _ _ w rows refl c, given few_slots _ _ s rows refl d)))))
+    let r = saved_room_fits saved_room _ _ p w rows refl c in
+    (given processors _ _ p rows refl a, given after _ _ n rows refl b, r.0, given few_slots _ _ s rows refl d, r.1)))))
 
 resume_are : (rows : List Row) → IfSome (resume_options rows) AreResumed
 resume_are rows =

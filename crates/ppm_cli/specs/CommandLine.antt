@@ -55,7 +55,7 @@ command name options = record { name = codes name; options = options }
 abbrev pub processors : OptionRule
 processors = number "processors" 1 processor_limit 4
 
--- how many run where all words are written out or the input is made
+-- how many run where the input is made
 abbrev pub few_processors : OptionRule
 few_processors = number "processors" 1 16 4
 
@@ -71,9 +71,13 @@ capsules = number "capsules" 1 4294967295 16777216
 abbrev pub room : OptionRule
 room = number "room" 64 most_pool_words 65536
 
--- and where all words are written out
-abbrev pub small_room : OptionRule
-small_room = number "room" 64 65536 16384
+-- the words of all pools together where all words are written out
+abbrev pub most_saved_pool_words : ℕ
+most_saved_pool_words = 4194304
+
+-- the words of a place's pool where all words are written out; all pools together have no more than the most of one
+abbrev pub saved_room : OptionRule
+saved_room = number "room" 64 most_saved_pool_words 16384
 
 -- those words by default where a sweep copies them for each run
 abbrev pub copied_room : OptionRule
@@ -193,7 +197,7 @@ command_line =
     ∷ command "races" (capsules ∷ [])
     ∷ command "replay" (processors ∷ turns ∷ room ∷ slots ∷ takeover ∷ schedule ∷ any_input ∷ counts ∷ [])
     ∷ command "self" (few_processors ∷ size ∷ seed ∷ count ∷ [])
-    ∷ command "stop" (few_processors ∷ after ∷ small_room ∷ few_slots ∷ schedule ∷ any_input ∷ [])
+    ∷ command "stop" (processors ∷ after ∷ saved_room ∷ few_slots ∷ schedule ∷ any_input ∷ [])
     ∷ command "resume" (turns ∷ looks ∷ seed ∷ faults ∷ [])
     ∷ command "sweep"
     (processors ∷ turns ∷ copied_room ∷ copied_slots ∷ swept_takeovers ∷ schedule ∷ met ∷ from ∷ acts ∷ runs ∷ seed ∷ capsules ∷ input ∷ [])

@@ -10,6 +10,7 @@ use Rattle.ppm_cells.specs.Limits.{most_pool_words}
 use Rattle.ppm_cells.specs.declared.shape.Takeover.{Takeover}
 use Rattle.ppm_cells.specs.declared.shape.Takeover.TheVariants.{ByPlaces, ByEntries}
 use Rattle.ppm_cli.specs.CommandLine.{Form, Number, Choice, AnyText, OptionRule, is_free_text, takeover, swept_takeovers, counts, idle, input, any_input, traced_form, only}
+use Rattle.ppm_cli.specs.CommandLine.{most_saved_pool_words}
 use Rattle.ppm_cli.specs.declared.input.InputKind.{InputKind}
 use Rattle.ppm_cli.specs.declared.input.InputKind.TheVariants as kinds
 use Rattle.ppm_cli.specs.declared.takeover.SweptTakeovers.{SweptTakeovers}
@@ -90,6 +91,14 @@ fitting_room processors words = if nat_le (processors * words) most_pool_words t
 -- the words of the pool of each of so many places
 abbrev pub room_given : OptionRule → ℕ → List Row → Option ℕ
 room_given o processors rows = and_then (number_given o rows) (fitting_room processors)
+
+-- the words, if so many processors may have pools of so many where all words are written out
+abbrev pub fitting_saved_room : ℕ → ℕ → Option ℕ
+fitting_saved_room processors words = if nat_le (processors * words) most_saved_pool_words then Some words else None
+
+-- the words of the pool of each of so many places where all words are written out
+abbrev pub saved_room_given : OptionRule → ℕ → List Row → Option ℕ
+saved_room_given o processors rows = and_then (number_given o rows) (fitting_saved_room processors)
 
 -- whether what is counted is told
 abbrev pub are_counts_given : List Row → Option Bool

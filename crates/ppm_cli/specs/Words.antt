@@ -6,11 +6,12 @@ use Rattle.ppm_cells.specs.Limits.{most_pool_words}
 use Rattle.ppm_cli.specs.Application.{ppm_application}
 use Rattle.ppm_cli.specs.CommandLine.{Form, Number, OptionRule}
 use Rattle.ppm_cli.specs.CommandLine.{processors, turns, room, slots, looks, seed, faults, schedule}
-use Rattle.ppm_cli.specs.CommandLine.{few_processors, after, small_room, few_slots, size, count, capsules, arrays}
+use Rattle.ppm_cli.specs.CommandLine.{most_saved_pool_words}
+use Rattle.ppm_cli.specs.CommandLine.{few_processors, after, saved_room, few_slots, size, count, capsules, arrays}
 use Rattle.ppm_cli.specs.CommandLine.{copied_room, copied_slots, met, from, acts, runs}
 use Rattle.ppm_cli.specs.CommandLine.{traced_from, traced_acts}
 use Rattle.ppm_cli.specs.Values.{and_then, are_counts_given, choice_given, idle_given, is_case_given, number_given, room_given, swept_takeovers_given, takeover_given, text_given}
-use Rattle.ppm_cli.specs.Values.{input_given, traced_form_given, traced_lines_given}
+use Rattle.ppm_cli.specs.Values.{input_given, saved_room_given, traced_form_given, traced_lines_given}
 use Rattle.ppm_cli.specs.declared.capsules.CapsuleLimit.{CapsuleLimit}
 use Rattle.ppm_cli.specs.declared.command.Command.{Command}
 use Rattle.ppm_cli.specs.declared.command.Command.TheVariants as commands
@@ -108,9 +109,9 @@ replay_in rows = and_then (replay_options rows) (λ o. and_then (text_given sche
 -- the options of `stop` but for its schedule, if each has a value of its form
 abbrev pub stop_options : List Row → Option StopOptions
 stop_options rows =
-    and_then (number_given few_processors rows) (λ p.
+    and_then (number_given processors rows) (λ p.
     and_then (number_given after rows) (λ n.
-    and_then (number_given small_room rows) (λ w.
+    and_then (saved_room_given saved_room p rows) (λ w.
     and_then (number_given few_slots rows) (λ e.
     Some (record { processors = p; after = n; room = w; slots = e })))))
 
@@ -258,6 +259,10 @@ IsOfForm _ n = ⊥
 abbrev pub DoPoolsFit : ℕ → ℕ → Type 0
 DoPoolsFit processors words = processors * words ≤ most_pool_words
 
+-- so many may have them where all words are written out
+abbrev pub DoSavedPoolsFit : ℕ → ℕ → Type 0
+DoSavedPoolsFit processors words = processors * words ≤ most_saved_pool_words
+
 -- each option of a run is in its range, and the pools fit
 abbrev pub AreRun : RunOptions → Type 0
 AreRun options =
@@ -281,11 +286,11 @@ AreSelf options =
     IsOfForm few_processors.form options.processors × IsOfForm size.form options.size × IsOfForm seed.form options.seed
     × IsOfForm count.form options.count
 
--- each option of a stop is in its range
+-- each option of a stop is in its range, and the pools fit
 abbrev pub AreStopped : StopOptions → Type 0
 AreStopped options =
-    IsOfForm few_processors.form options.processors × IsOfForm after.form options.after × IsOfForm small_room.form options.room
-    × IsOfForm few_slots.form options.slots
+    IsOfForm processors.form options.processors × IsOfForm after.form options.after × IsOfForm saved_room.form options.room
+    × IsOfForm few_slots.form options.slots × DoSavedPoolsFit options.processors options.room
 
 -- of a stop that goes on from a saved text the acts are in their range
 abbrev pub AreSavedStopped : StopSavedOptions → Type 0

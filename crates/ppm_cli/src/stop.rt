@@ -8,7 +8,8 @@ ghost use Rattle.ppm_cli.specs.Words.{stop_options as options_in, stop_saved};
 use crate::command::Command;
 use crate::getters::{bytes_of, number_of};
 use crate::input::{InputKind, input_of};
-use crate::table::{AFTER, FEW_PROCESSORS, FEW_SLOTS, SCHEDULE, SMALL_ROOM};
+use crate::room::saved_room_of;
+use crate::table::{AFTER, FEW_SLOTS, PROCESSORS, SAVED_ROOM, SCHEDULE};
 use clap::ArgMatches;
 use ppm_words::Items;
 use std::alloc::{AllocError, Global};
@@ -16,12 +17,13 @@ use std::alloc::{AllocError, Global};
 /// The options of `stop` but for its schedule.
 #[derive(Clone, Copy, Debug, PartialEq, Eq)]
 pub struct StopOptions {
-    /// How many processors there are: from 1 to 16, and 4 by default.
+    /// How many processors there are: from 1 to 64, and 4 by default.
     pub processors: u32,
     /// After how many acts the run is stopped, those of the schedule among them: from 0 to
     /// 268435456, and 0 by default.
     pub after: u64,
-    /// How many words the pool of a place has: from 64 to 65536, and 16384 by default.
+    /// How many words the pool of a place has: from 64 to 4194304, and 16384 by default. All pools
+    /// together have 4194304 at most.
     pub room: u32,
     /// How many entries the deque of a place has: from 2 to 4096, and 256 by default.
     pub slots: u32,
@@ -78,9 +80,9 @@ fn stop_options(matches: &ArgMatches<'_>) -> Option<StopOptions>
     ensures value { result ≡ options_in (rows_of (found_of matches.now)) }
     ensures in_range { IfSome result AreStopped }
 {
-    let processors = number_of(matches, FEW_PROCESSORS)?;
+    let processors = number_of(matches, PROCESSORS)?;
     let after = number_of(matches, AFTER)?;
-    let room = number_of(matches, SMALL_ROOM)?;
+    let room = saved_room_of(matches, SAVED_ROOM, processors)?;
     let slots = number_of(matches, FEW_SLOTS)?;
     Some(StopOptions {
         processors,

@@ -2,11 +2,11 @@
 use ppm_cells::POOL_WORD_LIMIT;
 use ppm_words::{ENTRY_LIMIT, PROCESSOR_LIMIT, TURN_LIMIT};
 
-/// The most processors where all words are written out or the input is made.
+/// The most processors where the input is made.
 const FEW: u32 = 16;
 
-/// The most words of a pool where all words are written out.
-const MOST_WRITTEN_WORDS: u32 = 65_536;
+/// The most words of a pool where all words are written out, and of all pools together.
+pub(crate) const MOST_WRITTEN_WORDS: u32 = 4_194_304;
 
 /// The most values that are made, and the most faults that are drawn.
 const MOST_MADE: u32 = 4_096;
@@ -84,7 +84,7 @@ pub(crate) const PROCESSORS: NumberOption = NumberOption {
     default: "4",
 };
 
-/// How many there are where all words are written out or the input is made.
+/// How many there are where the input is made.
 pub(crate) const FEW_PROCESSORS: NumberOption = NumberOption {
     name: "processors",
     low: 1,
@@ -116,8 +116,9 @@ pub(crate) const ROOM: NumberOption = NumberOption {
     default: "65536",
 };
 
-/// How many it has where all words are written out.
-pub(crate) const SMALL_ROOM: NumberOption = NumberOption {
+/// How many it has where all words are written out; all pools together have no more than the most of
+/// one.
+pub(crate) const SAVED_ROOM: NumberOption = NumberOption {
     name: "room",
     low: 64,
     high: MOST_WRITTEN_WORDS,
@@ -381,9 +382,9 @@ pub const COMMANDS: [CommandRow; 15] = [
     CommandRow {
         name: "stop",
         options: &[
-            OptionRow::Number(FEW_PROCESSORS),
+            OptionRow::Number(PROCESSORS),
             OptionRow::Number(AFTER),
-            OptionRow::Number(SMALL_ROOM),
+            OptionRow::Number(SAVED_ROOM),
             OptionRow::Number(FEW_SLOTS),
             OptionRow::Text(SCHEDULE),
             OptionRow::Choice(ANY_INPUT),

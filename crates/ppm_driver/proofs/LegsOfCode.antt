@@ -182,8 +182,8 @@ module _ (laws : Laws) (code : CodeParts) (input : List NamedArray) (may : MayRu
           let no : Some k.0 ≡ None = sym k.1 ∙ none in
           cc
 
-      breaks : length legs ≤ 2 ^ 50 → (place : ℕ) → Says (finishes.Broken place) → 2 ^ 34 < all_work s code words legs turns
-      breaks low place says = elim (cases_lt (2 ^ 34) (all_work s code words legs turns)) [
+      breaks : length legs ≤ 2 ^ 50 → (place : ℕ) → Says (finishes.Broken place) → 2 ^ 34 + 2 ^ 28 < all_work s code words legs turns
+      breaks low place says = elim (cases_lt (2 ^ 34 + 2 ^ 28) (all_work s code words legs turns)) [
         | inl much ↦ much
         | inr few ↦ absurd ((laws.whole code input s keeper b.image by_places fair_code opened
             calm legs are turns among low few).finish (finishes.Broken place) says)

@@ -1,5 +1,5 @@
 -- What is saved is read back, if the code is tidy and has no conflict: the state after a run is whole, and its sizes are those of `stop`.
-use Rattle.std.proofs.Common.{◌≡◌, ◌∙◌, ℕ, ◌≤◌, true, ◌&&◌, nat_le, List, [], ◌∷◌, length, refl, sym, ap, subst, arith}
+use Rattle.std.proofs.Common.{◌≡◌, ◌∙◌, ℕ, ◌*◌, ◌≤◌, true, ◌&&◌, nat_le, List, [], ◌∷◌, length, refl, sym, ap, subst, arith}
 use Rattle.std.specs.List.{sum}
 use Rattle.std.proofs.lemmas.Bool.{and_from, le-leb}
 use Rattle.ppm_words.specs.declared.named_array.NamedArray.{NamedArray}
@@ -20,7 +20,7 @@ use Rattle.ppm_choice.specs.Schedules.{schedule_turns}
 use Rattle.ppm_following.specs.Followed.{followed}
 use Rattle.ppm_loading.specs.Loading.{OpensRun}
 use Rattle.ppm_saved.specs.Correct.{SavedTextsTellStates, StateFits}
-use Rattle.ppm_saved_reader.specs.Rules.{is_from_to, sizes_fit}
+use Rattle.ppm_saved_reader.specs.Rules.{most_saved_pool_words, is_from_to, do_pools_fit, sizes_fit}
 use Rattle.ppm_saved_reader.specs.Correct.{HasState, sizes_of as sizes_in}
 use Rattle.ppm_depth.specs.Start.{NamesArrays}
 use Rattle.ppm_driver.specs.Stops.{sizes_of, names_of, text_of, IsReadBack}
@@ -61,10 +61,16 @@ module _ (states : SavedTextsTellStates) (code : CodeParts) (input : List NamedA
   sizes : sizes_fit (sizes_in s) ≡ true
   sizes =
       let h = opens.sized in
-      and_from (is_from_to 1 16 s.processors) (is_from_to 64 65536 s.room && is_from_to 2 4096 s.slots)
-      (from_to 1 16 options.processors s.processors are.0.0 are.0.1 h.processors)
-      (and_from (is_from_to 64 65536 s.room) (is_from_to 2 4096 s.slots)
-      (from_to 64 65536 options.room s.room are.2.0 are.2.1 h.room) (from_to 2 4096 options.slots s.slots are.3.0 are.3.1 h.slots))
+      let pools = do_pools_fit s.processors s.room in
+      let most = most_saved_pool_words in
+      let fit : do_pools_fit s.processors s.room ≡ true =
+      ap (λ (p : ℕ). do_pools_fit p s.room) h.processors ∙ ap (λ (r : ℕ). do_pools_fit options.processors r) h.room
+      ∙ le-leb (options.processors * options.room) most_saved_pool_words are.4 in
+      and_from (is_from_to 1 64 s.processors) (is_from_to 64 most s.room && (is_from_to 2 4096 s.slots && pools))
+      (from_to 1 64 options.processors s.processors are.0.0 are.0.1 h.processors)
+      (and_from (is_from_to 64 most s.room) (is_from_to 2 4096 s.slots && pools)
+      (from_to 64 most options.room s.room are.2.0 are.2.1 h.room)
+      (and_from (is_from_to 2 4096 s.slots) pools (from_to 2 4096 options.slots s.slots are.3.0 are.3.1 h.slots) fit))
 
   module _ (turns : List Turn) where
     abbrev m : Situation

@@ -1,6 +1,5 @@
 -- The answers that codes and programs have where they are stopped.
-use Rattle.std.proofs.Common.{◌≡◌, ℕ, List, refl, sym, ap, ◌∙◌, subst, arith, lit≤}
-use Rattle.std.proofs.lemmas.Nat.{mul-le}
+use Rattle.std.proofs.Common.{◌≡◌, ◌≤◌, ◌*◌, ℕ, List, refl, sym, ap, ◌∙◌, subst, arith, lit≤}
 use Rattle.ppm_words.specs.declared.named_array.NamedArray.{NamedArray}
 use Rattle.ppm_cells.specs.declared.shape.Shape.{Shape}
 use Rattle.ppm_cells.specs.declared.shape.Takeover.TheVariants.{ByPlaces}
@@ -32,7 +31,7 @@ use Rattle.ppm_loading.specs.Telling.{MayBeRun}
 pub stopped_sizes : (options : StopOptions) → AreStopped options → AreSizes (sizes_of options)
 stopped_sizes options are =
     let processors = are.0.1 in
-    let pools = mul-le options.processors options.room 16 65536 are.0.1 are.2.1 in
+    let pools : options.processors * options.room ≤ 4194304 = are.4 in
     let slots = are.3.1 in
     record {
       processors_least = are.0.0;

@@ -26,7 +26,7 @@ module _ (law : FaultsTellSavedTexts) (text : List ℕ) (z : SavedState) (is : I
       λ i. record { shape = k.0 i; arrays = k.1 i; code = k.2 i; words = k.3 i }
 
   pub text_left : (code : CodeParts) (input : List NamedArray) (faults : ℕ) (left : IsLeftByCode code input z) → left.legs ≡ []
-      → worked_in_all left.start left.legs left.turns ≤ turn_limit → struck_in_all left.start left.legs left.turns ≤ faults → z.shape.processors ≤ 16
+      → worked_in_all left.start left.legs left.turns ≤ turn_limit → struck_in_all left.start left.legs left.turns ≤ faults → z.shape.processors ≤ 64
       → IsTextLeftByCode code input faults text
   text_left code input faults left alone work struck small = record {
     state = z;

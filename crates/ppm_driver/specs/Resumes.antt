@@ -259,7 +259,7 @@ ResumesLeaveStates = (source : List ℕ) (z : SavedState) (left : IsLeftBy sourc
     → IsLeftBy source (record { shape = z.shape; arrays = z.arrays; code = z.code; words = words_behind start turns })
 
 -- A text is that of a state which a source left: it is never refused, one state is read from it, and that one is left by the source, by turns of
--- one machine alone: at most 16 processors made no more work turns than one may be told to make, and at most so many faults struck a row of work.
+-- one machine alone: at most 64 processors made no more work turns than one may be told to make, and at most so many faults struck a row of work.
 pub record IsTextLeftBy (source : List ℕ) (faults : ℕ) (text : List ℕ) : Type 0 where
   pub state : SavedState
   pub is : IsTextOf text state
@@ -269,7 +269,7 @@ pub record IsTextLeftBy (source : List ℕ) (faults : ℕ) (text : List ℕ) : T
   pub alone : by.legs ≡ []
   pub work : worked_in_all by.start by.legs by.turns ≤ turn_limit
   pub struck : struck_in_all by.start by.legs by.turns ≤ faults
-  pub small : state.shape.processors ≤ 16
+  pub small : state.shape.processors ≤ 64
 
 -- What `stop` writes of a text's program, by the items of a schedule that is accepted, with options in their ranges: the text of a state which that
 -- text left, by no more faults than the schedule has.

@@ -162,7 +162,7 @@ fn seed_of(command: &str) -> &'static str {
 /// What the room of a command is.
 fn room_of(command: &str) -> &'static str {
     match command {
-        "stop" => "words of a place's pool, not reused",
+        "stop" => "words of a place's pool, not reused; 4194304 in all",
         _ => "words of a place's pool, not reused; 67108864 in all",
     }
 }

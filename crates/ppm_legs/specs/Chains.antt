@@ -23,7 +23,7 @@ use Rattle.ppm_driver.specs.Strikes.{scheduled_faults}
 use Rattle.ppm_legs.specs.Stops.{StateReads}
 
 -- A text is that of a state which a code on an input left, over so many stops: it is never refused, one state is read from it, and that one is left by
--- the code. Its processors, 16 at most, made no more work turns in each stop than one may be told to make; and at most so many faults in all struck a
+-- the code. Its processors, 64 at most, made no more work turns in each stop than one may be told to make; and at most so many faults in all struck a
 -- row of work.
 pub record IsTextOfChain (code : CodeParts) (input : List NamedArray) (stops faults : ℕ) (text : List ℕ) : Type 0 where
   pub state : SavedState
@@ -34,7 +34,7 @@ pub record IsTextOfChain (code : CodeParts) (input : List NamedArray) (stops fau
   pub legs : length by.legs < stops
   pub work : worked_in_all by.start by.legs by.turns ≤ stops * turn_limit
   pub struck : struck_in_all by.start by.legs by.turns ≤ faults
-  pub small : state.shape.processors ≤ 16
+  pub small : state.shape.processors ≤ 64
 
 -- a text that one stop wrote of a code is the first of a chain
 abbrev pub StopsBeginChains : Type 0

@@ -147,7 +147,7 @@ more_work true c = refl
 more_work false c = refl
 
 -- half of the work turns are fewer than a tag counts
-rises : (made some work : ℕ) → 2 * made + some ≤ work → work ≤ 2 ^ 34 → made + 1 < 2 ^ 34
+rises : (made some work : ℕ) → 2 * made + some ≤ work → work ≤ 2 ^ 34 + 2 ^ 28 → made + 1 < 2 ^ 34
 rises made some work half few = omega (arith, half, few)
 
 module _ (s : Shape) (code : CodeParts) (places : s.takeover ≡ ByPlaces) (fair : IsFair code) (root : Tree (Frame FrameWord Point) Result) (input : Words) where
@@ -163,7 +163,7 @@ module _ (s : Shape) (code : CodeParts) (places : s.takeover ≡ ByPlaces) (fair
     well : IsWell code (frames.view s state.words) Root tree
     half : 2 * made + about s code N state ≤ work
 
-  one_more : (state : RunState) (h : ℕ → Home) (f tk : List ℕ) (work : ℕ) → Moment state h f tk work → (turn : Turn) → IsTurnAmong N turn → work ≤ 2 ^ 34
+  one_more : (state : RunState) (h : ℕ → Home) (f tk : List ℕ) (work : ℕ) → Moment state h f tk work → (turn : Turn) → IsTurnAmong N turn → work ≤ 2 ^ 34 + 2 ^ 28
       → Moment (happens s code state turn) (by_act s state.words turn.act (stand_of state turn.processor) h) (forks_of state turn ++ f) (takes_of state turn ++ tk) (work + one_if (is_work_turn turn.act (stand_of state turn.processor)))
   one_more state h f tk work z turn among few = record {
     tree = tree_after (setting s code) state turn z.tree;
@@ -175,7 +175,7 @@ module _ (s : Shape) (code : CodeParts) (places : s.takeover ≡ ByPlaces) (fair
   }
 
   all_sound : (state : RunState) (h : ℕ → Home) (f tk : List ℕ) (work : ℕ) (turns : List Turn) → AllByRecursion (IsTurnAmong N) turns → Moment state h f tk work
-      → work + length (along s code work_of state turns) ≤ 2 ^ 34
+      → work + length (along s code work_of state turns) ≤ 2 ^ 34 + 2 ^ 28
       → Moment (after s code state turns) (homes s code state h turns) (forked_in s code state f turns) (taken_in s code state tk turns) (work + length (along s code work_of state turns))
   all_sound state h f tk work [] all z few = subst (Moment state h f tk) {x = work} (omega arith) z
   all_sound state h f tk work (turn ∷ more) all z few =
@@ -261,11 +261,11 @@ module _ (code : CodeParts) (input : List NamedArray) (s : Shape) (keeper : ℕ)
   abbrev Last : List Leg → List Turn → Type 0
   Last legs turns = Moment s code places fair root arrays (last_state s code im.words legs turns) (all_homes s code im.words legs turns) (all_forked s code im.words legs turns) (all_taken s code im.words legs turns) (all_work s code im.words legs turns)
 
-  behind : (legs : List Leg) → Then legs → (turns : List Turn) → AllByRecursion (IsTurnAmong s.processors) turns → all_work s code im.words legs turns ≤ 2 ^ 34 → Last legs turns
+  behind : (legs : List Leg) → Then legs → (turns : List Turn) → AllByRecursion (IsTurnAmong s.processors) turns → all_work s code im.words legs turns ≤ 2 ^ 34 + 2 ^ 28 → Last legs turns
   behind legs z turns all few =
       all_sound s code places fair root arrays (state_then s code im.words legs) (homes_then s code im.words legs) (forked_then s code im.words legs) (taken_then s code im.words legs) (work_then s code im.words legs) turns all z few
 
-  begins : (legs : List Leg) → AreLegs s code im.words legs → length legs ≤ 2 ^ 50 → work_then s code im.words legs ≤ 2 ^ 34 → Then legs
+  begins : (legs : List Leg) → AreLegs s code im.words legs → length legs ≤ 2 ^ 50 → work_then s code im.words legs ≤ 2 ^ 34 + 2 ^ 28 → Then legs
   begins [] are few work = record {
     tree = Leaf (InPlace keeper) (Begins 0) (pool_at s keeper) (slots_of code code.root);
     made = 0;
@@ -282,7 +282,7 @@ module _ (code : CodeParts) (input : List NamedArray) (s : Shape) (keeper : ℕ)
       (begins_low code input s keeper im places fair opens calm (leg ∷ legs) are)
 
   whole_last : (legs : List Leg) → AreLegs s code im.words legs → (turns : List Turn) → AllByRecursion (IsTurnAmong s.processors) turns
-      → length legs ≤ 2 ^ 50 → all_work s code im.words legs turns ≤ 2 ^ 34 → HasNoBreak s (last_state s code im.words legs turns)
+      → length legs ≤ 2 ^ 50 → all_work s code im.words legs turns ≤ 2 ^ 34 + 2 ^ 28 → HasNoBreak s (last_state s code im.words legs turns)
   whole_last legs are turns all few work =
       let z = behind legs (begins legs are few (omega (arith, work))) turns all work in record {
         stands = λ c p e. subst (IsSoundAt s code (view s (last_state s code im.words legs turns).words)) e (z.sound.stands c);

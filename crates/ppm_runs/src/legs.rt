@@ -39,8 +39,9 @@ pub fn tags_stay_low()
 {}
 
 /// With takeover by places, from an image of a sound code, whatever the legs, at most 2^50, and whatever
-/// the turns behind them, as long as at most 2^34 turns of them all are work: no processor meets broken
-/// words, and the finish word says of none that one has. Whatever they are, it stands for a finish.
+/// the turns behind them, as long as at most 2^34 + 2^28 turns of them all are work: no processor meets
+/// broken words, and the finish word says of none that one has. Whatever they are, it stands for a
+/// finish.
 pub fn nothing_breaks_over_legs()
     ensures law { NothingBreaksOverLegs }
     ensures stands { FinishStandsOverLegs }

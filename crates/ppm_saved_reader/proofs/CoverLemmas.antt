@@ -4,7 +4,6 @@ use mathlib.Core.HLevel.{is_prop→PathP}
 use Rattle.std.specs.Coded.{le_prop}
 use Rattle.std.specs.List.{list_all, sum}
 use Rattle.std.proofs.lemmas.Bool.{both_ways, cases_lt, cases_eq}
-use Rattle.std.proofs.lemmas.Nat.{mul-le}
 use Rattle.ppm_words.specs.Limits.{word_limit}
 use Rattle.ppm_cells.specs.Limits.{most_pool_words}
 use Rattle.ppm_cells.specs.Shape.{HasSizes}
@@ -43,7 +42,6 @@ behind_line form t r a e = let (l, f, cut) = first_line_back form t r a e in sho
 shape_for : (z : Sizes) (words : ℕ) → sizes_fit z ≡ true → words ≤ word_limit → (s : Shape) × HasSizes z.processors z.room z.slots words s
 shape_for z words fit few =
     let h = sizes_are z fit in
-    let pools = mul-le z.processors z.room 16 65536 h.processors_most h.room_most in
     let s : Shape = record {
       processors = z.processors;
       room = z.room;
@@ -54,7 +52,7 @@ shape_for z words fit few =
         processors_least = h.processors_least;
         processors_most = omega (arith, h.processors_most);
         room_least = h.room_least;
-        pools_most = omega (arith, pools);
+        pools_most = omega (arith, h.pools_most);
         slots_least = h.slots_least;
         slots_most = omega (arith, h.slots_most);
         arrays_most = few;
@@ -223,9 +221,9 @@ module _ (listings : FaultsTellListings) (text : List ℕ) (none : (f : Fault) (
       }
 
 -- and the text of a state is wrong nowhere
-pub excludes : FaultsTellListings → (text : List ℕ) (s : Shape) (arrays : List NamedLength) (code : CodeParts) (words : List ℕ) (f : Fault) (line : ℕ)
+pub excludes : (text : List ℕ) (s : Shape) (arrays : List NamedLength) (code : CodeParts) (words : List ℕ) (f : Fault) (line : ℕ)
     → IsSavedText text s arrays code words → IsWrongAt text f line → ⊥
-excludes listings text s arrays code words f line h w = text_right text s arrays code words f line (text_short listings text s arrays code words h) h w
+excludes text s arrays code words f line h w = text_right text s arrays code words f line (text_short text s arrays code words h) h w
 
 -- shapes with the same sizes and the same takeover are one
 one_shape : (s t : Shape) → s.processors ≡ t.processors → s.room ≡ t.room → s.slots ≡ t.slots → s.arrays ≡ t.arrays → s.takeover ≡ t.takeover → s ≡ t

@@ -1,16 +1,14 @@
 -- The text of a state is never too long: a listing is not, and each word takes at most 21 bytes.
-use Rattle.std.proofs.Common.{◌≡◌, ◌⊎◌, inl, inr, ℕ, ◌+◌, ◌*◌, ◌<◌, ◌≤◌, ◌==◌, Bool, true, false, cond, List, [], ◌∷◌, ◌++◌, length, codes, decimal, refl, sym, ap, ◌∙◌, arith, length-append}
+use Rattle.std.proofs.Common.{◌≡◌, ℕ, ◌+◌, ◌*◌, ◌<◌, ◌≤◌, ◌==◌, Bool, true, false, cond, List, [], ◌∷◌, ◌++◌, length, codes, decimal, refl, sym, ap, ◌∙◌, arith, length-append}
 use Rattle.std.specs.List.{flat_map, AllByRecursion}
-use Rattle.std.proofs.lemmas.Bool.{cases_lt, eqb-false}
+use Rattle.std.proofs.lemmas.Bool.{eqb-false}
 use Rattle.std.proofs.lemmas.Fmt.{length-decimal-le}
 use Rattle.std.proofs.lemmas.List.Elements.{recursion_from_All}
-use Rattle.std.proofs.Math.Nat.{mul-le-mul_right}
 use Rattle.ppm_words.specs.Names.{IsName}
 use Rattle.ppm_cells.specs.declared.shape.Shape.{Shape}
 use Rattle.ppm_code.specs.declared.code.CodeParts.{CodeParts}
 use Rattle.ppm_listing.specs.Listing.{listing_of}
-use Rattle.ppm_listing_reader.specs.Correct.{FaultsTellListings, TooLong as ListingTooLong}
-use Rattle.ppm_listing_reader.specs.Limits.{listing_limit}
+use Rattle.ppm_listing_reader.proofs.NoFaultLemmas.{listing_short}
 use Rattle.ppm_saved.specs.Correct.{IsWord, LengthFits, RunFits}
 use Rattle.ppm_saved.specs.Names.{IsArrayName}
 use Rattle.ppm_saved.specs.Runs.{runs_of, AreLongest}
@@ -21,7 +19,7 @@ use Rattle.ppm_saved.proofs.RunLemmas.{runs_are_longest}
 use Rattle.ppm_saved_reader.specs.Rules.{saved_limit}
 use Rattle.ppm_saved_reader.specs.Correct.{sizes_of, IsSavedText}
 use Rattle.ppm_saved_reader.proofs.CountLemmas.{times_sum, length-words_of}
-use Rattle.ppm_saved_reader.proofs.SpelledLemmas.{sizes_are}
+use Rattle.ppm_saved_reader.proofs.SpelledLemmas.{sizes_are, place_words}
 
 -- a number of 64 bits has at most 20 digits
 number_short : (n : ℕ) → IsWord n → length (decimal n) ≤ 20
@@ -76,23 +74,17 @@ runs_short (r ∷ []) h fits = omega (arith, run_short r fits.0 h, length-append
 runs_short (r ∷ q ∷ rs) h fits =
     omega (arith, run_short r fits.0 h.0, runs_short (q ∷ rs) h.2 fits.1, length-append (run_line r) (flat_map run_line (q ∷ rs)))
 
-module _ (listings : FaultsTellListings) (text : List ℕ) (s : Shape) (arrays : List NamedLength) (code : CodeParts) (words : List ℕ)
+module _ (text : List ℕ) (s : Shape) (arrays : List NamedLength) (code : CodeParts) (words : List ℕ)
     (h : IsSavedText text s arrays code words) where
-  -- the listing of its code is not too long
-  listed_short : length (listing_of code) ≤ listing_limit
-  listed_short = by (cases_lt listing_limit (length (listing_of code)))
-    where
-      by : (listing_limit < length (listing_of code)) ⊎ (length (listing_of code) ≤ listing_limit) → length (listing_of code) ≤ listing_limit
-      by (inl long) =
-          absurd (listings.excludes (listing_of code) code _ 1 (record { code = h.code_is; fits = h.fits.numbers; same = refl }) (ListingTooLong long))
-      by (inr short) = short
+  -- the listing of its code is not long
+  listed_short : length (listing_of code) ≤ 433000000
+  listed_short = listing_short code h.code_is h.fits.numbers
 
   -- its words are few
-  words_few : length words ≤ 5308529
+  words_few : length words ≤ 8651201
   words_few =
       let z = sizes_are (sizes_of s) h.sizes in
-      let m : s.processors * (5 + s.slots + s.room) ≤ 16 * (5 + s.slots + s.room) = mul-le-mul_right (5 + s.slots + s.room) z.processors_most in
-      omega (arith, h.whole.words_are, m, z.processors_most, z.room_most, z.slots_most, s.within.arrays_most)
+      omega (arith, h.whole.words_are, place_words (sizes_of s) z, z.processors_most, s.within.arrays_most)
 
   words_short : length (flat_map run_line (runs_of words)) ≤ 21 * length words
   words_short =

@@ -1,7 +1,8 @@
 -- What was read up to a place is what is written of it; so a text that was read to its end is that of its state.
 use Rattle.std.proofs.Common.{◌≡◌, ◌∙◌, ℕ, ◌+◌, ◌-◌, ◌*◌, ◌^◌, ◌<◌, ◌≤◌, true, false, ◌&&◌, nat_le, List, [], ◌∷◌, ◌++◌, length, take, drop, codes, decimal, Some, refl, sym, ap, subst, arith, append_assoc, length-append, length-take}
 use Rattle.std.specs.List.{flat_map, sum, AllByRecursion}
-use Rattle.std.proofs.Math.Nat.{mul-le-mul_right}
+use Rattle.std.proofs.lemmas.Nat.{mul-le}
+use Rattle.std.proofs.Math.Nat.{mul-add}
 use Rattle.std.proofs.lemmas.Bool.{and_parts, leb-true, eqb-false}
 use Rattle.std.proofs.lemmas.List.{take-append-drop, flat_map_more, append-nil}
 use Rattle.std.proofs.lemmas.List.Sums.{sum_by-cons}
@@ -26,6 +27,7 @@ use Rattle.ppm_saved.specs.declared.run.Run.{Run}
 use Rattle.ppm_saved.proofs.RunLemmas.{runs_are_longest}
 use Rattle.ppm_saved_reader.specs.declared.lines.Sizes.{Sizes}
 use Rattle.ppm_saved_reader.specs.Lines.{first_line, version_in, sizes_in, array_in, count_in, run_in}
+use Rattle.ppm_saved_reader.specs.Rules.{most_saved_pool_words, do_pools_fit}
 use Rattle.ppm_saved_reader.specs.Rules.{saved_limit, is_from_to, sizes_fit, is_twice, is_past, words_for, is_other_count, ends_with}
 use Rattle.ppm_saved_reader.specs.Places.{Place, AtVersion, AtSizes, AtArrays, AtWords, AtRuns, array_of, NamesArrays}
 use Rattle.ppm_saved_reader.specs.Places.{Goes, Version, Shaped, Array, Coded, Counted, Repeated, LeadsTo, Stays, Then}
@@ -39,22 +41,25 @@ use Rattle.ppm_saved_reader.proofs.PlaceLemmas.{reads_on, reads_all}
 -- sizes of `stop`
 pub record AreSizes (z : Sizes) : Type 0 where
   pub processors_least : 1 ≤ z.processors
-  pub processors_most : z.processors ≤ 16
+  pub processors_most : z.processors ≤ 64
   pub room_least : 64 ≤ z.room
-  pub room_most : z.room ≤ 65536
+  pub room_most : z.room ≤ most_saved_pool_words
   pub slots_least : 2 ≤ z.slots
   pub slots_most : z.slots ≤ 4096
+  pub pools_most : z.processors * z.room ≤ most_saved_pool_words
 
 from_to : (least most n : ℕ) → is_from_to least most n ≡ true → (least ≤ n) × (n ≤ most)
 from_to least most n h = let k = and_parts (nat_le least n) (nat_le n most) h in (leb-true least n k.0, leb-true n most k.1)
 
 pub sizes_are : (z : Sizes) → sizes_fit z ≡ true → AreSizes z
 sizes_are z h =
-    let k = and_parts (is_from_to 1 16 z.processors) (is_from_to 64 65536 z.room && is_from_to 2 4096 z.slots) h in
-    let l = and_parts (is_from_to 64 65536 z.room) (is_from_to 2 4096 z.slots) k.1 in
-    let p = from_to 1 16 z.processors k.0 in
-    let r = from_to 64 65536 z.room l.0 in
-    let s = from_to 2 4096 z.slots l.1 in
+    let pools = do_pools_fit z.processors z.room in
+    let k = and_parts (is_from_to 1 64 z.processors) (is_from_to 64 most_saved_pool_words z.room && (is_from_to 2 4096 z.slots && pools)) h in
+    let l = and_parts (is_from_to 64 most_saved_pool_words z.room) (is_from_to 2 4096 z.slots && pools) k.1 in
+    let m = and_parts (is_from_to 2 4096 z.slots) pools l.1 in
+    let p = from_to 1 64 z.processors k.0 in
+    let r = from_to 64 most_saved_pool_words z.room l.0 in
+    let s = from_to 2 4096 z.slots m.0 in
     record {
       processors_least = p.0;
       processors_most = p.1;
@@ -62,14 +67,21 @@ sizes_are z h =
       room_most = r.1;
       slots_least = s.0;
       slots_most = s.1;
+      pools_most = leb-true (z.processors * z.room) most_saved_pool_words m.1;
     }
+
+-- the words of the places of such sizes, by those of all pools
+pub place_words : (z : Sizes) → AreSizes z → z.processors * (5 + z.slots + z.room) ≤ 64 * (5 + 4096) + most_saved_pool_words
+place_words z s =
+    let rows : z.processors * (5 + z.slots) ≤ 64 * (5 + 4096) =
+    mul-le z.processors (5 + z.slots) 64 (5 + 4096) s.processors_most (omega (arith, s.slots_most)) in
+    omega (arith, mul-add z.processors (5 + z.slots) z.room, rows, s.pools_most)
 
 -- the words of a machine of such sizes are few
 pub words_few : (z : Sizes) (arrays : List NamedLength) → sizes_fit z ≡ true → sum (lengths_of arrays) ≤ word_limit → words_for z arrays < 2 ^ 32
 words_few z arrays h k =
     let s = sizes_are z h in
-    let m : z.processors * (5 + z.slots + z.room) ≤ 16 * (5 + z.slots + z.room) = mul-le-mul_right (5 + z.slots + z.room) s.processors_most in
-    omega (arith, m, k, s.processors_most, s.room_most, s.slots_most)
+    omega (arith, place_words z s, k, s.processors_most)
 
 -- what is written of the lines in front of a place
 abbrev heading : Sizes → List NamedLength → List ℕ

@@ -2,7 +2,7 @@
 use Rattle.std.specs.Prelude.{ℕ, ◌+◌, ◌*◌, ◌==◌, Bool, true, false, ◌&&◌, ◌||◌, nat_le, nat_lt, if◌then◌else◌, List, [], ◌∷◌, length, Option, Some, None}
 use Rattle.std.specs.List.{list_any, sum}
 use Rattle.std.specs.Str.{bytes_eq}
-use Rattle.ppm_words.specs.Limits.{array_limit, word_limit}
+use Rattle.ppm_words.specs.Limits.{array_limit, word_limit, processor_limit}
 use Rattle.ppm_pieces.specs.Pieces.{split}
 use Rattle.ppm_saved.specs.Names.{lengths_of}
 use Rattle.ppm_saved.specs.declared.names.NamedLength.{NamedLength}
@@ -23,9 +23,19 @@ abbrev pub line_feeds : List ℕ → ℕ
 line_feeds [] = 0
 line_feeds (b ∷ bs) = if b == 10 then 1 + line_feeds bs else line_feeds bs
 
+-- words of all pools together of a machine that may be stopped: with these no text is too long
+abbrev pub most_saved_pool_words : ℕ
+most_saved_pool_words = 4194304
+
+-- whether so many processors may have pools of so many words
+abbrev pub do_pools_fit : (processors room : ℕ) → Bool
+do_pools_fit processors room = nat_le (processors * room) most_saved_pool_words
+
 -- whether a machine of these sizes may be stopped
 abbrev pub sizes_fit : Sizes → Bool
-sizes_fit z = is_from_to 1 16 z.processors && (is_from_to 64 65536 z.room && is_from_to 2 4096 z.slots)
+sizes_fit z =
+    is_from_to 1 processor_limit z.processors
+    && (is_from_to 64 most_saved_pool_words z.room && (is_from_to 2 4096 z.slots && do_pools_fit z.processors z.room))
 
 -- whether an array has this name
 abbrev pub is_twice : List NamedLength → (name : List ℕ) → Bool

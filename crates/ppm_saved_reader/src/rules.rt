@@ -4,13 +4,17 @@ ghost use Rattle.std.specs.List.{sum};
 ghost use Rattle.ppm_saved.specs.Names.{lengths_of};
 ghost use Rattle.ppm_saved_reader.specs.Rules.{is_from_to as from_to, sizes_fit as fit};
 ghost use Rattle.ppm_saved_reader.specs.Rules.{is_twice as twice, is_past as past};
+ghost use Rattle.ppm_saved_reader.specs.Rules.{do_pools_fit as pools};
 ghost use Rattle.ppm_saved_reader.specs.Rules.{is_other_count as other_count};
 
 use crate::first_run::first_run;
 use crate::lines::Sizes;
 use ppm_pieces::{same_bytes, split_once};
 use ppm_saved::NamedLength;
-use ppm_words::{ARRAY_LIMIT, WORD_LIMIT};
+use ppm_words::{ARRAY_LIMIT, PROCESSOR_LIMIT, WORD_LIMIT};
+
+/// The words of all pools together of a machine that may be stopped.
+const MOST_SAVED_POOL_WORDS: u64 = 4_194_304;
 
 /// Whether a number is from one to another.
 fn is_from_to(least: u64, most: u64, n: u64) -> bool
@@ -19,12 +23,23 @@ fn is_from_to(least: u64, most: u64, n: u64) -> bool
     least <= n && n <= most
 }
 
+/// Whether so many processors may have pools of so many words.
+fn do_pools_fit(processors: u64, room: u64) -> bool
+    ensures { result ≡ pools processors room }
+{
+    match processors.checked_mul(room) {
+        Some(words) => words <= MOST_SAVED_POOL_WORDS,
+        None => false,
+    }
+}
+
 /// Whether a machine of these sizes may be stopped.
 pub(crate) fn sizes_fit(sizes: Sizes) -> bool
     ensures { result ≡ fit sizes }
 {
-    is_from_to(1, 16, sizes.processors)
-        && (is_from_to(64, 65536, sizes.room) && is_from_to(2, 4096, sizes.slots))
+    is_from_to(1, u64::from(PROCESSOR_LIMIT), sizes.processors)
+        && (is_from_to(64, MOST_SAVED_POOL_WORDS, sizes.room)
+            && (is_from_to(2, 4096, sizes.slots) && do_pools_fit(sizes.processors, sizes.room)))
 }
 
 /// Whether an array has this name.

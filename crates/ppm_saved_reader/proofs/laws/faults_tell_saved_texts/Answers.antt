@@ -9,9 +9,9 @@ returns c =
     let listings = c.faults_tell_listings.ensures.law in
     record {
       law = record {
-        excludes = excludes listings;
+        excludes = excludes;
         covers = covers listings;
-        short = text_short listings;
+        short = text_short;
         one_state = one_state;
         one = one_fault;
       };
