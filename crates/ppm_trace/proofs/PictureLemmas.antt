@@ -1,5 +1,5 @@
 -- A picture of the whole run.
-use Rattle.std.proofs.Common.{◌≡◌, ◌∙◌, Bool, true, false, if◌then◌else◌, List, [], ◌∷◌, ◌++◌, ℕ, ◌+◌, ◌≤◌, ◌^◌, length, replicate, ap, arith}
+use Rattle.std.proofs.Common.{◌≡◌, ◌∙◌, Bool, true, false, if◌then◌else◌, List, [], ◌∷◌, ◌++◌, ℕ, ◌+◌, ◌≤◌, ◌^◌, length, replicate, ap, arith, Some}
 use Rattle.std.proofs.lemmas.List.{length-append}
 use Rattle.ppm_choice.proofs.SkipLemmas.{makes_no_more}
 use Rattle.ppm_choice.specs.Schedules.{dues_of, schedule_turns}
@@ -57,7 +57,7 @@ module _ (names : Names) (from : ℕ) where
       )
 
   abbrev pub pictures : Excerpt
-  pictures = record { form = Picture; from = from }
+  pictures = record { form = Some Picture; from = from }
 
   module _ (m n : Situation) (way u : Way) (a b : Tale) (given items : List ScheduleItem) (turns : ℕ) (same : given ≡ items)
       (first : way ≡ record { loads = replicate 64 0; left = turns }) (no_strokes : a.strokes.items ≡ [])

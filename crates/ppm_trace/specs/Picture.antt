@@ -46,11 +46,14 @@ by_text ByPlaces = codes " by places</text>\n"
 by_text ByEntries = codes " by entries</text>\n"
 
 -- the second line over the lanes: what was counted
-abbrev pub counts_text : Counts → Takeover → List ℕ
-counts_text c takeover =
+abbrev pub counted_text : Counts → List ℕ
+counted_text c =
     codes "<text class=\"t u\" x=\"6400\" y=\"4100\">forks " ++ grouped c.forks ++ codes ", taken " ++ grouped c.takes
     ++ codes ", thefts won " ++ grouped c.won ++ codes ", lost " ++ grouped c.lost ++ codes ", soft faults " ++ grouped c.soft
-    ++ codes ", hard faults " ++ grouped c.hard ++ codes ", takeovers " ++ grouped c.takeovers ++ by_text takeover
+    ++ codes ", hard faults " ++ grouped c.hard ++ codes ", takeovers " ++ grouped c.takeovers
+
+abbrev pub counts_text : Counts → Takeover → List ℕ
+counts_text c takeover = counted_text c ++ by_text takeover
 
 -- the picture of what is shown, with the dotted lanes, the counts and the finish word
 abbrev pub picture_text : Names → Shape → Canvas → List Drawn → (dead : List ℕ) → Counts → (finish : ℕ) → List ℕ

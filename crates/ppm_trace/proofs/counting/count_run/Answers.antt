@@ -18,7 +18,7 @@ follow_told-requires-clause-is c = record {
 pub returns-clause-counts : goal.returns-clause-counts
 returns-clause-counts c =
     counts_are _ (seen c.args.machine.now) (seen c.follow_told.new.machine)
-    c.first-way.result c.follow_told.new.way (record { text = c.new-3.result; counts = c.none.result }) c.follow_told.new.tale
+    c.first-way.result c.follow_told.new.way (record { text = c.new-3.result; strokes = c.new-4.result; counts = c.none.result }) c.follow_told.new.tale
     c.items.result.now c.args.schedule.now.items c.args.turns
     c.items.ensures.items c.first-way.ensures c.none.ensures c.in_ok-follow_told.ensures.tells
 
@@ -26,6 +26,6 @@ returns-clause-counts c =
 pub returns-clause-made : goal.returns-clause-made
 returns-clause-made c =
     run_is _ _ (seen c.args.machine.now) (seen c.follow_told.new.machine)
-    c.first-way.result c.follow_told.new.way (record { text = c.new-3.result; counts = c.none.result }) c.follow_told.new.tale
+    c.first-way.result c.follow_told.new.way (record { text = c.new-3.result; strokes = c.new-4.result; counts = c.none.result }) c.follow_told.new.tale
     c.items.result.now c.args.schedule.now.items c.args.turns
     c.items.ensures.items c.first-way.ensures c.in_ok-follow_told.ensures.tells

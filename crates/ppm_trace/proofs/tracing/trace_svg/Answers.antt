@@ -32,8 +32,8 @@ returns-clause-text c =
     pictures_are c.args.names.now c.args.from (seen c.args.machine.now) (seen c.follow_told.new.machine)
     c.first-way.result c.follow_told.new.way (record { text = c.new.result; strokes = c.new-2.result; counts = c.none.result }) tale
     c.items.result.now c.args.schedule.now.items (c.args.from + c.args.acts) c.items.ensures.items c.first-way.ensures c.new-2.ensures.items
-    c.in_ok-follow_told.ensures.tells _ c.new.ensures.items c.none.ensures
-    (c.in_ok-picture.ensures
+    c.in_ok-follow_told.ensures.tells c.in_ok-text.text.items c.new.ensures.items c.none.ensures
+    (c.in_ok-text.ensures
     ∙ ap (λ s. picture_text c.args.names.now s (canvas_of s.processors c.args.from (length tale.strokes.items)) tale.strokes.items tale.text.items tale.counts c.finish_word.result)
     c.shape-shape.ensures
     ∙ ap (λ word. picture_text c.args.names.now (seen c.follow_told.new.machine).shape (canvas_of (seen c.follow_told.new.machine).shape.processors c.args.from (length tale.strokes.items)) tale.strokes.items tale.text.items tale.counts word)
