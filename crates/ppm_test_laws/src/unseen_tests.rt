@@ -1,4 +1,5 @@
 //! The laws of strands that may race are there to be called.
+use crate::clears::{clearing_meets_both, faults_of_clearing_are_invisible};
 use ppm_filled::{
     a_racy_read_is_filled, faults_of_filled_paths_are_invisible, filled_paths_are_filled,
     racing_code_is_of_the_code,
@@ -19,4 +20,6 @@ fn the_laws_of_races_are_called() {
     faults_of_filled_paths_are_invisible();
     a_racy_read_is_filled();
     racing_code_is_of_the_code();
+    clearing_meets_both();
+    faults_of_clearing_are_invisible();
 }
