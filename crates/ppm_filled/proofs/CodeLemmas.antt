@@ -5,12 +5,12 @@ use Rattle.ppm_code.specs.declared.code.CodeParts.{CodeParts}
 use Rattle.ppm_code.specs.Strands.{instrs_of}
 use Rattle.ppm_unseen.specs.Conditions.{IsOrdered, IsFilled}
 use Rattle.ppm_filled.specs.Racing.{Place, At, HasTrapped, racing_code}
-use Rattle.ppm_filled.specs.Correct.{IsRestartable}
+use Rattle.ppm_filled.specs.Correct.{HasFilledPaths}
 use Rattle.ppm_filled.proofs.OrderLemmas.{ordered}
 use Rattle.ppm_filled.proofs.FillLemmas.{out, fills, builds}
 
 -- at each place: a capsule of the code, or the end of a strand of which a branch trapped
-pub each : (code : CodeParts) → IsRestartable code → (array_words : ℕ) (place : Place)
+pub each : (code : CodeParts) → HasFilledPaths code → (array_words : ℕ) (place : Place)
     → IsOrdered ((racing_code code array_words).capsule place)
     × IsFilled ((racing_code code array_words).builds place) ((racing_code code array_words).capsule place)
 each code r words (At point) = let is = instrs_of code point.capsule in (

@@ -31,7 +31,7 @@ use Rattle.ppm_code.specs.Paths.{may, GoesTo, Follows}
 use Rattle.ppm_code.proofs.CapsuleLemmas.{at_instr}
 use Rattle.ppm_code.proofs.FollowLemmas.{acts_follow}
 use Rattle.ppm_filled.specs.Racing.{OwnWord, OfFrame, OfBlock, Exit, Of, Tells, own_words, racing, ending, built_by}
-use Rattle.ppm_filled.specs.Filled.{operands_of, target_of, may_trap, IsHung, Hangs, Takes as TakesMark, Stays, Parts, GoesOn, Word, Way}
+use Rattle.ppm_filled.specs.Filled.{operands_of, traps_by, target_of, may_trap, IsHung, Hangs, Takes as TakesMark, Stays, Parts, GoesOn, Word, Way}
 use Rattle.ppm_filled.proofs.PathLemmas.{forward, there}
 use Rattle.ppm_filled.proofs.TurnLemmas.{Turn, Halts, Fails, Works, Asks, Branches, Takes, Finds, Fills, Builds, Puts, turn, from, is_trap_end, none_there}
 
@@ -357,15 +357,16 @@ module _ (words : ℕ) (is : List Instr) (o : Memory OwnWord) (none_hung : (at :
     same_act Stop (Jumps u) is_m f s = absurd f
     same_act Stop (Steps z) is_m f s = absurd f
 
+    -- nothing traps by a word that comes of a find
+    hung : (a : Register) → Hangs is at (Word a.index) → In a (traps_by i) → may_trap i ≡ true → ⊥
+    hung a hangs in_it traps = none_hung at (record { instr = i; there = e; traps = traps; hangs = inr (a, in_it, hangs) })
+
     module _ (a : Register) (hangs : Hangs is at (Word a.index)) (in_it : In a (operands_of i)) where
       -- another word is set, of which the register is said to come of a find
       other : (d : Register) (u v : ℕ) → GoesTo (may i) at (at + 1) → target_of i ≡ Some d
           → doom o w (from words is (at + 1) (slice_set g d.index u)) ≡ doom o w (from words is (at + 1) (slice_set h d.index v))
       other d u v goes target = rec (at + 1) (slice_set g d.index u) (omega arith) (there is at i e) (slice_set h d.index v) w
           (set_other at i d u v g h e target goes (TakesMark at i a d hangs e in_it target) alike)
-
-      hung : may_trap i ≡ true → ⊥
-      hung traps = none_hung at (record { instr = i; there = e; traps = traps; hangs = inr (a, in_it, hangs) })
 
       -- after a branch on it nothing traps, whichever way
       branched : (t : ℕ) → may i ≡ Branch t → (k : List ℕ) (b : Bool) → doom o w (after (cond b (Jumps t) Passes) k) ≡ None
@@ -378,6 +379,28 @@ module _ (words : ℕ) (is : List Instr) (o : Memory OwnWord) (none_hung : (at :
 
   module _ (at : ℕ) (g : List ℕ) (rec : (to : ℕ) (k : List ℕ) → at + 1 ≤ to → at < length is → TrapsAlike to k)
       (h : List ℕ) (w : List OwnWord) (alike : AreAlike at g h) where
+    -- a put at one place traps alike, whatever it stores
+    same_place : (b c : Register) → held g b ≡ held h b → held g c ≡ held h c
+        → element_of words (held g b) (held g c) ≡ element_of words (held h b) (held h c)
+    same_place b c p q = λ k. element_of words (p k) (q k)
+
+    put_there : (b c s : Register) (l : ℕ) (e : slice_get is at ≡ Some (Put b c s l)) (p : Option ℕ)
+        → doom o w (after at g rec h w alike (Put b c s l) e (at_element l p (λ x. Stores (ArrayWord x) (held g s))) g)
+        ≡ doom o w (after at g rec h w alike (Put b c s l) e (at_element l p (λ x. Stores (ArrayWord x) (held h s))) h)
+    put_there b c s l e None = refl
+    put_there b c s l e (Some x) = past at g rec h w alike (Put b c s l) e (at + 1) w (omega arith) refl refl
+
+    put_act : (b c s : Register) (l : ℕ) (e : slice_get is at ≡ Some (Put b c s l))
+        → doom o w (after at g rec h w alike (Put b c s l) e (does words (Put b c s l) g) g)
+        ≡ doom o w (after at g rec h w alike (Put b c s l) e (does words (Put b c s l) h) h)
+    put_act b c s l e = elim (operands_alike at g h alike (b ∷ c ∷ [])) [
+      | inl same ↦
+          put_there b c s l e (element_of words (held g b) (held g c))
+          ∙ ap (λ (p : Option ℕ). doom o w (after at g rec h w alike (Put b c s l) e (at_element l p (λ x. Stores (ArrayWord x) (held h s))) h))
+          (same_place b c (same b (inl refl)) (same c (inr (inl refl))))
+      | inr some ↦ absurd (hung at g rec h w alike (Put b c s l) e some.0 some.2 some.1 refl)
+    ]
+
     -- an instruction that reads a register that comes of a find
     hung_act : (i : Instr) (e : slice_get is at ≡ Some i) (a : Register) → Hangs is at (Word a.index) → In a (operands_of i)
         → doom o w (after at g rec h w alike i e (does words i g) g) ≡ doom o w (after at g rec h w alike i e (does words i h) h)
@@ -399,7 +422,7 @@ module _ (words : ℕ) (is : List Instr) (o : Memory OwnWord) (none_hung : (at :
     hung_act (StoreCur s b) e a hangs in_it = past at g rec h w alike (StoreCur s b) e (at + 1) (OfFrame (SlotWord s) ∷ w) (omega arith) refl refl
     hung_act (Give b) e a hangs in_it = past at g rec h w alike (Give b) e (at + 1) (OfFrame ValueWord ∷ w) (omega arith) refl refl
     hung_act (Get d b c l) e a hangs in_it = absurd (hung at g rec h w alike (Get d b c l) e a hangs in_it refl)
-    hung_act (Put b c s l) e a hangs in_it = absurd (hung at g rec h w alike (Put b c s l) e a hangs in_it refl)
+    hung_act (Put b c s l) e a hangs in_it = put_act b c s l e
     hung_act (BranchZero b t) e a hangs in_it = branched at g rec h w alike (BranchZero b t) e a hangs in_it t refl g (held g b == 0)
         ∙ sym (branched at g rec h w alike (BranchZero b t) e a hangs in_it t refl h (held h b == 0))
     hung_act (BranchNonZero b t) e a hangs in_it = branched_not at g rec h w alike (BranchNonZero b t) e a hangs in_it t refl g (held g b == 0)

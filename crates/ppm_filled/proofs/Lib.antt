@@ -1,3 +1,4 @@
+mod AloneLemmas
 mod CodeLemmas
 mod DoomLemmas
 mod FillLemmas

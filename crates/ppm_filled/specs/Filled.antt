@@ -73,6 +73,11 @@ abbrev pub may_trap : Instr → Bool
 may_trap (Ends (Trap trap line)) = true
 may_trap i = can_trap i
 
+-- the registers by whose words it traps or not, where it can: of a put those of its place, and not the one that it stores
+abbrev pub traps_by : Instr → List Register
+traps_by (Put a b s line) = a ∷ b ∷ []
+traps_by i = operands_of i
+
 -- what an end stores of a new block beside its slots
 abbrev pub builds_by : End → Option EndWord
 builds_by (Next capsule) = None
@@ -165,12 +170,12 @@ module _ (is : List Instr) where
         → may i ≡ Branch t → GoesTo (may i) at to → Hangs to Way
     GoesOn : (at to : ℕ) (i : Instr) → Hangs at Way → slice_get is at ≡ Some i → GoesTo (may i) at to → Hangs to Way
 
-  -- a trap that hangs on a find: of an operand that comes of one, or at a place to which the way does
+  -- a trap that hangs on a find: by a register that comes of one, or at a place to which the way does
   pub record IsHung (at : ℕ) : Type 0 where
     pub instr : Instr
     pub there : slice_get is at ≡ Some instr
     pub traps : may_trap instr ≡ true
-    pub hangs : Hangs at Way ⊎ ((a : Register) × In a (operands_of instr) × Hangs at (Word a.index))
+    pub hangs : Hangs at Way ⊎ ((a : Register) × In a (traps_by instr) × Hangs at (Word a.index))
 
   -- the four things that a filled capsule has not
   pub record IsFilledOnPaths : Type 0 where

@@ -1,3 +1,4 @@
+pub mod Alone
 pub mod Correct
 pub mod Filled
 pub mod Racing

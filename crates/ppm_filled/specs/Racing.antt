@@ -199,7 +199,8 @@ module _ (code : CodeParts) where
   abbrev pub plain : Memory OwnWord → Point → Frame FrameWord Point
   plain own point = record { own = frame_words_in own; point = point }
 
-  -- how a frame goes on by what the code makes of it: as a strand, or over by a trap
+  -- how a frame goes on by what `resume` makes of it: as a strand, or to the end that tells the trap of a branch; `resume` makes no other tree, and the
+  -- last line stands for the others, to which nothing comes
   abbrev pub going_on : Memory OwnWord → Tree (Frame FrameWord Point) Result → Frame OwnWord Place
   going_on own (Strand f) = standing f.own f.point
   going_on own (Over result) = record { own = own; point = HasTrapped result }

@@ -3,7 +3,8 @@
 //! Model: the strands of a code as those of `ppm_unseen` (`specs/Racing`), and paths through
 //! instructions (`specs/Filled`).
 //! Contract: laws alone; a code whose paths are filled and have no conflict has capsules that are
-//! ordered and filled, and its faults are invisible where what they do stands.
+//! ordered and filled, and its faults are invisible where what they do stands; the strands are
+//! those of the code, capsule by capsule (`specs/Alone`).
 //! Stands on `ppm_code` and `ppm_unseen`; no crate stands on it.
 //! After the capsules with compare-and-modify of Blelloch et al., SPAA 2018; the conditions are
 //! this project's.
@@ -13,4 +14,5 @@ mod laws;
 
 pub use laws::{
     a_racy_read_is_filled, faults_of_filled_paths_are_invisible, filled_paths_are_filled,
+    racing_code_is_of_the_code,
 };

@@ -1,3 +1,5 @@
+pub mod ClearsLemmas
+pub mod ConstantLemmas
 pub mod CopiesLemmas
 pub mod RaceLemmas
 pub mod SampleLemmas

@@ -1,3 +1,4 @@
+pub mod Clears
 pub mod Copies
 pub mod Races
 pub mod Sample

@@ -2,7 +2,8 @@
 //! run depth first.
 //! Model: capsules over four words of a byte each (`specs/Sample`) and trees of them that race
 //! (`specs/Races`); capsules with one register that a stop loses (`specs/Stops`); two strands run
-//! with faults (`specs/Copies`).
+//! with faults (`specs/Copies`); a code whose strands race, and whose faults are invisible
+//! (`specs/Clears`).
 //! Contract: `sample::run` runs depth first, `stops::run_with_stops` with stops; laws fail where
 //! their premise does.
 //! Stands on `ppm_strands` and `ppm_capsules`, its tests of listings on `ppm_depth` and
@@ -11,6 +12,7 @@
 //! instances are this project's.
 #![tactic(auto)]
 
+pub mod clears;
 #[cfg(test)]
 mod code_tests;
 pub mod copies;

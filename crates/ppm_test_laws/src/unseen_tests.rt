@@ -1,6 +1,8 @@
 //! The laws of strands that may race are there to be called.
+use crate::clears::{clearing_meets_both, faults_of_clearing_are_invisible};
 use ppm_filled::{
     a_racy_read_is_filled, faults_of_filled_paths_are_invisible, filled_paths_are_filled,
+    racing_code_is_of_the_code,
 };
 use ppm_unseen::{
     calm_writes_stand, each_condition_is_needed, faults_are_invisible,
@@ -17,4 +19,7 @@ fn the_laws_of_races_are_called() {
     filled_paths_are_filled();
     faults_of_filled_paths_are_invisible();
     a_racy_read_is_filled();
+    racing_code_is_of_the_code();
+    clearing_meets_both();
+    faults_of_clearing_are_invisible();
 }
