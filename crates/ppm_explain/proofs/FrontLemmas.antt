@@ -31,6 +31,6 @@ pub fronts : HaveOneAnswer → FrontsAreExplained
 fronts law all rest answers.Accepted long h = let short = h.program.admitted.tree.lexed.short in absurd (omega (arith, long, short))
 fronts law all rest (answers.SourceExplained r notes) long h = record {
   refusal = (law all).front rest r long h.refusal;
-  notes = notes_stay all rest notes long h.refusal h.notes;
+  told = notes_stay all rest notes long h.refusal h.told;
 }
 fronts law all rest a long h = absurd h

@@ -24,7 +24,7 @@ pub record HasSomeProgram (text : List ℕ) : Type 0 where
 -- the text is refused for this reason, and these are the notes of it
 pub record IsExplained (text : List ℕ) (r : Refusal) (notes : List ℕ) : Type 0 where
   pub refusal : IsRefusal text r
-  pub notes : AreNotes text r notes
+  pub told : AreNotes text r notes
 
 -- the answer that a text has where it is explained
 abbrev pub ExplainHas : List ℕ → Answer → Type 0

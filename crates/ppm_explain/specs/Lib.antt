@@ -1,6 +1,7 @@
 pub mod Places
 pub mod Words
 pub mod Meanings
+pub mod Hints
 pub mod Names
 pub mod Sources
 pub mod Explaining

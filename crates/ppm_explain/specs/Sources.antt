@@ -14,7 +14,8 @@ use Rattle.ppm_program.specs.Programs.{HasTokens}
 use Rattle.ppm_explain.specs.declared.declaring.Before.TheVariants as before
 use Rattle.ppm_explain.specs.Places.{spot_text, line_text, line_bytes, shown_text}
 use Rattle.ppm_explain.specs.Words.{token_in, found_text, expected_text}
-use Rattle.ppm_explain.specs.Meanings.{meaning_text, hint_text}
+use Rattle.ppm_explain.specs.Meanings.{meaning_text}
+use Rattle.ppm_explain.specs.Hints.{hint_text}
 use Rattle.ppm_explain.specs.Names.{names_text, heading_above, heading_at, procedure_text}
 
 -- the place of a fault of bytes; where the text is too long nothing
@@ -29,7 +30,7 @@ bytes_notes text r = bytes_spot text r ++ meaning_text r
 abbrev pub stop_notes : List ℕ → List Token → Expected → Refusal → List ℕ
 stop_notes text tokens e r =
     spot_text text r.place ++ found_text (token_in r.place tokens) ++ expected_text (map terminal_of e.terminals.items) e.end
-    ++ hint_text (token_in r.place tokens) ++ meaning_text r
+    ++ hint_text (map terminal_of e.terminals.items) (token_in r.place tokens) ++ meaning_text r
 
 -- of a token that passes a limit: what stands there
 abbrev pub limit_notes : List ℕ → List Token → Refusal → List ℕ

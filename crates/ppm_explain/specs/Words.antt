@@ -1,6 +1,5 @@
 -- What stands at a place, and what could stand there, in words.
 use Rattle.std.specs.Prelude.{ℕ, ◌==◌, if◌then◌else◌, Bool, true, false, List, [], ◌∷◌, ◌++◌, codes, decimal, Option, Some, None}
-use Rattle.std.specs.List.{flat_map}
 use Rattle.ppm_text.specs.declared.token.Kind.{Kind}
 use Rattle.ppm_text.specs.declared.token.Kind.TheVariants as kind
 use Rattle.ppm_text.specs.declared.token.Token.{Token}
@@ -59,10 +58,15 @@ terminal_text (Mark sign) = quoted (sign_text sign)
 abbrev pub further_text : Terminal → List ℕ
 further_text k = codes ", " ++ terminal_text k
 
+-- some behind those in front
+abbrev pub more_text : List Terminal → List ℕ
+more_text [] = []
+more_text (k ∷ ks) = further_text k ++ more_text ks
+
 -- some kinds, with a comma between each two
 abbrev pub kinds_text : List Terminal → List ℕ
 kinds_text [] = []
-kinds_text (k ∷ ks) = terminal_text k ++ flat_map further_text ks
+kinds_text (k ∷ ks) = terminal_text k ++ more_text ks
 
 -- that the text may end
 abbrev pub end_text : Bool → List ℕ

@@ -2,7 +2,7 @@
 //! what could stand there, the names of a line, and what the refusal means.
 //! Model: a message is a function of the text, its tokens and its refusal (`specs/Sources`), by
 //! lines and columns (`specs/Places`), names (`specs/Names`) and tables of words (`specs/Words`,
-//! `specs/Meanings`).
+//! `specs/Hints`, `specs/Meanings`).
 //! Contract: `source_notes` answers exactly that function; what could stand at a place is just what
 //! some text of the grammar has there.
 //! Stands on `ppm_text`, `ppm_expected` and `ppm_printer`; `ppm_top` calls it.
@@ -11,6 +11,7 @@
 
 mod declaring;
 mod explaining;
+mod hints;
 mod laws;
 mod meaning;
 mod names;

@@ -8,7 +8,8 @@ ghost use Rattle.ppm_explain.specs.Meanings.{meaning_text};
 ghost use Rattle.ppm_explain.specs.Sources.{bound_notes as notes_of_bound, AreNotes, ByStop, BySyntax};
 ghost use Rattle.ppm_explain.specs.Sources.{bytes_spot, bound_procedure};
 
-use crate::meaning::{push_hint, push_meaning};
+use crate::hints::push_hint;
+use crate::meaning::push_meaning;
 use crate::names::{push_around, push_names, push_numbered};
 use crate::place::{push_line, push_spot};
 use crate::words::{push_expected, push_found};
@@ -58,7 +59,7 @@ fn stop_notes(
     push_spot(alloc, &mut text, source, refusal.place)?;
     push_found(alloc, &mut text, tokens, refusal.place)?;
     push_expected(&mut text, expected)?;
-    push_hint(&mut text, tokens, refusal.place)?;
+    push_hint(&mut text, &expected.terminals, tokens, refusal.place)?;
     push_meaning(&mut text, refusal)?;
     Ok(text)
 }
@@ -126,6 +127,7 @@ fn bound_notes(alloc: Global, tokens: &[Token], refusal: Refusal) -> Result<Vec<
 }
 
 /// What is said of a refusal without a place.
+#[tactic(auto, using(crate::proofs::ExplainRows::no_fault, crate::proofs::FrontLemmas::fronts))]
 fn plain_notes(alloc: Global, refusal: Refusal) -> Result<Vec<u8>, NoMemory>
     ensures { IfOk result (λ text. text.items ≡ meaning_text refusal) }
 {

@@ -2,7 +2,7 @@
 ghost use Rattle.std.specs.Prelude.{◌≡◌, ◌++◌, OnOk, map, MatchOption, None, Some};
 ghost use Rattle.ppm_printer.specs.Spelled.{token_text};
 ghost use Rattle.ppm_expected.specs.Language.{terminal_of};
-ghost use Rattle.ppm_explain.specs.Words.{quoted, kind_text, found_text, terminal_text};
+ghost use Rattle.ppm_explain.specs.Words.{quoted, kind_text, found_text, terminal_text, more_text};
 ghost use Rattle.ppm_explain.specs.Words.{kinds_text, end_text, expected_text, further_text};
 ghost use Rattle.ppm_explain.specs.Words.{counted_text, located_text, four_text, listed_text};
 ghost use Rattle.ppm_explain.specs.Words.{kind_name as name_of_kind, thing_text, token_in};
@@ -142,6 +142,19 @@ fn push_further(text: &mut Vec<u8>, terminal: Terminal) -> Result<(), NoMemory>
     push_terminal(text, terminal)
 }
 
+/// Appends kinds of tokens behind others.
+fn push_more(text: &mut Vec<u8>, terminals: &[Terminal]) -> Result<(), NoMemory>
+    ensures { OnOk result (text.new.items
+        ≡ text.old.items ++ more_text (map terminal_of terminals.now)) }
+{
+    let mut left = terminals;
+    'terminals: while let Some((terminal, rest)) = left.split_first() {
+        push_further(text, *terminal)?;
+        left = rest;
+    }
+    Ok(())
+}
+
 /// Appends kinds of tokens, with a comma between each two.
 fn push_kinds(text: &mut Vec<u8>, terminals: &[Terminal]) -> Result<(), NoMemory>
     ensures { OnOk result (text.new.items
@@ -151,10 +164,7 @@ fn push_kinds(text: &mut Vec<u8>, terminals: &[Terminal]) -> Result<(), NoMemory
         None => Ok(()),
         Some((first, rest)) => {
             push_terminal(text, *first)?;
-            for terminal in rest {
-                push_further(text, *terminal)?;
-            }
-            Ok(())
+            push_more(text, rest)
         }
     }
 }
