@@ -18,4 +18,4 @@ trace-requires c = record {
 pub returns : goal.returns
 returns c =
     leg_tells c.args.options c.args.schedule.now.items c.args.saved _ _ _ c.renew-image.ensures c.in_ok-machine.ensures c.requires.stands _ _ _
-    c.as_slice.ensures c.in_ok-names.ensures c.code.ensures c.form_by-form.ensures _ c.in_ok-text.ensures.text
+    c.as_slice.ensures.value c.in_ok-names.ensures c.code.ensures c.form_by-form.ensures _ c.in_ok-text.ensures.text
