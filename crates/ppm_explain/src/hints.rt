@@ -245,11 +245,7 @@ fn sign_hint(terminals: &[Terminal], sign: Sign) -> &'static str
 }
 
 /// Appends what is said of a token that cannot come.
-fn push_kind_hint(
-    text: &mut Vec<u8>,
-    terminals: &[Terminal],
-    kind: &Kind,
-) -> Result<(), NoMemory>
+fn push_kind_hint(text: &mut Vec<u8>, terminals: &[Terminal], kind: &Kind) -> Result<(), NoMemory>
     ensures { OnOk result (text.new.items
         ≡ text.old.items ++ kind_hint (map terminal_of terminals.now) kind.now) }
 {

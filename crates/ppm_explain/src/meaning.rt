@@ -53,7 +53,8 @@ fn region_meaning(number: u32) -> &'static str
             "a name is declared in this line that is in force already, hidden or not; or a second array, procedure or input has it",
         3 =>
             "a region (an array, a `mut`, a `ref` or a part) stands where a number is asked for, or a number where the name of a region is",
-        4 => "the procedure that is called in this line has more or fewer parameters than the call has arguments",
+        4 =>
+            "the procedure that is called in this line has more or fewer parameters than the call has arguments",
         5 => "a region that is `ref` is written in this line, or lent to a `mut` parameter",
         6 =>
             "a region of this line is lent twice in one call or fork, both sides counted, and not to `ref` parameters alone; `split` makes two regions of one",

@@ -8,13 +8,13 @@ pub returns : goal.returns
 returns c =
     subst
     (λ w. OnOk c.push_four.result
-        (c.push_four.new.text.items
-            ≡ c.args.text.now.items
-            ++ four_text (codes "note: `") w (codes "` is a word of the language, and no name") (word_advice c.args.keyword)))
+    (c.push_four.new.text.items
+    ≡ c.args.text.now.items
+    ++ four_text (codes "note: `") w (codes "` is a word of the language, and no name") (word_advice c.args.keyword)))
     c.keyword_spelling.ensures
     (subst
-        (λ w. OnOk c.push_four.result
-            (c.push_four.new.text.items
-                ≡ c.args.text.now.items
-                ++ four_text (codes "note: `") c.keyword_spelling.result.now (codes "` is a word of the language, and no name") w))
-        c.word_advice.ensures c.push_four.ensures)
+    (λ w. OnOk c.push_four.result
+    (c.push_four.new.text.items
+    ≡ c.args.text.now.items
+    ++ four_text (codes "note: `") c.keyword_spelling.result.now (codes "` is a word of the language, and no name") w))
+    c.word_advice.ensures c.push_four.ensures)
