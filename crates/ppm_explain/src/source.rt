@@ -127,7 +127,6 @@ fn bound_notes(alloc: Global, tokens: &[Token], refusal: Refusal) -> Result<Vec<
 }
 
 /// What is said of a refusal without a place.
-#[tactic(auto, using(crate::proofs::ExplainRows::no_fault, crate::proofs::FrontLemmas::fronts))]
 fn plain_notes(alloc: Global, refusal: Refusal) -> Result<Vec<u8>, NoMemory>
     ensures { IfOk result (λ text. text.items ≡ meaning_text refusal) }
 {
