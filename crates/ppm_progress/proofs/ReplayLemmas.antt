@@ -45,7 +45,7 @@ use Rattle.ppm_runs.specs.Work.{undoes, undone_of, undone_in}
 use Rattle.ppm_runs.proofs.HeirWork.{work_is_bounded}
 use Rattle.ppm_progress.specs.Works.{HurtsNone}
 use Rattle.ppm_progress.specs.Laps.{IsLap}
-use Rattle.ppm_progress.specs.Enough.{SparesAll, faults_of, enough_acts}
+use Rattle.ppm_progress.specs.Enough.{IsNoHardAct, faults_of, enough_acts}
 use Rattle.ppm_progress.specs.Replays.{ReplaysEnd}
 use Rattle.ppm_progress.proofs.LapLemmas.{IsSet, set_on, work, work_grows, lap_after}
 use Rattle.ppm_progress.proofs.ListLemmas.{both, front}
@@ -53,7 +53,7 @@ use Rattle.ppm_progress.proofs.RoundLemmas.{IsStepDue, rounds_due, rounds_add, r
 
 -- what is due names what is there, and is no hard fault
 abbrev Sparing : (processors : ℕ) → Due → Type 0
-Sparing processors due = IsActAmong processors (act_of due) × SparesAll (act_of due)
+Sparing processors due = IsActAmong processors (act_of due) × IsNoHardAct (act_of due)
 
 victim_there : (processors c j : ℕ) (stated : Option ℕ) (loads : Bool) → 0 < processors → IsVictimAmong processors stated
     → victim_of processors c j stated loads < processors
@@ -69,7 +69,7 @@ turn_there processors some w (scheduled.Step c stated) among = record {
 turn_there processors some w (scheduled.Fails c faults.Soft) among = record { processor = among; act = tt }
 turn_there processors some w (scheduled.Fails c faults.Hard) among = record { processor = among; act = tt }
 
-turn_spares : (processors : ℕ) (w : Course) (act : ScheduledAct) → SparesAll act → HurtsNone (turn_of processors w act)
+turn_spares : (processors : ℕ) (w : Course) (act : ScheduledAct) → IsNoHardAct act → HurtsNone (turn_of processors w act)
 turn_spares processors w (scheduled.Step c stated) spares = tt
 turn_spares processors w (scheduled.Fails c faults.Soft) spares = tt
 turn_spares processors w (scheduled.Fails c faults.Hard) spares = absurd spares
@@ -234,13 +234,13 @@ module _ (code : CodeParts) (input : List NamedArray) (s : Shape) (keeper : ℕ)
       ]
 
   module _ (items : List ScheduleItem) (there : AllByRecursion (λ item. IsActAmong s.processors item.act) items)
-      (spares : AllByRecursion (λ item. SparesAll item.act) items) (end : End Result)
+      (spares : AllByRecursion (λ item. IsNoHardAct item.act) items) (end : End Result)
       (ends : Ends (strands s code) (root_strand code input) (arrays_at (view s im.words)) end) (turns : ℕ)
       (enough : enough_acts (acts_of items) s.processors end.counts.capsules ≤ turns) where
     abbrev count : ℕ
     count = 218 * end.counts.capsules + 171 * faults_of (acts_of items) + 7
 
-    paired : (l : List ScheduleItem) → AllByRecursion (λ item. IsActAmong s.processors item.act) l → AllByRecursion (λ item. SparesAll item.act) l
+    paired : (l : List ScheduleItem) → AllByRecursion (λ item. IsActAmong s.processors item.act) l → AllByRecursion (λ item. IsNoHardAct item.act) l
         → AllByRecursion (λ item. Sparing p (Listed item.act)) l
     paired [] a b = tt
     paired (item ∷ l) a b = ((a.0, b.0), paired l a.1 b.1)

@@ -4,11 +4,11 @@ use Rattle.ppm_plan.specs.declared.fault.Fault.TheVariants as faults
 use Rattle.ppm_plan.specs.declared.schedule_item.ScheduledAct.{ScheduledAct}
 use Rattle.ppm_plan.specs.declared.schedule_item.ScheduledAct.TheVariants as scheduled
 
--- no act of the list is a hard fault
-abbrev pub SparesAll : ScheduledAct → Type 0
-SparesAll (scheduled.Step processor victim) = Unit {0}
-SparesAll (scheduled.Fails processor faults.Soft) = Unit {0}
-SparesAll (scheduled.Fails processor faults.Hard) = ⊥
+-- an act that is no hard fault
+abbrev pub IsNoHardAct : ScheduledAct → Type 0
+IsNoHardAct (scheduled.Step processor victim) = Unit {0}
+IsNoHardAct (scheduled.Fails processor faults.Soft) = Unit {0}
+IsNoHardAct (scheduled.Fails processor faults.Hard) = ⊥
 
 -- how many faults these acts are
 abbrev pub faults_of : List ScheduledAct → ℕ

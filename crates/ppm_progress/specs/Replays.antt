@@ -17,7 +17,7 @@ use Rattle.ppm_choice.specs.ScheduleLaws.{finish_from}
 use Rattle.ppm_frames.specs.Views.{view}
 use Rattle.ppm_frames.specs.Seen.{arrays_at}
 use Rattle.ppm_kept.specs.Running.{IsFair, strands}
-use Rattle.ppm_progress.specs.Enough.{SparesAll, enough_acts}
+use Rattle.ppm_progress.specs.Enough.{IsNoHardAct, enough_acts}
 
 -- From an image of a sound code, with either takeover: if the depth-first run of the root ends, each schedule without hard faults, whose acts name
 -- what is there, ends with so many acts: the finish word isn't 0 then.
@@ -25,7 +25,7 @@ abbrev pub ReplaysEnd : Type 0
 ReplaysEnd = (code : CodeParts) (input : List NamedArray) (s : Shape) (keeper : ℕ) (image : Image)
     → IsFair code → Opens code input s keeper image
     → Calm (strands s code) (root_strand code input) (arrays_at (view s image.words))
-    → (items : List ScheduleItem) → AllByRecursion (λ item. IsActAmong s.processors item.act) items → AllByRecursion (λ item. SparesAll item.act) items
+    → (items : List ScheduleItem) → AllByRecursion (λ item. IsActAmong s.processors item.act) items → AllByRecursion (λ item. IsNoHardAct item.act) items
     → (end : End Result) → Ends (strands s code) (root_strand code input) (arrays_at (view s image.words)) end
     → (turns : ℕ) → enough_acts (acts_of items) s.processors end.counts.capsules ≤ turns
     → finish_from s code image.words items turns ≢ 0

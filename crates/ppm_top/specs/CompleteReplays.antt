@@ -17,7 +17,7 @@ use Rattle.ppm_plan.specs.Faults.{acts_of}
 use Rattle.ppm_plan.specs.Forms.{schedule_form}
 use Rattle.ppm_plan.specs.Refusals.{IsAccepted}
 use Rattle.ppm_plan.specs.declared.schedule_item.ScheduleItem.{ScheduleItem}
-use Rattle.ppm_progress.specs.Enough.{SparesAll, enough_acts}
+use Rattle.ppm_progress.specs.Enough.{IsNoHardAct, enough_acts}
 use Rattle.ppm_answers.specs.declared.status.Status.{Status}
 use Rattle.ppm_answers.specs.declared.status.Status.TheVariants as statuses
 use Rattle.ppm_answers.specs.Rows.{IsOneOf, GoesWell}
@@ -27,7 +27,7 @@ use Rattle.ppm_driver.specs.ReplayRows as rows
 
 -- no item is a hard fault
 abbrev pub NoneIsHard : List ScheduleItem → Type 0
-NoneIsHard items = AllByRecursion (λ item. SparesAll item.act) items
+NoneIsHard items = AllByRecursion (λ item. IsNoHardAct item.act) items
 
 -- the code, run depth first on this input, has no end; or it has one, and fewer acts may be made than are enough for these items; or one of these is
 -- a hard fault
