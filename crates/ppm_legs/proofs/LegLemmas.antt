@@ -27,7 +27,7 @@ use Rattle.ppm_answers.specs.Reading.{FrontsDecide, TextMay}
 use Rattle.ppm_cli.specs.declared.resume.ResumeOptions.{ResumeOptions}
 use Rattle.ppm_loading.specs.Planned.{refusal_of as plan_refusal}
 use Rattle.ppm_loading.specs.Programs.{ProgramMay}
-use Rattle.ppm_driver.specs.Resumes.{SavedState, saved_finish, refusal_of, state_of}
+use Rattle.ppm_driver.specs.Resumes.{SavedState, saved_finish, GoesOnFrom, refusal_of, state_of}
 use Rattle.ppm_driver.proofs.ResumeLemmas.{fronts_decide}
 use Rattle.ppm_legs.specs.SavedTexts.{IsBroken, IsLegOf, LegMay, NoLegMay, NoStateMay, ReadsLeg, ReadsState, RefusedHas, StateHas, TextHas}
 
@@ -137,20 +137,21 @@ module _ (Has : List ScheduleItem → SavedState → Answer → Type 0) where
         any = record { turns = 1; looks = 1; seed = 0 }
     fronts text rest a long h = let short = h.is.short in absurd (omega (arith, long, short))
 
--- the machine that goes on with what fresh processors find of a state, after the acts of a schedule
-pub leg_is : (saved : Saved) (keeper : ℕ) (r : Renewed) (begun m : Situation) (items : List ScheduleItem) (acts : ℕ) → IsRenewalOf saved keeper r
-    → begun ≡ loaded r.image.shape r.code r.image.lengths r.image.words → m ≡ followed begun items acts → IsLegOf (state_of saved) items acts m
-leg_is saved keeper r begun m items acts is loads ends =
+-- a machine with what fresh processors find of a state goes on from it
+pub goes_on : (saved : Saved) (keeper : ℕ) (r : Renewed) (begun : Situation) → IsRenewalOf saved keeper r
+    → begun ≡ loaded r.image.shape r.code r.image.lengths r.image.words → GoesOnFrom (state_of saved) begun
+goes_on saved keeper r begun is loads =
     let lengths : r.image.lengths ≡ lengths_of saved.names = is.lengths_are ∙ saved.whole.lengths_are in
     record {
-      start = begun;
-      goes_on = record {
-        words = r.image.words;
-        renewed = is.words_are;
-        loads = loads ∙ (λ i. loaded (is.shape_is i) (is.code_is i) (lengths i) r.image.words);
-      };
-      ends = ends;
+      words = r.image.words;
+      renewed = is.words_are;
+      loads = loads ∙ (λ i. loaded (is.shape_is i) (is.code_is i) (lengths i) r.image.words);
     }
+
+-- so it is after the acts of a schedule
+pub leg_is : (saved : Saved) (keeper : ℕ) (r : Renewed) (begun m : Situation) (items : List ScheduleItem) (acts : ℕ) → IsRenewalOf saved keeper r
+    → begun ≡ loaded r.image.shape r.code r.image.lengths r.image.words → m ≡ followed begun items acts → IsLegOf (state_of saved) items acts m
+leg_is saved keeper r begun m items acts is loads ends = record { start = begun; goes_on = goes_on saved keeper r begun is loads; ends = ends }
 
 -- it has the sizes and the code of the state
 module _ (z : SavedState) (items : List ScheduleItem) (acts : ℕ) (m : Situation) (leg : IsLegOf z items acts m) where

@@ -1,12 +1,11 @@
 -- The answers that a state has where its leg is told.
-use Rattle.std.proofs.Common.{◌≡◌, ◌≢◌, ◌≤◌, ◌+◌, ◌^◌, ℕ, List, None, refl, sym, ap, ◌∙◌, subst, arith}
+use Rattle.std.proofs.Common.{◌≡◌, ◌≢◌, ◌≤◌, ◌+◌, ◌^◌, ℕ, List, None, sym, ap, ◌∙◌, subst, arith}
 use Rattle.ppm_cells.specs.Finish.{finish_of}
 use Rattle.ppm_code.specs.declared.code.CodeParts.{CodeParts}
 use Rattle.ppm_core.specs.Situation.{Situation, loaded}
 use Rattle.ppm_naming.specs.declared.names.Names.{Names}
 use Rattle.ppm_plan.specs.Correct.{HaveOneAnswer as PlansHaveOneAnswer}
 use Rattle.ppm_plan.specs.declared.schedule_item.ScheduleItem.{ScheduleItem}
-use Rattle.ppm_following.specs.Followed.{followed}
 use Rattle.ppm_saved.specs.Renewal.{IsRenewalOf}
 use Rattle.ppm_saved.specs.declared.names.NamedLength.{NamedLength}
 use Rattle.ppm_saved.specs.declared.renewal.Renewed.{Renewed}
@@ -22,7 +21,7 @@ use Rattle.ppm_cli.specs.Words.{AreSavedTraced}
 use Rattle.ppm_driver.specs.Resumes.{SavedState, saved_finish, state_of}
 use Rattle.ppm_driver.specs.Traces.{form_by}
 use Rattle.ppm_legs.specs.Traces.{StateTraces, HaveOneAnswer, text_by, turns_by}
-use Rattle.ppm_legs.proofs.LegLemmas.{AreKinds, fronts, leg_is}
+use Rattle.ppm_legs.proofs.LegLemmas.{AreKinds, fronts, goes_on}
 use Rattle.ppm_legs.proofs.OneLemmas.{one_start, text_one}
 
 -- the answers that a state has
@@ -53,13 +52,12 @@ pub leg_tells : (options : TraceSavedOptions) (items : List ScheduleItem) (saved
     → (text : List ℕ) → text ≡ trace_as names form options.from begun (turns_by options items begun)
     → StateTraces options items (state_of saved) (answers.Traced text)
 leg_tells options items saved keeper r begun is loads stands arrays names code same named coded form text told =
-    let leg = leg_is saved keeper r begun (followed begun items 0) items 0 is loads refl in
     let code_is : code ≡ saved.code = coded ∙ ap (λ (m : Situation). m.code) loads ∙ is.code_is in
     let all : names ≡ saved_names saved.names saved.code = named ∙ (λ i. saved_names ((same ∙ is.names_are) i) (code_is i)) in
     record {
       stands = stands;
       start = begun;
-      goes_on = leg.goes_on;
+      goes_on = goes_on saved keeper r begun is loads;
       tells = ap (λ x. answers.Traced x) (told ∙ (λ i. trace_as (all i) (form i) options.from begun (turns_by options items begun)));
     }
 
