@@ -1,3 +1,12 @@
+pub mod LegLemmas
+pub mod SavedAnswerLemmas
+pub mod SavedStopLemmas
+pub mod ChainLemmas
+pub mod OfSavedStop
+pub mod SavedReplayLemmas
+pub mod OfSavedReplay
+pub mod SavedTraceLemmas
+pub mod OfSavedTrace
 pub mod CausesLemmas
 pub mod UnfinishedLemmas
 pub mod CompleteReplay

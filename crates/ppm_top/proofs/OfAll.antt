@@ -56,9 +56,9 @@ use Rattle.ppm_driver.specs.Runs.{TextHas as RunTextHas}
 use Rattle.ppm_driver.specs.Stops.{TextReads as StopTextReads}
 use Rattle.ppm_driver.specs.Sweeps.{TextHas as SweepTextHas}
 use Rattle.ppm_driver.specs.Traces.{TextHas as TraceTextHas}
-use Rattle.ppm_legs.specs.Replays.{ReplayHas as ReplaySavedHas}
-use Rattle.ppm_legs.specs.Stops.{StopReads as StopSavedReads}
-use Rattle.ppm_legs.specs.Traces.{TraceHas as TraceSavedHas}
+use Rattle.ppm_top.specs.SavedReplays.{ReplayHas as ReplaySavedHas}
+use Rattle.ppm_top.specs.SavedStops.{StopReads as StopSavedReads}
+use Rattle.ppm_top.specs.SavedTraces.{TraceHas as TraceSavedHas}
 use Rattle.ppm_driver.proofs.OfStop as of_stop
 use Rattle.ppm_driver.proofs.OfExample as of_example
 use Rattle.ppm_driver.proofs.OfReplay as of_replay

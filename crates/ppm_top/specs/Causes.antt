@@ -31,9 +31,9 @@ use Rattle.ppm_driver.specs.Runs.{RunMay, RunTells}
 use Rattle.ppm_driver.specs.Stops.{StopMay}
 use Rattle.ppm_driver.specs.Sweeps.{SweepMay}
 use Rattle.ppm_driver.specs.Traces.{TraceMay}
-use Rattle.ppm_legs.specs.Replays.{ReplayMay as ReplaySavedMay}
-use Rattle.ppm_legs.specs.Stops.{StopMay as StopSavedMay}
-use Rattle.ppm_legs.specs.Traces.{TraceMay as TraceSavedMay}
+use Rattle.ppm_top.specs.SavedReplays.{ReplayMay as ReplaySavedMay}
+use Rattle.ppm_top.specs.SavedStops.{StopMay as StopSavedMay}
+use Rattle.ppm_top.specs.SavedTraces.{TraceMay as TraceSavedMay}
 
 -- the answers where the words give no command
 abbrev pub NoCommandMay : Outside → Answer → Type 0

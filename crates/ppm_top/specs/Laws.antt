@@ -34,10 +34,10 @@ use Rattle.ppm_driver.specs.Stops.{HaveOneAnswer as StopsHaveOneAnswer}
 use Rattle.ppm_driver.specs.SweepRows.{SweepsAreAsCode}
 use Rattle.ppm_driver.specs.Sweeps.{HaveOneAnswer as SweepsHaveOneAnswer}
 use Rattle.ppm_driver.specs.Traces.{HaveOneAnswer as TracesHaveOneAnswer}
-use Rattle.ppm_legs.specs.Chains.{StopsGoOnChains}
-use Rattle.ppm_legs.specs.Replays.{HaveOneAnswer as SavedReplaysHaveOneAnswer}
-use Rattle.ppm_legs.specs.Stops.{HaveOneAnswer as SavedStopsHaveOneAnswer}
-use Rattle.ppm_legs.specs.Traces.{HaveOneAnswer as SavedTracesHaveOneAnswer}
+use Rattle.ppm_top.specs.Chains.{StopsGoOnChains}
+use Rattle.ppm_top.specs.SavedReplays.{HaveOneAnswer as SavedReplaysHaveOneAnswer}
+use Rattle.ppm_top.specs.SavedStops.{HaveOneAnswer as SavedStopsHaveOneAnswer}
+use Rattle.ppm_top.specs.SavedTraces.{HaveOneAnswer as SavedTracesHaveOneAnswer}
 use Rattle.ppm_top.specs.ReplayLaws.{CaseReplaysComplete, ReplaysComplete, UnfinishedNeedMore, UnfinishedProgramsNeedMore}
 
 -- what the crates of the commands show of every text

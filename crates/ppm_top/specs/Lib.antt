@@ -1,3 +1,11 @@
+pub mod SavedTexts
+pub mod SavedStops
+pub mod SavedReplays
+pub mod SavedReplayRows
+pub mod SavedTraces
+pub mod SavedTraceRows
+pub mod Chains
+pub mod SavedStopRows
 pub mod Causes
 pub mod CompleteReplays
 pub mod Laws

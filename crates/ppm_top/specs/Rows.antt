@@ -52,10 +52,10 @@ use Rattle.ppm_driver.specs.CodeResumes.{IsTextLeftByCode}
 use Rattle.ppm_driver.specs.StopRows.{HasRead, StopRows}
 use Rattle.ppm_driver.specs.SweepRows.{SweepRows}
 use Rattle.ppm_driver.specs.TraceRows.{TraceRows}
-use Rattle.ppm_legs.specs.ReplayRows.{ReplayRows as ReplaySavedRows}
-use Rattle.ppm_legs.specs.SavedTexts.{RefusesSchedule}
-use Rattle.ppm_legs.specs.StopRows.{StopRows as StopSavedRows}
-use Rattle.ppm_legs.specs.TraceRows.{TraceRows as TraceSavedRows}
+use Rattle.ppm_top.specs.SavedReplayRows.{ReplayRows as ReplaySavedRows}
+use Rattle.ppm_top.specs.SavedTexts.{RefusesSchedule}
+use Rattle.ppm_top.specs.SavedStopRows.{StopRows as StopSavedRows}
+use Rattle.ppm_top.specs.SavedTraceRows.{TraceRows as TraceSavedRows}
 use Rattle.ppm_plan.specs.Forms.{plan_form, schedule_form}
 use Rattle.ppm_top.specs.Orders.{Orders, plan_of, saved_schedule_of, schedule_of}
 

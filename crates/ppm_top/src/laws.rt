@@ -2,7 +2,11 @@
 ghost use Rattle.ppm_top.specs.Laws.{ProgramLaws};
 ghost use Rattle.ppm_top.specs.SoundCases.{SoundCasesRunAsDepth};
 
+use crate::chains::stops_go_on_chains;
 use crate::complete_replay::{replays_complete, replays_of_code_complete};
+use crate::saved_answers::{
+    saved_replays_have_one_answer, saved_stops_have_one_answer, saved_traces_have_one_answer,
+};
 use ppm_case::faults_tell_cases;
 use ppm_commands::{
     case_texts_are_cases, case_texts_have_one_answer, cases_have_one_answer, codes_are_faithful,
@@ -19,10 +23,6 @@ use ppm_driver::{
     traces_have_one_answer,
 };
 use ppm_explain::fronts_are_explained;
-use ppm_legs::{
-    saved_replays_have_one_answer, saved_stops_have_one_answer, saved_traces_have_one_answer,
-    stops_go_on_chains,
-};
 use ppm_plan::have_one_answer as plans_have_one_answer;
 use ppm_ram::texts_are_of_rams;
 

@@ -8,6 +8,9 @@ ghost use Rattle.ppm_top.specs.Causes.{IsAnswered};
 ghost use Rattle.ppm_top.specs.Rows.{ProgramRows};
 
 use crate::laws::program_laws;
+use crate::replay_saved::replay_saved_command;
+use crate::stop_saved::stop_saved_command;
+use crate::trace_saved::trace_saved_command;
 use ppm_answers::{Answer, Status, deliver};
 use ppm_cli::{Command, read_words};
 use ppm_commands::{
@@ -20,7 +23,6 @@ use ppm_driver::{
     stop_command, sweep_case_command, sweep_command, trace_case_command, trace_command,
 };
 use ppm_explain::explain_command;
-use ppm_legs::{replay_saved_command, stop_saved_command, trace_saved_command};
 use ppm_ports::{Sink, Source, Watch};
 use ppm_words::NoMemory;
 use std::alloc::Global;
