@@ -2,7 +2,6 @@
 use Rattle.std.proofs.Common.{◌≡◌, ◌≢◌, ◌≤◌, ◌<◌, ℕ, List, [], ◌∷◌, inl, inr, sym, subst, arith}
 use Rattle.std.specs.List.{AllByRecursion}
 use Rattle.std.proofs.lemmas.Bool.{cases_lt}
-use Rattle.std.proofs.lemmas.List.Elements.{recursion_from_All}
 use Rattle.ppm_strands.specs.Calm.{Calm}
 use Rattle.ppm_strands.specs.Run.{End as CapsuleEnd}
 use Rattle.ppm_words.specs.declared.named_array.NamedArray.{NamedArray}
@@ -25,9 +24,8 @@ use Rattle.ppm_plan.specs.Correct.{HaveOneAnswer as PlansHaveOneAnswer}
 use Rattle.ppm_plan.specs.Faults.{acts_of}
 use Rattle.ppm_plan.specs.Forms.{schedule_form}
 use Rattle.ppm_plan.specs.Refusals.{IsAccepted}
-use Rattle.ppm_plan.specs.Schedules.{IsActAmong, IsItemAmong}
+use Rattle.ppm_plan.specs.Schedules.{IsActAmong}
 use Rattle.ppm_plan.specs.declared.schedule_item.ScheduleItem.{ScheduleItem}
-use Rattle.ppm_plan.proofs.AmongLemmas.{all_among}
 use Rattle.ppm_core.specs.Situation.{Situation, finish_in}
 use Rattle.ppm_following.specs.Followed.{followed}
 use Rattle.ppm_frames.specs.Seen.{arrays_at}
@@ -58,13 +56,8 @@ use Rattle.ppm_driver.proofs.AsCodeLemmas.{calm_as, ends_as}
 use Rattle.ppm_driver.proofs.CaseHeadlineLemmas.{may_run}
 use Rattle.ppm_driver.proofs.EndLemmas.{keeper_opened}
 use Rattle.ppm_driver.proofs.ReplayLemmas.{of_code}
+use Rattle.ppm_top.proofs.ActsAmong.{acts_among}
 use Rattle.ppm_top.proofs.UnfinishedLemmas.{unfinished_has}
-
--- items that name what is there
-acts_among : (processors : ℕ) (items : List ScheduleItem) → AllByRecursion (IsItemAmong processors) items
-    → AllByRecursion (λ item. IsActAmong processors item.act) items
-acts_among processors [] all = tt
-acts_among processors (item ∷ items) all = (all.0.act, acts_among processors items all.1)
 
 module _ (shows : ImagesShowTheRun) (law : ReplaysEnd) (options : ReplayOptions) (schedule : List ℕ) (items : List ScheduleItem)
     (accepted : IsAccepted schedule_form schedule options.processors items) (spares : NoneIsHard items) (code : CodeParts) (input : List NamedArray)
@@ -85,8 +78,7 @@ module _ (shows : ImagesShowTheRun) (law : ReplaysEnd) (options : ReplayOptions)
       calm_as shown.strands shown.root shown.arrays may.sound.calm in
       let fair : IsFair code = record { code_is = may.code_is; tidy = may.sound.tidy; free = may.sound.free } in
       let ends = ends_as (sym shown.strands) (sym shown.root) (sym shown.arrays) end comes in
-      let all = all_among schedule options.processors items accepted.has accepted.obeyed.there in
-      let named = acts_among options.processors items (recursion_from_All (IsItemAmong options.processors) items all) in
+      let named = acts_among options.processors 1 items accepted.obeyed.there in
       let there = subst (λ (n : ℕ). AllByRecursion (λ item. IsActAmong n item.act) items) (sym b.sized.processors) named in
       let acts = subst (λ (n : ℕ). enough_acts (acts_of items) n end.counts.capsules ≤ options.turns) (sym b.sized.processors) enough in
       subst (λ (x : Situation). finish_in (followed x items options.turns) ≢ 0) (sym b.loads)

@@ -8,6 +8,7 @@ pub mod OfSavedReplay
 pub mod SavedTraceLemmas
 pub mod OfSavedTrace
 pub mod CausesLemmas
+pub mod ActsAmong
 pub mod UnfinishedLemmas
 pub mod CompleteReplay
 pub mod OfCases
