@@ -82,9 +82,9 @@ fn meaning_of(status: Status) -> &'static str {
         }
         Status::SavedRefused => { "saved text refused: the fault and its line (docs/SAVED.md)" }
         Status::Broken => {
-            "saved words broken: place P, of `resume`, `stop`, or a case that isn't sound: the machine\n       \
-             can't go on from a word at place P; P is 64 where no place is known, or where the\n       \
-             saved finish word means nothing"
+            "saved words broken: place P, of `resume`, wherever `--input saved` stands, or of a case that\n       \
+             isn't sound: the machine can't go on from a word at place P; P is 64 where no place is\n       \
+             known, or where the saved finish word means nothing"
         }
         Status::Differs => {
             "of `sweep` `differs: SCHEDULE`, a line `takeover ..`, and what `replay` says of that\n       \

@@ -21,7 +21,7 @@ use Rattle.ppm_driver.specs.Legs.{worked_in_all}
 use Rattle.ppm_driver.specs.ResumeLaws.{ResumeLaws}
 use Rattle.ppm_driver.proofs.ResumedOfCode.{left_words_stand}
 use Rattle.ppm_top.specs.SavedReplays.{StateReplays, ReplayHas, ReplayMay, HaveOneAnswer, turns_by}
-use Rattle.ppm_top.specs.SavedReplayRows.{ReplayRows, ReplaySays, WritesUnfinished}
+use Rattle.ppm_top.specs.SavedReplayRows.{SavedReplayRows, ReplaySays, WritesUnfinished}
 use Rattle.ppm_top.specs.SavedTexts.{ItemsHave}
 use Rattle.ppm_top.proofs.SavedReplayLemmas.{replay_kind, replays_are_as_code}
 
@@ -102,7 +102,7 @@ module _ (laws : ResumeLaws) (options : ReplaySavedOptions) (schedule : List ℕ
     rows_of : HaveOneAnswer → TextRows saved_limit (ReplayHas options schedule) (ReplaySays options schedule o) o status
     rows_of one = text_rows saved_limit (ReplayHas options schedule) (one.front options schedule) (ReplaySays options schedule o) o status a of_ports by
 
-    pub replay_rows : HaveOneAnswer → ReplayRows options schedule o status
+    pub replay_rows : HaveOneAnswer → SavedReplayRows options schedule o status
     replay_rows one = record {
       rows = rows_of one;
       shown = λ all e well answer h.

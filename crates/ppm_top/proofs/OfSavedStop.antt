@@ -23,7 +23,7 @@ use Rattle.ppm_driver.proofs.ResumedOfCode.{left_words_stand}
 use Rattle.ppm_top.specs.Chains.{IsTextOfChain, StopsGoOnChains}
 use Rattle.ppm_top.specs.SavedTexts.{IsBroken, ItemsHave}
 use Rattle.ppm_top.specs.SavedStops.{StateReads, StopHas, StopReads, StopMay, HaveOneAnswer, state_after, text_of}
-use Rattle.ppm_top.specs.SavedStopRows.{GoesOnChains, StopRows, StopSays, WritesBroken}
+use Rattle.ppm_top.specs.SavedStopRows.{GoesOnChains, SavedStopRows, StopSays, WritesBroken}
 use Rattle.ppm_top.proofs.SavedStopLemmas.{same_text, stop_kind}
 
 module _ (options : StopSavedOptions) (schedule : List ℕ) where
@@ -117,7 +117,7 @@ module _ (laws : ResumeLaws) (options : StopSavedOptions) (schedule : List ℕ) 
         s.has.has in
         subst (λ (t : List ℕ). IsTextOfChain code input (stops + 1) (faults + scheduled_faults s.has.items) t) (sym (same_text text next.0 next.1)) next.2
 
-    pub stop_rows : AreSavedStopped options → HaveOneAnswer → StopsGoOnChains → StopRows options schedule o status
+    pub stop_rows : AreSavedStopped options → HaveOneAnswer → StopsGoOnChains → SavedStopRows options schedule o status
     stop_rows are one law = record {
       rows = rows_of one;
       shown = λ all e well answer h.

@@ -18,7 +18,7 @@ use Rattle.ppm_driver.specs.ResumeLaws.{ResumeLaws}
 use Rattle.ppm_driver.proofs.ResumedOfCode.{left_words_stand}
 use Rattle.ppm_top.specs.SavedTexts.{IsBroken, ItemsHave}
 use Rattle.ppm_top.specs.SavedTraces.{StateTraces, TraceHas, TraceMay, HaveOneAnswer, text_by}
-use Rattle.ppm_top.specs.SavedTraceRows.{TraceRows, TraceSays, WritesBroken}
+use Rattle.ppm_top.specs.SavedTraceRows.{SavedTraceRows, TraceSays, WritesBroken}
 use Rattle.ppm_top.proofs.SavedTraceLemmas.{same_text, trace_kind}
 
 -- what was delivered is the answer, or want of memory in its place
@@ -80,7 +80,7 @@ module _ (laws : ResumeLaws) (options : TraceSavedOptions) (schedule : List ℕ)
     rows_of : HaveOneAnswer → TextRows saved_limit (TraceHas options schedule) (TraceSays options schedule o) o status
     rows_of one = text_rows saved_limit (TraceHas options schedule) (one.front options schedule) (TraceSays options schedule o) o status a of_ports by
 
-    pub trace_rows : HaveOneAnswer → TraceRows options schedule o status
+    pub trace_rows : HaveOneAnswer → SavedTraceRows options schedule o status
     trace_rows one = record {
       rows = rows_of one;
       shown = λ all e well answer h.

@@ -6,10 +6,6 @@ use Rattle.ppm_code.specs.declared.code.CodeParts.{CodeParts}
 use Rattle.ppm_plan.specs.declared.schedule_item.ScheduleItem.{ScheduleItem}
 use Rattle.ppm_plan.specs.Forms.{schedule_form}
 use Rattle.ppm_plan.specs.Refusals.{IsAccepted}
-use Rattle.ppm_tree.specs.Tree.{ProgramTree}
-use Rattle.ppm_tree.specs.Program.{initial_arrays}
-use Rattle.ppm_program.specs.Programs.{HasProgram}
-use Rattle.ppm_cut_code.specs.Routines.{code_of}
 use Rattle.ppm_answers.specs.declared.answer.Answer.{Answer}
 use Rattle.ppm_answers.specs.declared.answer.Answer.TheVariants as answers
 use Rattle.ppm_answers.specs.declared.saved.SavedRefusal.{SavedRefusal}
@@ -23,7 +19,7 @@ use Rattle.ppm_driver.specs.Strikes.{scheduled_faults}
 use Rattle.ppm_top.specs.SavedStops.{StateReads}
 
 -- A text is that of a state which a code on an input left, over so many stops: it is never refused, one state is read from it, and that one is left by
--- the code. Its processors, 64 at most, made no more work turns in each stop than one may be told to make; and at most so many faults in all struck a
+-- the code. Its processors, 64 at most, made in all no more work turns than so many stops may be told to make; and at most so many faults in all struck a
 -- row of work.
 pub record IsTextOfChain (code : CodeParts) (input : List NamedArray) (stops faults : ℕ) (text : List ℕ) : Type 0 where
   pub state : SavedState
@@ -51,9 +47,3 @@ StopsGoOnChains = (options : StopSavedOptions) → AreSavedStopped options
     → (stops faults : ℕ) → IsTextOfChain code input stops faults text → stops < 2 ^ 50
     → (answer : Answer) → StateReads options items z answer
     → (saved : List ℕ) × (answer ≡ answers.Saved saved) × IsTextOfChain code input (stops + 1) (faults + scheduled_faults items) saved
-
--- a text of a chain that a source's program began
-pub record IsTextOfSource (source : List ℕ) (stops faults : ℕ) (text : List ℕ) : Type 0 where
-  pub tree : ProgramTree
-  pub has : HasProgram source tree
-  pub chain : IsTextOfChain (code_of tree) (initial_arrays tree) stops faults text

@@ -52,10 +52,10 @@ use Rattle.ppm_driver.specs.CodeResumes.{IsTextLeftByCode}
 use Rattle.ppm_driver.specs.StopRows.{HasRead, StopRows}
 use Rattle.ppm_driver.specs.SweepRows.{SweepRows}
 use Rattle.ppm_driver.specs.TraceRows.{TraceRows}
-use Rattle.ppm_top.specs.SavedReplayRows.{ReplayRows as ReplaySavedRows}
+use Rattle.ppm_top.specs.SavedReplayRows.{SavedReplayRows}
 use Rattle.ppm_top.specs.SavedTexts.{RefusesSchedule}
-use Rattle.ppm_top.specs.SavedStopRows.{StopRows as StopSavedRows}
-use Rattle.ppm_top.specs.SavedTraceRows.{TraceRows as TraceSavedRows}
+use Rattle.ppm_top.specs.SavedStopRows.{SavedStopRows}
+use Rattle.ppm_top.specs.SavedTraceRows.{SavedTraceRows}
 use Rattle.ppm_plan.specs.Forms.{plan_form, schedule_form}
 use Rattle.ppm_top.specs.Orders.{Orders, plan_of, saved_schedule_of, schedule_of}
 
@@ -190,17 +190,17 @@ StopsCaseByWords words o status = (options : StopOptions) (schedule : List ℕ) 
 -- those of `stop` of a saved text where they ask for that, with these options, which are in their ranges, and this schedule
 abbrev pub StopsSavedByWords : List (List ℕ) → Outside → Status → Type 0
 StopsSavedByWords words o status = (options : StopSavedOptions) (schedule : List ℕ) → command_of words ≡ Some (commands.StopSaved options schedule) →
-    AreSavedStopped options × StopSavedRows options schedule (ports_of o) status
+    AreSavedStopped options × SavedStopRows options schedule (ports_of o) status
 
 -- those of `replay` of a saved text where they ask for that, with these options, which are in their ranges, and this schedule
 abbrev pub ReplaysSavedByWords : List (List ℕ) → Outside → Status → Type 0
 ReplaysSavedByWords words o status = (options : ReplaySavedOptions) (schedule : List ℕ) → command_of words ≡ Some (commands.ReplaySaved options schedule)
-    → AreSavedReplayed options × ReplaySavedRows options schedule (ports_of o) status
+    → AreSavedReplayed options × SavedReplayRows options schedule (ports_of o) status
 
 -- those of `trace` of a saved text where they ask for that, with these options, which are in their ranges, and this schedule
 abbrev pub TracesSavedByWords : List (List ℕ) → Outside → Status → Type 0
 TracesSavedByWords words o status = (options : TraceSavedOptions) (schedule : List ℕ) → command_of words ≡ Some (commands.TraceSaved options schedule) →
-    AreSavedTraced options × TraceSavedRows options schedule (ports_of o) status
+    AreSavedTraced options × SavedTraceRows options schedule (ports_of o) status
 
 -- where they ask for the program's own example, with options in their ranges, nothing is read, and its rows hold
 abbrev pub SumsByWords : List (List ℕ) → Outside → Status → Type 0

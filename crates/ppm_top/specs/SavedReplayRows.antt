@@ -57,17 +57,13 @@ module _ (options : ReplaySavedOptions) (schedule : List ℕ) (o : Ports) where
   abbrev pub WritesFault : Type 0
   WritesFault = (r : SavedRefusal) × HasRead (answers.SavedRefused r) × Gets o.err (saved_line r)
 
-  -- it is that of a state, and the schedule is refused for its processors, by a number; err got exactly the line with the number
-  abbrev pub RefusesSchedule : Type 0
-  RefusesSchedule = (number : ℕ) × HasRead (answers.PlanRefused number) × Gets o.err (plan_text number)
-
   -- the run has not ended after exactly as many acts as may be made, and err got exactly the line that says so
   pub record WritesUnfinished : Type 0 where
     pub read : HasRead (answers.Unfinished options.turns)
     pub gets : Gets o.err (unfinished_text options.turns)
 
-  -- the pool of a place is full, as a turn of the run found it, or the saved words said; each sound code that left the state takes more words than a
-  -- pool has, or has no end; and err got exactly the line that says so
+  -- The words say that the pool of a place is full. Each sound code that left the state takes more words than a pool has, or has no end; then the place is
+  -- there. Err got exactly the line that says so.
   pub record WritesOutOfRoom : Type 0 where
     pub place : ℕ
     pub read : HasRead (answers.OutOfRoom place)
@@ -90,7 +86,7 @@ module _ (options : ReplaySavedOptions) (schedule : List ℕ) (o : Ports) where
   ReplaySays statuses.Ended = WritesArrays
   ReplaySays statuses.Trapped = WritesTrap
   ReplaySays statuses.SavedRefused = WritesFault
-  ReplaySays statuses.WordsRefused = RefusesSchedule
+  ReplaySays statuses.WordsRefused = RefusesSchedule schedule o
   ReplaySays statuses.OutOfTurns = WritesUnfinished
   ReplaySays statuses.OutOfRoom = WritesOutOfRoom
   ReplaySays statuses.Broken = WritesBroken
@@ -98,11 +94,11 @@ module _ (options : ReplaySavedOptions) (schedule : List ℕ) (o : Ports) where
 
   -- The rows of `replay` of a saved text with such options and such a schedule. The answer that a text has is written, whichever it is. What is in
   -- `codes` is a law of all such runs, in which no status occurs.
-  pub record ReplayRows (status : Status) : Type 0 where
+  pub record SavedReplayRows (status : Status) : Type 0 where
     pub rows : TextRows saved_limit (ReplayHas options schedule) ReplaySays o status
     pub shown : IsShown (ReplayHas options schedule) o status
     pub codes : ReplaysAreAsCode options
 
 -- such a replay is done: an answer that may come was delivered, and its rows hold
 abbrev pub IsReplayed : ReplaySavedOptions → (schedule : List ℕ) → Ports → Status → Type 0
-IsReplayed options schedule = IsDone (ReplayMay options schedule) (ReplayRows options schedule)
+IsReplayed options schedule = IsDone (ReplayMay options schedule) (SavedReplayRows options schedule)

@@ -36,8 +36,8 @@ IsLasting (finishes.OutOfRoom place) = Unit {0}
 IsLasting (finishes.Broken place) = Unit {0}
 IsLasting _ = ⊥
 
--- how the finish word of a machine came to be what it is that went on from a state for at most so many acts: it is 0, and exactly so many were made; a
--- step proposed it; or it stood in the state
+-- what may stand in the finish word of a machine that went on from a state for at most so many acts: 0, and exactly so many were made; a word that steps
+-- propose; or the word that stood in the state
 pub data HasCause (z : SavedState) (acts : ℕ) (m : Situation) : Type 0 where
   Unended : finish_in m ≡ 0 → m.turns ≡ acts → HasCause z acts m
   Proposed : IsProposedWord z.shape.processors (finish_in m) → HasCause z acts m

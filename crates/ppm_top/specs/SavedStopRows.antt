@@ -13,14 +13,14 @@ use Rattle.ppm_answers.specs.declared.status.Status.{Status}
 use Rattle.ppm_answers.specs.declared.status.Status.TheVariants as statuses
 use Rattle.ppm_answers.specs.Reading.{ReadHas}
 use Rattle.ppm_answers.specs.Rows.{PortsSay, TextRows, IsShown, IsDone}
-use Rattle.ppm_answers.specs.Texts.{broken_text, plan_text, saved_line}
+use Rattle.ppm_answers.specs.Texts.{broken_text, saved_line}
 use Rattle.ppm_cli.specs.declared.stop.StopSavedOptions.{StopSavedOptions}
 use Rattle.ppm_driver.specs.AsCode.{MayRun}
 use Rattle.ppm_driver.specs.CodeResumes.{IsLeftByCode}
 use Rattle.ppm_driver.specs.Resumes.{IsTextOf}
 use Rattle.ppm_driver.specs.Strikes.{scheduled_faults}
 use Rattle.ppm_top.specs.Chains.{IsTextOfChain}
-use Rattle.ppm_top.specs.SavedTexts.{IsBroken}
+use Rattle.ppm_top.specs.SavedTexts.{IsBroken, RefusesSchedule}
 use Rattle.ppm_top.specs.SavedStops.{StopHas, StopReads, StopMay, state_after, text_of}
 
 module _ (options : StopSavedOptions) (schedule : List ℕ) (o : Ports) where
@@ -40,10 +40,6 @@ module _ (options : StopSavedOptions) (schedule : List ℕ) (o : Ports) where
   abbrev pub WritesFault : Type 0
   WritesFault = (r : SavedRefusal) × HasRead (answers.SavedRefused r) × Gets o.err (saved_line r)
 
-  -- it is that of a state, and the schedule is refused for its processors, by a number; err got exactly the line with the number
-  abbrev pub RefusesSchedule : Type 0
-  RefusesSchedule = (number : ℕ) × HasRead (answers.PlanRefused number) × Gets o.err (plan_text number)
-
   -- its finish word stands for nothing, so no code left it, and err got exactly the line that says so
   pub record WritesBroken : Type 0 where
     pub read : HasRead (answers.Broken unknown_place)
@@ -55,7 +51,7 @@ module _ (options : StopSavedOptions) (schedule : List ℕ) (o : Ports) where
   abbrev pub StopSays : Status → Type 0
   StopSays statuses.Ended = WritesSaved
   StopSays statuses.SavedRefused = WritesFault
-  StopSays statuses.WordsRefused = RefusesSchedule
+  StopSays statuses.WordsRefused = RefusesSchedule schedule o
   StopSays statuses.Broken = WritesBroken
   StopSays status = PortsSay o status
 
@@ -67,11 +63,11 @@ module _ (options : StopSavedOptions) (schedule : List ℕ) (o : Ports) where
       → IsTextOfChain code input (stops + 1) (faults + scheduled_faults read.2.has.items) text
 
   -- The rows of `stop` of a saved text with such options and such a schedule. The answer that a text has is written, whichever it is.
-  pub record StopRows (status : Status) : Type 0 where
+  pub record SavedStopRows (status : Status) : Type 0 where
     pub rows : TextRows saved_limit (StopReads options schedule) StopSays o status
     pub shown : IsShown (StopHas options schedule) o status
     pub chains : GoesOnChains
 
 -- such a stop is done: an answer that may come was delivered, and its rows hold
 abbrev pub IsStopped : StopSavedOptions → (schedule : List ℕ) → Ports → Status → Type 0
-IsStopped options schedule = IsDone (StopMay options schedule) (StopRows options schedule)
+IsStopped options schedule = IsDone (StopMay options schedule) (SavedStopRows options schedule)

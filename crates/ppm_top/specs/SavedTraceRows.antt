@@ -52,10 +52,10 @@ module _ (options : TraceSavedOptions) (schedule : List ℕ) (o : Ports) where
   TraceSays status = PortsSay o status
 
   -- The rows of `trace` of a saved text with such options and such a schedule. The answer that a text has is written, whichever it is.
-  pub record TraceRows (status : Status) : Type 0 where
+  pub record SavedTraceRows (status : Status) : Type 0 where
     pub rows : TextRows saved_limit (TraceHas options schedule) TraceSays o status
     pub shown : IsShown (TraceHas options schedule) o status
 
 -- such a trace is done: an answer that may come was delivered, and its rows hold
 abbrev pub IsTraced : TraceSavedOptions → (schedule : List ℕ) → Ports → Status → Type 0
-IsTraced options schedule = IsDone (TraceMay options schedule) (TraceRows options schedule)
+IsTraced options schedule = IsDone (TraceMay options schedule) (SavedTraceRows options schedule)
