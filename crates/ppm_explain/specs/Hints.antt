@@ -93,8 +93,8 @@ comparison_note kinds =
 abbrev pub semicolon_note : List Terminal → List ℕ
 semicolon_note kinds =
     if is_behind_name kinds then place_note kinds
-    else if comes (Word k.Let) kinds then codes "note: no `;` stands behind a block, nor behind another `;`\n"
-    else if comes (Word k.Array) kinds then codes "note: no `;` stands behind a procedure, nor behind another `;`\n"
+    else if comes (Word k.Let) kinds then codes "note: no `;` stands after a block, nor after another `;`\n"
+    else if comes (Word k.Array) kinds then codes "note: no `;` stands after a procedure, nor after another `;`\n"
     else []
 
 -- of a sign

@@ -210,10 +210,10 @@ fn semicolon_note(terminals: &[Terminal]) -> &'static str
         return place_note(terminals);
     }
     if word_comes(Keyword::Let, terminals) {
-        return "note: no `;` stands behind a block, nor behind another `;`\n";
+        return "note: no `;` stands after a block, nor after another `;`\n";
     }
     if word_comes(Keyword::Array, terminals) {
-        return "note: no `;` stands behind a procedure, nor behind another `;`\n";
+        return "note: no `;` stands after a procedure, nor after another `;`\n";
     }
     ""
 }

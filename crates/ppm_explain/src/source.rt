@@ -135,7 +135,7 @@ fn plain_notes(alloc: Global, refusal: Refusal) -> Result<Vec<u8>, NoMemory>
     Ok(text)
 }
 
-/// The tokens of a text that has some: it is refused for what is behind them, so only want of
+/// The tokens of a text that has some: it is refused for what comes after them, so only want of
 /// memory stops this.
 fn tokens_of(alloc: Global, source: &[u8]) -> Result<Tokens, NoMemory>
     ensures { IfOk result (λ all. HasTokens source.now all.tokens) }
@@ -179,7 +179,8 @@ fn syntax_notes(
 
 /// What is said, after the line of its refusal, of a source that is refused for this reason: the
 /// place, the line with a mark, what stands there and what could, the names of a line, the
-/// procedure, and what the refusal means.
+/// procedure, and what the refusal means. The refusal is to be that of this source. `Err` only
+/// where memory is refused.
 pub fn source_notes(alloc: Global, source: &[u8], refusal: Refusal) -> Result<Vec<u8>, NoMemory>
     ensures { IfOk result (λ text. AreNotes source.now refusal text.items) }
 {

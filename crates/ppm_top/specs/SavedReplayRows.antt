@@ -17,13 +17,14 @@ use Rattle.ppm_answers.specs.declared.status.Status.TheVariants as statuses
 use Rattle.ppm_answers.specs.declared.tally.Tally.{Tally}
 use Rattle.ppm_answers.specs.Reading.{ReadHas}
 use Rattle.ppm_answers.specs.Rows.{PortsSay, TextRows, IsShown, IsDone}
-use Rattle.ppm_answers.specs.Texts.{arrays_text, trap_text, tally_text, unfinished_text, room_text, broken_text, plan_text, saved_line}
+use Rattle.ppm_answers.specs.Texts.{arrays_text, trap_text, tally_text, unfinished_text, room_text, broken_text, saved_line}
 use Rattle.ppm_cli.specs.declared.replay.ReplaySavedOptions.{ReplaySavedOptions}
 use Rattle.ppm_driver.specs.AsCode.{MayRun, CodeNeedsMoreRoom}
 use Rattle.ppm_driver.specs.CodeResumes.{IsLeftByCode, legs_of}
 use Rattle.ppm_driver.specs.Legs.{worked_in_all}
 use Rattle.ppm_driver.specs.LegsAsCode.{EndsAsCodeInAll}
 use Rattle.ppm_driver.specs.Resumes.{SavedState}
+use Rattle.ppm_top.specs.SavedTexts.{RefusesSchedule}
 use Rattle.ppm_top.specs.SavedReplays.{ReplayHas, ReplayMay, StateReplays, ReplaysAreAsCode, turns_by}
 
 module _ (options : ReplaySavedOptions) (schedule : List ℕ) (o : Ports) where

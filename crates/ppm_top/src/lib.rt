@@ -4,12 +4,9 @@
 //! command has a table of the answers that may come (`specs/Causes`), and an answer is delivered
 //! (`ppm_answers`).
 //! Contract: `ppm` delivers an answer that the causes of the command allow which the words give;
-//! what follows from each status is in `specs/Rows`. Three commands stand here too: they go on from
-//! the state of a saved text by a schedule, with fresh processors, one for each place (a *leg*).
-//! `stop --input saved` delivers the saved text of the machine after exactly that leg
-//! (`specs/SavedStops`), `replay` what its words say then (`specs/SavedReplays`), `trace` what is told
-//! of the leg (`specs/SavedTraces`). What `stop` writes of a text of a *chain* of stops is the next
-//! text of it (`specs/Chains`).
+//! what follows from each status is in `specs/Rows`. `stop`, `replay` and `trace` of a saved text
+//! (`specs/SavedStops`, `SavedReplays`, `SavedTraces`) and chains of stops (`specs/Chains`) stand
+//! here too.
 //! Stands on `ppm_cli`, on the crates of the commands and on `ppm_answers`; `main` calls it.
 //! Legs come after the persistent memory of Blelloch et al., SPAA 2018, which outlives its
 //! processors; the commands are this project's.

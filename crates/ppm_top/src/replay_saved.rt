@@ -85,7 +85,8 @@ fn replayed(
     requires there { HasText (state_of saved) }
     ensures { IfOk result (StateReplays options schedule.now.items (state_of saved)) }
 {
-    // The processor that the schedule spares makes acts until the finish word is set.
+    // The call is for its contract: the schedule spares this processor, which makes acts until the
+    // finish word is set.
     let _ = schedule.keeper();
     let gone = leg(alloc, saved, schedule, options.turns)?;
     let (machine, names) = gone;

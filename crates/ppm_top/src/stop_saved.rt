@@ -25,7 +25,7 @@ use ppm_words::{Items, NoMemory};
 use std::alloc::Global;
 
 /// Goes on from the state of the saved text that is read, on a machine whose processors are fresh
-/// and act as the schedule says, for so many acts, those of the schedule among them, and writes the
+/// and act as the schedule says, for at most so many acts, those of the schedule among them, and writes the
 /// saved text of the machine then on `out`, whatever its finish word is; why there is none on `err`.
 /// That state is read back from the text. The schedule is judged for as many processors as the state
 /// has.

@@ -24,7 +24,7 @@ use ppm_words::{Items, NoMemory};
 use std::alloc::Global;
 
 /// Goes on from the state of the saved text that is read, on a machine whose processors are fresh
-/// and act as the schedule says, and tells on `out` so many acts, after so many that are not told,
+/// and act as the schedule says, and tells on `out` at most so many acts, after so many that are not told,
 /// whatever the run comes to; why it tells none on `err`. Arrays have the names that the text tells,
 /// procedures their numbers. The schedule is judged for as many processors as the state has.
 pub fn trace_saved_command<S: Source, K: Sink, E: Sink>(
