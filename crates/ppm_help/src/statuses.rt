@@ -45,7 +45,8 @@ fn meaning_of(status: Status) -> &'static str {
              the listing or the case; of `check` and `explain` `ok`, of `races` the line `sound: ..`, of\n       \
              `sweep` the line `ok: R runs, M met, A acts`, and with more than 0 `, L left out`;\n       \
              of `stop` the saved text (docs/SAVED.md); of `trace` the trace (docs/TRACE.md); of `show`\n       \
-             the state's lines (docs/SHOW.md); of `self` `size n forks g sum s last l`"
+             the state's lines (docs/SHOW.md); of `self` `size n forks g sum s last l`;\n       \
+             of `ram` a line `m v ..`"
         }
         Status::Trapped => {
             "trapped: `trap K line N`, K being overflow, divzero, index or split; of `replay`\n       \
@@ -66,7 +67,7 @@ fn meaning_of(status: Status) -> &'static str {
         }
         Status::OutOfRoom => {
             "out of room: the run needed more words than the pool of that place has, which are\n       \
-             --room, of `resume` as many as the saved text says"
+             --room, or with a saved text as many as that says"
         }
         Status::ReadFault => "read fault: standard input failed",
         Status::WriteFault => "write fault: standard output or standard error failed",
@@ -82,9 +83,9 @@ fn meaning_of(status: Status) -> &'static str {
         }
         Status::SavedRefused => { "saved text refused: the fault and its line (docs/SAVED.md)" }
         Status::Broken => {
-            "saved words broken: place P, of `resume`, wherever `--input saved` stands, or of a case that\n       \
-             isn't sound: the machine can't go on from a word at place P; P is 64 where no place is\n       \
-             known, or where the saved finish word means nothing"
+            "saved words broken: place P, of a case that isn't sound, of `resume`, and wherever\n       \
+             `--input saved` stands: the machine can't go on from a word at place P; P is 64 where\n       \
+             no place is known, or where the saved finish word means nothing"
         }
         Status::Differs => {
             "of `sweep` `differs: SCHEDULE`, a line `takeover ..`, and what `replay` says of that\n       \

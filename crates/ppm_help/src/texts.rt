@@ -29,7 +29,7 @@ pub(crate) fn purpose_of(command: &str) -> &'static str {
         "races" => "whether the code of a case is sound with its arrays, or its first race",
         "replay" => "compiles a source, and processors run its capsules along a schedule",
         "self" => "makes a source that sums so many values, runs it, and says what came of it",
-        "stop" => "stops such a run after so many acts, and writes its words as a saved text",
+        "stop" => "makes acts along a schedule, and writes the machine's words as a saved text",
         "resume" => "fresh processors go on from a saved text, under a plan of faults",
         "sweep" => "whether a replay comes to one end wherever one fault or two are put into it",
         "ram" => "compiles a RAM, and threads run its capsules under a plan of faults",
@@ -86,7 +86,7 @@ pub(crate) fn meaning_of(command: &str, option: &str) -> &'static str {
         "form" => "lines, events for a viewer of traces, or a picture",
         "only" => "lines: all, those that end a row, or those with a mark",
         "input" => input_of(command),
-        "counts" => "with yes a last line counts what was done",
+        "counts" => "with yes a last line of counts; not with saved",
         _ => NO_WORDS,
     }
 }
