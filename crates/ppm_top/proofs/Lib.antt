@@ -15,6 +15,7 @@ pub mod OfCases
 pub mod OfRams
 pub mod OfSweeps
 pub mod OfTraces
+pub mod CountedComplete
 pub mod OfCounts
 pub mod OfLegs
 pub mod Refusing

@@ -19,6 +19,7 @@ use Rattle.ppm_driver.proofs.OfCountedCase.{counted_case_rows}
 use Rattle.ppm_top.specs.Causes.{CommandMay, CommandTells, IsAnswered}
 use Rattle.ppm_top.specs.Laws.{ProgramLaws}
 use Rattle.ppm_top.specs.Rows.{CountsByWords, CountsCaseByWords}
+use Rattle.ppm_top.proofs.CountedComplete.{counted_case_replay_ends, counted_replay_ends}
 
 module _ (laws : ProgramLaws) (words : List (List ℕ)) (o : Outside) (status : Status) (a : IsAnswered words o status) where
   -- what was delivered of the command that the words give
@@ -30,20 +31,18 @@ module _ (laws : ProgramLaws) (words : List (List ℕ)) (o : Outside) (status : 
   -- of a source
   pub counts : CountsByWords words o status
   counts options schedule e =
-      let are = is_in_range words (commands.CountedReplay options schedule) e in (
-        are,
-        counted_rows laws.meant options are schedule (ports_of o) status (delivered (commands.CountedReplay options schedule) e) laws.plans
-            laws.counted,
-      )
+      let are = is_in_range words (commands.CountedReplay options schedule) e in
+      let rows = counted_rows laws.meant options are schedule (ports_of o) status (delivered (commands.CountedReplay options schedule) e) laws.plans
+      laws.counted in
+      (are, rows, counted_replay_ends options are schedule (ports_of o) status laws.unfinished laws.complete_replays rows)
 
   -- of a case
   pub counts_case : CountsCaseByWords words o status
   counts_case options schedule e =
-      let are = is_in_range words (commands.CountedReplayCase options schedule) e in (
-        are,
-        counted_case_rows laws.case_replays options are schedule (ports_of o) status
-            (delivered (commands.CountedReplayCase options schedule) e) laws.plans laws.counted_cases,
-      )
+      let are = is_in_range words (commands.CountedReplayCase options schedule) e in
+      let rows = counted_case_rows laws.case_replays options are schedule (ports_of o) status
+      (delivered (commands.CountedReplayCase options schedule) e) laws.plans laws.counted_cases in
+      (are, rows, counted_case_replay_ends options are schedule (ports_of o) status laws.unfinished_codes laws.complete_cases rows)
 
   -- status 3 comes of the schedule alone
   pub counted_refused : (options : ReplayOptions) (schedule : List ℕ) → command_of words ≡ Some (commands.CountedReplay options schedule)

@@ -23,6 +23,8 @@ use Rattle.ppm_answers.specs.declared.status.Status.TheVariants as statuses
 use Rattle.ppm_answers.specs.Rows.{IsOneOf, GoesWell}
 use Rattle.ppm_cli.specs.declared.replay.ReplayOptions.{ReplayOptions}
 use Rattle.ppm_driver.specs.CaseReplayRows as case_rows
+use Rattle.ppm_driver.specs.CountedCaseRows as counted_case_rows
+use Rattle.ppm_driver.specs.CountedReplayRows as counted_rows
 use Rattle.ppm_driver.specs.ReplayRows as rows
 
 -- no item is a hard fault
@@ -59,6 +61,24 @@ module _ (options : ReplayOptions) (schedule : List ℕ) (o : Ports) where
   pub record CaseReplayEnds (status : Status) : Type 0 where
     pub unfinished : (w : case_rows.WritesUnfinished options schedule o) → let h = w.read.2.has in IsSound h.code h.input
         → NeedsMoreActs options w.read.2.items h.code h.input
+    pub completes : (items : List ScheduleItem) → IsAccepted schedule_form schedule options.processors items → NoneIsHard items
+        → (all : List ℕ) → o.source.before ≡ Some all → (code : CodeParts) (input : List NamedArray) → IsCaseOf all code input → IsSound code input
+        → ReplayIsEnough options items code input → GoesWell o status
+        → IsOneOf status (statuses.Ended ∷ statuses.Trapped ∷ [])
+
+  -- and so do the rows of `replay` where its counts are told,
+  pub record CountedReplayEnds (status : Status) : Type 0 where
+    pub unfinished : (w : counted_rows.WritesUnfinished options schedule o) → let r = w.replays.read.2 in
+        NeedsMoreActs options r.items (code_of r.has.0) (initial_arrays r.has.0)
+    pub completes : (items : List ScheduleItem) → IsAccepted schedule_form schedule options.processors items → NoneIsHard items
+        → (all : List ℕ) → o.source.before ≡ Some all → (t : ProgramTree) → HasProgram all t
+        → ReplayIsEnough options items (code_of t) (initial_arrays t) → GoesWell o status
+        → IsOneOf status (statuses.Ended ∷ statuses.Trapped ∷ [])
+
+  -- of a case too, if it is sound
+  pub record CountedCaseReplayEnds (status : Status) : Type 0 where
+    pub unfinished : (w : counted_case_rows.WritesUnfinished options schedule o) → let r = w.replays.read.2 in IsSound r.has.code r.has.input
+        → NeedsMoreActs options r.items r.has.code r.has.input
     pub completes : (items : List ScheduleItem) → IsAccepted schedule_form schedule options.processors items → NoneIsHard items
         → (all : List ℕ) → o.source.before ≡ Some all → (code : CodeParts) (input : List NamedArray) → IsCaseOf all code input → IsSound code input
         → ReplayIsEnough options items code input → GoesWell o status

@@ -41,7 +41,7 @@ use Rattle.ppm_driver.specs.CountedReplayRows.{CountedRows}
 use Rattle.ppm_driver.specs.ExampleRows.{ExampleRows}
 use Rattle.ppm_driver.specs.RamRows.{RamRows}
 use Rattle.ppm_driver.specs.ReplayRows.{ReplayRows}
-use Rattle.ppm_top.specs.CompleteReplays.{CaseReplayEnds, ReplayEnds}
+use Rattle.ppm_top.specs.CompleteReplays.{CaseReplayEnds, CountedCaseReplayEnds, CountedReplayEnds, ReplayEnds}
 use Rattle.ppm_driver.specs.ResumeRows.{ResumeRows, RefusesPlan as RefusesResumed}
 use Rattle.ppm_driver.specs.Resumes.{IsTextLeftBy}
 use Rattle.ppm_loading.specs.Telling.{MayBeRun}
@@ -117,13 +117,13 @@ ReplaysCaseByWords words o status = (options : ReplayOptions) (schedule : List �
 -- those of `replay` with its counts where they ask for that, with these options, which are in their ranges, and this schedule
 abbrev pub CountsByWords : List (List ℕ) → Outside → Status → Type 0
 CountsByWords words o status = (options : ReplayOptions) (schedule : List ℕ) → command_of words ≡ Some (commands.CountedReplay options schedule)
-    → AreReplayed options × CountedRows options schedule (ports_of o) status
+    → AreReplayed options × CountedRows options schedule (ports_of o) status × CountedReplayEnds options schedule (ports_of o) status
 
 -- those of `replay` of a case with its counts where they ask for that, with these options, which are in their ranges, and this schedule
 abbrev pub CountsCaseByWords : List (List ℕ) → Outside → Status → Type 0
 CountsCaseByWords words o status = (options : ReplayOptions) (schedule : List ℕ)
     → command_of words ≡ Some (commands.CountedReplayCase options schedule)
-    → AreReplayed options × CountedCaseRows options schedule (ports_of o) status
+    → AreReplayed options × CountedCaseRows options schedule (ports_of o) status × CountedCaseReplayEnds options schedule (ports_of o) status
 
 -- those of `sweep` where they ask for that, with these options, which are in their ranges, and this schedule
 abbrev pub SweepsByWords : List (List ℕ) → Outside → Status → Type 0
