@@ -1,0 +1,14 @@
+-- How the check is shown. A search goes from the first place on and stops at the first of which a
+-- test holds, so that each answers an `IsFirst`. A stop is searched last, and by paths alone; that
+-- one is there needs that paths stay within a capsule, as they do in a code (`CodeLemmas`).
+-- What comes of a find is one pass (`HangingLemmas`): when a place is passed, its row is whole,
+-- since paths lead forward.
+
+pub mod BlockLemmas
+pub mod CodeLemmas
+pub mod FindLemmas
+pub mod HangingLemmas
+pub mod LeftOutLemmas
+pub mod SearchLemmas
+pub mod StopLemmas
+pub mod UnbuiltLemmas

@@ -1,0 +1,86 @@
+//! The registers that an instruction reads.
+ghost use Rattle.std.specs.Prelude.{◌≡◌};
+ghost use Rattle.ppm_filled.specs.Filled.{operands_of};
+ghost use Rattle.ppm_gaps.specs.Hanging.{listed};
+
+use ppm_code::{Instr, Register};
+
+/// Up to three registers.
+#[derive(Clone, Copy, Debug, PartialEq, Eq)]
+pub(crate) struct Operands {
+    pub first: Option<Register>,
+    pub second: Option<Register>,
+    pub third: Option<Register>,
+}
+
+/// No register.
+fn none() -> Operands
+    ensures { result ≡ record { first = None; second = None; third = None } }
+{
+    Operands {
+        first: None,
+        second: None,
+        third: None,
+    }
+}
+
+/// The registers that an instruction reads.
+pub(crate) fn read_by(instr: &Instr) -> Operands
+    ensures { listed result ≡ operands_of instr.now }
+{
+    match *instr {
+        Instr::Move { from, .. }
+        | Instr::StoreCur { from, .. }
+        | Instr::Give { from }
+        | Instr::StoreNew { from, .. } => Operands {
+            first: Some(from),
+            second: None,
+            third: None,
+        },
+        Instr::Add { left, right, .. }
+        | Instr::Sub { left, right, .. }
+        | Instr::Mul { left, right, .. }
+        | Instr::Div { left, right, .. }
+        | Instr::Rem { left, right, .. }
+        | Instr::Equal { left, right, .. }
+        | Instr::NotEqual { left, right, .. }
+        | Instr::Less { left, right, .. }
+        | Instr::AtMost { left, right, .. } => Operands {
+            first: Some(left),
+            second: Some(right),
+            third: None,
+        },
+        Instr::CutLeft { region, at, .. } | Instr::CutRight { region, at, .. } => Operands {
+            first: Some(region),
+            second: Some(at),
+            third: None,
+        },
+        Instr::Get { region, index, .. } => Operands {
+            first: Some(region),
+            second: Some(index),
+            third: None,
+        },
+        Instr::Put {
+            region,
+            index,
+            from,
+            ..
+        } => Operands {
+            first: Some(region),
+            second: Some(index),
+            third: Some(from),
+        },
+        Instr::Len { region, .. } => Operands {
+            first: Some(region),
+            second: None,
+            third: None,
+        },
+        Instr::BranchZero { tested, .. } | Instr::BranchNonZero { tested, .. } => Operands {
+            first: Some(tested),
+            second: None,
+            third: None,
+        },
+        Instr::Const { .. } | Instr::LoadSlot { .. } | Instr::Room { .. } | Instr::Ends(..) =>
+            none(),
+    }
+}
