@@ -3,7 +3,7 @@ ghost use Rattle.std.specs.Prelude.{◌≡◌, ◌↔◌, ◌≤◌, IsTrue, Som
 ghost use Rattle.ppm_code.specs.Limits.{instr_limit};
 ghost use Rattle.ppm_filled.specs.Filled.{built_in};
 ghost use Rattle.ppm_war.specs.Search.{IsFirst};
-ghost use Rattle.ppm_gaps.specs.Stops.{IsOther, IsStopBut, LeadsToStop, built};
+ghost use Rattle.ppm_gaps.specs.Stops.{IsOther, LeadsToStop, built};
 
 use crate::instrs::is_stop;
 use crate::ways::leads;
