@@ -72,12 +72,12 @@ module _ (is : List Instr) where
   write_below find write (stop, c, gap) = does_below is write (Write c) gap.writes
 
   pub find_below : (find : ℕ) → HasLeftOutOf is find → find < length is
-  find_below find (write, stop, c, gap) =
+  find_below find (write, (stop, c, gap)) =
       omega (arith, path_forward is Any (find + 1) write gap.to_write, does_below is write (Write c) gap.writes)
 
   -- it is one of its find
   pub finds_of : (find : ℕ) → HasLeftOutOf is find → IsFind is find
-  finds_of find (write, stop, c, gap) = gap.finds
+  finds_of find (write, (stop, c, gap)) = gap.finds
 
   -- of no store there is none
   pub none_of : (find : ℕ) → ((k : ℕ) → HasLeftOut is find k → ⊥) → HasLeftOutOf is find → ⊥
@@ -91,7 +91,7 @@ module _ (is : List Instr) where
   )
 
   pub has_of : (find : ℕ) (g : LeftOut) → IsFirstOfFind is find g → HasLeftOutOf is find
-  has_of find g first = (g.write, g.stop, g.class, subst (λ (n : ℕ). IsLeftOut is n g.write g.stop g.class) first.find_is first.gap)
+  has_of find g first = (g.write, (g.stop, g.class, subst (λ (n : ℕ). IsLeftOut is n g.write g.stop g.class) first.find_is first.gap))
 
   -- of the least store the first one is the first of the find
   pub first_of_find : (find write : ℕ) (o : Option LeftOut) → HasLeftOut is find write → ((k : ℕ) → HasLeftOut is find k → write ≤ k)
@@ -111,7 +111,7 @@ module _ (is : List Instr) where
   first_of_all find None some least none = absurd (none some)
   first_of_all find (Some g) some least first = record {
     gap = first.gap;
-    least_find = λ f w s c x. subst (λ (n : ℕ). n ≤ f) (sym first.find_is) (least f (w, s, c, x));
+    least_find = λ f w s c x. subst (λ (n : ℕ). n ≤ f) (sym first.find_is) (least f (w, (s, c, x)));
     least_write = first.least_write;
     least_stop = first.least_stop;
   }

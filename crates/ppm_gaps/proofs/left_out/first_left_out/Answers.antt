@@ -13,4 +13,4 @@ returns-in-Some c = first_of_all c.args.instrs.now c.in-Some.find c.left_out_of.
 
 -- or there is none
 pub returns-in-None : goal.returns-in-None
-returns-in-None c = λ find write stop k x. c.in-None.ensures.none refl find (write, stop, k, x)
+returns-in-None c = λ find write stop k x. c.in-None.ensures.none refl find (write, (stop, k, x))
