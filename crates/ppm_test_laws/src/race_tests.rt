@@ -31,6 +31,11 @@ capsule 0 proc 0\nroom 19\nloadslot r0 0\nstorenew 11 r0\nstorenew 18 r0\nfork 1
 capsule 1 proc 0\nloadslot r0 0\nconst r1 0\nput r0 r1 r1 1\nend\n\
 capsule 2 proc 1\nloadslot r0 0\nconst r1 0\nget r2 r0 r1 1\nend\n";
 
+/// Both branches clear word 0 and read it, as the code of `specs/Clears` does.
+const CLEARS: &str = "ppm 1\nroot 0 0\nproc 0 slots 1 entry 0\nproc 1 slots 1 entry 2\n\
+capsule 0 proc 0\nroom 19\nloadslot r0 0\nstorenew 11 r0\nstorenew 18 r0\nfork 1 1 1\ncapsule 1 proc 0\nend\n\
+capsule 2 proc 1\nloadslot r0 0\nput r0 r1 r1 1\nget r2 r0 r1 1\ngive r2\nend\n";
+
 /// A capsule that goes on with itself.
 const AGAIN: &str = "ppm 1\nroot 0 0\nproc 0 slots 1 entry 0\ncapsule 0 proc 0\nnext 0\n";
 
@@ -87,11 +92,26 @@ fn races_are_told(rt: HostRuntime) -> Result<(), Fail> {
             writes: true,
         },
     );
+    let clears = race(
+        0,
+        Visit {
+            run: 2,
+            capsule: 2,
+            writes: true,
+        },
+        Touching {
+            run: 3,
+            capsule: 2,
+            at: 1,
+            writes: true,
+        },
+    );
     let cases = [
         (LATER, 9u32, Err(Some(later))),
         (LATER, 4, Err(Some(later))),
         (LATER, 3, Err(None)),
         (WRITERS, 9, Err(Some(writers))),
+        (CLEARS, 9, Err(Some(clears))),
         (READERS, 9, Ok(4)),
         (AGAIN, 9, Err(None)),
     ];
