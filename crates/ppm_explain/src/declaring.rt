@@ -19,13 +19,13 @@ use std::alloc::Global;
 pub enum Before {
     /// Nothing that declares a name.
     Other,
-    /// This word, which declares the name behind it.
+    /// This word, which declares the name after it.
     Word(Keyword),
     /// A name that this word declares.
     Named(Keyword),
 }
 
-/// Whether a word declares the name behind it.
+/// Whether a word declares the name after it.
 fn declares(keyword: Keyword) -> bool
     ensures { result ≡ declares_name keyword }
 {
@@ -53,7 +53,7 @@ fn declares(keyword: Keyword) -> bool
     }
 }
 
-/// What stands in front of the token behind a word.
+/// What stands in front of the token after a word.
 fn after_word(keyword: Keyword) -> Before
     ensures { result ≡ behind_word keyword }
 {
@@ -64,7 +64,7 @@ fn after_word(keyword: Keyword) -> Before
     }
 }
 
-/// What stands in front of the token behind a name.
+/// What stands in front of the token after a name.
 fn after_name(before: Before) -> Before
     ensures { result ≡ behind_name before }
 {
@@ -75,7 +75,7 @@ fn after_name(before: Before) -> Before
     }
 }
 
-/// What stands in front of the token behind a comma.
+/// What stands in front of the token after a comma.
 fn after_comma(before: Before) -> Before
     ensures { result ≡ behind_comma before }
 {
@@ -116,7 +116,7 @@ fn is_comma(sign: Sign) -> bool
     }
 }
 
-/// What stands in front of the token behind a sign.
+/// What stands in front of the token after a sign.
 fn after_sign(before: Before, sign: Sign) -> Before
     ensures { result ≡ behind_kind before (kinds.Sign sign) }
 {
@@ -127,7 +127,7 @@ fn after_sign(before: Before, sign: Sign) -> Before
     }
 }
 
-/// What stands in front of the token behind this one.
+/// What stands in front of the token after this one.
 pub(crate) fn after(before: Before, kind: &Kind) -> Before
     ensures { result ≡ behind_kind before kind.now }
 {
@@ -167,7 +167,7 @@ fn is_proc(keyword: Keyword) -> bool
     }
 }
 
-/// Whether the token behind it is the name of a procedure.
+/// Whether the token after it is the name of a procedure.
 pub(crate) fn heads(before: Before) -> bool
     ensures { result ≡ heads_name before }
 {

@@ -154,7 +154,7 @@ fn push_word_hint(
     push_word(text, place_note(terminals))
 }
 
-/// What is said of `(` where a statement begins, or behind an operand.
+/// What is said of `(` where a statement begins, or after an operand.
 fn call_note(terminals: &[Terminal]) -> &'static str
     ensures { result.now ≡ note_of_call (map terminal_of terminals.now) }
 {
@@ -167,7 +167,7 @@ fn call_note(terminals: &[Terminal]) -> &'static str
     ""
 }
 
-/// What is said of `+`, `-`, `*` and `%` behind what is assigned.
+/// What is said of `+`, `-`, `*` and `%` after what is assigned.
 fn change_note(terminals: &[Terminal]) -> &'static str
     ensures { result.now ≡ note_of_change (map terminal_of terminals.now) }
 {

@@ -272,7 +272,7 @@ fn is_here(before: Before, ahead: u32) -> bool
     heads(before) && ahead == 0
 }
 
-/// How many stand in front of the wanted one behind this token.
+/// How many stand in front of the wanted one after this token.
 fn left_ahead(before: Before, ahead: u32) -> u32
     ensures { result ≡ ahead_behind before ahead }
 {

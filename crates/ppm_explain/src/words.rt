@@ -133,7 +133,7 @@ fn push_terminal(text: &mut Vec<u8>, terminal: Terminal) -> Result<(), NoMemory>
     }
 }
 
-/// Appends a kind of tokens behind others.
+/// Appends a kind of tokens after others.
 fn push_further(text: &mut Vec<u8>, terminal: Terminal) -> Result<(), NoMemory>
     ensures { OnOk result (text.new.items
         ≡ text.old.items ++ further_text (terminal_of terminal)) }
@@ -142,7 +142,7 @@ fn push_further(text: &mut Vec<u8>, terminal: Terminal) -> Result<(), NoMemory>
     push_terminal(text, terminal)
 }
 
-/// Appends kinds of tokens behind others.
+/// Appends kinds of tokens after others.
 fn push_more(text: &mut Vec<u8>, terminals: &[Terminal]) -> Result<(), NoMemory>
     ensures { OnOk result (text.new.items
         ≡ text.old.items ++ more_text (map terminal_of terminals.now)) }
@@ -169,7 +169,7 @@ fn push_kinds(text: &mut Vec<u8>, terminals: &[Terminal]) -> Result<(), NoMemory
     }
 }
 
-/// What is said of the end of the text behind what could stand there.
+/// What is said of the end of the text after what could stand there.
 fn end_word(end: bool) -> &'static str
     ensures { result.now ≡ end_text end }
 {

@@ -3,7 +3,7 @@
 //! (`specs/Spelled`).
 //! Contract: `print` gives the canonical text, and by the grammar that text has the tree again,
 //! lines apart (`specs/Correct`).
-//! Stands on `ppm_tree`, `ppm_text` and `ppm_rows`; no command stands on it yet.
+//! Stands on `ppm_tree`, `ppm_text` and `ppm_rows`; `ppm_explain` spells words and signs by it.
 //! The layout is this project's.
 #![tactic(auto)]
 
