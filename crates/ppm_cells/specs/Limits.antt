@@ -14,6 +14,10 @@ least_room = 64
 abbrev pub most_pool_words : ℕ
 most_pool_words = 67108864
 
+-- those words where all of them are written out: with these no saved text is too long
+abbrev pub most_saved_pool_words : ℕ
+most_saved_pool_words = 4194304
+
 -- the entries of a place's deque
 abbrev pub least_slots : ℕ
 least_slots = 2

@@ -3,7 +3,7 @@ use Prim.Native.String.{String}
 use Rattle.std.specs.Prelude.{ℕ, Bool, true, false, List, [], ◌∷◌, codes, decimal, map, not, nat_eq}
 use Rattle.clap.specs.Words.{Text}
 use Rattle.ppm_words.specs.Limits.{processor_limit, entry_limit, turn_limit}
-use Rattle.ppm_cells.specs.Limits.{most_pool_words}
+use Rattle.ppm_cells.specs.Limits.{most_pool_words, most_saved_pool_words}
 
 -- what the value of an option is: a whole number from the least to the most, one of these words, or any text that does not begin with a hyphen
 pub data Form : Type 0 where
@@ -70,10 +70,6 @@ capsules = number "capsules" 1 4294967295 16777216
 -- the words of a place's pool of blocks; all pools together have no more than the most of one
 abbrev pub room : OptionRule
 room = number "room" 64 most_pool_words 65536
-
--- the words of all pools together where all words are written out
-abbrev pub most_saved_pool_words : ℕ
-most_saved_pool_words = 4194304
 
 -- the words of a place's pool where all words are written out; all pools together have no more than the most of one
 abbrev pub saved_room : OptionRule

@@ -1,8 +1,8 @@
 //! The words of a place's pool, as the words give them.
 ghost use Rattle.std.specs.Prelude.{◌≡◌, ◌*◌, IfSome, nat_le};
 ghost use Rattle.clap.specs.Words.{found_of, rows_of};
+ghost use Rattle.ppm_cells.specs.Limits.{most_saved_pool_words};
 ghost use Rattle.ppm_cli.specs.Application.{number_rule};
-ghost use Rattle.ppm_cli.specs.CommandLine.{most_saved_pool_words};
 ghost use Rattle.ppm_cli.specs.Words.{DoPoolsFit, DoSavedPoolsFit, IsOfForm};
 ghost use Rattle.ppm_cli.specs.Values.{fitting_room, fitting_saved_room};
 ghost use Rattle.ppm_cli.specs.Values.{room_given, saved_room_given};

@@ -20,7 +20,8 @@ use Rattle.ppm_choice.specs.Schedules.{schedule_turns}
 use Rattle.ppm_following.specs.Followed.{followed}
 use Rattle.ppm_loading.specs.Loading.{OpensRun}
 use Rattle.ppm_saved.specs.Correct.{SavedTextsTellStates, StateFits}
-use Rattle.ppm_saved_reader.specs.Rules.{most_saved_pool_words, is_from_to, do_pools_fit, sizes_fit}
+use Rattle.ppm_cells.specs.Limits.{most_saved_pool_words}
+use Rattle.ppm_saved_reader.specs.Rules.{is_from_to, do_pools_fit, sizes_fit}
 use Rattle.ppm_saved_reader.specs.Correct.{HasState, sizes_of as sizes_in}
 use Rattle.ppm_depth.specs.Start.{NamesArrays}
 use Rattle.ppm_driver.specs.Stops.{sizes_of, names_of, text_of, IsReadBack}

@@ -1,5 +1,5 @@
 -- A text that is not refused has an answer where it is swept: whether a replay comes to the outcome is not left open.
-use Rattle.std.proofs.Common.{◌≡◌, ◌⊎◌, ◌<◌, ℕ, ◌+◌, ◌==◌, nat_lt, Bool, true, false, ◌&&◌, ◌||◌, not, cond, List, [], ◌∷◌, ◌++◌, length, Some, None, inl, inr, refl, sym, ap, ◌∙◌, subst, arith, eqb-true, ltb-true}
+use Rattle.std.proofs.Common.{◌≡◌, ◌⊎◌, ℕ, ◌+◌, ◌==◌, Bool, true, false, ◌&&◌, cond, List, [], ◌∷◌, ◌++◌, length, Some, None, inl, inr, refl, sym, ap, ◌∙◌, subst, arith, eqb-true}
 use Rattle.std.specs.Bool.{Decides}
 use Rattle.std.specs.Cmp.Lexicographic.{pointwise}
 use Rattle.std.specs.List.{All, AllByRecursion}
@@ -24,12 +24,11 @@ use Rattle.ppm_code.specs.declared.code.CodeParts.{CodeParts}
 use Rattle.ppm_depth.specs.Run.{IsDepthRun, RunsAreThere}
 use Rattle.ppm_depth.specs.declared.depth.DepthRun.{DepthRun}
 use Rattle.ppm_core.specs.Situation.{Situation}
-use Rattle.ppm_plan.specs.Forms.{schedule_form, victim_outside, act_outside}
+use Rattle.ppm_plan.specs.Forms.{schedule_form, act_outside}
 use Rattle.ppm_plan.specs.Items.{WritesScheduleItem, Once, Times}
 use Rattle.ppm_plan.specs.Refusals.{first_at, IsAccepted}
-use Rattle.ppm_plan.specs.Schedules.{IsActAmong, IsItemAmong, MayBeDone}
+use Rattle.ppm_plan.specs.Schedules.{IsItemAmong, MayBeDone}
 use Rattle.ppm_plan.specs.Spellings.{TextsReadAsWritten, WritesAll, WritesInTurn, Last, More}
-use Rattle.ppm_plan.specs.declared.schedule_item.ScheduledAct.{ScheduledAct}
 use Rattle.ppm_plan.specs.declared.schedule_item.ScheduledAct.TheVariants.{Step, Fails}
 use Rattle.ppm_plan.specs.declared.schedule_item.ScheduleItem.{ScheduleItem}
 use Rattle.ppm_sweep.specs.Fair.{IsFair, SweepsAreFair}
@@ -143,24 +142,6 @@ some_told processors turns a k = absurd k
 
 -- The items of a schedule that is accepted are of its processors.
 module _ (p : ℕ) where
-  there : (c : ℕ) → not (nat_lt c p) ≡ false → c < p
-  there c h = go (nat_lt c p) refl h
-    where
-      go : (b : Bool) → nat_lt c p ≡ b → not b ≡ false → c < p
-      go true e k = ltb-true c p e
-      go false e k = absurd (both_ways true k refl)
-
-  neither : (a b : Bool) → (a || b) ≡ false → (a ≡ false) × (b ≡ false)
-  neither false b h = (refl, h)
-  neither true b h = absurd (both_ways true h refl)
-
-  act_among : (act : ScheduledAct) → act_outside p act ≡ false → IsActAmong p act
-  act_among (Step c None) h = (there c (neither (not (nat_lt c p)) false h).0, tt)
-  act_among (Step c (Some v)) h =
-      let k = neither (not (nat_lt c p)) (victim_outside p (Some v)) h in
-      (there c k.0, there v k.1)
-  act_among (Fails c fault) h = there c h
-
   done : (piece : List ℕ) (i : ScheduleItem) → WritesScheduleItem piece i → MayBeDone i.act i.times
   done piece i (Once (Step c victim) fits) = (omega arith, omega arith)
   done piece i (Once (Fails c fault) fits) = refl
@@ -179,9 +160,9 @@ module _ (p : ℕ) where
       go false e k more = (e, more k)
 
   in_turn : (text : List ℕ) (items : List ScheduleItem) → WritesInTurn WritesScheduleItem text items → Inside items → AllByRecursion (IsItemAmong p) items
-  in_turn text items (Last {piece = piece} {i = i} w) h = (record { act = act_among i.act h.0; times = done piece i w }, tt)
+  in_turn text items (Last {piece = piece} {i = i} w) h = (record { act = act_among p i.act h.0; times = done piece i w }, tt)
   in_turn text items (More {piece = piece} {text = rest} {i = i} {items = others} w more) h =
-      (record { act = act_among i.act h.0; times = done piece i w }, in_turn rest others more h.1)
+      (record { act = act_among p i.act h.0; times = done piece i w }, in_turn rest others more h.1)
 
   all_written : (text : List ℕ) (items : List ScheduleItem) → WritesAll WritesScheduleItem text items → Inside items → AllByRecursion (IsItemAmong p) items
   all_written text [] w h = tt

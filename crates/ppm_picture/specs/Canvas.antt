@@ -32,9 +32,9 @@ module _ (canvas : Canvas) where
   abbrev pub width : (act : ℕ) → ℕ
   width act = min stride (right_edge - across act)
 
-  -- where the marks of an act stand
+  -- where the marks of an act stand: in the middle of what is drawn of it
   abbrev pub middle : (act : ℕ) → ℕ
-  middle act = across act + stride / 2
+  middle act = across act + width act / 2
 
   -- what comes after the last lane
   abbrev pub bottom : ℕ

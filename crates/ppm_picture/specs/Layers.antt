@@ -6,7 +6,7 @@ use Rattle.ppm_lines.specs.declared.edge.Edge.{Edge}
 use Rattle.ppm_lines.specs.declared.edge.Edge.TheVariants.{Begins, Ends, Stays}
 use Rattle.ppm_picture.specs.declared.paint.Paint.{Paint}
 use Rattle.ppm_picture.specs.declared.paint.Paint.TheVariants.{Placing, Looking, Running, Forking, Stealing, TakingOver}
-use Rattle.ppm_picture.specs.Canvas.{across, lane, stride, width}
+use Rattle.ppm_picture.specs.Canvas.{across, lane, width}
 use Rattle.ppm_picture.specs.declared.canvas.Canvas.{Canvas}
 
 -- all layers, the lowest first
@@ -68,7 +68,7 @@ module _ (canvas : Canvas) where
 
   -- the ends of rows
   abbrev pub end_of : (act : ℕ) → Drawn → List ℕ
-  end_of act drawn = end_by (across canvas act + stride canvas) (lane drawn.processor) drawn.edge
+  end_of act drawn = end_by (across canvas act + width canvas act) (lane drawn.processor) drawn.edge
 
   abbrev pub ends_from : (act : ℕ) → List Drawn → List ℕ
   ends_from act [] = []

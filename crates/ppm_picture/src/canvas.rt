@@ -48,18 +48,19 @@ impl Canvas {
         requires canvas { IsCanvas self }
         requires few { act ≤ 2 ^ 41 }
         ensures value { result ≡ canvases.width self act }
+        ensures bound { result ≤ 2 ^ 49 }
     {
         self.stride().min(90400u64.saturating_sub(self.across(act)))
     }
 
-    /// The middle of an act, where its marks stand.
+    /// The middle of what is drawn of an act, where its marks stand.
     pub(crate) fn middle(self, act: u64) -> u64
         requires canvas { IsCanvas self }
         requires few { act ≤ 2 ^ 41 }
         ensures value { result ≡ canvases.middle self act }
         ensures bound { result ≤ 2 ^ 60 }
     {
-        self.across(act) + self.stride() / 2
+        self.across(act) + self.width(act) / 2
     }
 
     /// What comes after the last lane.

@@ -194,7 +194,7 @@ fn push_row_end(
         Edge::Ends => {
             let parts = [
                 Fixed("M"),
-                Number(canvas.across(act) + canvas.stride()),
+                Number(canvas.across(act) + canvas.width(act)),
                 Fixed(" "),
                 Number(lane(stroke.processor)),
                 Fixed("v2400"),

@@ -50,7 +50,8 @@ neither : (a b : Bool) → (a || b) ≡ false → (a ≡ false) × (b ≡ false)
 neither false b h = (refl, h)
 neither true b h = absurd (both_ways true h refl)
 
-act_among : (p : ℕ) (act : ScheduledAct) → act_outside p act ≡ false → IsActAmong p act
+-- an act that is not outside is of these processors
+pub act_among : (p : ℕ) (act : ScheduledAct) → act_outside p act ≡ false → IsActAmong p act
 act_among p (Step c None) h = (there p c (neither (not (nat_lt c p)) false h).0, tt)
 act_among p (Step c (Some v)) h =
     let k = neither (not (nat_lt c p)) (victim_outside p (Some v)) h in

@@ -15,7 +15,7 @@ mod TableLemmas
 mod SpellingLemmas
 mod PlanItemLemmas
 mod ScheduleItemLemmas
-mod AmongLemmas
+pub mod AmongLemmas
 mod ActLemmas
 mod TextLemmas
 mod SaidLemmas

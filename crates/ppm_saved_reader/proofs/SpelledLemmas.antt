@@ -27,7 +27,8 @@ use Rattle.ppm_saved.specs.declared.run.Run.{Run}
 use Rattle.ppm_saved.proofs.RunLemmas.{runs_are_longest}
 use Rattle.ppm_saved_reader.specs.declared.lines.Sizes.{Sizes}
 use Rattle.ppm_saved_reader.specs.Lines.{first_line, version_in, sizes_in, array_in, count_in, run_in}
-use Rattle.ppm_saved_reader.specs.Rules.{most_saved_pool_words, do_pools_fit}
+use Rattle.ppm_cells.specs.Limits.{most_saved_pool_words}
+use Rattle.ppm_saved_reader.specs.Rules.{do_pools_fit}
 use Rattle.ppm_saved_reader.specs.Rules.{saved_limit, is_from_to, sizes_fit, is_twice, is_past, words_for, is_other_count, ends_with}
 use Rattle.ppm_saved_reader.specs.Places.{Place, AtVersion, AtSizes, AtArrays, AtWords, AtRuns, array_of, NamesArrays}
 use Rattle.ppm_saved_reader.specs.Places.{Goes, Version, Shaped, Array, Coded, Counted, Repeated, LeadsTo, Stays, Then}

@@ -4,6 +4,7 @@ use Rattle.std.specs.List.{list_any, sum}
 use Rattle.std.specs.Str.{bytes_eq}
 use Rattle.ppm_words.specs.Limits.{array_limit, word_limit, processor_limit}
 use Rattle.ppm_pieces.specs.Pieces.{split}
+use Rattle.ppm_cells.specs.Limits.{most_saved_pool_words}
 use Rattle.ppm_saved.specs.Names.{lengths_of}
 use Rattle.ppm_saved.specs.declared.names.NamedLength.{NamedLength}
 use Rattle.ppm_saved.specs.declared.run.Run.{Run}
@@ -22,10 +23,6 @@ is_from_to least most n = nat_le least n && nat_le n most
 abbrev pub line_feeds : List ℕ → ℕ
 line_feeds [] = 0
 line_feeds (b ∷ bs) = if b == 10 then 1 + line_feeds bs else line_feeds bs
-
--- words of all pools together of a machine that may be stopped: with these no text is too long
-abbrev pub most_saved_pool_words : ℕ
-most_saved_pool_words = 4194304
 
 -- whether so many processors may have pools of so many words
 abbrev pub do_pools_fit : (processors room : ℕ) → Bool

@@ -72,7 +72,7 @@ fn pass(marks: &mut [bool; 160], may: May, at: usize, class: Option<Class>)
 }
 
 /// What each instruction of a capsule may do.
-pub(crate) fn decoded(instrs: &[Instr]) -> [May; 160]
+pub fn decoded(instrs: &[Instr]) -> [May; 160]
     requires { length instrs.now ≤ instr_limit }
     ensures { IsDecoded instrs.now (take (length instrs.now) result) }
 {
@@ -87,7 +87,7 @@ pub(crate) fn decoded(instrs: &[Instr]) -> [May; 160]
 
 /// The places that a path comes to from one of them, past instructions that are allowed, by what
 /// the instructions may do.
-pub(crate) fn places_from(mays: &[May], from: usize, class: Option<Class>) -> [bool; 160]
+pub fn places_from(mays: &[May], from: usize, class: Option<Class>) -> [bool; 160]
     requires { length mays.now ≤ instr_limit }
     ensures { (is : List Instr) (to : ℕ) → IsDecoded is mays.now → to < length is
         → IsMarked result to ↔ Path is (Allows class) from to }
