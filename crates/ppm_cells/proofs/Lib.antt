@@ -3,6 +3,7 @@
 -- word is exact (`ExactLemmas`).
 -- Addresses of eleven kinds of cells differ by a function from addresses back to cells, a case a
 -- kind, and not by pairs.
+-- `DequeLemmas` and `HoldLemmas`: the tag rises with each change, so nothing comes back.
 
 pub mod FieldsLemmas
 pub mod ExactLemmas
@@ -14,3 +15,7 @@ pub mod LinkLemmas
 pub mod FinishLemmas
 pub mod CellLemmas
 pub mod MemoryLemmas
+pub mod JoinLemmas
+pub mod DequeLemmas
+pub mod TransitionLemmas
+pub mod HoldLemmas

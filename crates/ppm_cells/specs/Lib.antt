@@ -14,3 +14,13 @@ pub mod Cells
 pub mod Memory
 pub mod Blocks
 pub mod Chain
+pub mod JoinOrder
+pub mod JoinOutcome
+pub mod JoinLaws
+pub mod DequeChange
+pub mod Transitions
+pub mod DequeOrder
+pub mod DequeLaws
+pub mod HoldChange
+pub mod HoldOrder
+pub mod HoldLaws

@@ -3,12 +3,12 @@ use Rattle.std.proofs.Common.{◌≡◌, ◌≤◌, ℕ, zero, suc, ◌+◌, max
 use Rattle.std.proofs.Common.{◌⊎◌, inl, inr, refl, sym, ap, subst, arith, slice_set, cond, Option, Some, None}
 use Rattle.std.specs.Prelude.{slice_get, replicate}
 use Rattle.std.proofs.lemmas.Bool.{cond-false, cond-true}
-use Rattle.ppm_capsules.specs.Capsule.{Capsule, Ends, In, Memory, is_in}
-use Rattle.ppm_capsules.specs.Strand.{Own, New as NewWord, Shared}
-use Rattle.ppm_capsules.specs.Paths.{IsFreePast}
-use Rattle.ppm_capsules.proofs.LocationLemmas.{decide, in_or_not}
-use Rattle.ppm_capsules.proofs.PathLemmas.{paths_are_enough}
-use Rattle.ppm_capsules.proofs.StandsLemmas.{is_idempotent}
+use Rattle.ppm_strands.specs.Capsule.{Capsule, Ends, In, Memory, is_in}
+use Rattle.ppm_strands.specs.Strand.{Own, New as NewWord, Shared}
+use Rattle.ppm_strands.specs.Paths.{IsFreePast}
+use Rattle.ppm_strands.proofs.LocationLemmas.{decide, in_or_not}
+use Rattle.ppm_strands.proofs.PathLemmas.{paths_are_enough}
+use Rattle.ppm_strands.proofs.StandsLemmas.{is_idempotent}
 use Rattle.ppm_code.specs.RunAgain.{MayRunAgain}
 use Rattle.ppm_code.specs.declared.location.FrameWord.TheVariants.{Slot as SlotWord, Value as ValueWord}
 use Rattle.ppm_code.specs.declared.class.Class.{Class}

@@ -1,10 +1,10 @@
 -- No instruction reads a word of the new block.
 use Rattle.std.proofs.Common.{◌≡◌, ℕ, zero, suc, ◌+◌, ◌-◌, max, List, [], ◌∷◌, refl, subst, slice_set}
 use Rattle.std.specs.Prelude.{replicate}
-use Rattle.ppm_capsules.specs.Capsule.{Capsule}
-use Rattle.ppm_capsules.specs.Strand.{Own, New as NewWord, Shared}
-use Rattle.ppm_capsules.specs.Paths.{ReadsOnly}
-use Rattle.ppm_capsules.proofs.PathLemmas.{paths_say_where, paths_are_enough}
+use Rattle.ppm_strands.specs.Capsule.{Capsule}
+use Rattle.ppm_strands.specs.Strand.{Own, New as NewWord, Shared}
+use Rattle.ppm_strands.specs.Paths.{ReadsOnly}
+use Rattle.ppm_strands.proofs.PathLemmas.{paths_say_where, paths_are_enough}
 use Rattle.ppm_code.specs.declared.class.Class.TheVariants.{New}
 use Rattle.ppm_code.specs.declared.class.May.{May}
 use Rattle.ppm_code.specs.declared.class.May.TheVariants.{Work, Read, Write, Branch, Stop}

@@ -1,6 +1,6 @@
 -- The capsule that instructions make, from one of them on.
 use Rattle.std.specs.Prelude.{◌<◌, ◌≤◌, ℕ, zero, suc, ◌+◌, ◌-◌, max, List, [], ◌∷◌, replicate, slice_set}
-use Rattle.ppm_capsules.specs.Capsule.{Capsule, Reads, Writes, Asks as AsksFor, Ends}
+use Rattle.ppm_strands.specs.Capsule.{Capsule, Reads, Writes, Asks as AsksFor, Ends}
 use Rattle.ppm_code.specs.declared.act.Step.{Step}
 use Rattle.ppm_code.specs.declared.act.Step.TheVariants.{Loads, Stores, Asks}
 use Rattle.ppm_code.specs.declared.act.End.{End}

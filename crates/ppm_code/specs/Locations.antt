@@ -1,9 +1,9 @@
 -- The locations of instructions, as those of the frames of a table of capsules.
 use Rattle.std.proofs.Common.{◌≡◌, ℕ, Bool, true, false, ◌==◌, cond, refl, ap, subst}
 use Rattle.std.proofs.lemmas.Bool.{eq-eqb, eqb-true}
-use Rattle.ppm_capsules.specs.Capsule.{Equality}
-use Rattle.ppm_capsules.specs.Equalities.{numbers, locations}
-use Rattle.ppm_capsules.specs.Strand.{Location, Own, New, Shared}
+use Rattle.ppm_strands.specs.Capsule.{Equality}
+use Rattle.ppm_strands.specs.Equalities.{numbers, locations}
+use Rattle.ppm_strands.specs.Strand.{Location, Own, New, Shared}
 use Rattle.ppm_code.specs.declared.location.FrameWord.{FrameWord}
 use Rattle.ppm_code.specs.declared.location.FrameWord.TheVariants.{Slot, Value}
 use Rattle.ppm_code.specs.declared.location.Location.{Location as Named}

@@ -8,7 +8,7 @@ use Rattle.ppm_code.specs.declared.act.Act.{Act}
 use Rattle.ppm_code.specs.declared.act.Act.TheVariants.{Sets, Passes, Jumps, Steps, Ends as Stops}
 use Rattle.ppm_code.specs.declared.act.Step.TheVariants.{Loads, Stores, Asks}
 use Rattle.ppm_code.specs.declared.location.FrameWord.TheVariants.{Slot as SlotWord, Value as ValueWord}
-use Rattle.ppm_capsules.specs.Strand.{Own, New as NewWord, Shared}
+use Rattle.ppm_strands.specs.Strand.{Own, New as NewWord, Shared}
 use Rattle.ppm_code.specs.Acts.{does}
 use Rattle.ppm_code.specs.Locations.{Where, location_of}
 use Rattle.ppm_code.specs.declared.instr.Instr.{Instr}

@@ -1,8 +1,8 @@
 -- Capsules of code that may be run again.
 use Rattle.std.specs.Prelude.{ℕ, List}
-use Rattle.ppm_capsules.specs.Capsule.{Memory}
-use Rattle.ppm_capsules.specs.Paths.{IsFreeOnPaths}
-use Rattle.ppm_capsules.specs.Stopped.{IsConflictFree, IsIdempotent}
+use Rattle.ppm_strands.specs.Capsule.{Memory}
+use Rattle.ppm_strands.specs.Paths.{IsFreeOnPaths}
+use Rattle.ppm_strands.specs.Stopped.{IsConflictFree, IsIdempotent}
 use Rattle.ppm_code.specs.declared.instr.Instr.{Instr}
 use Rattle.ppm_code.specs.Locations.{Where, code_locations}
 use Rattle.ppm_code.specs.Capsules.{capsule_from, capsule_of}

@@ -1,8 +1,8 @@
 -- The strands of a code: its capsules as a table, and how its frames go on.
 use Rattle.std.specs.Prelude.{ℕ, ◌+◌, nat_lt, if◌then◌else◌, Bool, true, false, cond, List, [], Option, Some, None, slice_get}
 use Rattle.ppm_strands.specs.Tree.{Tree, Strand, Call as Calling, Fork as Forking, Over}
-use Rattle.ppm_capsules.specs.Capsule.{Memory}
-use Rattle.ppm_capsules.specs.Strand.{Frame, Table, MayBeginAgain}
+use Rattle.ppm_strands.specs.Capsule.{Memory}
+use Rattle.ppm_strands.specs.Strand.{Frame, Table, MayBeginAgain}
 use Rattle.ppm_words.specs.declared.trap.Trap.{Trap}
 use Rattle.ppm_code.specs.declared.location.FrameWord.{FrameWord}
 use Rattle.ppm_code.specs.declared.location.FrameWord.TheVariants.{Slot, Value}

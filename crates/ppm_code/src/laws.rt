@@ -1,6 +1,6 @@
 //! What is true of the capsules of code, shown by calls that do nothing.
 ghost use Rattle.std.specs.Prelude.{ℕ, List};
-ghost use Rattle.ppm_capsules.specs.Capsule.{Memory};
+ghost use Rattle.ppm_strands.specs.Capsule.{Memory};
 ghost use Rattle.ppm_code.specs.Locations.{Where};
 ghost use Rattle.ppm_code.specs.Paths.{ActsFollow, HasNoConflict};
 ghost use Rattle.ppm_code.specs.RunAgain.{MayRunAgain, PathsDecide};

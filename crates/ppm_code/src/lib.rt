@@ -3,7 +3,7 @@
 //! (`specs/Strands`).
 //! Contract: an instruction is decoded to an act once; what has no conflict on any path may be run
 //! again.
-//! Stands on `ppm_capsules`; the conflict check, the depth-first run and the machine's step stand
+//! Stands on `ppm_strands`; the conflict check, the depth-first run and the machine's step stand
 //! on it.
 //! After the capsules and conflicts of Blelloch et al., SPAA 2018; the instructions are this
 //! project's.

@@ -5,7 +5,7 @@ use Rattle.ppm_cells.specs.declared.cell.Cell.{Cell}
 use Rattle.ppm_cells.specs.declared.restart.Restart.{Restart}
 use Rattle.ppm_cells.specs.declared.restart.RestartKind.TheVariants.{Run}
 use Rattle.ppm_cells.specs.declared.shape.Shape.{Shape}
-use Rattle.ppm_capsules.specs.Capsule.{Capsule}
+use Rattle.ppm_strands.specs.Capsule.{Capsule}
 use Rattle.ppm_code.specs.Capsules.{capsule_from, reached}
 use Rattle.ppm_code.specs.Locations.{Where}
 use Rattle.ppm_code.specs.declared.act.End.{End}

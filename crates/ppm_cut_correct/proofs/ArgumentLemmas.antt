@@ -5,8 +5,8 @@ use Rattle.std.specs.Prelude.{slice_index, slice_set}
 use Rattle.std.specs.List.{All, sum}
 use Rattle.std.specs.Str.{bytes_eq}
 use Rattle.std.proofs.lemmas.List.{length-append, length-map}
-use Rattle.ppm_capsules.specs.Capsule.{Capsule, Memory}
-use Rattle.ppm_capsules.specs.Strand.{Own}
+use Rattle.ppm_strands.specs.Capsule.{Capsule, Memory}
+use Rattle.ppm_strands.specs.Strand.{Own}
 use Rattle.ppm_code.specs.declared.act.End.{End}
 use Rattle.ppm_code.specs.declared.instr.Instr.{Instr}
 use Rattle.ppm_code.specs.declared.instr.Instr.TheVariants as instr

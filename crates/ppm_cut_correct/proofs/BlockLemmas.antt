@@ -2,8 +2,8 @@
 use Rattle.std.proofs.Common.{◌≡◌, ◌≢◌, ◌≤◌, ◌<◌, ◌⊎◌, ℕ, zero, suc, ◌+◌, ◌-◌, List, [], ◌∷◌, length, get_or, inl, inr, refl, ap, ◌∙◌, subst, arith}
 use Rattle.std.specs.Prelude.{slice_index, slice_set}
 use Rattle.std.proofs.lemmas.Bool.{ne_eqb, cond-true, cond-false}
-use Rattle.ppm_capsules.specs.Capsule.{Memory, ending, leaves, asked, store}
-use Rattle.ppm_capsules.specs.Strand.{Own, New, own_of, new_of, shared_of}
+use Rattle.ppm_strands.specs.Capsule.{Memory, ending, leaves, asked, store}
+use Rattle.ppm_strands.specs.Strand.{Own, New, own_of, new_of, shared_of}
 use Rattle.ppm_code.specs.declared.instr.Instr.{Instr}
 use Rattle.ppm_code.specs.declared.instr.Instr.TheVariants as instr
 use Rattle.ppm_code.specs.declared.location.FrameWord.{FrameWord}

@@ -3,8 +3,8 @@ use Rattle.std.proofs.Common.{◌≡◌, ◌≤◌, ◌<◌, ℕ, ◌+◌, List,
 use Rattle.std.specs.Prelude.{slice_index}
 use Rattle.std.specs.List.{sum}
 use Rattle.ppm_strands.specs.Tree.{Words, Strand, Call as Calling}
-use Rattle.ppm_capsules.specs.Capsule.{Memory, Capsule}
-use Rattle.ppm_capsules.specs.Strand.{New, new_of}
+use Rattle.ppm_strands.specs.Capsule.{Memory, Capsule}
+use Rattle.ppm_strands.specs.Strand.{New, new_of}
 use Rattle.ppm_code.specs.declared.act.End.{End}
 use Rattle.ppm_code.specs.declared.act.End.TheVariants as ends
 use Rattle.ppm_code.specs.declared.code.CodeParts.{CodeParts}

@@ -6,8 +6,8 @@ use Rattle.std.specs.List.{sum}
 use Rattle.std.proofs.lemmas.Bool.{lt-ltb}
 use Rattle.std.proofs.lemmas.Nat.{mod-mul-add}
 use Rattle.ppm_strands.specs.Tree.{Words, Strand, Call as Calling, Over}
-use Rattle.ppm_capsules.specs.Capsule.{Memory, Capsule}
-use Rattle.ppm_capsules.specs.Strand.{New, new_of}
+use Rattle.ppm_strands.specs.Capsule.{Memory, Capsule}
+use Rattle.ppm_strands.specs.Strand.{New, new_of}
 use Rattle.ppm_words.specs.TwosComplement.{value_of}
 use Rattle.ppm_code.specs.declared.act.End.{End}
 use Rattle.ppm_code.specs.declared.act.End.TheVariants as ends

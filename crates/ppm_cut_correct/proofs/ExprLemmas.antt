@@ -15,8 +15,8 @@ use Rattle.std.proofs.lemmas.List.Elements.{All-head, All-tail, All-take, All-dr
 use Rattle.ppm_words.specs.TwosComplement.{word_of, value_of}
 use Rattle.ppm_words.specs.declared.trap.Trap.TheVariants as trap
 use Rattle.ppm_words.proofs.TwosComplementLemmas.{value_of-word_of, word_of-below, value_of-fits}
-use Rattle.ppm_capsules.specs.Capsule.{Capsule, Ends, Memory, ending, leaves, asked, store}
-use Rattle.ppm_capsules.specs.Strand.{Own, Shared}
+use Rattle.ppm_strands.specs.Capsule.{Capsule, Ends, Memory, ending, leaves, asked, store}
+use Rattle.ppm_strands.specs.Strand.{Own, Shared}
 use Rattle.ppm_code.specs.declared.act.Act.{Act}
 use Rattle.ppm_code.specs.declared.act.Act.TheVariants.{Sets, Passes, Jumps, Steps, Ends as Stops}
 use Rattle.ppm_code.specs.declared.act.Step.{Step}

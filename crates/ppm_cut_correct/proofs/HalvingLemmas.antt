@@ -6,8 +6,8 @@ use Rattle.std.specs.List.{sum}
 use Rattle.std.proofs.lemmas.Bool.{lt-ltb, le-leb}
 use Rattle.std.proofs.lemmas.Nat.{div-mul-add, mod-mul-add}
 use Rattle.ppm_strands.specs.Tree.{Words, Strand, Fork as Forking}
-use Rattle.ppm_capsules.specs.Capsule.{Memory, Ends}
-use Rattle.ppm_capsules.specs.Strand.{new_of}
+use Rattle.ppm_strands.specs.Capsule.{Memory, Ends}
+use Rattle.ppm_strands.specs.Strand.{new_of}
 use Rattle.ppm_words.specs.TwosComplement.{value_of}
 use Rattle.ppm_words.specs.declared.trap.Trap.TheVariants.{Overflow, Split}
 use Rattle.ppm_code.specs.declared.act.Act.TheVariants.{Sets}

@@ -2,7 +2,7 @@
 use Rattle.std.proofs.Common.{◌≡◌, ◌≤◌, ◌<◌, ℕ, ◌+◌, ◌^◌, ℤ, pos, Bool, true, false, List, Option, Some, None, Result, Ok, Err, get_or, length}
 use Rattle.std.specs.List.{sum}
 use Rattle.ppm_strands.specs.Tree.{Words, Tree, Strand, Call as Calling, Fork as Forking, Over, Code}
-use Rattle.ppm_capsules.specs.Strand.{Frame as CapsuleFrame, code_of}
+use Rattle.ppm_strands.specs.Strand.{Frame as CapsuleFrame, code_of}
 use Rattle.ppm_words.specs.TwosComplement.{value_of}
 use Rattle.ppm_code.specs.declared.code.CodeParts.{CodeParts}
 use Rattle.ppm_code.specs.declared.location.FrameWord.{FrameWord}

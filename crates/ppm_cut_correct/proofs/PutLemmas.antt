@@ -7,8 +7,8 @@ use Rattle.std.proofs.lemmas.Bool.{cases_eq, cases_lt, cond-true, cond-false, eq
 use Rattle.std.proofs.lemmas.List.{get_or_past, length-append}
 use Rattle.ppm_words.specs.TwosComplement.{word_of}
 use Rattle.ppm_strands.specs.Tree.{Words, Strand}
-use Rattle.ppm_capsules.specs.Capsule.{Ends, Memory, store}
-use Rattle.ppm_capsules.specs.Strand.{Own, Shared}
+use Rattle.ppm_strands.specs.Capsule.{Ends, Memory, store}
+use Rattle.ppm_strands.specs.Strand.{Own, Shared}
 use Rattle.ppm_code.specs.declared.act.Step.{Step}
 use Rattle.ppm_code.specs.declared.act.Step.TheVariants.{Stores}
 use Rattle.ppm_code.specs.declared.act.End.TheVariants as ends

@@ -8,8 +8,8 @@ use Rattle.std.proofs.lemmas.Bool.{lt-ltb, lt-leb, leb-true}
 use Rattle.ppm_words.specs.TwosComplement.{word_of}
 use Rattle.ppm_words.specs.declared.trap.Trap.TheVariants as trap
 use Rattle.ppm_strands.specs.Tree.{Words}
-use Rattle.ppm_capsules.specs.Capsule.{Ends, Memory, store}
-use Rattle.ppm_capsules.specs.Strand.{Own}
+use Rattle.ppm_strands.specs.Capsule.{Ends, Memory, store}
+use Rattle.ppm_strands.specs.Strand.{Own}
 use Rattle.ppm_code.specs.declared.act.Act.{Act}
 use Rattle.ppm_code.specs.declared.act.Act.TheVariants.{Sets}
 use Rattle.ppm_code.specs.declared.act.End.TheVariants as ends

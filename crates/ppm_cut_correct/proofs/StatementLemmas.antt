@@ -6,8 +6,8 @@ use Rattle.std.specs.List.{sum}
 use Rattle.std.specs.Ordering.{int_eq}
 use Rattle.ppm_words.specs.TwosComplement.{word_of}
 use Rattle.ppm_strands.specs.Tree.{Words, Strand, Over}
-use Rattle.ppm_capsules.specs.Capsule.{Ends, Memory, store}
-use Rattle.ppm_capsules.specs.Strand.{Own}
+use Rattle.ppm_strands.specs.Capsule.{Ends, Memory, store}
+use Rattle.ppm_strands.specs.Strand.{Own}
 use Rattle.ppm_code.specs.declared.act.Act.{Act}
 use Rattle.ppm_code.specs.declared.act.Act.TheVariants.{Jumps, Passes}
 use Rattle.ppm_code.specs.declared.act.End.{End}

@@ -5,8 +5,8 @@ use Rattle.ppm_strands.specs.Tree.{Words, Strand, Over, forks_in}
 use Rattle.ppm_strands.specs.Run.{none, plus, of_capsule}
 use Rattle.ppm_strands.specs.Ahead.{Capsule as OneCapsule, Done}
 use Rattle.ppm_strands.proofs.OrderLemmas.{before}
-use Rattle.ppm_capsules.specs.Capsule.{Capsule, Ends, Memory, ending, leaves, asked}
-use Rattle.ppm_capsules.specs.Strand.{start, opened, shared_of}
+use Rattle.ppm_strands.specs.Capsule.{Capsule, Ends, Memory, ending, leaves, asked}
+use Rattle.ppm_strands.specs.Strand.{start, opened, shared_of}
 use Rattle.ppm_code.specs.declared.act.End.{End}
 use Rattle.ppm_code.specs.declared.act.End.TheVariants.{Trap as Trapping}
 use Rattle.ppm_code.specs.declared.code.CodeParts.{CodeParts}

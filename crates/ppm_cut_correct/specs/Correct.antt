@@ -5,7 +5,7 @@ use Rattle.std.specs.Set.{distinct_count}
 use Rattle.std.specs.Str.{bytes_eq}
 use Rattle.ppm_strands.specs.Tree.{Words, Tree}
 use Rattle.ppm_strands.specs.Run.{Counts as CapsuleCounts, End as CapsuleEnd}
-use Rattle.ppm_capsules.specs.Strand.{Frame as CapsuleFrame}
+use Rattle.ppm_strands.specs.Strand.{Frame as CapsuleFrame}
 use Rattle.ppm_words.specs.declared.named_array.NamedArray.{NamedArray}
 use Rattle.ppm_words.specs.declared.outcome.Outcome.{Outcome}
 use Rattle.ppm_words.specs.declared.outcome.Outcome.TheVariants as outcome

@@ -1,8 +1,8 @@
 -- The code respects what frames own: each of its capsules is tame, and frames go on as they may.
 use Rattle.std.proofs.Common.{ℕ, List, [], sym, subst}
 use Rattle.ppm_strands.specs.Tree.{Words}
-use Rattle.ppm_capsules.specs.Capsule.{Memory}
-use Rattle.ppm_capsules.specs.Strand.{Frame as CapsuleFrame, own_of, start, code_of as strands_in}
+use Rattle.ppm_strands.specs.Capsule.{Memory}
+use Rattle.ppm_strands.specs.Strand.{Frame as CapsuleFrame, own_of, start, code_of as strands_in}
 use Rattle.ppm_code.specs.declared.act.End.TheVariants as ends
 use Rattle.ppm_code.specs.declared.code.CodeParts.{CodeParts}
 use Rattle.ppm_code.specs.declared.instr.Instr.{Instr}

@@ -2,8 +2,8 @@
 use Rattle.std.proofs.Common.{◌≡◌, ◌≤◌, ◌<◌, ℕ, suc, ◌+◌, ◌-◌, ◌*◌, ◌^◌, cond, Bool, List, [], ◌∷◌, None}
 use Rattle.std.proofs.Common.{length, slice_set, refl, sym, ap, ◌∙◌, subst, arith}
 use Rattle.std.specs.Prelude.{pos, ◌+ℤ◌, int_div}
-use Rattle.ppm_capsules.specs.Capsule.{Memory, store}
-use Rattle.ppm_capsules.specs.Strand.{Own, New as NewWord, own_of, new_of}
+use Rattle.ppm_strands.specs.Capsule.{Memory, store}
+use Rattle.ppm_strands.specs.Strand.{Own, New as NewWord, own_of, new_of}
 use Rattle.ppm_words.specs.TwosComplement.{word_of, value_of}
 use Rattle.ppm_code.specs.declared.act.End.TheVariants as ends
 use Rattle.ppm_code.specs.declared.code.CodeParts.{CodeParts}

@@ -1,8 +1,8 @@
 -- An expression in front of what is tame is tame: it reads elements of regions alone, and uses no register below its own.
 use Rattle.std.proofs.Common.{◌≡◌, ◌<◌, ℕ, suc, ◌+◌, ◌-◌, ◌==◌, max, cond, int_lt, int_le, List, ◌∷◌, slice_set, refl, sym, ap, ◌∙◌, subst, arith}
 use Rattle.std.specs.Prelude.{pos, ◌+ℤ◌, ◌-ℤ◌, ◌*ℤ◌, int_div, int_rem}
-use Rattle.ppm_capsules.specs.Capsule.{Capsule, Memory}
-use Rattle.ppm_capsules.specs.Strand.{Own}
+use Rattle.ppm_strands.specs.Capsule.{Capsule, Memory}
+use Rattle.ppm_strands.specs.Strand.{Own}
 use Rattle.ppm_words.specs.TwosComplement.{word_of, value_of}
 use Rattle.ppm_code.specs.declared.location.FrameWord.TheVariants.{Slot}
 use Rattle.ppm_code.specs.declared.act.End.{End}

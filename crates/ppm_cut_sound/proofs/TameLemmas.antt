@@ -6,8 +6,8 @@ use Rattle.std.specs.Prelude.{ℤ, int_div}
 use Rattle.std.proofs.lemmas.Bool.{ltb-true, ltb-false, leb-true}
 use Rattle.std.proofs.lemmas.List.{length-set, get_or-set_same, get_or-set_other}
 use Rattle.ppm_strands.specs.Tree.{Has}
-use Rattle.ppm_capsules.specs.Capsule.{Capsule, Reads, Writes, Asks as AsksFor, Ends, Memory, is_in, store, ending, leaves, written, exposed_past}
-use Rattle.ppm_capsules.specs.Strand.{Own, New as NewWord, Shared, addresses, own_of, new_of}
+use Rattle.ppm_strands.specs.Capsule.{Capsule, Reads, Writes, Asks as AsksFor, Ends, Memory, is_in, store, ending, leaves, written, exposed_past}
+use Rattle.ppm_strands.specs.Strand.{Own, New as NewWord, Shared, addresses, own_of, new_of}
 use Rattle.ppm_words.specs.TwosComplement.{word_of}
 use Rattle.ppm_words.specs.declared.trap.Trap.{Trap}
 use Rattle.ppm_words.specs.declared.trap.Trap.TheVariants.{Overflow, DivZero}

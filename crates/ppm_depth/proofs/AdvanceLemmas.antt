@@ -10,8 +10,8 @@ use Rattle.ppm_strands.specs.Ahead.{Capsule, Done}
 use Rattle.ppm_depth.specs.Order.{StepsInOrder}
 use Rattle.ppm_depth.proofs.OrderLemmas.{before}
 use Rattle.ppm_strands.proofs.RunLemmas.{counts_path, plus_none, plus_comm}
-use Rattle.ppm_capsules.specs.Capsule.{Capsule as Asking, Memory, ending, leaves, asked}
-use Rattle.ppm_capsules.specs.Strand.{start, own_of, new_of, shared_of}
+use Rattle.ppm_strands.specs.Capsule.{Capsule as Asking, Memory, ending, leaves, asked}
+use Rattle.ppm_strands.specs.Strand.{start, own_of, new_of, shared_of}
 use Rattle.ppm_code.specs.declared.act.End.{End}
 use Rattle.ppm_code.specs.declared.act.End.TheVariants.{Next, Finish, Trap, Call, Fork}
 use Rattle.ppm_code.specs.Sizes.{right_at, procedure_at, size_at, slots_at}

@@ -3,8 +3,8 @@ use Rattle.std.proofs.Common.{◌≡◌, ◌<◌, ◌≤◌, ◌≢◌, ℕ, ◌
 use Rattle.std.specs.Prelude.{◌==◌, ◌⊎◌}
 use Rattle.std.proofs.lemmas.Bool.{eqb-true, eq-eqb}
 use Rattle.std.proofs.lemmas.List.{get_or-set_same, get_or-set_other, length-set}
-use Rattle.ppm_capsules.specs.Capsule.{Capsule, Memory, store, ending, leaves, asked}
-use Rattle.ppm_capsules.specs.Strand.{Own, New as NewWord, Shared}
+use Rattle.ppm_strands.specs.Capsule.{Capsule, Memory, store, ending, leaves, asked}
+use Rattle.ppm_strands.specs.Strand.{Own, New as NewWord, Shared}
 use Rattle.ppm_code.specs.declared.act.End.{End}
 use Rattle.ppm_code.specs.declared.act.Step.{Step}
 use Rattle.ppm_code.specs.declared.act.Step.TheVariants.{Loads, Stores, Asks}

@@ -1,7 +1,7 @@
 -- The instructions of a capsule in the stack, one by one.
 use Rattle.std.proofs.Common.{◌≡◌, ◌<◌, ◌≤◌, ℕ, ◌+◌, List, length, refl, sym, ap, ◌∙◌, subst, arith, Some, get_or}
 use Rattle.std.proofs.lemmas.Option.{slice_get_read}
-use Rattle.ppm_capsules.specs.Capsule.{Capsule, Memory, Ends, ending, leaves, asked}
+use Rattle.ppm_strands.specs.Capsule.{Capsule, Memory, Ends, ending, leaves, asked}
 use Rattle.ppm_code.specs.Capsules.{at_act, capsule_from, capsule_of}
 use Rattle.ppm_code.specs.Locations.{Where, code_locations}
 use Rattle.ppm_code.proofs.CapsuleLemmas.{worked, past_end}

@@ -3,7 +3,7 @@ use Rattle.std.specs.Prelude.{◌≡◌, ◌⊎◌, ◌<◌, ◌≤◌, ℕ, zer
 use Rattle.ppm_strands.specs.Tree.{Words, Tree, Code}
 use Rattle.ppm_strands.specs.Run.{Counts, End, Ends}
 use Rattle.ppm_depth.specs.Order.{StepsInOrder, IsAtWork}
-use Rattle.ppm_capsules.specs.Strand.{Frame, code_of}
+use Rattle.ppm_strands.specs.Strand.{Frame, code_of}
 use Rattle.ppm_words.specs.TwosComplement.{value_of}
 use Rattle.ppm_words.specs.declared.named_array.NamedArray.{NamedArray}
 use Rattle.ppm_words.specs.declared.outcome.Outcome.{Outcome}

@@ -1,7 +1,7 @@
 -- The frames that wait in the stack, and the tree of strands that stack and frames show.
 use Rattle.std.specs.Prelude.{◌≡◌, ◌<◌, ◌≤◌, ℕ, ◌+◌, List, [], ◌∷◌, ◌++◌, Option, None, IfSome, get_or, length}
 use Rattle.ppm_strands.specs.Tree.{Tree, Strand, Call, Fork, Over}
-use Rattle.ppm_capsules.specs.Strand.{Frame as StrandFrame}
+use Rattle.ppm_strands.specs.Strand.{Frame as StrandFrame}
 use Rattle.ppm_code.specs.Sizes.{slots_at, size_at}
 use Rattle.ppm_code.specs.declared.code.CodeParts.{CodeParts}
 use Rattle.ppm_code.specs.declared.location.FrameWord.{FrameWord}

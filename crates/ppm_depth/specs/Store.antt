@@ -1,7 +1,7 @@
 -- Where locations lie in the stack of blocks and among the words of the arrays.
 use Rattle.std.specs.Prelude.{◌≡◌, ◌<◌, ℕ, ◌+◌, List, get_or, length, set, slice_set}
-use Rattle.ppm_capsules.specs.Capsule.{Memory}
-use Rattle.ppm_capsules.specs.Strand.{Own, New as NewWord, Shared}
+use Rattle.ppm_strands.specs.Capsule.{Memory}
+use Rattle.ppm_strands.specs.Strand.{Own, New as NewWord, Shared}
 use Rattle.ppm_code.specs.declared.act.Step.{Step}
 use Rattle.ppm_code.specs.declared.act.Step.TheVariants.{Loads, Stores, Asks}
 use Rattle.ppm_code.specs.declared.location.Location.{Location}

@@ -3,7 +3,7 @@ use Rattle.std.specs.Prelude.{◌≡◌, ◌≤◌, ℕ, ◌*◌, Option, Some, 
 use Rattle.ppm_strands.specs.Tree.{Code, Words, Over, Strand as StrandAt}
 use Rattle.ppm_strands.specs.Run.{Counts, plus}
 use Rattle.ppm_depth.specs.Order.{StepsInOrder}
-use Rattle.ppm_capsules.specs.Strand.{code_of}
+use Rattle.ppm_strands.specs.Strand.{code_of}
 use Rattle.ppm_code.specs.declared.code.CodeParts.{CodeParts}
 use Rattle.ppm_code.specs.Limits.{room_limit}
 use Rattle.ppm_code.specs.Locations.{code_locations}

@@ -1,6 +1,6 @@
 -- A capsule that is run whole in the stack: where it lies, what it comes to, and what it leaves alone.
 use Rattle.std.specs.Prelude.{◌≡◌, ◌⊎◌, ◌<◌, ◌≤◌, ℕ, ◌+◌, min, List, Option, Some, None, get_or, length}
-use Rattle.ppm_capsules.specs.Capsule.{Memory, ending, leaves, asked}
+use Rattle.ppm_strands.specs.Capsule.{Memory, ending, leaves, asked}
 use Rattle.ppm_code.specs.declared.code.CodeParts.{CodeParts}
 use Rattle.ppm_code.specs.Capsules.{capsule_of}
 use Rattle.ppm_code.specs.Code.{room_of}

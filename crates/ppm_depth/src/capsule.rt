@@ -1,6 +1,6 @@
 //! One capsule, run whole.
 ghost use Rattle.std.specs.Prelude.{◌≡◌, ◌<◌, ◌≤◌, length};
-ghost use Rattle.ppm_capsules.specs.Capsule.{Memory};
+ghost use Rattle.ppm_strands.specs.Capsule.{Memory};
 ghost use Rattle.ppm_code.specs.Code.{EndFits, IsCode, room_of};
 ghost use Rattle.ppm_code.specs.Limits.{room_limit};
 ghost use Rattle.ppm_code.specs.Locations.{Where};

@@ -5,10 +5,10 @@ use Rattle.std.specs.Prelude.{nat_lt, if◌then◌else◌}
 use Rattle.std.proofs.Math.Path.{fun_ext}
 use Rattle.std.proofs.lemmas.Bool.{ltb-true, ne_eqb, cond-true, cond-false}
 use Rattle.ppm_strands.specs.Tree.{Call as Calling, Fork as Forking}
-use Rattle.ppm_capsules.specs.Capsule.{Memory, In, exposed, ending, store}
-use Rattle.ppm_capsules.specs.EndStores.{stored_at, after_stores, with_end_stores_in, AreUnseen}
-use Rattle.ppm_capsules.specs.Strand.{New, Own, addresses, own_of, new_of, opened, MayBeginAgain}
-use Rattle.ppm_capsules.proofs.EndStoresLemmas.{does_then_stores}
+use Rattle.ppm_strands.specs.Capsule.{Memory, In, exposed, ending, store}
+use Rattle.ppm_strands.specs.EndStores.{stored_at, after_stores, with_end_stores_in, AreUnseen}
+use Rattle.ppm_strands.specs.Strand.{New, Own, addresses, own_of, new_of, opened, MayBeginAgain}
+use Rattle.ppm_strands.proofs.EndStoresLemmas.{does_then_stores}
 use Rattle.ppm_code.specs.Locations.{Where, code_locations}
 use Rattle.ppm_code.specs.Sizes.{slots_of, value_at, slot_at, left_at, right_at}
 use Rattle.ppm_code.specs.Strands.{Point, built, begun, table_of}

@@ -6,8 +6,8 @@ use Rattle.std.proofs.lemmas.Bool.{ltb-true, ltb-false}
 use Rattle.ppm_cells.specs.Memory.{read}
 use Rattle.ppm_cells.specs.declared.cell.Cell.TheVariants.{BlockWord}
 use Rattle.ppm_cells.specs.declared.shape.Shape.{Shape}
-use Rattle.ppm_capsules.specs.Strand.{Own, New, start}
-use Rattle.ppm_capsules.proofs.AlikeLemmas.{framed}
+use Rattle.ppm_strands.specs.Strand.{Own, New, start}
+use Rattle.ppm_strands.proofs.AlikeLemmas.{framed}
 use Rattle.ppm_code.specs.Capsules.{capsule_of}
 use Rattle.ppm_code.specs.Locations.{code_locations}
 use Rattle.ppm_code.specs.Sizes.{slot_at, left_at, right_at, slots_at}

@@ -3,10 +3,10 @@ use Rattle.std.specs.Prelude.{◌≡◌, ℕ}
 use Rattle.ppm_strands.specs.Tree.{Tree}
 use Rattle.ppm_strands.specs.Beside.{AreBeside}
 use Rattle.ppm_strands.specs.Calm.{Calm}
-use Rattle.ppm_capsules.specs.Capsule.{Capsule, Writes, Memory, store}
-use Rattle.ppm_capsules.specs.EndStores.{with_end_stores_in}
-use Rattle.ppm_capsules.specs.Stopped.{Stands}
-use Rattle.ppm_capsules.specs.Strand.{Shared, Frame, Table, IsClean, MayBeginAgain, shared_of, frame_of, code_of}
+use Rattle.ppm_strands.specs.Capsule.{Capsule, Writes, Memory, store}
+use Rattle.ppm_strands.specs.EndStores.{with_end_stores_in}
+use Rattle.ppm_strands.specs.Stopped.{Stands}
+use Rattle.ppm_strands.specs.Strand.{Shared, Frame, Table, IsClean, MayBeginAgain, shared_of, frame_of, code_of}
 use Rattle.ppm_code.specs.Locations.{Where, code_locations}
 use Rattle.ppm_code.specs.Strands.{Point, Result, table_of}
 use Rattle.ppm_code.specs.declared.act.End.{End}

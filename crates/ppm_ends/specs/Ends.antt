@@ -5,9 +5,9 @@ use Rattle.ppm_cells.specs.declared.cell.Cell.TheVariants.{BlockWord}
 use Rattle.ppm_cells.specs.declared.finish.Finish.TheVariants.{Ended, Trapped}
 use Rattle.ppm_cells.specs.declared.link.LinkKind.TheVariants.{Call as CallLink, Branch, Fork as ForkLink}
 use Rattle.ppm_cells.specs.declared.side.Side.TheVariants.{Left, Right}
-use Rattle.ppm_capsules.specs.Capsule.{Memory}
-use Rattle.ppm_capsules.specs.EndStores.{with_end_stores_in, AreUnseen}
-use Rattle.ppm_capsules.specs.Strand.{New, MayBeginAgain, code_of}
+use Rattle.ppm_strands.specs.Capsule.{Memory}
+use Rattle.ppm_strands.specs.EndStores.{with_end_stores_in, AreUnseen}
+use Rattle.ppm_strands.specs.Strand.{New, MayBeginAgain, code_of}
 use Rattle.ppm_code.specs.Locations.{Where, code_locations}
 use Rattle.ppm_code.specs.Sizes.{frame_size, fork_size, right_at}
 use Rattle.ppm_code.specs.Strands.{Point, entry_of, table_of}

@@ -4,8 +4,8 @@ use Rattle.ppm_strands.specs.Tree.{Tree, Strand, Call as Calling, Fork as Forkin
 use Rattle.ppm_cells.specs.Memory.{read, write}
 use Rattle.ppm_cells.specs.declared.cell.Cell.TheVariants.{BlockWord}
 use Rattle.ppm_cells.specs.declared.shape.Shape.{Shape}
-use Rattle.ppm_capsules.specs.Capsule.{Memory}
-use Rattle.ppm_capsules.specs.Strand.{Own, New, Frame, opened}
+use Rattle.ppm_strands.specs.Capsule.{Memory}
+use Rattle.ppm_strands.specs.Strand.{Own, New, Frame, opened}
 use Rattle.ppm_code.specs.Locations.{Where, code_locations}
 use Rattle.ppm_code.specs.Sizes.{slots_of, frame_size, fork_size, right_at, left_at}
 use Rattle.ppm_code.specs.Strands.{Point, Result, Gave, Trapped, table_of}

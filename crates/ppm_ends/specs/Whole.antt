@@ -5,8 +5,8 @@ use Rattle.ppm_strands.specs.Tree.{Words}
 use Rattle.ppm_cells.specs.Memory.{read}
 use Rattle.ppm_cells.specs.declared.cell.Cell.TheVariants.{BlockWord}
 use Rattle.ppm_cells.specs.declared.shape.Shape.{Shape}
-use Rattle.ppm_capsules.specs.Capsule.{Memory, ending, leaves}
-use Rattle.ppm_capsules.specs.Strand.{Own, New, Frame, start, code_of}
+use Rattle.ppm_strands.specs.Capsule.{Memory, ending, leaves}
+use Rattle.ppm_strands.specs.Strand.{Own, New, Frame, start, code_of}
 use Rattle.ppm_code.specs.Capsules.{capsule_of}
 use Rattle.ppm_code.specs.Code.{IsCode}
 use Rattle.ppm_code.specs.Locations.{Where, code_locations}

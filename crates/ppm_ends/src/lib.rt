@@ -1,6 +1,6 @@
 //! The stores of an end, in the machine's words; laws alone.
 //! Model: the machine's stores of an end (`ppm_step`), and the capsules of a code with such stores
-//! behind them (`ppm_capsules`).
+//! behind them (`ppm_strands`).
 //! Contract: all but one go into the new block, where no tree shows them; behind them the words
 //! show the tree that the end opens.
 //! Stands on `ppm_step` and `ppm_layout`, so that neither stands on the other.

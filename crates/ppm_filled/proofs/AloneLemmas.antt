@@ -2,8 +2,8 @@
 use Rattle.std.proofs.Common.{◌≡◌, ◌∙◌, ℕ, ◌==◌, cond, List, [], ◌∷◌, refl, ap, subst, sym}
 use Rattle.ppm_strands.specs.Tree.{Words}
 use Rattle.ppm_strands.specs.Ahead.{put}
-use Rattle.ppm_capsules.specs.Capsule.{Capsule, Reads, Writes, Asks, Ends, Memory, store, ending, leaves}
-use Rattle.ppm_capsules.specs.Strand.{Own, New, Shared}
+use Rattle.ppm_strands.specs.Capsule.{Capsule, Reads, Writes, Asks, Ends, Memory, store, ending, leaves}
+use Rattle.ppm_strands.specs.Strand.{Own, New, Shared}
 use Rattle.ppm_unseen.specs.Capsule.{Capsule as Racing, Ends as Stops}
 use Rattle.ppm_code.specs.declared.location.FrameWord.{FrameWord}
 use Rattle.ppm_code.specs.declared.act.End.{End}

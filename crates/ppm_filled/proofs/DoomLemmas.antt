@@ -6,9 +6,9 @@ use Rattle.std.proofs.lemmas.List.{get_or-set_other}
 use Rattle.ppm_words.specs.TwosComplement.{value_of, word_of}
 use Rattle.ppm_words.specs.declared.trap.Trap.{Trap}
 use Rattle.ppm_words.specs.declared.trap.Trap.TheVariants.{Overflow, DivZero, Split}
-use Rattle.ppm_capsules.specs.Capsule.{Capsule, Memory, In, is_in}
-use Rattle.ppm_capsules.specs.Equalities.{numbers}
-use Rattle.ppm_capsules.proofs.LocationLemmas.{decide}
+use Rattle.ppm_strands.specs.Capsule.{Capsule, Memory, In, is_in}
+use Rattle.ppm_strands.specs.Equalities.{numbers}
+use Rattle.ppm_strands.proofs.LocationLemmas.{decide}
 use Rattle.ppm_unseen.specs.Capsule.{Capsule as Racing, Loads as LoadsOwn, Keeps, Reads as FindsShared, Changes, Ends as Stopping}
 use Rattle.ppm_code.specs.declared.location.FrameWord.TheVariants.{Slot as SlotWord, Value as ValueWord}
 use Rattle.ppm_code.specs.declared.location.Location.TheVariants.{Frame, New as NewLocation, Array as ArrayWord}

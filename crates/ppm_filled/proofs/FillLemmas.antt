@@ -3,9 +3,9 @@ use Rattle.std.proofs.Common.{◌≡◌, ◌≤◌, ◌<◌, ℕ, ◌+◌, Bool,
 use Rattle.std.proofs.Common.{◌⊎◌, inl, inr, refl, sym, ap, ◌∙◌, subst, arith, slice_set}
 use Rattle.std.specs.Prelude.{slice_get}
 use Rattle.std.proofs.lemmas.Bool.{cond-false, cond-true}
-use Rattle.ppm_capsules.specs.Capsule.{Memory, In, is_in}
-use Rattle.ppm_capsules.specs.Strand.{Own}
-use Rattle.ppm_capsules.proofs.LocationLemmas.{decide, in_or_not}
+use Rattle.ppm_strands.specs.Capsule.{Memory, In, is_in}
+use Rattle.ppm_strands.specs.Strand.{Own}
+use Rattle.ppm_strands.proofs.LocationLemmas.{decide, in_or_not}
 use Rattle.ppm_unseen.specs.Capsule.{Capsule as Racing, Loads as LoadsOwn, Ends as Stopping}
 use Rattle.ppm_unseen.specs.Conditions.{FillsPast}
 use Rattle.ppm_code.specs.declared.class.Class.{Class}

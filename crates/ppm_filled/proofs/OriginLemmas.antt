@@ -2,9 +2,9 @@
 use Rattle.std.proofs.Common.{◌≡◌, ◌≤◌, ◌<◌, ℕ, suc, ◌+◌, Bool, true, false, cond, List, [], ◌∷◌, ◌++◌, length, Option, Some, None}
 use Rattle.std.proofs.Common.{◌⊎◌, inl, inr, refl, sym, ap, ◌∙◌, subst, arith, slice_set}
 use Rattle.std.specs.Prelude.{slice_get}
-use Rattle.ppm_capsules.specs.Capsule.{Memory, In, is_in}
-use Rattle.ppm_capsules.specs.Strand.{Own}
-use Rattle.ppm_capsules.proofs.LocationLemmas.{decide}
+use Rattle.ppm_strands.specs.Capsule.{Memory, In, is_in}
+use Rattle.ppm_strands.specs.Strand.{Own}
+use Rattle.ppm_strands.proofs.LocationLemmas.{decide}
 use Rattle.ppm_unseen.specs.Capsule.{Capsule as Racing, Ends as Stopping}
 use Rattle.ppm_code.specs.declared.class.Class.{Class}
 use Rattle.ppm_code.specs.declared.class.Class.TheVariants.{Slot, New, Room, Array}

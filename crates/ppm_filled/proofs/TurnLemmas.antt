@@ -5,7 +5,7 @@ use Rattle.std.specs.Prelude.{slice_get, ℤ, ◌==◌, ◌+ℤ◌, ◌-ℤ◌, 
 use Rattle.ppm_words.specs.declared.trap.Trap.{Trap}
 use Rattle.ppm_words.specs.declared.trap.Trap.TheVariants.{Overflow, DivZero, Split, Index}
 use Rattle.ppm_words.specs.TwosComplement.{value_of, word_of}
-use Rattle.ppm_capsules.specs.Capsule.{Capsule, Ends}
+use Rattle.ppm_strands.specs.Capsule.{Capsule, Ends}
 use Rattle.ppm_unseen.specs.Capsule.{Capsule as Racing, Loads as LoadsOwn, Keeps, Reads as FindsShared, Changes, constant}
 use Rattle.ppm_code.specs.declared.class.Class.TheVariants.{Slot, New, Room, Array}
 use Rattle.ppm_code.specs.declared.class.May.TheVariants.{Work, Read, Write, Branch}
@@ -26,7 +26,7 @@ use Rattle.ppm_code.specs.Capsules.{capsule_from, at_act}
 use Rattle.ppm_code.specs.Locations.{Where}
 use Rattle.ppm_code.specs.Paths.{may, GoesTo, class_of}
 use Rattle.ppm_code.proofs.CapsuleLemmas.{at_instr}
-use Rattle.ppm_capsules.specs.Strand.{Own}
+use Rattle.ppm_strands.specs.Strand.{Own}
 use Rattle.ppm_filled.specs.Racing.{OwnWord, OfFrame, OfBlock, Exit, racing, ending, built_by}
 use Rattle.ppm_filled.specs.Filled.{target_of, may_trap, is_stop, builds_by, builder_in, IsStop, builder_at}
 

@@ -2,8 +2,8 @@
 use Rattle.std.specs.Prelude.{◌≡◌, ℕ, cond, List, [], ◌∷◌}
 use Rattle.ppm_strands.specs.Tree.{Words, Tree, Strand, Call as Calling, Fork as Forking, Over}
 use Rattle.ppm_strands.specs.Ahead.{put}
-use Rattle.ppm_capsules.specs.Capsule.{Capsule, Memory, store, ending, leaves}
-use Rattle.ppm_capsules.specs.Strand.{Frame, Own, New, Shared}
+use Rattle.ppm_strands.specs.Capsule.{Capsule, Memory, store, ending, leaves}
+use Rattle.ppm_strands.specs.Strand.{Frame, Own, New, Shared}
 use Rattle.ppm_unseen.specs.Capsule.{Next as Opened, GoesOn, Forks, Closes}
 use Rattle.ppm_unseen.specs.Capsule.{Capsule as Racing, Loads, Keeps, Reads as Finds, Changes, Ends as Stops}
 use Rattle.ppm_code.specs.declared.location.FrameWord.{FrameWord}

@@ -1,6 +1,6 @@
 -- Which capsules are filled, as their paths tell: whatever they find on a second try, they store the same words of their own, and trap alike.
 use Rattle.std.specs.Prelude.{◌≡◌, ◌⊎◌, ℕ, ◌+◌, Bool, true, false, List, [], ◌∷◌, Option, Some, None, MatchOption, slice_get}
-use Rattle.ppm_capsules.specs.Capsule.{In}
+use Rattle.ppm_strands.specs.Capsule.{In}
 use Rattle.ppm_code.specs.declared.act.End.{End}
 use Rattle.ppm_code.specs.declared.act.End.TheVariants.{Next, Finish, Trap, Call, Fork}
 use Rattle.ppm_code.specs.declared.class.Class.{Class}

@@ -2,8 +2,8 @@
 use Rattle.std.proofs.Common.{◌≡◌, ℕ, ◌==◌, Bool, true, false, cond, List, [], ◌∷◌, ◌++◌, None, refl, ap, subst}
 use Rattle.std.proofs.lemmas.Bool.{eq-eqb, eqb-true}
 use Rattle.ppm_strands.specs.Tree.{Tree, Strand, Over, Words}
-use Rattle.ppm_capsules.specs.Capsule.{Capsule, Reads, Writes, Asks, Ends, Equality, Memory, is_in}
-use Rattle.ppm_capsules.specs.Strand.{Frame, Own, New, Shared}
+use Rattle.ppm_strands.specs.Capsule.{Capsule, Reads, Writes, Asks, Ends, Equality, Memory, is_in}
+use Rattle.ppm_strands.specs.Strand.{Frame, Own, New, Shared}
 use Rattle.ppm_unseen.specs.Capsule.{Code, Next as Opened, GoesOn, Forks, Closes, constant}
 use Rattle.ppm_unseen.specs.Capsule.{Capsule as Racing, Loads, Keeps, Reads as Finds, Changes, Ends as Stops}
 use Rattle.ppm_unseen.specs.Run.{System}

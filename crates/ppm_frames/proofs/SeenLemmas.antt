@@ -5,9 +5,9 @@ use Rattle.std.proofs.Math.Path.{fun_ext}
 use Rattle.std.proofs.lemmas.Bool.{lt-ltb, ltb-true}
 use Rattle.ppm_cells.specs.declared.cell.Cell.{Cell}
 use Rattle.ppm_cells.specs.declared.cell.Cell.TheVariants.{BlockWord}
-use Rattle.ppm_capsules.specs.Capsule.{store}
-use Rattle.ppm_capsules.specs.Strand.{Own, New, Shared}
-use Rattle.ppm_capsules.proofs.LocationLemmas.{decide, store_at, store_else}
+use Rattle.ppm_strands.specs.Capsule.{store}
+use Rattle.ppm_strands.specs.Strand.{Own, New, Shared}
+use Rattle.ppm_strands.proofs.LocationLemmas.{decide, store_at, store_else}
 use Rattle.ppm_code.specs.Locations.{Where, code_locations}
 use Rattle.ppm_code.specs.Sizes.{slot_at}
 use Rattle.ppm_code.specs.declared.location.FrameWord.{FrameWord}

@@ -12,7 +12,7 @@ use Rattle.ppm_cells.specs.declared.cell.Cell.TheVariants.{BlockWord}
 use Rattle.ppm_cells.specs.declared.finish.Finish.{Finish}
 use Rattle.ppm_cells.specs.declared.finish.Finish.TheVariants.{Trapped as TrappedBy}
 use Rattle.ppm_cells.specs.declared.link.LinkKind.{LinkKind}
-use Rattle.ppm_capsules.specs.Strand.{Frame, code_of}
+use Rattle.ppm_strands.specs.Strand.{Frame, code_of}
 use Rattle.ppm_code.specs.Locations.{code_locations}
 use Rattle.ppm_code.specs.Sizes.{slot_at, value_at}
 use Rattle.ppm_code.specs.Strands.{Point, Result, Gave, Trapped, with_value, resume, at_capsule, table_of}

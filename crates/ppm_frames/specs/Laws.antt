@@ -4,14 +4,14 @@ use Rattle.ppm_cells.specs.Cells.{IsCell}
 use Rattle.ppm_cells.specs.Memory.{write, AreWordsOf}
 use Rattle.ppm_cells.specs.declared.cell.Cell.{Cell}
 use Rattle.ppm_cells.specs.declared.shape.Shape.{Shape}
-use Rattle.ppm_capsules.specs.Capsule.{store}
+use Rattle.ppm_strands.specs.Capsule.{store}
 use Rattle.ppm_code.specs.Locations.{Where, code_locations}
 use Rattle.ppm_strands.specs.Tree.{Words, Code}
 use Rattle.ppm_strands.specs.Run.{Counts, none}
 use Rattle.ppm_strands.specs.Ahead.{Step}
 use Rattle.ppm_cells.specs.declared.cell.Cell.TheVariants.{BlockWord}
 use Rattle.ppm_cells.specs.declared.link.LinkKind.{LinkKind}
-use Rattle.ppm_capsules.specs.Strand.{Frame, code_of}
+use Rattle.ppm_strands.specs.Strand.{Frame, code_of}
 use Rattle.ppm_cells.specs.Finish.{finish_of}
 use Rattle.ppm_cells.specs.declared.finish.Finish.TheVariants.{Ended, Trapped as TrappedBy}
 use Rattle.ppm_words.specs.declared.trap.Trap.{Trap}

@@ -3,8 +3,8 @@ use Rattle.std.specs.Prelude.{◌<◌, ℕ, ◌+◌, nat_lt, if◌then◌else◌
 use Rattle.ppm_strands.specs.Tree.{Words}
 use Rattle.ppm_cells.specs.declared.cell.Cell.{Cell}
 use Rattle.ppm_cells.specs.declared.cell.Cell.TheVariants.{BlockWord, ArrayWord}
-use Rattle.ppm_capsules.specs.Capsule.{Memory}
-use Rattle.ppm_capsules.specs.Strand.{Own, New, Shared}
+use Rattle.ppm_strands.specs.Capsule.{Memory}
+use Rattle.ppm_strands.specs.Strand.{Own, New, Shared}
 use Rattle.ppm_code.specs.Locations.{Where}
 use Rattle.ppm_code.specs.Sizes.{slot_at, value_at}
 use Rattle.ppm_code.specs.declared.location.FrameWord.{FrameWord}

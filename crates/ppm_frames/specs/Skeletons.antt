@@ -11,7 +11,7 @@ use Rattle.ppm_cells.specs.declared.finish.Finish.TheVariants.{Trapped as Trappe
 use Rattle.ppm_cells.specs.declared.link.LinkKind.{LinkKind}
 use Rattle.ppm_cells.specs.declared.link.LinkKind.TheVariants.{Root, Call as Called, Branch}
 use Rattle.ppm_cells.specs.declared.side.Side.TheVariants.{Left, Right}
-use Rattle.ppm_capsules.specs.Strand.{Frame}
+use Rattle.ppm_strands.specs.Strand.{Frame}
 use Rattle.ppm_code.specs.Sizes.{value_at}
 use Rattle.ppm_code.specs.Strands.{Point, Result, Gave, Trapped}
 use Rattle.ppm_code.specs.declared.location.FrameWord.{FrameWord}

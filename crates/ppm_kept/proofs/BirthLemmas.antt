@@ -13,14 +13,14 @@ use Rattle.ppm_cells.specs.declared.link.LinkKind.TheVariants.{Root, Call as Cal
 use Rattle.ppm_cells.specs.declared.restart.RestartKind.{RestartKind}
 use Rattle.ppm_cells.specs.declared.restart.RestartKind.TheVariants.{Run, Bump, Push1, Push2, Unwind, Arrive, Join, Pop1, Pop2, Seek, Steal, Check, Take, Take2}
 use Rattle.ppm_cells.specs.declared.side.Side.TheVariants.{Left, Right}
-use Rattle.ppm_capsules.specs.Strand.{Frame}
+use Rattle.ppm_strands.specs.Strand.{Frame}
 use Rattle.ppm_code.specs.Code.{EndFits}
 use Rattle.ppm_code.specs.Sizes.{procedure_at}
 use Rattle.ppm_code.specs.Strands.{Point, Result, instrs_of}
 use Rattle.ppm_code.specs.declared.act.End.{End}
 use Rattle.ppm_code.specs.declared.act.End.TheVariants.{Next, Finish as Finishing, Trap, Call, Fork as Forking_}
 use Rattle.ppm_code.specs.declared.location.FrameWord.{FrameWord}
-use Rattle.ppm_capsules.specs.Capsule.{Ends as EndsCapsule}
+use Rattle.ppm_strands.specs.Capsule.{Ends as EndsCapsule}
 use Rattle.ppm_step.specs.Frames.{Installs, installed}
 use Rattle.ppm_step.specs.declared.frame.Home.{Home}
 use Rattle.ppm_step.specs.declared.row.Row.TheVariants.{Now}

@@ -19,13 +19,13 @@ use Rattle.ppm_cells.specs.declared.side.Side.TheVariants.{Left, Right}
 use Rattle.ppm_cells.proofs.ExactLemmas.{unpack-pack}
 use Rattle.ppm_cells.proofs.FinishLemmas.{finishes_exact}
 use Rattle.ppm_cells.proofs.LinkLemmas.{links_exact}
-use Rattle.ppm_capsules.specs.Capsule.{Capsule, Ends, Memory, Whole, In, ending, leaves, written}
-use Rattle.ppm_capsules.specs.Capsule as capsule
-use Rattle.ppm_capsules.specs.EndStores.{stored_at, after_stores}
-use Rattle.ppm_capsules.specs.Stopped.{Stands}
-use Rattle.ppm_capsules.specs.Strand.{New, Frame}
-use Rattle.ppm_capsules.proofs.EndStoresLemmas.{does_then_stores}
-use Rattle.ppm_capsules.proofs.StandsLemmas.{at_end}
+use Rattle.ppm_strands.specs.Capsule.{Capsule, Ends, Memory, Whole, In, ending, leaves, written}
+use Rattle.ppm_strands.specs.Capsule as capsule
+use Rattle.ppm_strands.specs.EndStores.{stored_at, after_stores}
+use Rattle.ppm_strands.specs.Stopped.{Stands}
+use Rattle.ppm_strands.specs.Strand.{New, Frame}
+use Rattle.ppm_strands.proofs.EndStoresLemmas.{does_then_stores}
+use Rattle.ppm_strands.proofs.StandsLemmas.{at_end}
 use Rattle.ppm_code.specs.Capsules.{capsule_of}
 use Rattle.ppm_code.specs.Code.{EndFits}
 use Rattle.ppm_code.specs.Locations.{Where, code_locations}

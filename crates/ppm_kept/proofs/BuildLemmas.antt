@@ -6,7 +6,7 @@ use Rattle.ppm_strands.specs.Ahead.{Ahead, Step}
 use Rattle.ppm_strands.proofs.RunLemmas.{plus_none, plus_comm}
 use Rattle.ppm_strands.proofs.StepLemmas.{step_ahead}
 use Rattle.ppm_strands.proofs.ChainLemmas.{ahead_composes}
-use Rattle.ppm_capsules.proofs.StrandLemmas.{code_is_local}
+use Rattle.ppm_strands.proofs.StrandLemmas.{code_is_local}
 use Rattle.ppm_code.specs.Locations.{code_locations}
 use Rattle.ppm_code.specs.Strands.{table_of}
 use Rattle.ppm_code.specs.Sizes.{frame_size}
@@ -15,7 +15,7 @@ use Rattle.ppm_cells.specs.declared.link.LinkKind.{LinkKind}
 use Rattle.ppm_cells.specs.declared.link.LinkKind.TheVariants.{Root}
 use Rattle.ppm_cells.specs.declared.restart.RestartKind.{RestartKind}
 use Rattle.ppm_cells.specs.declared.restart.RestartKind.TheVariants.{Run, Bump, Push1, Push2, Unwind, Arrive, Join, Pop1, Pop2, Seek, Steal, Check, Take, Take2}
-use Rattle.ppm_capsules.specs.Strand.{Frame}
+use Rattle.ppm_strands.specs.Strand.{Frame}
 use Rattle.ppm_code.specs.Strands.{Point, Result}
 use Rattle.ppm_code.specs.declared.location.FrameWord.{FrameWord}
 use Rattle.ppm_step.specs.declared.row.Row.TheVariants.{Now}

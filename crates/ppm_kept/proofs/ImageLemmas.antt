@@ -20,7 +20,7 @@ use Rattle.ppm_cells.specs.declared.finish.Finish.TheVariants.{Unset, Ended}
 use Rattle.ppm_cells.specs.declared.shape.Shape.{Shape}
 use Rattle.ppm_cells.proofs.ExactLemmas.{pack-unpack}
 use Rattle.ppm_cells.proofs.FinishLemmas.{finishes_exact}
-use Rattle.ppm_capsules.specs.Strand.{Frame}
+use Rattle.ppm_strands.specs.Strand.{Frame}
 use Rattle.ppm_code.specs.Sizes.{frame_size, slots_of, slot_at, value_at, slots_at}
 use Rattle.ppm_code.specs.Strands.{Point, Result, entry_of, at_capsule}
 use Rattle.ppm_code.specs.declared.code.CodeParts.{CodeParts}

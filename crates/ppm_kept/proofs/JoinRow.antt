@@ -14,10 +14,10 @@ use Rattle.ppm_cells.specs.declared.restart.RestartKind.{RestartKind}
 use Rattle.ppm_cells.specs.declared.restart.RestartKind.TheVariants.{Run, Pop1, Join}
 use Rattle.ppm_cells.specs.declared.side.Side.{Side}
 use Rattle.ppm_cells.specs.declared.side.Side.TheVariants.{Left, Right}
-use Rattle.ppm_capsules.specs.Strand.{Frame}
+use Rattle.ppm_strands.specs.Strand.{Frame}
 use Rattle.ppm_code.specs.Strands.{Point, Result}
 use Rattle.ppm_code.specs.declared.location.FrameWord.{FrameWord}
-use Rattle.ppm_join.specs.Order.{first}
+use Rattle.ppm_cells.specs.JoinOrder.{first}
 use Rattle.ppm_step.specs.Contents.{content_of}
 use Rattle.ppm_step.specs.Points.{cell_at, reading_at}
 use Rattle.ppm_step.specs.Rows.{row_of, found_at, join_by_order, joins, is_inline, is_last, right_begins}

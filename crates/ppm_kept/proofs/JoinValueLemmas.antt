@@ -10,7 +10,7 @@ use Rattle.ppm_cells.specs.declared.cell.Cell.{Cell}
 use Rattle.ppm_cells.specs.declared.cell.Cell.TheVariants.{BlockWord}
 use Rattle.ppm_cells.specs.declared.finish.Finish.TheVariants.{Ended}
 use Rattle.ppm_cells.specs.declared.link.LinkKind.{LinkKind}
-use Rattle.ppm_capsules.specs.Strand.{Frame, code_of}
+use Rattle.ppm_strands.specs.Strand.{Frame, code_of}
 use Rattle.ppm_code.specs.Locations.{code_locations}
 use Rattle.ppm_code.specs.Sizes.{slot_at, value_at}
 use Rattle.ppm_code.specs.Strands.{Point, Result, Gave, with_value, at_capsule, table_of}

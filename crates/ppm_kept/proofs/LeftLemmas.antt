@@ -11,7 +11,7 @@ use Rattle.ppm_cells.specs.declared.cell.Cell.TheVariants.{FinishWord, CarryWord
 use Rattle.ppm_cells.specs.declared.finish.Finish.TheVariants.{OutOfRoom}
 use Rattle.ppm_cells.specs.declared.restart.RestartKind.{RestartKind}
 use Rattle.ppm_cells.specs.declared.restart.RestartKind.TheVariants.{Seek}
-use Rattle.ppm_capsules.specs.Strand.{Frame}
+use Rattle.ppm_strands.specs.Strand.{Frame}
 use Rattle.ppm_code.specs.Strands.{Point, Result}
 use Rattle.ppm_code.specs.declared.location.FrameWord.{FrameWord}
 use Rattle.ppm_step.specs.Standings.{Standing}

@@ -1,7 +1,7 @@
 -- How the laws are shown. No second machine: rows, and where a place then stands, are `row_of`,
 -- `found_at`, `went_row`, `went_rest` of `ppm_step`.
 -- A capsule under way is one that is closed by the stores of its end into its block (`FitsLemmas`,
--- `OfLemmas`, `RunLemmas`), so that the laws of `ppm_capsules` apply as they are; `BlockLemmas`
+-- `OfLemmas`, `RunLemmas`), so that the laws of `ppm_strands` apply as they are; `BlockLemmas`
 -- says what then stands.
 -- Rows go down `Reach` by the options that their loads find. One record says what a step has to
 -- show (`BuildLemmas`), and `PlaceLemmas` what a place has at its leaf; then `RunRow`, `BumpRow`,

@@ -17,9 +17,9 @@ use Rattle.ppm_cells.specs.declared.restart.RestartKind.{RestartKind}
 use Rattle.ppm_cells.specs.declared.restart.RestartKind.TheVariants.{Run, Bump, Unwind, Arrive, Join}
 use Rattle.ppm_cells.specs.declared.side.Side.{Side}
 use Rattle.ppm_cells.specs.declared.side.Side.TheVariants.{Left, Right}
-use Rattle.ppm_capsules.specs.Capsule.{Capsule, Reads, Writes, Asks, Ends}
-use Rattle.ppm_capsules.specs.Stopped.{Stands}
-use Rattle.ppm_capsules.specs.Strand.{Own, New, Shared, Frame}
+use Rattle.ppm_strands.specs.Capsule.{Capsule, Reads, Writes, Asks, Ends}
+use Rattle.ppm_strands.specs.Stopped.{Stands}
+use Rattle.ppm_strands.specs.Strand.{Own, New, Shared, Frame}
 use Rattle.ppm_code.specs.Locations.{Where, code_locations}
 use Rattle.ppm_code.specs.Sizes.{slots_at}
 use Rattle.ppm_code.specs.Strands.{Point, Result}
@@ -27,8 +27,8 @@ use Rattle.ppm_code.specs.declared.act.End.{End}
 use Rattle.ppm_code.specs.declared.act.End.TheVariants.{Next, Finish as Finishes, Trap, Call, Fork}
 use Rattle.ppm_code.specs.declared.location.FrameWord.{FrameWord}
 use Rattle.ppm_code.specs.declared.location.FrameWord.TheVariants.{Slot, Value}
-use Rattle.ppm_join.specs.Order.{first}
-use Rattle.ppm_join.specs.Outcome.{outcome_of_both}
+use Rattle.ppm_cells.specs.JoinOrder.{first}
+use Rattle.ppm_cells.specs.JoinOutcome.{outcome_of_both}
 use Rattle.ppm_step.specs.Contents.{content_of, read_so}
 use Rattle.ppm_step.specs.Frames.{Rest, Loads, cell_of}
 use Rattle.ppm_step.specs.Points.{cell_at, reading_at, header_word}

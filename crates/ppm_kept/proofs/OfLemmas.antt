@@ -5,10 +5,10 @@ use Rattle.ppm_cells.specs.Cells.{pool_at}
 use Rattle.ppm_cells.specs.declared.cell.Cell.{Cell}
 use Rattle.ppm_cells.specs.declared.cell.Cell.TheVariants.{RoomCounter, BlockWord}
 use Rattle.ppm_cells.specs.declared.shape.Shape.{Shape}
-use Rattle.ppm_capsules.specs.Capsule.{Capsule, Reads, Writes, Asks, Ends}
-use Rattle.ppm_capsules.specs.EndStores as ends
-use Rattle.ppm_capsules.specs.EndStores.{with_end_stores}
-use Rattle.ppm_capsules.specs.Strand.{Own, New, Shared}
+use Rattle.ppm_strands.specs.Capsule.{Capsule, Reads, Writes, Asks, Ends}
+use Rattle.ppm_strands.specs.EndStores as ends
+use Rattle.ppm_strands.specs.EndStores.{with_end_stores}
+use Rattle.ppm_strands.specs.Strand.{Own, New, Shared}
 use Rattle.ppm_code.specs.Capsules.{capsule_from, capsule_of}
 use Rattle.ppm_code.specs.Code.{IsCode, room_of}
 use Rattle.ppm_code.specs.Locations.{Where}

@@ -5,7 +5,7 @@ use Rattle.ppm_strands.specs.Run.{none}
 use Rattle.ppm_strands.specs.Ahead.{Ahead}
 use Rattle.ppm_strands.proofs.StepLemmas.{steps_ahead}
 use Rattle.ppm_strands.specs.Ahead as ahead
-use Rattle.ppm_capsules.proofs.StrandLemmas.{code_is_local}
+use Rattle.ppm_strands.proofs.StrandLemmas.{code_is_local}
 use Rattle.ppm_cells.specs.declared.link.LinkKind.TheVariants.{Root}
 use Rattle.ppm_cells.specs.declared.restart.RestartKind.{RestartKind}
 use Rattle.ppm_cells.specs.declared.restart.RestartKind.TheVariants.{Run, Seek}

@@ -17,11 +17,11 @@ use Rattle.ppm_cells.specs.declared.restart.RestartKind.{RestartKind}
 use Rattle.ppm_cells.specs.declared.restart.RestartKind.TheVariants.{Run, Bump, Push1, Push2, Unwind, Arrive, Join, Pop1, Pop2, Seek, Steal, Check, Take, Take2}
 use Rattle.ppm_cells.specs.declared.side.Side.{Side}
 use Rattle.ppm_cells.specs.declared.side.Side.TheVariants.{Left, Right}
-use Rattle.ppm_capsules.specs.Strand.{Frame}
+use Rattle.ppm_strands.specs.Strand.{Frame}
 use Rattle.ppm_code.specs.Strands.{Point, Result, at_capsule}
 use Rattle.ppm_code.specs.declared.location.FrameWord.{FrameWord}
 use Rattle.ppm_code.specs.Sizes.{slots_at}
-use Rattle.ppm_join.specs.Order.{first}
+use Rattle.ppm_cells.specs.JoinOrder.{first}
 use Rattle.ppm_step.specs.Frames.{Rest}
 use Rattle.ppm_step.specs.Points.{order_word, outcome_word}
 use Rattle.ppm_step.specs.Rows.{bumped, with_kind, unwind_by, unwound, branch_outcome, joins, is_inline, is_last, row_of}

@@ -18,11 +18,11 @@ use Rattle.ppm_cells.specs.declared.restart.RestartKind.TheVariants.{Run, Bump, 
 use Rattle.ppm_cells.specs.declared.shape.Shape.{Shape}
 use Rattle.ppm_cells.specs.declared.side.Side.{Side}
 use Rattle.ppm_cells.specs.declared.side.Side.TheVariants.{Left, Right}
-use Rattle.ppm_capsules.specs.Strand.{Frame}
+use Rattle.ppm_strands.specs.Strand.{Frame}
 use Rattle.ppm_code.specs.Strands.{Point, Result}
 use Rattle.ppm_code.specs.Sizes.{slots_at}
 use Rattle.ppm_code.specs.declared.location.FrameWord.{FrameWord}
-use Rattle.ppm_join.specs.Order.{first}
+use Rattle.ppm_cells.specs.JoinOrder.{first}
 use Rattle.ppm_step.specs.Contents.{read_so, content_of, word_of}
 use Rattle.ppm_step.specs.Frames.{Loads, Stores, Full, Installs, Breaks}
 use Rattle.ppm_step.specs.Points.{cell_at, reading_at}

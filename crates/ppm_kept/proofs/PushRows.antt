@@ -16,12 +16,12 @@ use Rattle.ppm_cells.specs.declared.shape.Shape.{Shape}
 use Rattle.ppm_cells.specs.declared.shape.Takeover.{Takeover}
 use Rattle.ppm_cells.specs.declared.shape.Takeover.TheVariants.{ByPlaces, ByEntries}
 use Rattle.ppm_cells.specs.declared.side.Side.TheVariants.{Left, Right}
-use Rattle.ppm_capsules.specs.Strand.{Frame}
+use Rattle.ppm_strands.specs.Strand.{Frame}
 use Rattle.ppm_code.specs.Strands.{Point, Result}
 use Rattle.ppm_code.specs.declared.location.FrameWord.{FrameWord}
-use Rattle.ppm_deque.specs.Transitions.{pushed_above, pushed_job}
-use Rattle.ppm_deque.specs.Change.{tag_of}
-use Rattle.ppm_join.specs.Order.{both}
+use Rattle.ppm_cells.specs.Transitions.{pushed_above, pushed_job}
+use Rattle.ppm_cells.specs.DequeChange.{tag_of}
+use Rattle.ppm_cells.specs.JoinOrder.{both}
 use Rattle.ppm_step.specs.Contents.{word_of}
 use Rattle.ppm_step.specs.Rows.{row_of, on_entry, on_number, left_begins, push_at, push_above, push_bottom, push_by_order, raised, tried, with_kind}
 use Rattle.ppm_step.specs.Standings.{IsLost, stands, went_row}

@@ -14,15 +14,15 @@ use Rattle.ppm_cells.specs.declared.cell.Cell.TheVariants.{RoomCounter, BlockWor
 use Rattle.ppm_cells.specs.declared.finish.Finish.TheVariants.{Trapped}
 use Rattle.ppm_cells.specs.declared.restart.RestartKind.{RestartKind}
 use Rattle.ppm_cells.specs.declared.shape.Shape.{Shape}
-use Rattle.ppm_capsules.specs.Capsule.{Capsule, Reads, Writes, Asks, Ends, Memory, Whole, In, ending, written, DoesTheSame}
-use Rattle.ppm_capsules.specs.Capsule as capsule
-use Rattle.ppm_capsules.specs.Stopped.{Progress, Stands, at, one}
-use Rattle.ppm_capsules.specs.Strand.{Own, New, Shared, Frame, Table, shared_of, MayBeginAgain, code_of}
-use Rattle.ppm_capsules.specs.Strand as strand
-use Rattle.ppm_capsules.proofs.StandsLemmas.{steps_more, at_end, is_written, store_does_the_same, store_stands}
-use Rattle.ppm_capsules.proofs.BesideLemmas.{written_by}
-use Rattle.ppm_capsules.proofs.StrandLemmas.{stores_are_steps, ends_are_steps}
-use Rattle.ppm_capsules.proofs.EndStoresLemmas.{end_stores_are_unseen_are_the_same}
+use Rattle.ppm_strands.specs.Capsule.{Capsule, Reads, Writes, Asks, Ends, Memory, Whole, In, ending, written, DoesTheSame}
+use Rattle.ppm_strands.specs.Capsule as capsule
+use Rattle.ppm_strands.specs.Stopped.{Progress, Stands, at, one}
+use Rattle.ppm_strands.specs.Strand.{Own, New, Shared, Frame, Table, shared_of, MayBeginAgain, code_of}
+use Rattle.ppm_strands.specs.Strand as strand
+use Rattle.ppm_strands.proofs.StandsLemmas.{steps_more, at_end, is_written, store_does_the_same, store_stands}
+use Rattle.ppm_strands.proofs.KeepLemmas.{written_by}
+use Rattle.ppm_strands.proofs.StrandLemmas.{stores_are_steps, ends_are_steps}
+use Rattle.ppm_strands.proofs.EndStoresLemmas.{end_stores_are_unseen_are_the_same}
 use Rattle.ppm_code.specs.Locations.{Where, code_locations}
 use Rattle.ppm_code.specs.Sizes.{slot_at, value_at, procedure_at, slots_at}
 use Rattle.ppm_code.specs.Strands.{Point, Result, at_capsule, instrs_of, opens, table_of}

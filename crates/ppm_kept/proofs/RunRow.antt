@@ -19,9 +19,9 @@ use Rattle.ppm_cells.specs.declared.link.LinkKind.TheVariants.{Root, Call as Cal
 use Rattle.ppm_cells.specs.declared.restart.RestartKind.{RestartKind}
 use Rattle.ppm_cells.specs.declared.restart.RestartKind.TheVariants.{Run, Bump, Unwind}
 use Rattle.ppm_cells.specs.declared.side.Side.TheVariants.{Left}
-use Rattle.ppm_capsules.specs.Capsule.{Capsule, Ends, Memory, In, ending, written, asked}
-use Rattle.ppm_capsules.specs.Stopped.{Stands}
-use Rattle.ppm_capsules.specs.Strand.{Own, New, Shared, Frame}
+use Rattle.ppm_strands.specs.Capsule.{Capsule, Ends, Memory, In, ending, written, asked}
+use Rattle.ppm_strands.specs.Stopped.{Stands}
+use Rattle.ppm_strands.specs.Strand.{Own, New, Shared, Frame}
 use Rattle.ppm_code.specs.Capsules.{capsule_of}
 use Rattle.ppm_code.specs.Code.{EndFits, room_of}
 use Rattle.ppm_code.specs.declared.instr.Instr.{Instr}

@@ -17,7 +17,7 @@ use Rattle.ppm_cells.specs.declared.side.Side.{Side}
 use Rattle.ppm_words.specs.declared.trap.Trap.{Trap}
 use Rattle.ppm_step.specs.Contents.{read_so, content_of, word_of}
 use Rattle.ppm_step.specs.Points.{cell_at, reading_at}
-use Rattle.ppm_join.specs.Outcome.{outcome_of_both}
+use Rattle.ppm_cells.specs.JoinOutcome.{outcome_of_both}
 use Rattle.ppm_step.specs.Points.{outcome_word}
 use Rattle.ppm_step.specs.Rows.{is_inline, on_link, on_outcome, with_kind, if_there, after_value, target_found, join_by, join_outcome, found_at}
 use Rattle.ppm_step.specs.declared.content.Content.{Content}

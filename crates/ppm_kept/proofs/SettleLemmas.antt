@@ -11,10 +11,10 @@ use Rattle.ppm_cells.specs.declared.link.LinkKind.TheVariants.{Root}
 use Rattle.ppm_cells.specs.declared.restart.RestartKind.{RestartKind}
 use Rattle.ppm_cells.specs.declared.restart.RestartKind.TheVariants.{Run}
 use Rattle.ppm_cells.specs.declared.shape.Shape.{Shape}
-use Rattle.ppm_capsules.specs.Capsule.{Capsule, Memory, In, ending, written, exposed}
-use Rattle.ppm_capsules.specs.Strand.{Own, New, Shared, Frame}
-use Rattle.ppm_capsules.proofs.AlikeLemmas.{alike}
-use Rattle.ppm_capsules.proofs.EndStoresLemmas.{does_then_stores}
+use Rattle.ppm_strands.specs.Capsule.{Capsule, Memory, In, ending, written, exposed}
+use Rattle.ppm_strands.specs.Strand.{Own, New, Shared, Frame}
+use Rattle.ppm_strands.proofs.AlikeLemmas.{alike}
+use Rattle.ppm_strands.proofs.EndStoresLemmas.{does_then_stores}
 use Rattle.ppm_code.specs.Capsules.{capsule_of}
 use Rattle.ppm_code.specs.Locations.{Where, code_locations}
 use Rattle.ppm_code.specs.Sizes.{slots_at}

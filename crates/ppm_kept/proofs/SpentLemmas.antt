@@ -15,10 +15,10 @@ use Rattle.ppm_cells.specs.declared.restart.RestartKind.{RestartKind}
 use Rattle.ppm_cells.specs.declared.restart.RestartKind.TheVariants.{Run}
 use Rattle.ppm_cells.specs.declared.shape.Shape.{Shape}
 use Rattle.ppm_cells.specs.declared.side.Side.TheVariants.{Left, Right}
-use Rattle.ppm_capsules.specs.Capsule.{Capsule, Reads, Writes, Asks, Ends}
-use Rattle.ppm_capsules.specs.Stopped.{Stands}
-use Rattle.ppm_capsules.specs.Strand.{Own, New, Shared, Frame}
-use Rattle.ppm_capsules.proofs.StrandLemmas.{code_is_local}
+use Rattle.ppm_strands.specs.Capsule.{Capsule, Reads, Writes, Asks, Ends}
+use Rattle.ppm_strands.specs.Stopped.{Stands}
+use Rattle.ppm_strands.specs.Strand.{Own, New, Shared, Frame}
+use Rattle.ppm_strands.proofs.StrandLemmas.{code_is_local}
 use Rattle.ppm_code.specs.Capsules.{capsule_of}
 use Rattle.ppm_code.specs.Code.{room_of}
 use Rattle.ppm_code.specs.Locations.{Where, code_locations}

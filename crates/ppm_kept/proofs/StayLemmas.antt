@@ -6,12 +6,12 @@ use Rattle.ppm_strands.specs.Calm.{touches}
 use Rattle.ppm_cells.specs.declared.cell.Cell.{Cell}
 use Rattle.ppm_cells.specs.declared.cell.Cell.TheVariants.{RoomCounter, BlockWord, ArrayWord}
 use Rattle.ppm_cells.specs.declared.shape.Shape.{Shape}
-use Rattle.ppm_capsules.specs.Capsule.{Capsule, Reads, Writes, Asks, Ends, Memory, In, ending, written, exposed}
-use Rattle.ppm_capsules.specs.Stopped.{Stands}
-use Rattle.ppm_capsules.specs.Strand.{Own, New, Shared, Frame, Table}
-use Rattle.ppm_capsules.proofs.AlikeLemmas.{AlikePast, alike}
-use Rattle.ppm_capsules.proofs.BesideLemmas.{touched_by}
-use Rattle.ppm_capsules.proofs.StandsLemmas.{elsewhere}
+use Rattle.ppm_strands.specs.Capsule.{Capsule, Reads, Writes, Asks, Ends, Memory, In, ending, written, exposed}
+use Rattle.ppm_strands.specs.Stopped.{Stands}
+use Rattle.ppm_strands.specs.Strand.{Own, New, Shared, Frame, Table}
+use Rattle.ppm_strands.proofs.AlikeLemmas.{AlikePast, alike}
+use Rattle.ppm_strands.proofs.KeepLemmas.{touched_by}
+use Rattle.ppm_strands.proofs.StandsLemmas.{elsewhere}
 use Rattle.ppm_code.specs.Locations.{Where, code_locations}
 use Rattle.ppm_code.specs.Strands.{Point, Result, at_capsule, instrs_of}
 use Rattle.ppm_code.specs.declared.act.End.{End}

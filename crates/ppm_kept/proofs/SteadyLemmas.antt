@@ -19,10 +19,10 @@ use Rattle.ppm_cells.specs.declared.shape.Shape.{Shape}
 use Rattle.ppm_cells.specs.declared.shape.Takeover.{Takeover}
 use Rattle.ppm_cells.specs.declared.shape.Takeover.TheVariants.{ByPlaces, ByEntries}
 use Rattle.ppm_cells.specs.declared.side.Side.TheVariants.{Left, Right}
-use Rattle.ppm_deque.specs.Change.{tag_of}
-use Rattle.ppm_deque.specs.Transitions.{pushed_above, pushed_job, popped_above}
-use Rattle.ppm_join.specs.Order.{first, both}
-use Rattle.ppm_join.specs.Outcome.{outcome_of_both}
+use Rattle.ppm_cells.specs.DequeChange.{tag_of}
+use Rattle.ppm_cells.specs.Transitions.{pushed_above, pushed_job, popped_above}
+use Rattle.ppm_cells.specs.JoinOrder.{first, both}
+use Rattle.ppm_cells.specs.JoinOutcome.{outcome_of_both}
 use Rattle.ppm_step.specs.There.{restart_is_there}
 use Rattle.ppm_step.specs.Rows.{on_number, on_restart, on_entry, on_holder, on_link, on_finish, on_outcome, with_kind, if_there, raised, tried, changed, left_begins, pushes, push_at, push_by_order, push_above, push_bottom, unwind_by, back_to, unwound, after_value, target_found, value_found, joins, is_inline, is_last, join_by_order, join_by, join_outcome, right_begins, right_value, get_back, got_back, empty_above, seek_held, seek_by, seek_holder, bids, seek_dead, seek_top, passes, passes_by, local_by, seek_entry, seek_closed, taken_so, steals, can_be_taken, taken_message, took, goes_on_with, taken_entry, at_bottom, above_bottom, below_bottom, by_slot, follows, closed_link, closed_bottom, lowered, makes_bid, bid_again, bid_holder, found_at, by_places, row_of}
 use Rattle.ppm_step.specs.declared.content.Content.{Content}

@@ -19,11 +19,11 @@ use Rattle.ppm_cells.specs.declared.restart.RestartKind.TheVariants.{Run, Bump, 
 use Rattle.ppm_cells.specs.declared.shape.Shape.{Shape}
 use Rattle.ppm_cells.specs.declared.side.Side.{Side}
 use Rattle.ppm_cells.specs.declared.side.Side.TheVariants.{Left, Right}
-use Rattle.ppm_capsules.specs.Strand.{Frame}
+use Rattle.ppm_strands.specs.Strand.{Frame}
 use Rattle.ppm_code.specs.Strands.{Point, Result}
 use Rattle.ppm_code.specs.declared.code.CodeParts.{CodeParts}
 use Rattle.ppm_code.specs.declared.location.FrameWord.{FrameWord}
-use Rattle.ppm_join.specs.Outcome.{outcome_of_both}
+use Rattle.ppm_cells.specs.JoinOutcome.{outcome_of_both}
 use Rattle.ppm_step.specs.Contents.{content_of, read_so}
 use Rattle.ppm_step.specs.Points.{reading_at, cell_at}
 use Rattle.ppm_step.specs.Rows.{on_link, on_outcome, if_there, with_kind, after_value, target_found, joins, join_by, join_outcome, is_inline, is_last, row_of, found_at}

@@ -9,7 +9,7 @@ use Rattle.ppm_cells.specs.declared.cell.Cell.{Cell}
 use Rattle.ppm_cells.specs.declared.cell.Cell.TheVariants.{BlockWord}
 use Rattle.ppm_cells.specs.declared.finish.Finish.TheVariants.{Ended}
 use Rattle.ppm_cells.specs.declared.link.LinkKind.{LinkKind}
-use Rattle.ppm_capsules.specs.Strand.{code_of}
+use Rattle.ppm_strands.specs.Strand.{code_of}
 use Rattle.ppm_code.specs.Locations.{code_locations}
 use Rattle.ppm_code.specs.Sizes.{slot_at, value_at}
 use Rattle.ppm_code.specs.Strands.{table_of}

@@ -6,7 +6,7 @@ use Rattle.ppm_cells.specs.declared.cell.Cell.TheVariants.{BlockWord}
 use Rattle.ppm_cells.specs.declared.restart.RestartKind.{RestartKind}
 use Rattle.ppm_cells.specs.declared.restart.RestartKind.TheVariants.{Run, Unwind, Join}
 use Rattle.ppm_cells.specs.declared.side.Side.{Side}
-use Rattle.ppm_capsules.specs.Strand.{Frame}
+use Rattle.ppm_strands.specs.Strand.{Frame}
 use Rattle.ppm_code.specs.Strands.{Point, Result}
 use Rattle.ppm_code.specs.declared.location.FrameWord.{FrameWord}
 use Rattle.ppm_step.specs.Rows.{is_inline}

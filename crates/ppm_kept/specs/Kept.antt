@@ -15,7 +15,7 @@ use Rattle.ppm_cells.specs.declared.restart.RestartKind.TheVariants.{Run, Bump, 
 use Rattle.ppm_cells.specs.declared.shape.Shape.{Shape}
 use Rattle.ppm_cells.specs.declared.side.Side.{Side}
 use Rattle.ppm_cells.specs.declared.side.Side.TheVariants.{Left, Right}
-use Rattle.ppm_capsules.specs.Strand.{Frame}
+use Rattle.ppm_strands.specs.Strand.{Frame}
 use Rattle.ppm_code.specs.Sizes.{slot_at, value_at, frame_size}
 use Rattle.ppm_code.specs.Strands.{Point, Result}
 use Rattle.ppm_code.specs.declared.code.CodeParts.{CodeParts}

@@ -11,9 +11,9 @@ use Rattle.ppm_cells.specs.declared.cell.Cell.TheVariants.{RoomCounter, BlockWor
 use Rattle.ppm_cells.specs.declared.finish.Finish.TheVariants.{Ended, Trapped}
 use Rattle.ppm_cells.specs.declared.restart.RestartKind.{RestartKind}
 use Rattle.ppm_cells.specs.declared.shape.Shape.{Shape}
-use Rattle.ppm_capsules.specs.Capsule.{Capsule, Reads, Writes, Asks, Ends, Memory, In, ending, written}
-use Rattle.ppm_capsules.specs.Stopped.{Stands}
-use Rattle.ppm_capsules.specs.Strand.{New, Frame, code_of}
+use Rattle.ppm_strands.specs.Capsule.{Capsule, Reads, Writes, Asks, Ends, Memory, In, ending, written}
+use Rattle.ppm_strands.specs.Stopped.{Stands}
+use Rattle.ppm_strands.specs.Strand.{New, Frame, code_of}
 use Rattle.ppm_code.specs.Code.{IsCode, room_of}
 use Rattle.ppm_code.specs.Locations.{Where, code_locations}
 use Rattle.ppm_code.specs.Free.{IsFree}

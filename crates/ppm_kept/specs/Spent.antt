@@ -4,7 +4,7 @@ use Rattle.ppm_strands.specs.Tree.{Words, Tree}
 use Rattle.ppm_strands.specs.Run.{End, Ends}
 use Rattle.ppm_cells.specs.declared.cell.Cell.TheVariants.{RoomCounter}
 use Rattle.ppm_cells.specs.declared.restart.RestartKind.TheVariants.{Run}
-use Rattle.ppm_capsules.specs.Strand.{Frame}
+use Rattle.ppm_strands.specs.Strand.{Frame}
 use Rattle.ppm_code.specs.Sizes.{frame_size}
 use Rattle.ppm_code.specs.Strands.{Point, Result}
 use Rattle.ppm_code.specs.declared.location.FrameWord.{FrameWord}

@@ -1,7 +1,7 @@
 -- The strand that the words of a machine show in a frame.
 use Rattle.std.specs.Prelude.{ℕ, ◌+◌, nat_lt, if◌then◌else◌, List, map, get_or}
 use Rattle.ppm_strands.specs.Tree.{Tree, Strand}
-use Rattle.ppm_capsules.specs.Strand.{Frame}
+use Rattle.ppm_strands.specs.Strand.{Frame}
 use Rattle.ppm_words.specs.declared.named_array.NamedArray.{NamedArray}
 use Rattle.ppm_cells.specs.Memory.{read}
 use Rattle.ppm_cells.specs.Region.{region_word}

@@ -3,7 +3,7 @@ use Rattle.std.proofs.Common.{◌≡◌, ℕ, List, [], ◌∷◌, length, refl,
 use Rattle.std.specs.List.{sum}
 use Rattle.std.proofs.lemmas.Bool.{cases_lt, lt-ltb, le-ltb}
 use Rattle.std.proofs.lemmas.List.{get_or_past}
-use Rattle.ppm_capsules.specs.Strand.{code_of}
+use Rattle.ppm_strands.specs.Strand.{code_of}
 use Rattle.ppm_words.specs.declared.named_array.NamedArray.{NamedArray}
 use Rattle.ppm_words.specs.Inputs.{value_count}
 use Rattle.ppm_cells.specs.declared.cell.Cell.TheVariants.{ArrayWord}

@@ -1,6 +1,6 @@
 -- The laws of this crate: an image shows what the depth-first run of its code begins with.
 use Rattle.std.specs.Prelude.{◌≡◌, ℕ, ◌<◌, List, Some}
-use Rattle.ppm_capsules.specs.Strand.{code_of}
+use Rattle.ppm_strands.specs.Strand.{code_of}
 use Rattle.ppm_words.specs.declared.named_array.NamedArray.{NamedArray}
 use Rattle.ppm_cells.specs.Memory.{read}
 use Rattle.ppm_cells.specs.Restart.{restart_of}

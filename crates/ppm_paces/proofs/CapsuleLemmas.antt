@@ -3,7 +3,7 @@ use Rattle.std.proofs.Common.{◌≤◌, ℕ, zero, suc, ◌+◌, ◌-◌, max, 
 use Rattle.ppm_cells.specs.Cells.{pool_at}
 use Rattle.ppm_cells.specs.declared.restart.RestartKind.{RestartKind}
 use Rattle.ppm_cells.specs.declared.shape.Shape.{Shape}
-use Rattle.ppm_capsules.specs.Capsule.{Capsule}
+use Rattle.ppm_strands.specs.Capsule.{Capsule}
 use Rattle.ppm_code.specs.Locations.{Where}
 use Rattle.ppm_code.specs.Acts.{does}
 use Rattle.ppm_code.specs.Capsules.{at_act, capsule_from}

@@ -11,7 +11,7 @@ use Rattle.ppm_cells.specs.declared.restart.RestartKind.TheVariants.{Run, Bump, 
 use Rattle.ppm_cells.specs.declared.shape.Shape.{Shape}
 use Rattle.ppm_cells.specs.declared.shape.Takeover.{Takeover}
 use Rattle.ppm_cells.specs.declared.shape.Takeover.TheVariants.{ByPlaces, ByEntries}
-use Rattle.ppm_deque.specs.Change.{tag_of}
+use Rattle.ppm_cells.specs.DequeChange.{tag_of}
 use Rattle.ppm_step.specs.Rows.{on_number, on_entry, on_holder, by_places, with_kind, raised, tried, changed, right_begins, seek_held, seek_by, seek_holder, bids, seek_dead, seek_top, notes, passes, passes_by, local_by, seek_entry, seek_closed, taken_so, steals, can_be_taken, taken_message, took, taken_entry, lowered, makes_bid, bid_again, bid_holder, row_of}
 use Rattle.ppm_step.specs.declared.content.Content.{Content}
 use Rattle.ppm_step.specs.declared.content.Content.TheVariants.{ANumber, ARestart, AnEntry, AHolder, ALink, AFinish, Unreadable}

@@ -14,11 +14,11 @@ use Rattle.ppm_cells.specs.declared.cell.Cell.TheVariants.{BlockWord, ArrayWord}
 use Rattle.ppm_cells.specs.declared.entry.Entry.{Entry}
 use Rattle.ppm_cells.specs.declared.restart.Restart.{Restart}
 use Rattle.ppm_cells.specs.declared.shape.Shape.{Shape}
-use Rattle.ppm_capsules.specs.Strand.{Frame}
+use Rattle.ppm_strands.specs.Strand.{Frame}
 use Rattle.ppm_code.specs.Strands.{Point, Result}
 use Rattle.ppm_code.specs.declared.code.CodeParts.{CodeParts}
 use Rattle.ppm_code.specs.declared.location.FrameWord.{FrameWord}
-use Rattle.ppm_deque.specs.Change.{Changes}
+use Rattle.ppm_cells.specs.DequeChange.{Changes}
 use Rattle.ppm_step.specs.Contents.{word_of}
 use Rattle.ppm_step.specs.Frames.{Rest, Loads, Stores, Full, Installs, Breaks}
 use Rattle.ppm_step.specs.Standings.{Standing, IsLost, IsPlaced, IsAt, IsWithin, IsRunning, IsBroken, IsDone, forked as forked_restart, begun}

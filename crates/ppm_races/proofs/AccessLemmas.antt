@@ -4,9 +4,9 @@ use Rattle.std.proofs.Common.{cond, slice_set, inl, inr}
 use Rattle.std.specs.Prelude.{◌⊎◌, ◌↔◌, replicate}
 use Rattle.std.proofs.lemmas.Bool.{cond-false}
 use Rattle.ppm_strands.specs.Tree.{Has}
-use Rattle.ppm_capsules.proofs.LocationLemmas.{in_or_not}
-use Rattle.ppm_capsules.specs.Capsule.{Capsule, Reads, Writes, Asks as AsksFor, Ends, Memory, In, is_in, store, written, exposed, exposed_past}
-use Rattle.ppm_capsules.specs.Strand.{Own, New as NewWord, Shared, addresses}
+use Rattle.ppm_strands.proofs.LocationLemmas.{in_or_not}
+use Rattle.ppm_strands.specs.Capsule.{Capsule, Reads, Writes, Asks as AsksFor, Ends, Memory, In, is_in, store, written, exposed, exposed_past}
+use Rattle.ppm_strands.specs.Strand.{Own, New as NewWord, Shared, addresses}
 use Rattle.ppm_code.specs.declared.act.Act.{Act}
 use Rattle.ppm_code.specs.declared.act.Act.TheVariants.{Sets, Passes, Jumps, Steps, Ends as Stops}
 use Rattle.ppm_code.specs.declared.act.End.{End}

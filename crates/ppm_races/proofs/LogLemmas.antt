@@ -4,7 +4,7 @@ use Rattle.std.proofs.Common.{arith, slice_set, Some, add-zero, zero-add}
 use Rattle.std.specs.Prelude.{slice_get}
 use Rattle.std.proofs.lemmas.Option.{slice_get_read}
 use Rattle.std.proofs.lemmas.List.{append-nil, append_assoc}
-use Rattle.ppm_capsules.specs.Capsule.{Memory, store}
+use Rattle.ppm_strands.specs.Capsule.{Memory, store}
 use Rattle.ppm_code.specs.declared.act.Act.{Act}
 use Rattle.ppm_code.specs.declared.act.Act.TheVariants.{Sets, Passes, Jumps, Steps, Ends as Stops}
 use Rattle.ppm_code.specs.declared.act.Step.{Step}

@@ -8,8 +8,8 @@ use Rattle.ppm_words.specs.declared.named_array.NamedArray.{NamedArray}
 use Rattle.ppm_words.specs.TwosComplement.{value_of, word_of}
 use Rattle.ppm_words.specs.declared.trap.Trap.{Trap}
 use Rattle.ppm_words.specs.declared.trap.Trap.TheVariants.{Overflow, DivZero, Split}
-use Rattle.ppm_capsules.specs.Capsule.{Memory, store}
-use Rattle.ppm_capsules.specs.Strand.{start}
+use Rattle.ppm_strands.specs.Capsule.{Memory, store}
+use Rattle.ppm_strands.specs.Strand.{start}
 use Rattle.ppm_code.specs.declared.act.Act.{Act}
 use Rattle.ppm_code.specs.declared.act.Act.TheVariants.{Sets, Passes as PassesBy, Jumps, Steps, Ends as Stops}
 use Rattle.ppm_code.specs.declared.act.Step.{Step}
@@ -52,7 +52,7 @@ use Rattle.ppm_races.proofs.LogLemmas.{there_more}
 use Rattle.ppm_races.proofs.NamingLemmas.{named, opener_moment, race_is}
 use Rattle.ppm_races.proofs.StampLemmas.{or_none, word_there, written_one}
 use Rattle.ppm_races.proofs.VerdictLemmas.{ended_calm, ended_ends, meeting_not_calm, more_come, writes_log}
-use Rattle.ppm_capsules.proofs.StrandLemmas.{code_is_local}
+use Rattle.ppm_strands.proofs.StrandLemmas.{code_is_local}
 
 -- an array word of a location is one of so many
 abbrev IsAmong : ℕ → Location → Type 0

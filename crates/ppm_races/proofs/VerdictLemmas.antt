@@ -7,8 +7,8 @@ use Rattle.std.proofs.lemmas.List.{length_push}
 use Rattle.std.specs.Prelude.{◌&&◌}
 use Rattle.ppm_words.specs.declared.named_array.NamedArray.{NamedArray}
 use Rattle.ppm_words.specs.declared.outcome.Outcome.TheVariants.{NotWithin}
-use Rattle.ppm_capsules.proofs.StrandLemmas.{code_is_local}
-use Rattle.ppm_capsules.specs.Strand.{start}
+use Rattle.ppm_strands.proofs.StrandLemmas.{code_is_local}
+use Rattle.ppm_strands.specs.Strand.{start}
 use Rattle.ppm_code.specs.Code.{IsCode}
 use Rattle.ppm_code.specs.Inputs.{words_in}
 use Rattle.ppm_code.specs.Locations.{code_locations}

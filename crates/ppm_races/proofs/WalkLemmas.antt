@@ -5,8 +5,8 @@ use Rattle.std.specs.Prelude.{cond}
 use Rattle.ppm_strands.specs.Tree.{Words, Strand, Has, Code}
 use Rattle.ppm_strands.specs.Calm.{touches}
 use Rattle.ppm_strands.proofs.PartsLemmas.{has_left, has_right, has_cases}
-use Rattle.ppm_capsules.specs.Capsule.{Memory, leaves}
-use Rattle.ppm_capsules.specs.Strand.{own_of, new_of, start}
+use Rattle.ppm_strands.specs.Capsule.{Memory, leaves}
+use Rattle.ppm_strands.specs.Strand.{own_of, new_of, start}
 use Rattle.ppm_code.specs.declared.code.CodeParts.{CodeParts}
 use Rattle.ppm_code.specs.Capsules.{capsule_of}
 use Rattle.ppm_code.specs.Code.{EndFits, IsCode}

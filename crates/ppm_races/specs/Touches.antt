@@ -1,6 +1,6 @@
 -- The array words that a capsule touches, as it is run.
 use Rattle.std.specs.Prelude.{◌<◌, ℕ, zero, suc, ◌+◌, ◌-◌, max, Bool, true, false, List, [], ◌∷◌, ◌++◌, replicate, slice_set}
-use Rattle.ppm_capsules.specs.Capsule.{Memory, store}
+use Rattle.ppm_strands.specs.Capsule.{Memory, store}
 use Rattle.ppm_code.specs.Acts.{does}
 use Rattle.ppm_code.specs.declared.act.Act.{Act}
 use Rattle.ppm_code.specs.declared.act.Act.TheVariants.{Sets, Passes, Jumps, Steps, Ends as Stops}

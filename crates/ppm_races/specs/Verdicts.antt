@@ -4,7 +4,7 @@ use Rattle.ppm_strands.specs.Tree.{Words, Has, forks_in}
 use Rattle.ppm_strands.specs.Calm.{Calm as IsCalm, touches}
 use Rattle.ppm_strands.specs.Run.{End}
 use Rattle.ppm_words.specs.declared.named_array.NamedArray.{NamedArray}
-use Rattle.ppm_capsules.specs.Strand.{start}
+use Rattle.ppm_strands.specs.Strand.{start}
 use Rattle.ppm_code.specs.declared.code.CodeParts.{CodeParts}
 use Rattle.ppm_code.specs.Inputs.{words_in}
 use Rattle.ppm_code.specs.Locations.{code_locations}

@@ -1,6 +1,6 @@
 //! One capsule, run whole, with the array words that it touches.
 ghost use Rattle.std.specs.Prelude.{◌≡◌, ◌<◌, ◌≤◌, IfOk, OnOk, length};
-ghost use Rattle.ppm_capsules.specs.Capsule.{Memory};
+ghost use Rattle.ppm_strands.specs.Capsule.{Memory};
 ghost use Rattle.ppm_code.specs.Code.{EndFits, IsCode};
 ghost use Rattle.ppm_code.specs.Limits.{room_limit};
 ghost use Rattle.ppm_code.specs.Locations.{Where};

@@ -1,8 +1,8 @@
 -- What the capsules of a RAM's instructions do with a memory of locations.
 use Rattle.std.proofs.Common.{◌≡◌, ◌∙◌, ◌<◌, ℕ, zero, suc, ◌+◌, ◌-◌, ◌==◌, max, Bool, true, false, cond, List, [], ◌∷◌, length, refl, sym, ap, subst, arith}
 use Rattle.std.specs.Prelude.{slice_index, slice_set, replicate}
-use Rattle.ppm_capsules.specs.Capsule.{Capsule, Ends, Memory, ending, leaves, asked, store}
-use Rattle.ppm_capsules.specs.Strand.{Own, Shared}
+use Rattle.ppm_strands.specs.Capsule.{Capsule, Ends, Memory, ending, leaves, asked, store}
+use Rattle.ppm_strands.specs.Strand.{Own, Shared}
 use Rattle.ppm_code.specs.declared.act.Act.{Act}
 use Rattle.ppm_code.specs.declared.act.Act.TheVariants.{Sets, Passes, Jumps, Steps, Ends as Stops}
 use Rattle.ppm_code.specs.declared.act.Step.TheVariants.{Loads, Stores}

@@ -12,8 +12,8 @@ use Rattle.ppm_words.proofs.TwosComplementLemmas.{value_of-word_of}
 use Rattle.ppm_strands.specs.Tree.{Words, Tree, Strand, Over, Code, forks_in}
 use Rattle.ppm_strands.specs.Run.{Counts, none, plus, End, with_counts, counted, of_capsule, run}
 use Rattle.ppm_strands.specs.Calm.{CalmWithin, Calm}
-use Rattle.ppm_capsules.specs.Capsule.{Ends, Memory, ending, leaves, asked}
-use Rattle.ppm_capsules.specs.Strand.{Frame, code_of as strands_in, start, own_of, new_of, shared_of}
+use Rattle.ppm_strands.specs.Capsule.{Ends, Memory, ending, leaves, asked}
+use Rattle.ppm_strands.specs.Strand.{Frame, code_of as strands_in, start, own_of, new_of, shared_of}
 use Rattle.ppm_code.specs.declared.act.End.{End as CapsuleEnd}
 use Rattle.ppm_code.specs.declared.instr.Instr.{Instr}
 use Rattle.ppm_code.specs.declared.location.FrameWord.{FrameWord}

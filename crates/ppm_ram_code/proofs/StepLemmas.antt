@@ -11,8 +11,8 @@ use Rattle.ppm_words.specs.declared.trap.Trap.{Trap}
 use Rattle.ppm_words.specs.declared.trap.Trap.TheVariants as trap
 use Rattle.ppm_words.proofs.TwosComplementLemmas.{value_of-word_of}
 use Rattle.ppm_strands.specs.Tree.{Words, Tree, Strand, Over}
-use Rattle.ppm_capsules.specs.Capsule.{Capsule, Ends, Memory, store}
-use Rattle.ppm_capsules.specs.Strand.{Own, Shared, Frame, code_of as strands_in, start, own_of, new_of, shared_of}
+use Rattle.ppm_strands.specs.Capsule.{Capsule, Ends, Memory, store}
+use Rattle.ppm_strands.specs.Strand.{Own, Shared, Frame, code_of as strands_in, start, own_of, new_of, shared_of}
 use Rattle.ppm_code.specs.declared.act.Act.{Act}
 use Rattle.ppm_code.specs.declared.act.Act.TheVariants.{Sets, Passes, Jumps, Steps}
 use Rattle.ppm_code.specs.declared.act.Step.TheVariants.{Loads, Stores}

@@ -9,7 +9,7 @@ use Rattle.ppm_words.specs.declared.outcome.Outcome.TheVariants as outcome
 use Rattle.ppm_words.specs.declared.named_array.NamedArray.{NamedArray}
 use Rattle.ppm_words.proofs.TwosComplementLemmas.{value_of-word_of}
 use Rattle.ppm_strands.specs.Tree.{Words, Tree, Strand, Call, Fork, Over}
-use Rattle.ppm_capsules.specs.Strand.{Frame}
+use Rattle.ppm_strands.specs.Strand.{Frame}
 use Rattle.ppm_strands.specs.Run.{Counts, End}
 use Rattle.ppm_strands.specs.Calm.{CalmWithin}
 use Rattle.ppm_code.specs.declared.location.FrameWord.{FrameWord}

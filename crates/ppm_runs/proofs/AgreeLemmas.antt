@@ -22,7 +22,7 @@ use Rattle.ppm_cells.specs.declared.shape.Shape.{Shape}
 use Rattle.ppm_cells.specs.declared.shape.Takeover.{Takeover}
 use Rattle.ppm_cells.specs.declared.shape.Takeover.TheVariants.{ByPlaces, ByEntries}
 use Rattle.ppm_cells.specs.declared.side.Side.{Side}
-use Rattle.ppm_capsules.specs.Strand.{Frame}
+use Rattle.ppm_strands.specs.Strand.{Frame}
 use Rattle.ppm_code.specs.Strands.{Point, Result}
 use Rattle.ppm_code.specs.declared.code.CodeParts.{CodeParts}
 use Rattle.ppm_code.specs.declared.location.FrameWord.{FrameWord}
@@ -94,7 +94,7 @@ use Rattle.ppm_kept.proofs.JoinLastRow.{join_row_keeps}
 use Rattle.ppm_kept.proofs.LoadLemmas.{bump_exchanges_none}
 use Rattle.ppm_kept.proofs.LookLemmas.{LookRow, comes_look, look_begins}
 use Rattle.ppm_kept.proofs.StepRows.{came_idle}
-use Rattle.ppm_join.specs.Order.{both}
+use Rattle.ppm_cells.specs.JoinOrder.{both}
 use Rattle.ppm_runs.specs.Run.{setting, fate_of, IsAtLast}
 use Rattle.ppm_runs.specs.Follow.{IsHalves}
 use Rattle.ppm_runs.specs.Joint.{IsCapped, AreJoint}

@@ -6,10 +6,10 @@ use Rattle.std.proofs.lemmas.Bool.{ltb-true}
 use Rattle.ppm_words.specs.TwosComplement.{value_of, word_of}
 use Rattle.ppm_words.specs.declared.trap.Trap.{Trap}
 use Rattle.ppm_words.specs.declared.trap.Trap.TheVariants.{Overflow, DivZero, Split}
-use Rattle.ppm_capsules.specs.Capsule.{Capsule, Reads, Writes, Asks as AsksFor, Ends, Memory}
-use Rattle.ppm_capsules.specs.EndStores.{storing, with_end_stores}
-use Rattle.ppm_capsules.specs.Stopped.{Progress, one, steps}
-use Rattle.ppm_capsules.specs.Strand.{Own, New, Shared}
+use Rattle.ppm_strands.specs.Capsule.{Capsule, Reads, Writes, Asks as AsksFor, Ends, Memory}
+use Rattle.ppm_strands.specs.EndStores.{storing, with_end_stores}
+use Rattle.ppm_strands.specs.Stopped.{Progress, one, steps}
+use Rattle.ppm_strands.specs.Strand.{Own, New, Shared}
 use Rattle.ppm_code.specs.Acts.{held, does, start_of, length_of, traps, element_of, at_element, divided, fits, is_zero}
 use Rattle.ppm_code.specs.Capsules.{capsule_from, capsule_of, at_act}
 use Rattle.ppm_code.specs.Locations.{Where, location_of, code_locations}

@@ -18,7 +18,7 @@ use Rattle.ppm_cells.specs.declared.link.LinkKind.TheVariants.{Root}
 use Rattle.ppm_cells.specs.declared.restart.RestartKind.{RestartKind}
 use Rattle.ppm_cells.specs.declared.shape.Shape.{Shape}
 use Rattle.ppm_cells.specs.declared.shape.Takeover.TheVariants.{ByPlaces}
-use Rattle.ppm_capsules.specs.Strand.{Frame}
+use Rattle.ppm_strands.specs.Strand.{Frame}
 use Rattle.ppm_code.specs.Code.{IsCode}
 use Rattle.ppm_code.specs.Sizes.{slots_of}
 use Rattle.ppm_code.specs.Strands.{Point, Result}

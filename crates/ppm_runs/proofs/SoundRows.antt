@@ -22,8 +22,8 @@ use Rattle.ppm_cells.specs.declared.shape.Takeover.{Takeover}
 use Rattle.ppm_cells.specs.declared.shape.Takeover.TheVariants.{ByPlaces, ByEntries}
 use Rattle.ppm_cells.proofs.CellLemmas.{few_words}
 use Rattle.ppm_code.specs.declared.code.CodeParts.{CodeParts}
-use Rattle.ppm_deque.specs.Change.{tag_of}
-use Rattle.ppm_join.specs.Order.{both}
+use Rattle.ppm_cells.specs.DequeChange.{tag_of}
+use Rattle.ppm_cells.specs.JoinOrder.{both}
 use Rattle.ppm_step.specs.Contents.{content_of, IsContent}
 use Rattle.ppm_step.specs.Points.{cell_at, reading_at, offset_word}
 use Rattle.ppm_step.specs.Rows.{on_entry, on_holder, raised, changed, with_kind, left_begins, get_back, got_back, empty_above, pushes, push_by_order, push_above, push_bottom, right_begins, seek_holder, seek_held, seek_by, seek_dead, seek_top, seek_entry, seek_closed, notes, passes, passes_by, local_by, bids, taken_so, steals, can_be_taken, taken_message, taken_entry, took, goes_on_with, makes_bid, lowered, bid_again, bid_holder, push_at, found_at, by_places, row_of}

@@ -22,7 +22,7 @@ use Rattle.ppm_cells.specs.declared.shape.Takeover.TheVariants.{ByEntries}
 use Rattle.ppm_cells.proofs.MemoryLemmas.{read_back}
 use Rattle.ppm_code.specs.declared.code.Capsule.{Capsule as CodeCapsule}
 use Rattle.ppm_code.specs.declared.code.CodeParts.{CodeParts}
-use Rattle.ppm_deque.specs.Change.{tag_of}
+use Rattle.ppm_cells.specs.DequeChange.{tag_of}
 use Rattle.ppm_step.specs.Among.{IsActAmong, IsTurnAmong}
 use Rattle.ppm_step.specs.Contents.{content_of, word_of}
 use Rattle.ppm_step.specs.Frames.{Rest, Loads, Stores, Full, Installs, Breaks}

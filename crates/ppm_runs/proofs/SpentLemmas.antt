@@ -11,7 +11,7 @@ use Rattle.ppm_cells.specs.declared.cell.Cell.TheVariants.{FinishWord, RoomCount
 use Rattle.ppm_cells.specs.declared.restart.RestartKind.{RestartKind}
 use Rattle.ppm_cells.specs.declared.restart.RestartKind.TheVariants.{Run, Bump, Push1, Push2, Unwind, Arrive, Join, Pop1, Pop2, Seek, Steal, Check, Take, Take2}
 use Rattle.ppm_cells.specs.declared.shape.Shape.{Shape}
-use Rattle.ppm_capsules.specs.Strand.{Frame}
+use Rattle.ppm_strands.specs.Strand.{Frame}
 use Rattle.ppm_code.specs.Capsules.{capsule_of}
 use Rattle.ppm_code.specs.Code.{room_of}
 use Rattle.ppm_code.specs.Sizes.{frame_size}

@@ -20,10 +20,10 @@ use Rattle.ppm_cells.specs.declared.shape.Shape.{Shape}
 use Rattle.ppm_cells.specs.declared.shape.Takeover.{Takeover}
 use Rattle.ppm_cells.specs.declared.shape.Takeover.TheVariants.{ByPlaces, ByEntries}
 use Rattle.ppm_cells.specs.declared.side.Side.TheVariants.{Left, Right}
-use Rattle.ppm_deque.specs.Change.{tag_of}
-use Rattle.ppm_deque.specs.Transitions.{pushed_above, pushed_job, popped_above}
-use Rattle.ppm_join.specs.Order.{first, both}
-use Rattle.ppm_join.specs.Outcome.{outcome_of_both}
+use Rattle.ppm_cells.specs.DequeChange.{tag_of}
+use Rattle.ppm_cells.specs.Transitions.{pushed_above, pushed_job, popped_above}
+use Rattle.ppm_cells.specs.JoinOrder.{first, both}
+use Rattle.ppm_cells.specs.JoinOutcome.{outcome_of_both}
 use Rattle.ppm_step.specs.Contents.{content_of}
 use Rattle.ppm_step.specs.Points.{cell_at, reading_at}
 use Rattle.ppm_step.specs.Rows.{on_number, on_entry, on_holder, on_link, on_finish, on_outcome, raised, tried, changed, bumped, unwind_by, back_to, unwound, after_value, target_found, joins, is_inline, is_last, join_by, join_outcome, get_back, got_back, seek_by, seek_held, bids, passes_by, local_by, seek_entry, taken_so, can_be_taken, took, goes_on_with, lowered, found_at, on_restart, at_bottom, above_bottom, below_bottom, follows, closed_link, closed_bottom}

@@ -9,9 +9,9 @@ use Rattle.ppm_cells.specs.declared.cell.Cell.TheVariants.{RoomCounter, BlockWor
 use Rattle.ppm_cells.specs.declared.restart.RestartKind.TheVariants.{Run}
 use Rattle.ppm_cells.specs.declared.shape.Shape.{Shape}
 use Rattle.ppm_cells.proofs.CellLemmas.{place_end}
-use Rattle.ppm_capsules.specs.Capsule.{Capsule, Reads, Writes, Asks, Ends}
-use Rattle.ppm_capsules.specs.Stopped.{Stands}
-use Rattle.ppm_capsules.specs.Strand.{Own, New, Shared, Frame}
+use Rattle.ppm_strands.specs.Capsule.{Capsule, Reads, Writes, Asks, Ends}
+use Rattle.ppm_strands.specs.Stopped.{Stands}
+use Rattle.ppm_strands.specs.Strand.{Own, New, Shared, Frame}
 use Rattle.ppm_code.specs.Code.{EndFits}
 use Rattle.ppm_code.specs.Locations.{Where, code_locations}
 use Rattle.ppm_code.specs.Sizes.{slots_at, procedure_at}

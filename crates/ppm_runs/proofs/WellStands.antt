@@ -11,7 +11,7 @@ use Rattle.ppm_cells.specs.declared.link.LinkKind.TheVariants.{Root}
 use Rattle.ppm_cells.specs.declared.restart.RestartKind.{RestartKind}
 use Rattle.ppm_cells.specs.declared.restart.RestartKind.TheVariants.{Run, Bump, Unwind, Arrive, Join}
 use Rattle.ppm_cells.specs.declared.shape.Shape.{Shape}
-use Rattle.ppm_capsules.specs.Strand.{Frame}
+use Rattle.ppm_strands.specs.Strand.{Frame}
 use Rattle.ppm_code.specs.Sizes.{slots_at}
 use Rattle.ppm_code.specs.Capsules.{capsule_of}
 use Rattle.ppm_code.specs.Strands.{Point, Result, instrs_in, instrs_of}

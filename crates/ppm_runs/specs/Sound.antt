@@ -21,7 +21,7 @@ use Rattle.ppm_cells.specs.declared.shape.Shape.{Shape}
 use Rattle.ppm_cells.specs.declared.shape.Takeover.{Takeover}
 use Rattle.ppm_cells.specs.declared.shape.Takeover.TheVariants.{ByPlaces, ByEntries}
 use Rattle.ppm_code.specs.declared.code.CodeParts.{CodeParts}
-use Rattle.ppm_deque.specs.Change.{tag_of}
+use Rattle.ppm_cells.specs.DequeChange.{tag_of}
 use Rattle.ppm_step.specs.Standings.{Standing, IsLost, IsPlaced, IsAt, IsWithin, IsRunning, IsBroken, IsDone, point_is_there, forked, begun, stands_then}
 use Rattle.ppm_step.specs.State.{State as RunState, stand_of, is_work}
 use Rattle.ppm_step.specs.There.{is_there, restart_is_there}

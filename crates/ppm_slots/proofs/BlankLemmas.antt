@@ -4,8 +4,8 @@ use Rattle.std.proofs.Common.{refl, sym, ap, ◌∙◌, subst, arith, slice_set}
 use Rattle.std.specs.Prelude.{replicate, slice_get}
 use Rattle.std.proofs.lemmas.Bool.{cases_lt}
 use Rattle.std.proofs.lemmas.List.{length-append}
-use Rattle.ppm_capsules.specs.Capsule.{Capsule, Reads, Writes, Asks as AsksFor, Ends, Memory, In, ending, written, store}
-use Rattle.ppm_capsules.specs.Strand.{Own, New as NewWord, Shared}
+use Rattle.ppm_strands.specs.Capsule.{Capsule, Reads, Writes, Asks as AsksFor, Ends, Memory, In, ending, written, store}
+use Rattle.ppm_strands.specs.Strand.{Own, New as NewWord, Shared}
 use Rattle.ppm_code.specs.Acts.{held, does}
 use Rattle.ppm_code.specs.Capsules.{capsule_from, capsule_of, at_act}
 use Rattle.ppm_code.specs.Code.{IsCapsule, Fits}

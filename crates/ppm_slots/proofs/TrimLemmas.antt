@@ -10,8 +10,8 @@ use Rattle.ppm_strands.specs.Tree.{Words}
 use Rattle.ppm_words.specs.TwosComplement.{value_of, word_of}
 use Rattle.ppm_words.specs.declared.trap.Trap.{Trap}
 use Rattle.ppm_words.specs.declared.trap.Trap.TheVariants.{Overflow, DivZero, Split}
-use Rattle.ppm_capsules.specs.Capsule.{Capsule, Reads, Writes, Asks as AsksFor, Ends, Memory, In, ending, leaves, written, store}
-use Rattle.ppm_capsules.specs.Strand.{Own, New, Shared, Frame, own_of, new_of, start, opened}
+use Rattle.ppm_strands.specs.Capsule.{Capsule, Reads, Writes, Asks as AsksFor, Ends, Memory, In, ending, leaves, written, store}
+use Rattle.ppm_strands.specs.Strand.{Own, New, Shared, Frame, own_of, new_of, start, opened}
 use Rattle.ppm_code.specs.Acts.{held, does, traps, element_of, at_element, divided, fits, is_zero}
 use Rattle.ppm_code.specs.Capsules.{capsule_from, capsule_of, at_act}
 use Rattle.ppm_code.specs.Code.{IsCode, EndFits, Fits}

@@ -1,7 +1,7 @@
 -- What the capsules of a tidy code leave blank in a new block.
 use Rattle.std.specs.Prelude.{◌<◌, ℕ, length}
-use Rattle.ppm_capsules.specs.Capsule.{Memory, In, written, ending}
-use Rattle.ppm_capsules.specs.Strand.{New}
+use Rattle.ppm_strands.specs.Capsule.{Memory, In, written, ending}
+use Rattle.ppm_strands.specs.Strand.{New}
 use Rattle.ppm_code.specs.Code.{IsCode}
 use Rattle.ppm_code.specs.Capsules.{capsule_of}
 use Rattle.ppm_code.specs.Locations.{Where, code_locations}

@@ -1,8 +1,8 @@
 -- Frames of a code that have no words but their slots and their value.
 use Rattle.std.specs.Prelude.{◌≡◌, ◌<◌, ◌≤◌, ℕ, IfSome, map, get_or}
 use Rattle.ppm_strands.specs.Tree.{Words, Tree, Strand, Call, Fork, Over}
-use Rattle.ppm_capsules.specs.Capsule.{Memory, In, written}
-use Rattle.ppm_capsules.specs.Strand.{Own, Frame, code_of}
+use Rattle.ppm_strands.specs.Capsule.{Memory, In, written}
+use Rattle.ppm_strands.specs.Strand.{Own, Frame, code_of}
 use Rattle.ppm_code.specs.Code.{IsCode}
 use Rattle.ppm_code.specs.Capsules.{capsule_of}
 use Rattle.ppm_code.specs.Locations.{Where, code_locations}

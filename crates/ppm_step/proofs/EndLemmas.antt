@@ -2,7 +2,7 @@
 use Rattle.std.proofs.Common.{◌≡◌, ℕ, zero, suc, ◌+◌, ◌-◌, ◌==◌, max, Bool, true, false, List, [], ◌∷◌, refl, sym, subst, slice_set, Option, Some, None}
 use Rattle.std.specs.Prelude.{◌^◌, ℤ, ◌+ℤ◌, ◌-ℤ◌, ◌*ℤ◌, int_div, int_rem, nat_lt, nat_le, if◌then◌else◌, ◌&&◌, slice_get}
 use Rattle.std.proofs.lemmas.Option.{slice_get_within, get_or_from_slice_get}
-use Rattle.ppm_capsules.specs.Capsule.{Capsule, Reads, Writes, Asks as AsksFor, Ends as EndsAt}
+use Rattle.ppm_strands.specs.Capsule.{Capsule, Reads, Writes, Asks as AsksFor, Ends as EndsAt}
 use Rattle.ppm_words.specs.TwosComplement.{value_of}
 use Rattle.ppm_code.specs.Acts.{does, held, fits, is_zero, whole, divided, cut_left_of, cut_right_of, element_of, at_element, length_of, start_of}
 use Rattle.ppm_code.specs.Capsules.{capsule_from, at_act, reached}

@@ -1,8 +1,8 @@
 -- What is left of a capsule of a frame stores nothing into the finish word.
 use Rattle.std.proofs.Common.{◌≡◌, ◌<◌, ◌+◌, ◌*◌, refl, sym, subst, arith, ℕ, zero, suc, Bool, true, false, List, [], ◌∷◌, Option, Some, None}
 use Rattle.std.specs.Prelude.{if◌then◌else◌, nat_lt, nat_le}
-use Rattle.ppm_capsules.specs.Capsule.{Capsule, Reads, Writes, Asks as AsksFor, Ends as EndsAt}
-use Rattle.ppm_capsules.specs.Strand.{Own, New, Shared}
+use Rattle.ppm_strands.specs.Capsule.{Capsule, Reads, Writes, Asks as AsksFor, Ends as EndsAt}
+use Rattle.ppm_strands.specs.Strand.{Own, New, Shared}
 use Rattle.ppm_cells.specs.Cells.{address, pool_at, place_size}
 use Rattle.ppm_cells.specs.declared.shape.Shape.{Shape}
 use Rattle.ppm_code.specs.Locations.{Where}

@@ -25,10 +25,10 @@ use Rattle.ppm_cells.specs.declared.side.Side.{Side}
 use Rattle.ppm_cells.specs.declared.side.Side.TheVariants.{Left, Right}
 use Rattle.ppm_cells.proofs.ExactLemmas.{unpack-pack}
 use Rattle.ppm_cells.proofs.FinishLemmas.{finishes_exact}
-use Rattle.ppm_deque.specs.Change.{tag_of}
-use Rattle.ppm_deque.specs.Transitions.{pushed_above, pushed_job, popped_above}
-use Rattle.ppm_join.specs.Order.{first, both}
-use Rattle.ppm_join.specs.Outcome.{outcome_of_both}
+use Rattle.ppm_cells.specs.DequeChange.{tag_of}
+use Rattle.ppm_cells.specs.Transitions.{pushed_above, pushed_job, popped_above}
+use Rattle.ppm_cells.specs.JoinOrder.{first, both}
+use Rattle.ppm_cells.specs.JoinOutcome.{outcome_of_both}
 use Rattle.ppm_step.specs.declared.content.Content.{Content}
 use Rattle.ppm_step.specs.declared.content.Content.TheVariants.{ANumber, ARestart, AnEntry, AHolder, ALink, AFinish}
 use Rattle.ppm_step.specs.declared.row.Seat.{Seat}

@@ -10,8 +10,8 @@ use Rattle.ppm_cells.specs.declared.restart.RestartKind.{RestartKind}
 use Rattle.ppm_cells.specs.declared.restart.RestartKind.TheVariants.{Run, Bump, Unwind}
 use Rattle.ppm_cells.specs.declared.shape.Shape.{Shape}
 use Rattle.ppm_cells.specs.declared.side.Side.TheVariants.{Left, Right}
-use Rattle.ppm_capsules.specs.Capsule.{Capsule, Reads, Writes, Asks, Ends}
-use Rattle.ppm_capsules.specs.Strand.{Own, New, Shared}
+use Rattle.ppm_strands.specs.Capsule.{Capsule, Reads, Writes, Asks, Ends}
+use Rattle.ppm_strands.specs.Strand.{Own, New, Shared}
 use Rattle.ppm_code.specs.Locations.{Where}
 use Rattle.ppm_code.specs.Sizes.{frame_size, fork_size}
 use Rattle.ppm_code.specs.Strands.{entry_of}

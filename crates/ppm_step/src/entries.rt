@@ -1,21 +1,20 @@
 //! Rows that change an entry.
 ghost use Rattle.std.specs.Prelude.{◌≡◌, ◌↔◌, ◌+◌, ◌^◌, nat_lt, IsTrue, IfSome};
 ghost use Rattle.ppm_cells.specs.Entry.{IsEntry};
-ghost use Rattle.ppm_deque.specs.Change.{CanRise, tag_of};
+ghost use Rattle.ppm_cells.specs.DequeChange.{CanRise, tag_of};
 ghost use Rattle.ppm_step.specs.Rows.{tried, changed};
 ghost use Rattle.ppm_step.specs.Facts.{IsThen, IsRow};
 
 use crate::content::Content;
 use crate::row::{Row, Then};
-use ppm_cells::{Cell, Entry};
-use ppm_deque::can_rise;
+use ppm_cells::{Cell, Entry, entry_can_rise};
 
 /// Whether the entry's tag is not the last.
 pub fn rises(entry: Entry) -> bool
     ensures value { result ≡ nat_lt (tag_of entry + 1) (2 ^ 34) }
     ensures exactly { IsTrue result ↔ CanRise entry }
 {
-    can_rise(entry)
+    entry_can_rise(entry)
 }
 
 /// A change of the entry that was seen, if one is to be made, and then what follows.

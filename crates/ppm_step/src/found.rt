@@ -6,7 +6,7 @@ ghost use Rattle.ppm_cells.specs.Finish.{IsFinish};
 ghost use Rattle.ppm_cells.specs.Holder.{IsHolder};
 ghost use Rattle.ppm_cells.specs.Link.{IsLink};
 ghost use Rattle.ppm_cells.specs.Restart.{IsRestart};
-ghost use Rattle.ppm_join.specs.Outcome.{outcome_of_both};
+ghost use Rattle.ppm_cells.specs.JoinOutcome.{outcome_of_both};
 ghost use Rattle.ppm_step.specs.Contents.{IsContent};
 ghost use Rattle.ppm_step.specs.Rows.{found_at, row_of, by_places};
 ghost use Rattle.ppm_step.specs.Facts.{IsPoint, IsSeat, IsRow};
@@ -25,8 +25,7 @@ use crate::row::{Point, Row, Seat, Then, broken, load};
 use crate::seek::{seek_at_top, seek_found, seek_held, seek_if_closed, seek_if_dead};
 use crate::steal::{check_entry, check_message, take_noted};
 use crate::unwind::{given_value, target, unwind_link, unwind_outcome};
-use ppm_cells::{Entry, Finish, Holder, Link, Restart, RestartKind, Shape, Takeover};
-use ppm_join::joined;
+use ppm_cells::{Entry, Finish, Holder, Link, Restart, RestartKind, Shape, Takeover, joined};
 
 /// How a row begins that a takeover by places alone has.
 fn by_places(shape: &Shape, point: Point) -> Row

@@ -3,7 +3,7 @@ ghost use Rattle.std.specs.Prelude.{◌≡◌, ◌+◌, ◌<◌, ◌↔◌, IsTr
 ghost use Rattle.ppm_cells.specs.Fields.{Fit};
 ghost use Rattle.ppm_cells.specs.Finish.{IsFinish, IsOutcome};
 ghost use Rattle.ppm_cells.specs.Link.{link_address};
-ghost use Rattle.ppm_join.specs.Outcome.{outcome_of_both};
+ghost use Rattle.ppm_cells.specs.JoinOutcome.{outcome_of_both};
 ghost use Rattle.ppm_step.specs.Rows.{arrives, is_inline, is_last, join_by_order, join_by};
 ghost use Rattle.ppm_step.specs.Rows.{join_outcome, right_begins, right_value};
 ghost use Rattle.ppm_step.specs.Facts.{IsAddress, IsRow};
@@ -11,8 +11,7 @@ ghost use Rattle.ppm_step.specs.Facts.{IsAddress, IsRow};
 use crate::content::Content;
 use crate::row::{Point, Row, Seat, Then, broken, load};
 use crate::unwind::take_over;
-use ppm_cells::{Cell, Finish, LinkKind, RestartKind, Shape, Side, left_frame};
-use ppm_join::{inline, last};
+use ppm_cells::{Cell, Finish, LinkKind, RestartKind, Shape, Side, inline, last, left_frame};
 
 /// By one exchange the branch is first, if the other one wasn't.
 pub fn arrive(seat: &Seat, block: u32, side: Side) -> Row

@@ -3,7 +3,7 @@
 //! capsule of a frame (`specs/Frames`).
 //! Contract: `want` is the word step that comes next, and `observe` goes on with what it found,
 //! exactly as the rows say.
-//! Stands on `ppm_cells`, `ppm_deque`, `ppm_join`, `ppm_hold` and `ppm_code`; `ppm_core` makes its
+//! Stands on `ppm_cells` and `ppm_code`; `ppm_core` makes its
 //! steps on a machine's words.
 //! After the parallel persistent memory of Blelloch et al., SPAA 2018; the rows are this project's.
 #![tactic(auto)]

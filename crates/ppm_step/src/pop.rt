@@ -6,8 +6,7 @@ ghost use Rattle.ppm_step.specs.Facts.{IsAddress, IsRow};
 
 use crate::entries::{rises, try_change};
 use crate::row::{Point, Row, Seat, Then, broken, load};
-use ppm_cells::{Cell, Entry, RestartKind};
-use ppm_deque::{Pop, pop_above, pop_below};
+use ppm_cells::{Cell, Entry, Pop, RestartKind, pop_above, pop_below};
 
 /// The job below the bottom becomes local.
 pub fn get_back(seat: &Seat, entry: Entry) -> Row

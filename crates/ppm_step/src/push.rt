@@ -10,8 +10,7 @@ ghost use Rattle.ppm_step.specs.Facts.{IsAddress, IsRow};
 use crate::content::Content;
 use crate::entries::{rises, try_change};
 use crate::row::{Point, Row, Seat, Then, broken, left_begins, load};
-use ppm_cells::{Cell, Entry, Link, LinkKind, RestartKind, Takeover};
-use ppm_deque::{push_above, push_job};
+use ppm_cells::{Cell, Entry, Link, LinkKind, RestartKind, Takeover, push_above, push_job};
 
 /// The room counter rises past the block.
 pub fn bump(seat: &Seat, block: u32, link: Link) -> Row

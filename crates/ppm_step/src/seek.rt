@@ -2,15 +2,14 @@
 ghost use Rattle.std.specs.Prelude.{◌≡◌, ◌+◌, ◌^◌, ◌<◌, ◌↔◌, nat_lt, IsTrue};
 ghost use Rattle.ppm_cells.specs.Entry.{IsEntry};
 ghost use Rattle.ppm_cells.specs.Holder.{IsHolder};
-ghost use Rattle.ppm_hold.specs.Change.{CanRise};
+ghost use Rattle.ppm_cells.specs.HoldChange.{CanRise};
 ghost use Rattle.ppm_step.specs.Rows.{seek_holder, seek_dead, seek_top, notes, passes_by};
 ghost use Rattle.ppm_step.specs.Rows.{seek_entry, seek_closed};
 ghost use Rattle.ppm_step.specs.Facts.{IsRow};
 
 use crate::content::Content;
 use crate::row::{Point, Row, Seat, Then, broken, load};
-use ppm_cells::{Cell, Entry, Holder, RestartKind, Shape, Takeover};
-use ppm_hold::{bid, can_rise};
+use ppm_cells::{Cell, Entry, Holder, RestartKind, Shape, Takeover, bid, holder_can_rise};
 
 /// By who holds the victim.
 pub fn seek_held(shape: &Shape, seat: &Seat, victim: u32, holder: Holder) -> Row
@@ -36,7 +35,7 @@ fn rises(holder: Holder) -> bool
     ensures value { result ≡ nat_lt (holder.tag + 1) (2 ^ 58) }
     ensures exactly { IsTrue result ↔ CanRise holder }
 {
-    can_rise(holder)
+    holder_can_rise(holder)
 }
 
 /// A dead processor's place is bid for; of another one the jobs are looked at.

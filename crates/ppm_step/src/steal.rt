@@ -1,15 +1,14 @@
 //! The rows of a thief, and what it goes on with.
 ghost use Rattle.std.specs.Prelude.{◌≡◌, ◌+◌, ◌<◌, IsTrue, IfSome};
 ghost use Rattle.ppm_cells.specs.Entry.{IsEntry};
-ghost use Rattle.ppm_deque.specs.Change.{IsJob, IsLocal, CanRise};
+ghost use Rattle.ppm_cells.specs.DequeChange.{IsJob, IsLocal, CanRise};
 ghost use Rattle.ppm_step.specs.Rows.{taken_so, steals, can_be_taken, taken_message, took};
 ghost use Rattle.ppm_step.specs.Rows.{goes_on_with, taken_entry};
 ghost use Rattle.ppm_step.specs.Facts.{IsRow};
 
 use crate::entries::{rises, try_change};
 use crate::row::{Point, Row, Seat, broken, load};
-use ppm_cells::{Cell, Entry, RestartKind, Shape, Takeover};
-use ppm_deque::{inherit, steal, won};
+use ppm_cells::{Cell, Entry, RestartKind, Shape, Takeover, inherit, steal, won};
 
 /// What a place makes of the entry that it is after.
 fn take_so(takeover: Takeover, place: u32, entry: Entry) -> Option<Entry>

@@ -3,7 +3,7 @@ use Rattle.std.specs.Prelude.{◌≡◌, ◌≢◌, ℕ, ◌+◌, ◌<◌, ◌==
 use Rattle.ppm_cells.specs.declared.cell.Cell.{Cell}
 use Rattle.ppm_cells.specs.declared.shape.Shape.{Shape}
 use Rattle.ppm_step.specs.declared.content.Content.TheVariants.{ANumber}
-use Rattle.ppm_capsules.specs.Capsule.{Capsule}
+use Rattle.ppm_strands.specs.Capsule.{Capsule}
 use Rattle.ppm_code.specs.Capsules.{capsule_from, reached}
 use Rattle.ppm_code.specs.declared.work.Reached.{Reached}
 use Rattle.ppm_words.specs.declared.event.Event.{Event}

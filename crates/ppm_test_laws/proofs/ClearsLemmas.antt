@@ -2,9 +2,9 @@
 use Rattle.std.proofs.Common.{◌≡◌, ◌∙◌, ◌⊎◌, ◌≤◌, ◌<◌, ℕ, zero, suc, ◌+◌, true, false, List, [], ◌∷◌, Option, Some, None, replicate, slice_set}
 use Rattle.std.proofs.Common.{inl, inr, refl, sym, ap, subst, arith}
 use Rattle.std.specs.Prelude.{slice_get}
-use Rattle.ppm_capsules.specs.Capsule.{Capsule}
-use Rattle.ppm_capsules.specs.Equalities.{numbers}
-use Rattle.ppm_capsules.proofs.LocationLemmas.{decide}
+use Rattle.ppm_strands.specs.Capsule.{Capsule}
+use Rattle.ppm_strands.specs.Equalities.{numbers}
+use Rattle.ppm_strands.proofs.LocationLemmas.{decide}
 use Rattle.ppm_code.specs.declared.act.End.{End}
 use Rattle.ppm_code.specs.declared.act.End.TheVariants.{Finish}
 use Rattle.ppm_code.specs.declared.act.Step.TheVariants.{Loads, Stores}

@@ -5,8 +5,8 @@ use Rattle.ppm_strands.specs.Run.{Counts, End, Ends as EndsAs}
 use Rattle.ppm_strands.specs.Calm.{touches, Gathers, Calm}
 use Rattle.ppm_strands.proofs.RunLemmas.{one_end}
 use Rattle.ppm_strands.proofs.PartsLemmas.{gathers_by_parts, calm_by_parts}
-use Rattle.ppm_capsules.specs.Strand.{Location, New, Shared, Frame, code_of}
-use Rattle.ppm_capsules.proofs.PathLemmas.{paths_are_enough}
+use Rattle.ppm_strands.specs.Strand.{Location, New, Shared, Frame, code_of}
+use Rattle.ppm_strands.proofs.PathLemmas.{paths_are_enough}
 use Rattle.ppm_test_laws.specs.Copies.{numbered, copies, copy, frame_at, both, CopiesAreRestartable, AreCopied}
 
 abbrev code : Code (Frame ℕ ℕ) ℕ

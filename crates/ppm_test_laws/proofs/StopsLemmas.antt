@@ -1,9 +1,9 @@
 -- A capsule of no instructions makes no steps.
 use Rattle.std.proofs.Common.{◌≡◌, ◌<◌, ℕ, zero, suc, List, [], ◌∷◌, length, refl, sym, arith}
 use Rattle.ppm_strands.specs.Tree.{Words}
-use Rattle.ppm_capsules.specs.Capsule.{Ends}
-use Rattle.ppm_capsules.specs.Equalities.{numbers}
-use Rattle.ppm_capsules.specs.Stopped.{at, steps}
+use Rattle.ppm_strands.specs.Capsule.{Ends}
+use Rattle.ppm_strands.specs.Equalities.{numbers}
+use Rattle.ppm_strands.specs.Stopped.{at, steps}
 use Rattle.ppm_test_laws.specs.Stops.{capsule_of}
 use Rattle.ppm_test_laws.specs.declared.stops.Ask.{Ask}
 

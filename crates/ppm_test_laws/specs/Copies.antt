@@ -2,10 +2,10 @@
 use Rattle.std.specs.Prelude.{◌≡◌, ℕ, zero, suc, false}
 use Rattle.ppm_strands.specs.Tree.{Words, Tree, Strand, Fork, Over}
 use Rattle.ppm_strands.specs.Run.{Counts}
-use Rattle.ppm_capsules.specs.Capsule.{Equality, Capsule, Reads, Writes, Ends}
-use Rattle.ppm_capsules.specs.Equalities.{numbers, locations}
-use Rattle.ppm_capsules.specs.Faults.{begun, IsOver, Happen, IsRestartable}
-use Rattle.ppm_capsules.specs.Strand.{Location, Shared, Frame, Table}
+use Rattle.ppm_strands.specs.Capsule.{Equality, Capsule, Reads, Writes, Ends}
+use Rattle.ppm_strands.specs.Equalities.{numbers, locations}
+use Rattle.ppm_strands.specs.Faults.{begun, IsOver, Happen, IsRestartable}
+use Rattle.ppm_strands.specs.Strand.{Location, Shared, Frame, Table}
 
 -- locations whose own words and block words are numbered
 abbrev pub numbered : Equality (Location ℕ ℕ)

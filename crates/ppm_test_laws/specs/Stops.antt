@@ -1,9 +1,9 @@
 -- Small capsules over the four words, with one register that a stop loses.
 use Rattle.std.specs.Prelude.{◌≡◌, ℕ, ◌+◌, ◌%◌, List, [], ◌∷◌}
 use Rattle.ppm_strands.specs.Tree.{Words}
-use Rattle.ppm_capsules.specs.Capsule.{Capsule, Reads, Writes, Ends, Whole, whole}
-use Rattle.ppm_capsules.specs.Equalities.{numbers}
-use Rattle.ppm_capsules.specs.Stopped.{IsConflictFree, at, steps, run_with_stops}
+use Rattle.ppm_strands.specs.Capsule.{Capsule, Reads, Writes, Ends, Whole, whole}
+use Rattle.ppm_strands.specs.Equalities.{numbers}
+use Rattle.ppm_strands.specs.Stopped.{IsConflictFree, at, steps, run_with_stops}
 use Rattle.ppm_test_laws.specs.Sample.{address, words_of}
 use Rattle.ppm_test_laws.specs.declared.stops.Ask.{Ask}
 use Rattle.ppm_test_laws.specs.declared.stops.Ask.TheVariants.{Load, Store, Add}

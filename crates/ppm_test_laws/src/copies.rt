@@ -2,7 +2,7 @@
 
 ghost use Rattle.ppm_test_laws.specs.Copies.{CopiesAreRestartable, CopiesWithFaults};
 
-use ppm_capsules::faults_do_not_show;
+use ppm_strands::faults_do_not_show;
 
 /// A capsule that reads one word and writes another may be begun again, whatever the words are.
 pub fn copies_are_restartable()

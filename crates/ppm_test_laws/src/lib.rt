@@ -6,7 +6,7 @@
 //! (`specs/Clears`).
 //! Contract: `sample::run` runs depth first, `stops::run_with_stops` with stops; laws fail where
 //! their premise does.
-//! Stands on `ppm_strands` and `ppm_capsules`, its tests of listings on `ppm_depth` and
+//! Stands on `ppm_strands`, its tests of listings on `ppm_depth` and
 //! `ppm_listing_reader`, those of laws on the crates of the theorem and on `ppm_trace`; no crate
 //! stands on it. The tests of `ppm_code` are here, since a crate with tests is proved twice. The
 //! instances are this project's.

@@ -1,14 +1,14 @@
 //! Small capsules with one register, run with stops: a stop loses the register and keeps the words.
 
 ghost use Rattle.std.specs.Prelude.{◌≡◌};
-ghost use Rattle.ppm_capsules.specs.Capsule.{store, whole as model_whole};
-ghost use Rattle.ppm_capsules.specs.Equalities.{numbers};
+ghost use Rattle.ppm_strands.specs.Capsule.{store, whole as model_whole};
+ghost use Rattle.ppm_strands.specs.Equalities.{numbers};
 ghost use Rattle.ppm_test_laws.specs.Sample.{address, words_of};
 ghost use Rattle.ppm_test_laws.specs.Stops.{StopsDoNotShow, capsule_of, seen_of, with_stops};
 ghost use Rattle.ppm_test_laws.specs.Stops.{words_after};
 
 use crate::sample::{Word, index};
-use ppm_capsules::conflict_free_is_idempotent;
+use ppm_strands::conflict_free_is_idempotent;
 
 /// An instruction: the first two are word steps, the last is work on the register, which is 0 at
 /// the beginning.

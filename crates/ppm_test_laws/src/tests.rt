@@ -5,19 +5,17 @@ use crate::races::{
 };
 use crate::sample::{Capsule, Counts, End, Outcome, SmallTree, Word, run};
 use crate::stops::{Ask, Run, run_with_stops, stops_do_not_show};
-use ppm_capsules::{
-    a_conflict_may_show, capsules_are_local, capsules_make_steps, code_is_local,
-    conflict_free_is_idempotent, end_stores_are_unseen, end_stores_come_last, faults_do_not_show,
-    others_keep_what_is_done, paths_are_enough, stops_change_nothing, what_is_done_stands,
-};
 use ppm_ownership::{
     come_to_sites, own_apart, positions_are_come_to, run_in_either_order, stay_within,
 };
 use ppm_strands::{
-    a_change_at_one_leaf, a_change_passes_up, a_step_in_turn, ahead_composes, any_order,
-    calls_resume, calm_by_listed_regions, chains_in_turn, chains_pass_up, changes_what_it_writes,
+    a_change_at_one_leaf, a_change_passes_up, a_conflict_may_show, a_step_in_turn, ahead_composes,
+    any_order, calls_resume, calm_by_listed_regions, capsules_are_local, capsules_make_steps,
+    chains_in_turn, chains_pass_up, changes_what_it_writes, code_is_local,
+    conflict_free_is_idempotent, end_stores_are_unseen, end_stores_come_last, faults_do_not_show,
     forks_resume, goes_by_parts, has_one_end, larger_bounds_agree, locality,
-    strands_beside_do_not_race, what_stands_is_to_come,
+    others_keep_what_is_done, paths_are_enough, stops_change_nothing, strands_beside_do_not_race,
+    what_is_done_stands, what_stands_is_to_come,
 };
 use std::test::Fail;
 

@@ -1,7 +1,6 @@
 //! Transitions worked out by hand, and each call once.
-use ppm_cells::Entry;
-use ppm_deque::{
-    Pop, can_rise, entries_never_return, inherit, others_leave_the_own_entries,
+use ppm_cells::{
+    Entry, Pop, entries_never_return, entry_can_rise, inherit, others_leave_the_own_entries,
     others_take_for_themselves, pop_above, pop_below, post, push_above, push_job, steal,
     taken_entries_stay, transitions_go_on, what_is_won_was_made, won,
 };
@@ -54,8 +53,8 @@ fn thieves_take_jobs_and_inherit(rt: HostRuntime) -> Result<(), Fail> {
 
 #[test]
 fn tags_end_and_laws_can_be_called(rt: HostRuntime) -> Result<(), Fail> {
-    assert!(rt; can_rise(Entry::Empty { tag: 17179869182 }));
-    assert!(rt; !can_rise(Entry::Empty { tag: 17179869183 }));
+    assert!(rt; entry_can_rise(Entry::Empty { tag: 17179869182 }));
+    assert!(rt; !entry_can_rise(Entry::Empty { tag: 17179869183 }));
     transitions_go_on();
     entries_never_return();
     taken_entries_stay();

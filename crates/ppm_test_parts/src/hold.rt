@@ -1,6 +1,7 @@
 //! Transitions worked out by hand, and each call once.
-use ppm_cells::Holder;
-use ppm_hold::{bid, bids_go_on, can_rise, holders_never_return, kept, others_bid_for_themselves};
+use ppm_cells::{
+    Holder, bid, bids_go_on, holder_can_rise, holders_never_return, kept, others_bid_for_themselves,
+};
 use std::test::Fail;
 
 #[test]
@@ -39,8 +40,8 @@ fn bids_are_kept_by_the_bidder(rt: HostRuntime) -> Result<(), Fail> {
         tag: 288230376151711743,
         processor: 0,
     };
-    assert!(rt; can_rise(first));
-    assert!(rt; !can_rise(last));
+    assert!(rt; holder_can_rise(first));
+    assert!(rt; !holder_can_rise(last));
     bids_go_on();
     holders_never_return();
     others_bid_for_themselves();

@@ -1,6 +1,5 @@
 //! Transitions worked out by hand, and each call once.
-use ppm_cells::{Finish, Side};
-use ppm_join::{inline, joined, last, one_branch_is_last, order_words_are_set_once};
+use ppm_cells::{Finish, Side, inline, joined, last, one_branch_is_last, order_words_are_set_once};
 use ppm_words::Trap;
 use std::test::Fail;
 

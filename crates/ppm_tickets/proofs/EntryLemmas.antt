@@ -44,7 +44,7 @@ use Rattle.ppm_tickets.specs.Along.{IsPooled}
 use Rattle.ppm_tickets.specs.Entries.{IsPooledAt, IsPooledBy, Changed, EntriesChangeLawfully}
 use Rattle.ppm_tickets.specs.Saw.{IsModest, IsQuietCell}
 use Rattle.ppm_tickets.proofs.WalkLemmas.{Walk, FairRow, found_fair, begun_fair}
-use Rattle.ppm_deque.specs.Change.{Changes}
+use Rattle.ppm_cells.specs.DequeChange.{Changes}
 use Rattle.ppm_cells.specs.declared.shape.Takeover.{Takeover}
 use Rattle.ppm_tickets.proofs.StepLemmas.{stand_other, stand_own}
 use Rattle.ppm_cells.proofs.CellLemmas.{few_words}

@@ -11,7 +11,7 @@ use Rattle.ppm_cells.specs.declared.shape.Takeover.{Takeover}
 use Rattle.ppm_cells.specs.declared.shape.Takeover.TheVariants.{ByPlaces, ByEntries}
 use Rattle.ppm_tickets.specs.Along.{IsInlined}
 use Rattle.ppm_code.specs.declared.code.CodeParts.{CodeParts}
-use Rattle.ppm_join.specs.Order.{both}
+use Rattle.ppm_cells.specs.JoinOrder.{both}
 use Rattle.ppm_step.specs.Rows.{push_at, left_begins}
 use Rattle.ppm_step.specs.Standings.{Standing, IsDone, stands_then}
 use Rattle.ppm_step.specs.State.{stand_in}

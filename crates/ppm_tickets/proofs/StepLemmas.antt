@@ -21,7 +21,7 @@ use Rattle.ppm_code.specs.declared.code.CodeParts.{CodeParts}
 use Rattle.ppm_step.specs.Contents.{content_of, word_of, IsContent}
 use Rattle.ppm_step.specs.Frames.{Rest, rest_of as frame_rest}
 use Rattle.ppm_step.specs.Points.{cell_at, reading_at}
-use Rattle.ppm_deque.specs.Change.{tag_of}
+use Rattle.ppm_cells.specs.DequeChange.{tag_of}
 use Rattle.ppm_step.specs.Rows.{found_at, row_of, raised}
 use Rattle.ppm_step.specs.Standings.{Standing, IsLost, IsPlaced, IsAt, IsWithin, IsRunning, IsBroken, IsDone, row_is_there, rest_is_there, within_if, running_if, enters, stands_then, stands, wanted_row, went_row}
 use Rattle.ppm_step.specs.State.{stand_in, found_in, words_after, fork_row, take_row}

@@ -22,9 +22,9 @@ use Rattle.ppm_cells.specs.declared.shape.Shape.{Shape}
 use Rattle.ppm_cells.specs.declared.shape.Takeover.{Takeover}
 use Rattle.ppm_cells.specs.declared.shape.Takeover.TheVariants.{ByPlaces, ByEntries}
 use Rattle.ppm_cells.specs.declared.side.Side.TheVariants.{Left, Right}
-use Rattle.ppm_deque.specs.Change.{tag_of, Changes}
-use Rattle.ppm_join.specs.Order.{first, both}
-use Rattle.ppm_join.specs.Outcome.{outcome_of_both}
+use Rattle.ppm_cells.specs.DequeChange.{tag_of, Changes}
+use Rattle.ppm_cells.specs.JoinOrder.{first, both}
+use Rattle.ppm_cells.specs.JoinOutcome.{outcome_of_both}
 use Rattle.ppm_step.specs.Contents.{IsContent}
 use Rattle.ppm_step.specs.Rows.{on_number, on_restart, on_entry, on_holder, on_link, on_finish, on_outcome, with_kind, raised, bumped, left_begins, pushes, push_at, push_above, push_bottom, unwind_by, back_to, unwound, after_value, target_found, joins, is_inline, is_last, join_by, join_outcome, get_back, got_back, empty_above, seek_held, seek_by, bids, passes_by, local_by, seek_entry, taken_so, changed, can_be_taken, took, goes_on_with, at_bottom, above_bottom, below_bottom, follows, closed_link, closed_bottom, lowered, found_at, by_places, row_of}
 use Rattle.ppm_step.specs.There.{restart_is_there}

@@ -8,7 +8,7 @@ use Rattle.ppm_cells.specs.declared.shape.Shape.{Shape}
 use Rattle.ppm_cells.specs.declared.shape.Takeover.{Takeover}
 use Rattle.ppm_cells.specs.declared.shape.Takeover.TheVariants.{ByEntries}
 use Rattle.ppm_code.specs.declared.code.CodeParts.{CodeParts}
-use Rattle.ppm_deque.specs.Change.{Changes}
+use Rattle.ppm_cells.specs.DequeChange.{Changes}
 use Rattle.ppm_step.specs.Frames.{Stores}
 use Rattle.ppm_step.specs.Standings.{Standing, IsWithin, IsRunning, IsDone}
 use Rattle.ppm_step.specs.State.{State, stand_of, happens, opening}

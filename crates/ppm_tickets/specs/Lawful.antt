@@ -290,7 +290,7 @@ pub record Holding (m : Spot → Word) (k : ℕ → RestartKind) : Type 0 where
   pub doomed : (p : ℕ) → Dooms m p (k p)
 
 -- the lawful changes of an entry by kinds and tags, each raising its tag by one; with payloads they are `Changes` of
--- `ppm_deque`
+-- `ppm_cells`
 abbrev pub Changes : Takeover → Word → Word → Type 0
 Changes how (Empty t) (Local u x) = u ≡ t + 1
 Changes how (Local t x) (Job u r) = u ≡ t + 1

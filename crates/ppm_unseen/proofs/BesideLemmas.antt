@@ -2,7 +2,7 @@
 -- first read (`Early`) or after it (`Late`); after a fault the strand is on its way again to where the commit stands (`Replay`).
 use Rattle.std.proofs.Common.{◌≡◌, ℕ, Bool, true, false, List, [], ◌∷◌, ◌⊎◌, inl, inr, refl, sym, subst}
 use Rattle.ppm_strands.specs.Tree.{Words}
-use Rattle.ppm_capsules.specs.Capsule.{Memory, In, store}
+use Rattle.ppm_strands.specs.Capsule.{Memory, In, store}
 use Rattle.ppm_unseen.specs.Capsule.{Capsule, Loads, Keeps, Reads, Changes}
 use Rattle.ppm_unseen.specs.Run.{System, Deed, Changed, State, NotYet, UnderWay, Waits, IsOver, Change, change, AllStill}
 use Rattle.ppm_unseen.specs.Run.{now, passed, settled}

@@ -4,8 +4,8 @@ use Rattle.std.proofs.lemmas.Bool.{cond-false, cond-true, eq-eqb, ne_eqb}
 use Rattle.std.specs.Prelude.{Option, Some, None}
 use Rattle.ppm_strands.specs.Tree.{Words}
 use Rattle.ppm_strands.specs.Ahead.{put}
-use Rattle.ppm_capsules.specs.Capsule.{In}
-use Rattle.ppm_capsules.specs.Strand.{Frame}
+use Rattle.ppm_strands.specs.Capsule.{In}
+use Rattle.ppm_strands.specs.Strand.{Frame}
 use Rattle.ppm_unseen.specs.Run.{System, Deed, Changed, Forked, Finished, doer, State, NotYet, UnderWay, Waits, IsOver, Change, AllStill}
 use Rattle.ppm_unseen.specs.Run.{now, numbered, begun_if_any, forked_by, once_done, passed, settled, IsHistory}
 use Rattle.ppm_unseen.specs.Run.{Comes, Begins, Others, Goes, Does, Takes, Stores, Finds, Leaves, Opens, Joins, Faults, Alters, Splits, Finishes}

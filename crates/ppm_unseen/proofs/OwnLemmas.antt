@@ -1,7 +1,7 @@
 -- Own words of two tries of a capsule: the same where nothing is kept, and where both have kept them.
 use Rattle.std.proofs.Common.{◌≡◌, ℕ, cond, Bool, true, false, List, ◌∷◌, ◌⊎◌, inl, inr, sym, ap, ◌∙◌, subst}
 use Rattle.std.proofs.lemmas.Bool.{cases_Bool, cond-false, cond-true, true≢false}
-use Rattle.ppm_capsules.specs.Capsule.{Equality, Memory, In, store}
+use Rattle.ppm_strands.specs.Capsule.{Equality, Memory, In, store}
 
 -- own words that agree where w were kept
 abbrev pub AreSameOn : {A : Type 0} → List A → Memory A → Memory A → Type 0

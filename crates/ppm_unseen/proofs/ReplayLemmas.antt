@@ -3,7 +3,7 @@ use Rattle.std.proofs.Common.{◌≡◌, ℕ, zero, suc, Bool, List, [], ◌∷�
 use Rattle.std.proofs.Math.Path.{fun_ext}
 use Rattle.std.proofs.lemmas.Bool.{cases_Bool}
 use Rattle.ppm_strands.specs.Tree.{Words}
-use Rattle.ppm_capsules.specs.Capsule.{Memory, store}
+use Rattle.ppm_strands.specs.Capsule.{Memory, store}
 use Rattle.ppm_unseen.specs.Capsule.{Capsule, Loads, Keeps, Reads, Changes, Ends}
 use Rattle.ppm_unseen.specs.Run.{System, Deed, Changed, doer, UnderWay, Change, AllStill}
 use Rattle.ppm_unseen.specs.Run.{now, settled}

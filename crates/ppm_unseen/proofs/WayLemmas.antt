@@ -1,7 +1,7 @@
 -- The way of a capsule up to a moment before its first read, as far as it can be gone again: which changes it asks for on that way.
 use Rattle.std.proofs.Common.{◌≡◌, ℕ, zero, suc, Bool, true, false, List, [], ◌∷◌, ◌⊎◌, refl, sym, ap, subst}
 use Rattle.ppm_strands.specs.Tree.{Words}
-use Rattle.ppm_capsules.specs.Capsule.{Equality, Memory, In, store}
+use Rattle.ppm_strands.specs.Capsule.{Equality, Memory, In, store}
 use Rattle.ppm_unseen.specs.Capsule.{Capsule, Loads, Keeps, Reads, Changes, Ends}
 use Rattle.ppm_unseen.specs.Run.{Change, change, AllStill}
 use Rattle.ppm_unseen.proofs.OwnLemmas.{AreSameOn, AreSameOff, store_same_on, store_same_off, found}

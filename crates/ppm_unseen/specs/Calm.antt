@@ -1,6 +1,6 @@
 -- Strands whose writes are calm: what they do stands.
 use Rattle.std.specs.Prelude.{◌≡◌, ℕ, List, [], ◌∷◌}
-use Rattle.ppm_capsules.specs.Capsule.{In}
+use Rattle.ppm_strands.specs.Capsule.{In}
 use Rattle.ppm_unseen.specs.Capsule.{Capsule, Loads, Keeps, Reads, Changes, Ends}
 use Rattle.ppm_unseen.specs.Run.{System, Deed, Changed, State, Comes, IsHistory, Change, passed}
 use Rattle.ppm_unseen.specs.Conditions.{Stands}

@@ -1,7 +1,7 @@
 -- Capsules over words of a strand's own and words that others change too, and codes of such capsules that fork and join.
 use Rattle.std.specs.Prelude.{ℕ, Bool, ◌==◌, cond, List}
-use Rattle.ppm_capsules.specs.Capsule.{Equality, Memory}
-use Rattle.ppm_capsules.specs.Strand.{Frame}
+use Rattle.ppm_strands.specs.Capsule.{Equality, Memory}
+use Rattle.ppm_strands.specs.Strand.{Frame}
 
 -- what is left of a capsule, over own words that A names, and with the ends E: it loads a word of the strand's own and goes on by it, keeps one,
 -- reads a shared word and goes on by it, changes one to a function of what it is, without an answer, or ends

@@ -1,7 +1,7 @@
 -- A system whose strands race, and which meets the three conditions: each branch of a fork claims a word for itself.
 use Rattle.std.specs.Prelude.{ℕ, suc, false, List, [], ◌∷◌}
-use Rattle.ppm_capsules.specs.Strand.{Frame}
-use Rattle.ppm_capsules.specs.Equalities.{numbers}
+use Rattle.ppm_strands.specs.Strand.{Frame}
+use Rattle.ppm_strands.specs.Equalities.{numbers}
 use Rattle.ppm_unseen.specs.Capsule.{Capsule, Keeps, Reads, Changes, Ends, Next, Forks, Closes, exchange}
 use Rattle.ppm_unseen.specs.Run.{System, Changed, Forked, IsHistory}
 use Rattle.ppm_unseen.specs.Conditions.{AreOrdered, AreFilled, Stands}

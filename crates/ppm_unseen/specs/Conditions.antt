@@ -1,6 +1,6 @@
 -- Three conditions on a system: each capsule is ordered and filled, and what is done stands in runs without faults.
 use Rattle.std.specs.Prelude.{◌≡◌, ◌⊎◌, ℕ, Bool, true, false, List, [], ◌∷◌}
-use Rattle.ppm_capsules.specs.Capsule.{Memory, In}
+use Rattle.ppm_strands.specs.Capsule.{Memory, In}
 use Rattle.ppm_unseen.specs.Capsule.{Capsule, Loads, Keeps, Reads, Changes, Ends}
 use Rattle.ppm_unseen.specs.Run.{System, Deed, State, Comes, IsHistory, AllStill, settled, now}
 

@@ -1,6 +1,6 @@
 -- Small systems that show that each of the three conditions is needed: each meets two of them, and faults show.
 use Rattle.std.specs.Prelude.{ℕ, Bool, suc, ◌+◌, ◌==◌, cond, false, List, [], ◌∷◌}
-use Rattle.ppm_capsules.specs.Equalities.{numbers}
+use Rattle.ppm_strands.specs.Equalities.{numbers}
 use Rattle.ppm_unseen.specs.Capsule.{Capsule, Keeps, Reads, Changes, Ends, Closes, constant, exchange}
 use Rattle.ppm_unseen.specs.Run.{System, Deed, IsHistory}
 use Rattle.ppm_unseen.specs.Conditions.{AreOrdered, IsFilled, AreFilled, Stands}

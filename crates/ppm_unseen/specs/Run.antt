@@ -2,8 +2,8 @@
 use Rattle.std.specs.Prelude.{◌≡◌, ◌⊎◌, ℕ, suc, ◌+◌, ◌==◌, cond, false, List, [], ◌∷◌, length, Option, Some, None}
 use Rattle.ppm_strands.specs.Tree.{Words}
 use Rattle.ppm_strands.specs.Ahead.{put}
-use Rattle.ppm_capsules.specs.Capsule.{Memory, store}
-use Rattle.ppm_capsules.specs.Strand.{Frame}
+use Rattle.ppm_strands.specs.Capsule.{Memory, store}
+use Rattle.ppm_strands.specs.Strand.{Frame}
 use Rattle.ppm_unseen.specs.Capsule.{Capsule, Loads, Keeps, Reads, Changes, Ends, GoesOn, Forks, Closes, Code}
 
 -- a system: its code, the frames of the strands that it begins with, by numbers from 0, and the shared words then

@@ -3,7 +3,7 @@
 //! is a history along which each strand comes so far (`specs/Run`).
 //! Contract: laws alone; where capsules are ordered and filled, and what they do stands in runs
 //! without faults, faults are invisible, and each of the three conditions is needed.
-//! Stands on `ppm_strands` and `ppm_capsules`; `ppm_filled` stands on it.
+//! Stands on `ppm_strands`; `ppm_filled` stands on it.
 //! After the capsules with compare-and-modify of Blelloch et al., SPAA 2018; the law is this
 //! project's.
 #![tactic(auto)]

@@ -1,7 +1,7 @@
 -- What holds of a code that has no conflict.
 use Rattle.std.specs.Prelude.{ℕ}
-use Rattle.ppm_capsules.specs.Capsule.{Memory}
-use Rattle.ppm_capsules.specs.Strand.{MayBeginAgain}
+use Rattle.ppm_strands.specs.Capsule.{Memory}
+use Rattle.ppm_strands.specs.Strand.{MayBeginAgain}
 use Rattle.ppm_code.specs.declared.code.CodeParts.{CodeParts}
 use Rattle.ppm_code.specs.Locations.{Where, code_locations}
 use Rattle.ppm_code.specs.RunAgain.{MayRunAgain}

@@ -6,7 +6,7 @@ use Rattle.std.proofs.Math.Seq.{take-set-lt}
 use Rattle.std.proofs.lemmas.List.{get_or-take, take-set-le}
 use Rattle.std.proofs.lemmas.Option.{get_or_from_slice_get, slice_get-map}
 use Rattle.ppm_words.specs.TwosComplement.{value_of}
-use Rattle.ppm_capsules.specs.Capsule.{Capsule, Reads, Writes, Asks as AsksFor}
+use Rattle.ppm_strands.specs.Capsule.{Capsule, Reads, Writes, Asks as AsksFor}
 use Rattle.ppm_code.specs.Acts.{does, held, whole, quotient_of, remainder_of, length_of, cut_left_of, cut_right_of, at_element, element_of}
 use Rattle.ppm_code.specs.Capsules.{at_step, at_act, capsule_from, capsule_of}
 use Rattle.ppm_code.specs.Locations.{Where, location_of}

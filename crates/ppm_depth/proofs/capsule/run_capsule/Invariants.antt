@@ -1,5 +1,5 @@
 use Rattle.std.proofs.Common.{◌≡◌, ◌≤◌, ◌-◌, length}
-use Rattle.ppm_capsules.specs.Capsule.{Memory}
+use Rattle.ppm_strands.specs.Capsule.{Memory}
 use Rattle.ppm_code.specs.Capsules.{capsule_from, capsule_of}
 use Rattle.ppm_code.specs.Limits.{room_limit}
 use Rattle.ppm_code.specs.Locations.{Where}

@@ -1,5 +1,5 @@
 use Rattle.ppm_strands.proofs.StepLemmas.{steps_end}
-use Rattle.ppm_capsules.proofs.StrandLemmas.{code_is_local}
+use Rattle.ppm_strands.proofs.StrandLemmas.{code_is_local}
 use Rattle.ppm_code.specs.Locations.{code_locations}
 use Rattle.ppm_code.specs.Strands.{table_of}
 use Rattle.ppm_code.specs.Inputs.{words_in}

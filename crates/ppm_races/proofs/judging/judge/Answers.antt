@@ -1,7 +1,7 @@
 use Rattle.std.proofs.Common.{◌≡◌, ◌+◌, length, List, [], ℕ, sym, ap, ◌∙◌, subst, arith}
 use Rattle.ppm_strands.specs.Tree.{Strand, Over}
 use Rattle.ppm_words.specs.declared.named_array.NamedArray.{NamedArray}
-use Rattle.ppm_capsules.proofs.StrandLemmas.{code_is_local}
+use Rattle.ppm_strands.proofs.StrandLemmas.{code_is_local}
 use Rattle.ppm_code.specs.Inputs.{words_in}
 use Rattle.ppm_code.specs.Locations.{code_locations}
 use Rattle.ppm_code.specs.Sizes.{frame_size}

@@ -1,6 +1,0 @@
-use Rattle.ppm_capsules.proofs.AlikeLemmas.{is_local}
-use Rattle.ppm_capsules.proofs.laws.capsules_are_local.Goals as goal
-
--- by induction on the capsule
-pub returns : goal.returns
-returns g c = λ eq p. is_local eq p

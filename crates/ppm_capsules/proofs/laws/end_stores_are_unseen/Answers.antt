@@ -1,6 +1,0 @@
-use Rattle.ppm_capsules.proofs.EndStoresLemmas.{end_stores_are_unseen_are_the_same}
-use Rattle.ppm_capsules.proofs.laws.end_stores_are_unseen.Goals as goal
-
--- part by part of the code
-pub returns : goal.returns
-returns g c = λ eq table tails hidden. end_stores_are_unseen_are_the_same eq table tails hidden

@@ -1,6 +1,0 @@
-use Rattle.ppm_capsules.proofs.EndStoresLemmas.{does_then_stores}
-use Rattle.ppm_capsules.proofs.laws.end_stores_come_last.Goals as goal
-
--- by induction on the capsule
-pub returns : goal.returns
-returns g c = λ eq tail p m. does_then_stores eq tail p m

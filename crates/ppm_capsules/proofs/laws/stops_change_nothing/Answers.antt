@@ -1,6 +1,0 @@
-use Rattle.ppm_capsules.proofs.StandsLemmas.{stops_change_nothing}
-use Rattle.ppm_capsules.proofs.laws.stops_change_nothing.Goals as goal
-
--- stop by stop
-pub returns : goal.returns
-returns g c = λ eq p m free. stops_change_nothing eq p m free

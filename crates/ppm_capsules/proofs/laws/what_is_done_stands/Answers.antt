@@ -1,6 +1,0 @@
-use Rattle.ppm_capsules.proofs.StandsLemmas.{stands_always}
-use Rattle.ppm_capsules.proofs.laws.what_is_done_stands.Goals as goal
-
--- step by step
-pub returns : goal.returns
-returns g c = λ eq p. stands_always eq p

@@ -1,7 +1,0 @@
-pub mod Capsule
-pub mod EndStores
-pub mod Equalities
-pub mod Faults
-pub mod Paths
-pub mod Stopped
-pub mod Strand

@@ -1,5 +1,0 @@
-use Rattle.ppm_deque.proofs.GoingLemmas.{transitions_go_on}
-use Rattle.ppm_deque.proofs.laws.transitions_go_on.Goals as goal
-
-pub returns : goal.returns
-returns c = record { law = transitions_go_on }

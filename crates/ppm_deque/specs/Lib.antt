@@ -1,4 +1,0 @@
-pub mod Change
-pub mod Transitions
-pub mod Order
-pub mod Correct

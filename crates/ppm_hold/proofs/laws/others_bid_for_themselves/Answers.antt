@@ -1,5 +1,0 @@
-use Rattle.ppm_hold.proofs.OrderLemmas.{others_bid_for_themselves}
-use Rattle.ppm_hold.proofs.laws.others_bid_for_themselves.Goals as goal
-
-pub returns : goal.returns
-returns c = record { law = λ own. others_bid_for_themselves own }

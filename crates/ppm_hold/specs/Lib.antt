@@ -1,3 +1,0 @@
-pub mod Change
-pub mod Order
-pub mod Correct

@@ -1,5 +1,0 @@
-use Rattle.ppm_join.proofs.OrderLemmas.{one_is_last}
-use Rattle.ppm_join.proofs.laws.one_branch_is_last.Goals as goal
-
-pub returns : goal.returns
-returns c = record { law = one_is_last }

@@ -1,0 +1,6 @@
+use Rattle.ppm_strands.proofs.StandsLemmas.{stands_always}
+use Rattle.ppm_strands.proofs.laws.what_is_done_stands.Goals as goal
+
+-- step by step
+pub returns : goal.returns
+returns g c = λ eq p. stands_always eq p
