@@ -1,5 +1,5 @@
 use Rattle.ppm_cells.proofs.DequeLemmas.{others_leave_own, own_stays}
-use Rattle.ppm_cells.proofs.laws.others_leave_the_own_entries.Goals as goal
+use Rattle.ppm_cells.proofs.deque_laws.others_leave_the_own_entries.Goals as goal
 
 pub returns-clause-taken : goal.returns-clause-taken
 returns-clause-taken c = λ how place. others_leave_own how place

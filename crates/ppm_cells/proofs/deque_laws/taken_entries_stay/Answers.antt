@@ -1,5 +1,5 @@
 use Rattle.ppm_cells.proofs.DequeLemmas.{taken_stays, taken_stays_on_board}
-use Rattle.ppm_cells.proofs.laws.taken_entries_stay.Goals as goal
+use Rattle.ppm_cells.proofs.deque_laws.taken_entries_stay.Goals as goal
 
 pub returns-clause-deque : goal.returns-clause-deque
 returns-clause-deque c = λ how. taken_stays how

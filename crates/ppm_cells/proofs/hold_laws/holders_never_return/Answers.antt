@@ -1,5 +1,5 @@
 use Rattle.ppm_cells.proofs.HoldLemmas.{never_returns}
-use Rattle.ppm_cells.proofs.laws.holders_never_return.Goals as goal
+use Rattle.ppm_cells.proofs.hold_laws.holders_never_return.Goals as goal
 
 pub returns : goal.returns
 returns c = record { law = never_returns }

@@ -1,5 +1,5 @@
 use Rattle.ppm_strands.proofs.ConflictLemmas.{a_conflict_may_show}
-use Rattle.ppm_strands.proofs.laws.a_conflict_may_show.Goals as goal
+use Rattle.ppm_strands.proofs.capsule_laws.a_conflict_may_show.Goals as goal
 
 -- by running it
 pub returns-clause-conflict : goal.returns-clause-conflict

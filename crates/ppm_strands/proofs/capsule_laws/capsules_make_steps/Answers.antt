@@ -1,6 +1,6 @@
 use Rattle.ppm_strands.proofs.StrandLemmas.{stores_are_steps, stores_keep, ends_are_steps}
 use Rattle.ppm_strands.proofs.MomentLemmas.{moments_are_steps, runs_with_stops_are_one_capsule}
-use Rattle.ppm_strands.proofs.laws.capsules_make_steps.Goals as goal
+use Rattle.ppm_strands.proofs.capsule_laws.capsules_make_steps.Goals as goal
 
 -- a capsule begun again from words with its stores does the same
 pub returns : goal.returns

@@ -1,5 +1,5 @@
 use Rattle.ppm_strands.proofs.EndStoresLemmas.{end_stores_are_unseen_are_the_same}
-use Rattle.ppm_strands.proofs.laws.end_stores_are_unseen.Goals as goal
+use Rattle.ppm_strands.proofs.capsule_laws.end_stores_are_unseen.Goals as goal
 
 -- part by part of the code
 pub returns : goal.returns

@@ -1,6 +1,6 @@
 use Rattle.ppm_strands.proofs.FaultsLemmas.{faulty_runs_are_ahead, faulty_runs_end_alike}
 use Rattle.ppm_strands.proofs.FaultlessLemmas.{depth_first_happens}
-use Rattle.ppm_strands.proofs.laws.faults_do_not_show.Goals as goal
+use Rattle.ppm_strands.proofs.capsule_laws.faults_do_not_show.Goals as goal
 
 -- each thing that happens is steps of the tree, and what is done stands
 pub returns : goal.returns

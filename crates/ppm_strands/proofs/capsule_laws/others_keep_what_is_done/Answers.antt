@@ -1,5 +1,5 @@
 use Rattle.ppm_strands.proofs.KeepLemmas.{others_keep, strands_beside_keep}
-use Rattle.ppm_strands.proofs.laws.others_keep_what_is_done.Goals as goal
+use Rattle.ppm_strands.proofs.capsule_laws.others_keep_what_is_done.Goals as goal
 
 -- a capsule depends on its exposed reads; and strands beside one another touch nothing that the other writes
 pub returns : goal.returns

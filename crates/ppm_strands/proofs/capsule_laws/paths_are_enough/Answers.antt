@@ -1,6 +1,6 @@
 use Rattle.std.proofs.Common.{IsTrue}
 use Rattle.ppm_strands.proofs.PathLemmas.{paths_are_enough, paths_say_where}
-use Rattle.ppm_strands.proofs.laws.paths_are_enough.Goals as goal
+use Rattle.ppm_strands.proofs.capsule_laws.paths_are_enough.Goals as goal
 
 -- by induction on the capsule, along the path that the words take
 pub returns : goal.returns

@@ -1,5 +1,5 @@
 use Rattle.ppm_strands.proofs.StandsLemmas.{stops_change_nothing}
-use Rattle.ppm_strands.proofs.laws.stops_change_nothing.Goals as goal
+use Rattle.ppm_strands.proofs.capsule_laws.stops_change_nothing.Goals as goal
 
 -- stop by stop
 pub returns : goal.returns

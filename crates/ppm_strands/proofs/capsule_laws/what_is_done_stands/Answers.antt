@@ -1,5 +1,5 @@
 use Rattle.ppm_strands.proofs.StandsLemmas.{stands_always}
-use Rattle.ppm_strands.proofs.laws.what_is_done_stands.Goals as goal
+use Rattle.ppm_strands.proofs.capsule_laws.what_is_done_stands.Goals as goal
 
 -- step by step
 pub returns : goal.returns
