@@ -26,5 +26,5 @@ pub use legs::{left_words_come_back, runs_in_legs_are_as_code, runs_in_legs_are_
 pub use meant::{
     programs_are_as_code, replays_are_as_code, runs_are_as_code, runs_are_as_programs,
 };
-pub use names::names_of;
+pub use names::{arrays_of_names, names_of};
 pub use saying::{replay_answer, replay_came, resumed_answer, run_answer};

@@ -13,7 +13,7 @@ use ppm_words::{Items, NamedArray, NoMemory};
 use std::alloc::Global;
 
 /// Arrays of these names, with the values that the words of a table have for them.
-pub(crate) fn arrays_of_names(
+pub fn arrays_of_names(
     alloc: Global,
     closed: &Closed,
     names: &[NamedLength],
