@@ -15,7 +15,7 @@ use Rattle.ppm_answers.specs.declared.status.Status.{Status}
 use Rattle.ppm_answers.specs.Statuses.{number_of}
 use Rattle.ppm_answers.specs.Delivery.{Delivers}
 use Rattle.ppm_answers.specs.Reading.{IsUnread}
-use Rattle.ppm_driver.specs.Watchers.{watcher_count}
+use Rattle.ppm_outcomes.specs.Watchers.{watcher_count}
 use Rattle.ppm_top.specs.Causes.{IsAnswered}
 use Rattle.ppm_top.specs.Rows.{ProgramRows}
 

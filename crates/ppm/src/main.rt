@@ -14,7 +14,7 @@ ghost use Rattle.std.specs.Process.{exit_status};
 ghost use Rattle.std.specs.Vec.Iter.{into_iter_items};
 ghost use Rattle.ppm_ports.specs.Ports.{port};
 ghost use Rattle.ppm_answers.specs.Statuses.{number_of};
-ghost use Rattle.ppm_driver.specs.Watchers.{watcher_count};
+ghost use Rattle.ppm_outcomes.specs.Watchers.{watcher_count};
 ghost use Rattle.ppm.specs.Ending.{AreWords, EndsWith};
 
 use ppm_answers::{Answer, Status, deliver};

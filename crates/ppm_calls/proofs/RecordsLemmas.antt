@@ -8,7 +8,7 @@ use Rattle.ppm_answers.specs.Texts.{arrays_text}
 use Rattle.std.specs.Io.KnownBytes.{Appends}
 use Rattle.ppm_cli.specs.declared.run.RunOptions.{RunOptions}
 use Rattle.ppm_driver.specs.Headline.{Headline}
-use Rattle.ppm_driver.specs.Watchers.{watcher_count}
+use Rattle.ppm_outcomes.specs.Watchers.{watcher_count}
 use Rattle.ppm_program.specs.Programs.{HasProgram}
 use Rattle.ppm_calls.specs.Records.{AreRecords}
 

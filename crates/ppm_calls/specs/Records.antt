@@ -17,9 +17,9 @@ use Rattle.ppm_choice.specs.Tells.{told_in}
 use Rattle.ppm_answers.specs.Texts.{arrays_text}
 use Rattle.ppm_cli.specs.declared.run.RunOptions.{RunOptions}
 use Rattle.ppm_loading.specs.Loading.{OpensRun}
-use Rattle.ppm_driver.specs.Meant.{EndsAsProgram}
-use Rattle.ppm_driver.specs.Runs.{plan_of, limits_of, sizes_of}
-use Rattle.ppm_driver.specs.Watchers.{watcher_count}
+use Rattle.ppm_outcomes.specs.Meant.{EndsAsProgram}
+use Rattle.ppm_outcomes.specs.Runs.{plan_of, limits_of, sizes_of}
+use Rattle.ppm_outcomes.specs.Watchers.{watcher_count}
 
 -- The lists are the records of one run of the program of the source. The plan's text has these items. From the machine with which a run of the
 -- program begins, its root with the keeper, each processor obeys the plan and the limits in these turns. The list of each processor is what is told

@@ -2,7 +2,7 @@
 ghost use Rattle.std.specs.Prelude.{◌≡◌, [], IfOk, replicate};
 ghost use Rattle.ppm_answers.specs.declared.status.Status.TheVariants.{Ended};
 ghost use Rattle.ppm_cli.specs.Words.{AreRun};
-ghost use Rattle.ppm_driver.specs.Watchers.{watcher_count};
+ghost use Rattle.ppm_outcomes.specs.Watchers.{watcher_count};
 ghost use Rattle.ppm_calls.specs.Records.{AreRecords};
 
 use ppm_answers::Status;

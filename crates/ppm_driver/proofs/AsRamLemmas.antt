@@ -18,12 +18,12 @@ use Rattle.ppm_answers.specs.declared.answer.Answer.{Answer}
 use Rattle.ppm_answers.specs.declared.answer.Answer.TheVariants as answers
 use Rattle.ppm_cli.specs.declared.run.RunOptions.{RunOptions}
 use Rattle.ppm_cli.specs.Words.{AreRun}
-use Rattle.ppm_driver.specs.AsCode.{MayRun, CodeEnds, CodeNeedsMoreTurns, EndsAsCode, IsAsCode}
+use Rattle.ppm_outcomes.specs.AsCode.{MayRun, CodeEnds, CodeNeedsMoreTurns, EndsAsCode, IsAsCode}
 use Rattle.ppm_driver.specs.CodeRuns.{AnswersAreAsCode, SaysAsCode}
-use Rattle.ppm_driver.specs.Meant.{undone_in, worked_in}
+use Rattle.ppm_outcomes.specs.Meant.{undone_in, worked_in}
 use Rattle.ppm_driver.specs.RamEnds.{AnswersAreAsRams, RamEnds, RamHas, RamNeedsMoreTurns, RunEndsAsRam, SaysAsRam}
-use Rattle.ppm_driver.specs.Strikes.{fault_count}
-use Rattle.ppm_driver.proofs.RunLemmas.{filled_has}
+use Rattle.ppm_outcomes.specs.Strikes.{fault_count}
+use Rattle.ppm_outcomes.proofs.RunLemmas.{filled_has}
 
 -- what the crates below show of the code of every RAM, and of the run of every sound code
 pub record Laws : Type 0 where

@@ -1,13 +1,10 @@
 -- The theorem on `run` of a case, from an answer that was delivered.
-use Rattle.std.proofs.Common.{◌≡◌, ◌⊎◌, ◌≤◌, ◌<◌, ℕ, ◌+◌, ◌*◌, List, inl, inr, sym, subst, arith}
-use Rattle.ppm_words.specs.declared.named_array.NamedArray.{NamedArray}
+use Rattle.std.proofs.Common.{◌≡◌, ◌⊎◌, ◌≤◌, ℕ, List, inl, inr, sym, subst, arith}
 use Rattle.ppm_words.specs.declared.outcome.Outcome.{Outcome}
 use Rattle.ppm_words.specs.declared.outcome.Outcome.TheVariants as outcome
 use Rattle.ppm_ports.specs.Outside.{Outside}
 use Rattle.ppm_ports.specs.Whole.{ReadsTo}
-use Rattle.ppm_code.specs.declared.code.CodeParts.{CodeParts}
 use Rattle.ppm_depth.specs.Sound.{IsSound}
-use Rattle.ppm_case.specs.Case.{IsCaseOf}
 use Rattle.ppm_case.specs.Rules.{case_limit}
 use Rattle.ppm_plan.specs.declared.plan_item.PlanItem.{PlanItem}
 use Rattle.ppm_plan.specs.Forms.{plan_form}
@@ -26,23 +23,18 @@ use Rattle.ppm_cli.specs.declared.run.RunOptions.{RunOptions}
 use Rattle.ppm_cli.specs.Words.{AreRun}
 use Rattle.ppm_loading.specs.Cases.{OfCase}
 use Rattle.ppm_loading.specs.Planned.{PlannedHas}
-use Rattle.ppm_loading.proofs.CaseInputLemmas.{case_input}
-use Rattle.ppm_driver.specs.AsCode.{MayRun, CodeNeedsMoreTurns, EndsAsCode, IsAsCode}
+use Rattle.ppm_outcomes.specs.AsCode.{CodeNeedsMoreTurns, EndsAsCode, IsAsCode}
 use Rattle.ppm_driver.specs.CaseHeadline.{EndsSo, SpendsTurns, FillsPool, BreaksWords, HoldsOf, CaseHeadline}
 use Rattle.ppm_driver.specs.CaseRuns.{TextHas, CaseFrontsDecide, RunCaseMade, RunCaseMay, RunCaseTells}
 use Rattle.ppm_driver.specs.CodeRuns.{AnswersAreAsCode, SaysAsCode}
-use Rattle.ppm_driver.specs.Meant.{undone_in}
-use Rattle.ppm_driver.specs.Runs.{CodeHas, plan_of, limits_of}
-use Rattle.ppm_driver.specs.Strikes.{fault_count}
+use Rattle.ppm_outcomes.specs.Meant.{undone_in}
+use Rattle.ppm_outcomes.specs.Runs.{CodeHas, plan_of, limits_of}
+use Rattle.ppm_outcomes.specs.Strikes.{fault_count}
+use Rattle.ppm_outcomes.proofs.MayRunLemmas.{may_run}
 use Rattle.ppm_driver.proofs.RunCaseLemmas.{of_case}
-use Rattle.ppm_driver.proofs.RunLemmas.{of_code, spent_has, filled_has}
-use Rattle.ppm_driver.proofs.StrikeLemmas.{undone_are_planned}
-use Rattle.ppm_driver.proofs.WorkLemmas.{of_all}
-
--- a sound case is one whose runs are as its code
-pub may_run : (text : List ℕ) (code : CodeParts) (input : List NamedArray) → IsCaseOf text code input → IsSound code input → MayRun code input
-may_run text code input is sound =
-    record { code_is = is.listed.code; input_is = case_input text code input is; names = is.named; sound = sound }
+use Rattle.ppm_outcomes.proofs.RunLemmas.{of_code, spent_has, filled_has}
+use Rattle.ppm_outcomes.proofs.StrikeLemmas.{undone_are_planned}
+use Rattle.ppm_outcomes.proofs.WorkLemmas.{of_all}
 
 module _ (law : AnswersAreAsCode) (fronts : CaseFrontsDecide) (options : RunOptions) (are : AreRun options) (watching : ℕ) (plan : List ℕ)
     (o : Outside) where

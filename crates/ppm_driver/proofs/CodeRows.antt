@@ -16,16 +16,16 @@ use Rattle.ppm_cli.specs.Words.{AreRun}
 use Rattle.ppm_loading.specs.Says.{IsOfFinish}
 use Rattle.ppm_loading.proofs.LoadingLemmas.{opens_processors, opens_room}
 use Rattle.ppm_loading.proofs.SayLemmas.{said_of_word}
-use Rattle.ppm_driver.specs.AsCode.{MayRun, CodeNeedsMoreRoom, CodeNeedsMoreTurns, EndsAsCode, IsAsCode, RunsAreAsCode}
+use Rattle.ppm_outcomes.specs.AsCode.{MayRun, CodeNeedsMoreRoom, CodeNeedsMoreTurns, EndsAsCode, IsAsCode, RunsAreAsCode}
 use Rattle.ppm_driver.specs.CodeRuns.{SaysAsCode, AnswersAreAsCode}
-use Rattle.ppm_driver.specs.RunOf.{words_behind, finish_behind}
-use Rattle.ppm_driver.specs.Runs.{sizes_of, limits_of, plan_of, CodeHas}
-use Rattle.ppm_driver.specs.Strikes.{fault_count}
-use Rattle.ppm_driver.proofs.EndLemmas.{unset_opened}
-use Rattle.ppm_driver.proofs.MeantRows.{ended_run, trapped_run, full_run, broken_run, past_most, few_turns}
-use Rattle.ppm_driver.proofs.RunLemmas.{kind_said, spent_said}
-use Rattle.ppm_driver.proofs.StrikeLemmas.{undone_are_planned}
-use Rattle.ppm_driver.proofs.WorkLemmas.{of_all, obeyed_work}
+use Rattle.ppm_outcomes.specs.RunOf.{words_behind, finish_behind}
+use Rattle.ppm_outcomes.specs.Runs.{sizes_of, limits_of, plan_of, CodeHas}
+use Rattle.ppm_outcomes.specs.Strikes.{fault_count}
+use Rattle.ppm_outcomes.proofs.EndLemmas.{unset_opened}
+use Rattle.ppm_outcomes.proofs.MeantRows.{ended_run, trapped_run, full_run, broken_run, past_most, few_turns}
+use Rattle.ppm_outcomes.proofs.RunLemmas.{kind_said, spent_said}
+use Rattle.ppm_outcomes.proofs.StrikeLemmas.{undone_are_planned}
+use Rattle.ppm_outcomes.proofs.WorkLemmas.{of_all, obeyed_work}
 
 module _ (law : RunsAreAsCode) (options : RunOptions) (are : AreRun options) (items : List PlanItem) (code : CodeParts) (input : List NamedArray)
     (may : MayRun code input) (watching : ℕ) (before now : ToldLists) where

@@ -15,13 +15,13 @@ use Rattle.ppm_answers.specs.declared.answer.Answer.TheVariants as answers
 use Rattle.ppm_cli.specs.declared.run.RunOptions.{RunOptions}
 use Rattle.ppm_cli.specs.Words.{AreRun}
 use Rattle.ppm_loading.specs.Planned.{PlannedHas}
-use Rattle.ppm_driver.specs.Meant.{NeedsMoreRoom, NeedsMoreTurns, undone_in, RunsAreAsPrograms}
-use Rattle.ppm_driver.specs.Runs.{ProgramHas, TextHas, plan_of, limits_of}
-use Rattle.ppm_driver.specs.Strikes.{fault_count}
-use Rattle.ppm_driver.specs.Completeness.{IsEnough, IsEnd, RunsComplete}
-use Rattle.ppm_driver.proofs.MeantRows.{run_needs, run_needs_turns, run_unbroken}
-use Rattle.ppm_driver.proofs.RunLemmas.{of_program, spent_has}
-use Rattle.ppm_driver.proofs.StrikeLemmas.{undone_are_planned}
+use Rattle.ppm_outcomes.specs.Meant.{NeedsMoreRoom, NeedsMoreTurns, undone_in, RunsAreAsPrograms}
+use Rattle.ppm_outcomes.specs.Runs.{ProgramHas, TextHas, plan_of, limits_of}
+use Rattle.ppm_outcomes.specs.Strikes.{fault_count}
+use Rattle.ppm_outcomes.specs.Completeness.{IsEnough, IsEnd, RunsComplete}
+use Rattle.ppm_outcomes.proofs.MeantRows.{run_needs, run_needs_turns, run_unbroken}
+use Rattle.ppm_outcomes.proofs.RunLemmas.{of_program, spent_has}
+use Rattle.ppm_outcomes.proofs.StrikeLemmas.{undone_are_planned}
 
 -- what the crates below show of every text, every plan and every run
 pub record Laws : Type 0 where

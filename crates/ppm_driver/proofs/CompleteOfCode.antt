@@ -21,14 +21,14 @@ use Rattle.ppm_choice.specs.declared.limits.Limits.{Limits}
 use Rattle.ppm_loading.specs.declared.loading.Sizes.{Sizes}
 use Rattle.ppm_loading.specs.Loading.{OpensRun}
 use Rattle.ppm_loading.proofs.LoadingLemmas.{opens_room}
-use Rattle.ppm_driver.specs.AsCode.{MayRun, EndsAsCode, IsAsCode, RunsAreAsCode}
-use Rattle.ppm_driver.specs.CompleteAsCode.{CodeIsEnough, SaysOutcome, RunsOfCodeComplete}
-use Rattle.ppm_driver.specs.Meant.{worked_in}
-use Rattle.ppm_driver.specs.RunOf.{finish_behind}
-use Rattle.ppm_driver.specs.Strikes.{fault_count}
-use Rattle.ppm_driver.proofs.EndLemmas.{unset_opened, has_finished}
-use Rattle.ppm_driver.proofs.StrikeLemmas.{undone_are_planned}
-use Rattle.ppm_driver.proofs.WorkLemmas.{of_all}
+use Rattle.ppm_outcomes.specs.AsCode.{MayRun, EndsAsCode, IsAsCode, RunsAreAsCode}
+use Rattle.ppm_outcomes.specs.CompleteAsCode.{CodeIsEnough, SaysOutcome, RunsOfCodeComplete}
+use Rattle.ppm_outcomes.specs.Meant.{worked_in}
+use Rattle.ppm_outcomes.specs.RunOf.{finish_behind}
+use Rattle.ppm_outcomes.specs.Strikes.{fault_count}
+use Rattle.ppm_outcomes.proofs.EndLemmas.{unset_opened, has_finished}
+use Rattle.ppm_outcomes.proofs.StrikeLemmas.{undone_are_planned}
+use Rattle.ppm_outcomes.proofs.WorkLemmas.{of_all}
 
 module _ (law : RunsAreAsCode) (code : CodeParts) (input : List NamedArray) (may : MayRun code input) (sizes : Sizes) (keeper : ℕ) (m : Situation)
     (b : OpensRun sizes code input keeper m) (plan : Planned) (spared : IsKeeper plan_form plan.items keeper) (limits : Limits)

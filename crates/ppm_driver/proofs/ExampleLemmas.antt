@@ -23,11 +23,11 @@ use Rattle.ppm_program.specs.Programs.{HasProgram}
 use Rattle.ppm_plan.specs.declared.plan_item.PlanItem.{PlanItem}
 use Rattle.ppm_loading.specs.Programs.{ProgramMay, RefusedHas}
 use Rattle.ppm_driver.specs.Examples.{AreForks, ExampleMay, ExampleTells, ExampleWants, HasRun, ProgramSums, ProgramWants, items_of, run_options_of, text_of}
-use Rattle.ppm_driver.specs.Runs.{ProgramHas, ProgramGivenUp, RunTold}
-use Rattle.ppm_driver.specs.Runs as runs
-use Rattle.ppm_driver.specs.Watchers.{OthersKeep, ToldNothing, ToldWhole}
-use Rattle.ppm_driver.proofs.WantLemmas.{map_want, map_wanting}
-use Rattle.ppm_driver.proofs.RunLemmas.{IsOfProgram, of_program}
+use Rattle.ppm_outcomes.specs.Runs.{ProgramHas, ProgramGivenUp, RunTold}
+use Rattle.ppm_outcomes.specs.Runs as runs
+use Rattle.ppm_outcomes.specs.Watchers.{OthersKeep, ToldNothing, ToldWhole}
+use Rattle.ppm_outcomes.proofs.WantLemmas.{map_want, map_wanting}
+use Rattle.ppm_outcomes.proofs.RunLemmas.{IsOfProgram, of_program}
 
 -- the options with which the example is run are in their ranges
 pub example_are_run : (o : SelfOptions) → AreSelf o → AreRun (run_options_of o)

@@ -26,13 +26,13 @@ use Rattle.ppm_example.specs.Example.{example_tree, sum_drawn}
 use Rattle.ppm_example.specs.Correct.{IsSize, ExamplesArePrograms, ExamplesSum}
 use Rattle.ppm_example.specs.Correct as example
 use Rattle.ppm_driver.specs.Examples.{HasRun, SumsUp, ExampleMay, ExamplesSumUp, IsExampleEnd, AreForks, first_value, last_value, items_of, run_options_of, sums_drawn, text_of}
-use Rattle.ppm_driver.specs.Meant.{HasOutcome, RunsAreAsPrograms, undone_in}
-use Rattle.ppm_driver.specs.Runs.{plan_of, limits_of}
-use Rattle.ppm_driver.specs.Strikes.{fault_count}
+use Rattle.ppm_outcomes.specs.Meant.{HasOutcome, RunsAreAsPrograms, undone_in}
+use Rattle.ppm_outcomes.specs.Runs.{plan_of, limits_of}
+use Rattle.ppm_outcomes.specs.Strikes.{fault_count}
 use Rattle.ppm_driver.proofs.ExampleLemmas.{example_are_run, kind}
-use Rattle.ppm_driver.proofs.MeantRows.{run_ends, run_traps, run_needs, run_needs_turns, run_unbroken}
-use Rattle.ppm_driver.proofs.RunLemmas.{spent_has}
-use Rattle.ppm_driver.proofs.StrikeLemmas.{undone_are_planned}
+use Rattle.ppm_outcomes.proofs.MeantRows.{run_ends, run_traps, run_needs, run_needs_turns, run_unbroken}
+use Rattle.ppm_outcomes.proofs.RunLemmas.{spent_has}
+use Rattle.ppm_outcomes.proofs.StrikeLemmas.{undone_are_planned}
 
 -- what the crates below show of every text, every run and every example
 pub record Laws : Type 0 where

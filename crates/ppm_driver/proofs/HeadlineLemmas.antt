@@ -19,13 +19,13 @@ use Rattle.ppm_answers.proofs.WholeText.{whole}
 use Rattle.ppm_cli.specs.declared.run.RunOptions.{RunOptions}
 use Rattle.ppm_cli.specs.Words.{AreRun}
 use Rattle.ppm_loading.specs.Planned.{PlannedHas}
-use Rattle.ppm_driver.specs.Meant.{RunsAreAsPrograms, NeedsMoreTurns}
-use Rattle.ppm_driver.specs.Runs.{ProgramHas, RunMay, RunTells, TextHas, plan_of, limits_of, FrontsDecideAnswers}
+use Rattle.ppm_outcomes.specs.Meant.{RunsAreAsPrograms, NeedsMoreTurns}
+use Rattle.ppm_outcomes.specs.Runs.{ProgramHas, RunMay, RunTells, TextHas, plan_of, limits_of, FrontsDecideAnswers}
 use Rattle.ppm_driver.specs.Headline.{HoldsOf, Headline}
 use Rattle.ppm_driver.proofs.MadeLemmas.{of_source}
-use Rattle.ppm_driver.proofs.MeantRows.{run_ends, run_traps, run_needs, run_needs_turns, run_unbroken, run_once}
-use Rattle.ppm_driver.proofs.RunLemmas.{of_program, spent_has, filled_has}
-use Rattle.ppm_driver.proofs.StrikeLemmas.{undone_are_planned}
+use Rattle.ppm_outcomes.proofs.MeantRows.{run_ends, run_traps, run_needs, run_needs_turns, run_unbroken, run_once}
+use Rattle.ppm_outcomes.proofs.RunLemmas.{of_program, spent_has, filled_has}
+use Rattle.ppm_outcomes.proofs.StrikeLemmas.{undone_are_planned}
 
 -- so many turns are too few also where fewer faults undo work than the plan has
 fewer_turns : (t : ProgramTree) (turns undone faults : ℕ) → NeedsMoreTurns t undone turns → undone ≤ faults → NeedsMoreTurns t faults turns

@@ -15,9 +15,9 @@ use Rattle.ppm_answers.specs.Reading.{Reads}
 use Rattle.ppm_answers.proofs.WholeText.{whole_read}
 use Rattle.ppm_cli.specs.declared.run.RunOptions.{RunOptions}
 use Rattle.ppm_loading.specs.Programs.{ReadsProgram}
-use Rattle.ppm_driver.specs.Runs.{ProgramHas, ProgramGivenUp, ProgramWants, OfSource, RunMade, RunMay, RunTold, RunTells, RunWants}
-use Rattle.ppm_driver.specs.Watchers.{ToldAtWant, ToldNothing, ToldWhole}
-use Rattle.ppm_driver.proofs.WantLemmas.{map_want, map_wanting}
+use Rattle.ppm_outcomes.specs.Runs.{ProgramHas, ProgramGivenUp, ProgramWants, OfSource, RunMade, RunMay, RunTold, RunTells, RunWants}
+use Rattle.ppm_outcomes.specs.Watchers.{ToldAtWant, ToldNothing, ToldWhole}
+use Rattle.ppm_outcomes.proofs.WantLemmas.{map_want, map_wanting}
 
 -- a text with a program is short, so it is all that the source has
 pub whole_text : (source : Port) (text : List ℕ) → Reads text_limit source text → (t : ProgramTree) → HasProgram text t

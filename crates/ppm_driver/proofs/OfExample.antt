@@ -16,9 +16,9 @@ use Rattle.ppm_answers.specs.Texts.{IsFixed, sums_text}
 use Rattle.ppm_answers.proofs.Delivered.{own_or_fault, write_failed}
 use Rattle.ppm_driver.specs.Examples.{ExampleMay, ExampleTells, ExamplesSumUp, SumsUp, items_of, run_options_of, sums_drawn, text_of}
 use Rattle.ppm_driver.specs.ExampleRows.{ExampleSays, ExampleRows, WritesSums}
-use Rattle.ppm_driver.specs.Meant.{RunsAreAsPrograms}
+use Rattle.ppm_outcomes.specs.Meant.{RunsAreAsPrograms}
 use Rattle.ppm_driver.proofs.ExampleLemmas.{kind, wants}
-use Rattle.ppm_driver.proofs.MeantRows.{run_is, run_ends}
+use Rattle.ppm_outcomes.proofs.MeantRows.{run_is, run_ends}
 
 module _ (law : RunsAreAsPrograms) (all : ExamplesSumUp) (options : SelfOptions) (are : AreSelf options) (o : Outside) where
   -- what is told is that of the example

@@ -24,17 +24,18 @@ use Rattle.ppm_cli.specs.declared.run.RunOptions.{RunOptions}
 use Rattle.ppm_cli.specs.Words.{AreRun}
 use Rattle.ppm_loading.specs.Planned.{IsRefusedBy, HasByItems, PlannedHas}
 use Rattle.ppm_loading.proofs.PlannedLemmas as planned
-use Rattle.ppm_driver.specs.Completeness.{IsEnd}
+use Rattle.ppm_outcomes.specs.Completeness.{IsEnd}
 use Rattle.ppm_driver.specs.RamEnds.{AnswersAreAsRams, RamHas, RamIsEnough, RamNeedsMoreTurns, SaysAsRam}
 use Rattle.ppm_driver.specs.RamRows.{AreAsRams, Completes, RamRows, TellsFaults}
-use Rattle.ppm_driver.specs.RamRuns.{TextHas, RamTextHas, RamMay, RamTells, RamAnswersAreOne, RamFrontsDecide, ram_refusal}
-use Rattle.ppm_driver.specs.Runs.{plan_of, limits_of}
-use Rattle.ppm_driver.specs.Strikes.{fault_count}
+use Rattle.ppm_driver.specs.RamRuns.{TextHas, RamTextHas, RamMay, RamTells, RamAnswersAreOne, RamFrontsDecide}
+use Rattle.ppm_orders.specs.Rams.{ram_refusal}
+use Rattle.ppm_outcomes.specs.Runs.{plan_of, limits_of}
+use Rattle.ppm_outcomes.specs.Strikes.{fault_count}
 use Rattle.ppm_driver.proofs.OfRun.{ended}
 use Rattle.ppm_driver.proofs.RamHeadlineLemmas.{ram_headline}
 use Rattle.ppm_driver.proofs.RamLemmas.{ram_wants, run_forgets}
-use Rattle.ppm_driver.proofs.RamTextLemmas.{fault_told, not_both, one_ram, said}
-use Rattle.ppm_driver.proofs.StrikeLemmas.{undone_are_planned}
+use Rattle.ppm_orders.proofs.RamTextLemmas.{fault_told, not_both, one_ram, said}
+use Rattle.ppm_outcomes.proofs.StrikeLemmas.{undone_are_planned}
 
 -- what was delivered is the answer, or want of memory in its place
 pub ram_delivered : HasOnePlan plan_form → (options : RunOptions) (watching : ℕ) (plan : List ℕ) (o : Outside) (a : Answer) (status : Status)

@@ -20,16 +20,16 @@ use Rattle.ppm_cli.specs.Words.{AreRun}
 use Rattle.ppm_loading.specs.MachineRows.{RefusesPlan}
 use Rattle.ppm_loading.specs.Planned.{IsRefusedBy, HasByItems}
 use Rattle.ppm_loading.proofs.PlannedLemmas as planned
-use Rattle.ppm_driver.specs.Completeness.{IsEnd, RunsComplete}
+use Rattle.ppm_outcomes.specs.Completeness.{IsEnd, RunsComplete}
 use Rattle.ppm_driver.specs.Headline.{Headline}
-use Rattle.ppm_driver.specs.Meant.{RunsAreAsPrograms}
+use Rattle.ppm_outcomes.specs.Meant.{RunsAreAsPrograms}
 use Rattle.ppm_driver.specs.RunRows.{AreAsPrograms, Completes, RunRows}
-use Rattle.ppm_driver.specs.Runs.{ProgramHas, TextHas, RunHas, RunMay, RunTells, plan_of, limits_of, AnswersAreOne, FrontsDecideAnswers}
+use Rattle.ppm_outcomes.specs.Runs.{ProgramHas, TextHas, RunHas, RunMay, RunTells, plan_of, limits_of, AnswersAreOne, FrontsDecideAnswers}
 use Rattle.ppm_driver.proofs.HeadlineLemmas.{headline}
 use Rattle.ppm_driver.proofs.MadeLemmas.{wants}
-use Rattle.ppm_driver.proofs.MeantRows.{run_is, run_unbroken}
-use Rattle.ppm_driver.proofs.RunLemmas.{run_forgets}
-use Rattle.ppm_driver.proofs.StrikeLemmas.{undone_are_planned}
+use Rattle.ppm_outcomes.proofs.MeantRows.{run_is, run_unbroken}
+use Rattle.ppm_outcomes.proofs.RunLemmas.{run_forgets}
+use Rattle.ppm_outcomes.proofs.StrikeLemmas.{undone_are_planned}
 
 -- what was delivered is the answer, or want of memory in its place
 pub run_delivered : HasOnePlan plan_form → (options : RunOptions) (watching : ℕ) (plan : List ℕ) (o : Outside) (a : Answer) (status : Status)

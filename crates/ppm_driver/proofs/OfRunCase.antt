@@ -26,18 +26,19 @@ use Rattle.ppm_cli.specs.declared.run.RunOptions.{RunOptions}
 use Rattle.ppm_cli.specs.Words.{AreRun}
 use Rattle.ppm_loading.specs.Planned.{IsRefusedBy, HasByItems, PlannedHas}
 use Rattle.ppm_loading.proofs.PlannedLemmas as planned
-use Rattle.ppm_driver.specs.AsCode.{CodeNeedsMoreRoom, CodeNeedsMoreTurns}
+use Rattle.ppm_outcomes.specs.AsCode.{CodeNeedsMoreRoom, CodeNeedsMoreTurns}
 use Rattle.ppm_driver.specs.CaseRows.{AreAsCode, Completes, RunCaseRows}
 use Rattle.ppm_driver.specs.CaseRuns.{TextHas, RunCaseHas, RunCaseMay, RunCaseTells, CaseAnswersAreOne, CaseFrontsDecide}
 use Rattle.ppm_driver.specs.CodeRuns.{AnswersAreAsCode, SaysAsCode}
-use Rattle.ppm_driver.specs.CompleteAsCode.{CodeIsEnough}
-use Rattle.ppm_driver.specs.Completeness.{IsEnd}
-use Rattle.ppm_driver.specs.Runs.{CodeHas, plan_of, limits_of}
-use Rattle.ppm_driver.specs.Strikes.{fault_count}
-use Rattle.ppm_driver.proofs.CaseHeadlineLemmas.{case_headline, may_run}
+use Rattle.ppm_outcomes.specs.CompleteAsCode.{CodeIsEnough}
+use Rattle.ppm_outcomes.specs.Completeness.{IsEnd}
+use Rattle.ppm_outcomes.specs.Runs.{CodeHas, plan_of, limits_of}
+use Rattle.ppm_outcomes.specs.Strikes.{fault_count}
+use Rattle.ppm_driver.proofs.CaseHeadlineLemmas.{case_headline}
+use Rattle.ppm_outcomes.proofs.MayRunLemmas.{may_run}
 use Rattle.ppm_driver.proofs.OfRun.{ended}
 use Rattle.ppm_driver.proofs.RunCaseLemmas.{case_wants, run_forgets}
-use Rattle.ppm_driver.proofs.StrikeLemmas.{undone_are_planned}
+use Rattle.ppm_outcomes.proofs.StrikeLemmas.{undone_are_planned}
 
 -- what was delivered is the answer, or want of memory in its place
 pub case_delivered : HasOnePlan plan_form → (options : RunOptions) (watching : ℕ) (plan : List ℕ) (o : Outside) (a : Answer) (status : Status)

@@ -13,8 +13,8 @@ use Rattle.ppm_driver.specs.RamEnds.{RamHas}
 use Rattle.ppm_driver.specs.RamRuns.{TextHas, RamAnswersAreOne, RamFrontsDecide}
 use Rattle.ppm_driver.proofs.OneRun.{RunsAreOne, code_one}
 use Rattle.ppm_driver.proofs.RamLemmas.{of_ram}
-use Rattle.ppm_driver.proofs.RamTextLemmas.{text_one, text_front, plain}
-use Rattle.ppm_driver.proofs.RunLemmas.{kinds}
+use Rattle.ppm_orders.proofs.RamTextLemmas.{text_one, text_front, plain}
+use Rattle.ppm_outcomes.proofs.RunLemmas.{kinds}
 
 -- with all plans
 pub ram_answers_are_one : TextsAreOfRams → ImagesAreOne → PlansHaveOneAnswer → RunsAreOne → RamAnswersAreOne

@@ -21,14 +21,14 @@ use Rattle.ppm_answers.specs.declared.answer.Answer.{Answer}
 use Rattle.ppm_cli.specs.declared.run.RunOptions.{RunOptions}
 use Rattle.ppm_loading.specs.Loading.{OpensRun}
 use Rattle.ppm_choice.specs.Obeying.{ObeyAll}
-use Rattle.ppm_driver.specs.RunOf.{words_behind}
-use Rattle.ppm_driver.specs.Runs.{IsSaid, plan_of, limits_of, sizes_of, CodeHas, ProgramHas, TextHas, AnswersAreOne, FrontsDecideAnswers}
+use Rattle.ppm_outcomes.specs.RunOf.{words_behind}
+use Rattle.ppm_outcomes.specs.Runs.{IsSaid, plan_of, limits_of, sizes_of, CodeHas, ProgramHas, TextHas, AnswersAreOne, FrontsDecideAnswers}
 use Rattle.ppm_driver.proofs.AllLemmas.{of_all}
 use Rattle.ppm_loading.proofs.LoadingLemmas.{one_opening, opens_processors}
 use Rattle.ppm_choice.proofs.KeeperLemmas.{one_keeper}
 use Rattle.ppm_loading.proofs.PlannedLemmas.{planned_one, planned_front}
 use Rattle.ppm_loading.proofs.ProgramLemmas.{text_one, text_front, plain}
-use Rattle.ppm_driver.proofs.RunLemmas.{one_said, kinds, of_program}
+use Rattle.ppm_outcomes.proofs.RunLemmas.{one_said, kinds, of_program}
 
 -- the run of one processor, whatever its code
 abbrev pub RunsAreOne : Type 0

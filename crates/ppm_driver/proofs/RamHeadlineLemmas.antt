@@ -24,16 +24,17 @@ use Rattle.ppm_loading.specs.Planned.{PlannedHas}
 use Rattle.ppm_ram_code.specs.Code.{code_of}
 use Rattle.ppm_ram_code.specs.Correct.{input_of}
 use Rattle.ppm_ram.specs.Program.{memory_of}
-use Rattle.ppm_driver.specs.Meant.{undone_in}
+use Rattle.ppm_outcomes.specs.Meant.{undone_in}
 use Rattle.ppm_driver.specs.RamEnds.{AnswersAreAsRams, IsAsRam, RamHas, RamNeedsMoreTurns, RunEndsAsRam}
 use Rattle.ppm_driver.specs.RamHeadline.{EndsSo, SpendsTurns, HoldsOf, RamHeadline}
-use Rattle.ppm_driver.specs.RamRuns.{TextHas, OfRam, RamFrontsDecide, RamMade, RamMay, RamTells}
-use Rattle.ppm_driver.specs.Runs.{plan_of, limits_of}
-use Rattle.ppm_driver.specs.Strikes.{fault_count}
+use Rattle.ppm_driver.specs.RamRuns.{TextHas, RamFrontsDecide, RamMade, RamMay, RamTells}
+use Rattle.ppm_orders.specs.Rams.{OfRam}
+use Rattle.ppm_outcomes.specs.Runs.{plan_of, limits_of}
+use Rattle.ppm_outcomes.specs.Strikes.{fault_count}
 use Rattle.ppm_driver.proofs.RamLemmas.{of_read, of_ram}
-use Rattle.ppm_driver.proofs.RunLemmas.{spent_has}
-use Rattle.ppm_driver.proofs.StrikeLemmas.{undone_are_planned}
-use Rattle.ppm_driver.proofs.WorkLemmas.{of_all}
+use Rattle.ppm_outcomes.proofs.RunLemmas.{spent_has}
+use Rattle.ppm_outcomes.proofs.StrikeLemmas.{undone_are_planned}
+use Rattle.ppm_outcomes.proofs.WorkLemmas.{of_all}
 
 module _ (law : AnswersAreAsRams) (fronts : RamFrontsDecide) (options : RunOptions) (are : AreRun options) (watching : ℕ) (plan : List ℕ)
     (o : Outside) where

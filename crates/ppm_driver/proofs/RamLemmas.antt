@@ -24,11 +24,12 @@ use Rattle.ppm_answers.proofs.WholeText.{whole_read}
 use Rattle.ppm_cli.specs.declared.run.RunOptions.{RunOptions}
 use Rattle.ppm_loading.specs.Planned.{PlannedHas}
 use Rattle.ppm_driver.specs.RamEnds.{RamHas}
-use Rattle.ppm_driver.specs.RamRuns.{TextHas, OfReadRam, ReadsRam, RamTextHas, RamMay, RamTells, RamWants}
-use Rattle.ppm_driver.specs.Runs.{CodeGivenUp, CodeWants, RunTold}
-use Rattle.ppm_driver.specs.Watchers.{ToldNothing, ToldWhole}
-use Rattle.ppm_driver.proofs.RunLemmas.{forgets, IsOfProgram, of_code}
-use Rattle.ppm_driver.proofs.WantLemmas.{map_want, map_wanting}
+use Rattle.ppm_driver.specs.RamRuns.{TextHas, OfReadRam, RamTextHas, RamMay, RamTells, RamWants}
+use Rattle.ppm_orders.specs.Rams.{ReadsRam}
+use Rattle.ppm_outcomes.specs.Runs.{CodeGivenUp, CodeWants, RunTold}
+use Rattle.ppm_outcomes.specs.Watchers.{ToldNothing, ToldWhole}
+use Rattle.ppm_outcomes.proofs.RunLemmas.{forgets, IsOfProgram, of_code}
+use Rattle.ppm_outcomes.proofs.WantLemmas.{map_want, map_wanting}
 
 -- the root of a RAM's code names the one array of its input
 pub names_kept : (ram : RamParts) (code : CodeParts) (input : List NamedArray) → code ≡ code_of ram → input ≡ input_of (memory_of ram)

@@ -20,19 +20,14 @@ use Rattle.ppm_loading.specs.Cases.{ReadsCase}
 use Rattle.ppm_loading.specs.Planned.{PlannedHas}
 use Rattle.ppm_loading.proofs.CaseLemmas.{AreCaseKinds}
 use Rattle.ppm_driver.specs.CaseRuns.{TextHas, OfReadCase, RunCaseHas, RunCaseMay, RunCaseTells, RunCaseWants}
-use Rattle.ppm_driver.specs.Runs.{CodeHas, CodeGivenUp, CodeWants, RunTold}
-use Rattle.ppm_driver.specs.Watchers.{ToldNothing, ToldWhole}
-use Rattle.ppm_driver.proofs.ReplayLemmas as replays
-use Rattle.ppm_driver.proofs.RunLemmas.{IsOfProgram, forgets}
-use Rattle.ppm_driver.proofs.WantLemmas.{map_want, map_wanting}
+use Rattle.ppm_outcomes.specs.Runs.{CodeHas, CodeGivenUp, CodeWants, RunTold}
+use Rattle.ppm_outcomes.specs.Watchers.{ToldNothing, ToldWhole}
+use Rattle.ppm_outcomes.proofs.RunLemmas.{IsOfProgram, forgets}
+use Rattle.ppm_outcomes.proofs.WantLemmas.{map_want, map_wanting}
 
 -- answers of codes are of kinds that no refusal is
 pub case_kinds : (processors : ℕ) → AreCaseKinds (IsOfProgram processors)
 case_kinds processors =
-    record { no_input = λ r k. k; no_listing = λ r k. k; no_fault = λ k. k; no_memory = λ k. k; no_plan = λ number k. k }
-
-pub replay_kinds : (processors turns : ℕ) → AreCaseKinds (replays.IsOfProgram processors turns)
-replay_kinds processors turns =
     record { no_input = λ r k. k; no_listing = λ r k. k; no_fault = λ k. k; no_memory = λ k. k; no_plan = λ number k. k }
 
 -- an answer of a text is one whatever watchers were told, and so is one with a plan

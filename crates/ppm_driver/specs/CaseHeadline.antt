@@ -25,11 +25,11 @@ use Rattle.ppm_answers.specs.Texts.{arrays_text, trap_text, input_text, listing_
 use Rattle.ppm_cli.specs.declared.run.RunOptions.{RunOptions}
 use Rattle.ppm_loading.specs.Cases.{RefusedHas}
 use Rattle.ppm_loading.specs.Planned.{IsRefusedBy}
-use Rattle.ppm_driver.specs.AsCode.{CodeNeedsMoreRoom, CodeNeedsMoreTurns, EndsAsCode}
+use Rattle.ppm_outcomes.specs.AsCode.{CodeNeedsMoreRoom, CodeNeedsMoreTurns, EndsAsCode}
 use Rattle.ppm_driver.specs.CaseRuns.{RunCaseMade, RunCaseWants}
 use Rattle.ppm_driver.specs.Headline.{OutTakes, ErrTakes}
-use Rattle.ppm_driver.specs.Meant.{NoneIsTakenTwice, undone_in}
-use Rattle.ppm_driver.specs.Strikes.{fault_count}
+use Rattle.ppm_outcomes.specs.Meant.{NoneIsTakenTwice, undone_in}
+use Rattle.ppm_outcomes.specs.Strikes.{fault_count}
 
 module _ (options : RunOptions) (watching : ℕ) (plan : List ℕ) (o : Outside) where
   -- A run of the case whose text was read, by a plan that was accepted, so it spares a processor, the keeper. The turns of all processors are in

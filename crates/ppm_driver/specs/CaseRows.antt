@@ -13,15 +13,15 @@ use Rattle.ppm_answers.specs.declared.status.Status.{Status}
 use Rattle.ppm_answers.specs.declared.status.Status.TheVariants as statuses
 use Rattle.ppm_answers.specs.Rows.{IsJudged, IsShown, IsOneOf, GoesWell}
 use Rattle.ppm_cli.specs.declared.run.RunOptions.{RunOptions}
-use Rattle.ppm_driver.specs.AsCode.{MayRun, IsAsCode}
+use Rattle.ppm_outcomes.specs.AsCode.{MayRun, IsAsCode}
 use Rattle.ppm_driver.specs.CaseHeadline.{CaseHeadline}
 use Rattle.ppm_driver.specs.CaseRuns.{RunCaseHas}
 use Rattle.ppm_driver.specs.CodeRuns.{SaysAsCode}
-use Rattle.ppm_driver.specs.CompleteAsCode.{CodeIsEnough}
-use Rattle.ppm_driver.specs.Meant.{undone_in}
+use Rattle.ppm_outcomes.specs.CompleteAsCode.{CodeIsEnough}
+use Rattle.ppm_outcomes.specs.Meant.{undone_in}
 use Rattle.ppm_driver.specs.RunRows.{Refuses}
-use Rattle.ppm_driver.specs.Runs.{CodeHas}
-use Rattle.ppm_driver.specs.Strikes.{fault_count}
+use Rattle.ppm_outcomes.specs.Runs.{CodeHas}
+use Rattle.ppm_outcomes.specs.Strikes.{fault_count}
 
 module _ (options : RunOptions) (watching : ℕ) (plan : List ℕ) (o : Outside) where
   -- a run of a sound code that an answer is of is as the code is, no more faults undid work than the plan has, and the answer says an outcome or that

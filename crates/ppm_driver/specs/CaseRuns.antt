@@ -14,7 +14,7 @@ use Rattle.ppm_answers.specs.Reading.{AreOne, FrontsDecide, Reads}
 use Rattle.ppm_cli.specs.declared.run.RunOptions.{RunOptions}
 use Rattle.ppm_loading.specs.Cases as cases
 use Rattle.ppm_loading.specs.Planned.{PlannedHas, PlannedMay}
-use Rattle.ppm_driver.specs.Runs.{CodeHas, RunTold, WantsOf}
+use Rattle.ppm_outcomes.specs.Runs.{CodeHas, RunTold, WantsOf}
 
 -- the answer of a text: of its code on its input, by the items of a plan, where the first so many watchers are told what their processors do; or
 -- its refusal

@@ -11,9 +11,9 @@ use Rattle.ppm_answers.specs.declared.answer.Answer.{Answer}
 use Rattle.ppm_answers.specs.declared.answer.Answer.TheVariants as answers
 use Rattle.ppm_cli.specs.declared.run.RunOptions.{RunOptions}
 use Rattle.ppm_cli.specs.Words.{AreRun}
-use Rattle.ppm_driver.specs.AsCode.{MayRun, CodeNeedsMoreRoom, CodeNeedsMoreTurns, EndsAsCode, IsAsCode}
-use Rattle.ppm_driver.specs.Runs.{CodeHas}
-use Rattle.ppm_driver.specs.Strikes.{fault_count}
+use Rattle.ppm_outcomes.specs.AsCode.{MayRun, CodeNeedsMoreRoom, CodeNeedsMoreTurns, EndsAsCode, IsAsCode}
+use Rattle.ppm_outcomes.specs.Runs.{CodeHas}
+use Rattle.ppm_outcomes.specs.Strikes.{fault_count}
 
 -- What it says: an outcome is that of the code, run depth first, and this run ends so; else the turns of a processor are fewer than 256 for each
 -- capsule of that run and each fault of the plan, or that run takes more words than a pool has, or has no end. No other answer comes.

@@ -11,7 +11,7 @@ use Rattle.ppm_answers.specs.declared.status.Status.TheVariants as statuses
 use Rattle.ppm_answers.specs.Texts.{sums_text}
 use Rattle.ppm_cli.specs.declared.example.SelfOptions.{SelfOptions}
 use Rattle.ppm_driver.specs.Examples.{ExampleWants, HasRun, SumsUp, sums_drawn, text_of}
-use Rattle.ppm_driver.specs.Meant.{EndsAsProgram, IsAsProgram}
+use Rattle.ppm_outcomes.specs.Meant.{EndsAsProgram, IsAsProgram}
 
 module _ (options : SelfOptions) (o : Outside) where
   -- The run of the example's program ends with arrays, those with which the program ends serially: their first value is the sum of the values

@@ -24,7 +24,7 @@ use Rattle.ppm_cli.specs.Words.{AreSelf}
 use Rattle.ppm_example.specs.Example.{sum_drawn}
 use Rattle.ppm_loading.specs.Programs.{ProgramMay, TextHas}
 use Rattle.ppm_program.specs.Programs.{HasProgram}
-use Rattle.ppm_driver.specs.Runs.{ProgramHas, RunTold, WantsOf}
+use Rattle.ppm_outcomes.specs.Runs.{ProgramHas, RunTold, WantsOf}
 
 -- the options of `run` with which the example is run
 abbrev pub run_options_of : SelfOptions → RunOptions

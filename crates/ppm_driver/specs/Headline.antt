@@ -22,9 +22,9 @@ use Rattle.ppm_answers.specs.Reading.{Reads, ReadsSome, IsUnread}
 use Rattle.ppm_answers.specs.Texts.{arrays_text, trap_text, refusal_text, plan_text, turns_text, room_text, err_text}
 use Rattle.ppm_cli.specs.declared.run.RunOptions.{RunOptions}
 use Rattle.ppm_loading.specs.Planned.{IsRefusedBy}
-use Rattle.ppm_driver.specs.Meant.{NoneIsTakenTwice, EndsAsProgram, NeedsMoreRoom, NeedsMoreTurns, undone_in}
-use Rattle.ppm_driver.specs.Runs.{RunMade, RunWants}
-use Rattle.ppm_driver.specs.Strikes.{fault_count}
+use Rattle.ppm_outcomes.specs.Meant.{NoneIsTakenTwice, EndsAsProgram, NeedsMoreRoom, NeedsMoreTurns, undone_in}
+use Rattle.ppm_outcomes.specs.Runs.{RunMade, RunWants}
+use Rattle.ppm_outcomes.specs.Strikes.{fault_count}
 
 module _ (options : RunOptions) (watching : ℕ) (plan : List ℕ) (o : Outside) where
   -- A run of the program whose text was read, by a plan that was accepted, so it spares a processor, the keeper. The turns of all processors are in

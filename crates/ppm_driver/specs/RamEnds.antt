@@ -15,10 +15,10 @@ use Rattle.ppm_answers.specs.declared.answer.Answer.{Answer}
 use Rattle.ppm_answers.specs.declared.answer.Answer.TheVariants as answers
 use Rattle.ppm_cli.specs.declared.run.RunOptions.{RunOptions}
 use Rattle.ppm_cli.specs.Words.{AreRun}
-use Rattle.ppm_driver.specs.AsCode.{IsAsCode}
-use Rattle.ppm_driver.specs.Meant.{forked_in, taken_in, undone_in, worked_in}
-use Rattle.ppm_driver.specs.Runs.{CodeHas}
-use Rattle.ppm_driver.specs.Strikes.{fault_count}
+use Rattle.ppm_outcomes.specs.AsCode.{IsAsCode}
+use Rattle.ppm_outcomes.specs.Meant.{forked_in, taken_in, undone_in, worked_in}
+use Rattle.ppm_outcomes.specs.Runs.{CodeHas}
+use Rattle.ppm_outcomes.specs.Strikes.{fault_count}
 
 module _ (ram : RamParts) where
   -- the RAM, run from its own memory, comes to an end, and this outcome tells it

@@ -20,10 +20,11 @@ use Rattle.ppm_answers.specs.Reading.{Reads, ReadsSome}
 use Rattle.ppm_answers.specs.Texts.{arrays_text, trap_text, refusal_text, plan_text, turns_text, err_text}
 use Rattle.ppm_cli.specs.declared.run.RunOptions.{RunOptions}
 use Rattle.ppm_driver.specs.Headline.{OutTakes, ErrTakes, RefusesPlan}
-use Rattle.ppm_driver.specs.Meant.{undone_in}
+use Rattle.ppm_outcomes.specs.Meant.{undone_in}
 use Rattle.ppm_driver.specs.RamEnds.{RamNeedsMoreTurns, RunEndsAsRam}
-use Rattle.ppm_driver.specs.RamRuns.{RamMade, RamWants, RefusesRam}
-use Rattle.ppm_driver.specs.Strikes.{fault_count}
+use Rattle.ppm_driver.specs.RamRuns.{RamMade, RamWants}
+use Rattle.ppm_orders.specs.Rams.{RefusesRam}
+use Rattle.ppm_outcomes.specs.Strikes.{fault_count}
 
 module _ (options : RunOptions) (watching : ℕ) (plan : List ℕ) (o : Outside) where
   -- A run of the RAM whose text was read, by a plan that was accepted, so it spares a processor, the keeper. The turns of all processors are in one

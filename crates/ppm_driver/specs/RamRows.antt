@@ -16,12 +16,13 @@ use Rattle.ppm_answers.specs.declared.status.Status.TheVariants as statuses
 use Rattle.ppm_answers.specs.Delivery.{IsWritten}
 use Rattle.ppm_answers.specs.Rows.{IsJudged, IsShown, IsOneOf, GoesWell}
 use Rattle.ppm_cli.specs.declared.run.RunOptions.{RunOptions}
-use Rattle.ppm_driver.specs.Meant.{undone_in}
+use Rattle.ppm_outcomes.specs.Meant.{undone_in}
 use Rattle.ppm_driver.specs.RamEnds.{IsAsRam, RamHas, RamIsEnough}
 use Rattle.ppm_driver.specs.RamHeadline.{RamHeadline}
-use Rattle.ppm_driver.specs.RamRuns.{RamTextHas, ram_refusal}
+use Rattle.ppm_driver.specs.RamRuns.{RamTextHas}
+use Rattle.ppm_orders.specs.Rams.{ram_refusal}
 use Rattle.ppm_driver.specs.RunRows.{Refuses}
-use Rattle.ppm_driver.specs.Strikes.{fault_count}
+use Rattle.ppm_outcomes.specs.Strikes.{fault_count}
 
 module _ (options : RunOptions) (watching : ℕ) (plan : List ℕ) (o : Outside) where
   -- a run that an answer is of is as the RAM is, and no more faults undid work than the plan has

@@ -1,10 +1,9 @@
 -- What `ram` answers of a text, and when it may: what `run` answers of a text's program, with the code and the memory of its RAM in their place.
-use Rattle.std.specs.Prelude.{◌≡◌, ℕ, List, [], Some, Err}
+use Rattle.std.specs.Prelude.{◌≡◌, ℕ, List, [], Some}
 use Rattle.ppm_ports.specs.Ports.{Port}
 use Rattle.ppm_ports.specs.Outside.{ToldLists}
 use Rattle.ppm_ram.specs.declared.ram.RamParts.{RamParts}
 use Rattle.ppm_ram.specs.Limits.{text_limit}
-use Rattle.ppm_ram.specs.Lines.{Fault, fault_number, ram_in}
 use Rattle.ppm_ram.specs.Program.{memory_of}
 use Rattle.ppm_ram.specs.Text.{IsTextOf}
 use Rattle.ppm_ram_code.specs.Code.{code_of}
@@ -13,47 +12,12 @@ use Rattle.ppm_plan.specs.declared.plan_item.PlanItem.{PlanItem}
 use Rattle.ppm_plan.specs.Forms.{plan_form}
 use Rattle.ppm_plan.specs.Refusals.{IsAccepted}
 use Rattle.ppm_answers.specs.declared.answer.Answer.{Answer}
-use Rattle.ppm_answers.specs.declared.answer.Answer.TheVariants as answers
-use Rattle.ppm_answers.specs.declared.refusal.Pass.TheVariants as pass
-use Rattle.ppm_answers.specs.declared.refusal.Refusal.{Refusal}
-use Rattle.ppm_answers.specs.Reading.{AreOne, FrontsDecide, JudgingMay, Reads}
+use Rattle.ppm_answers.specs.Reading.{AreOne, FrontsDecide, Reads}
 use Rattle.ppm_cli.specs.declared.run.RunOptions.{RunOptions}
 use Rattle.ppm_loading.specs.Planned.{PlannedHas, PlannedMay}
+use Rattle.ppm_orders.specs.Rams.{OfText}
 use Rattle.ppm_driver.specs.RamEnds.{RamHas}
-use Rattle.ppm_driver.specs.Runs.{RunTold, WantsOf}
-
--- the refusal for a fault: its number, and the line that breaks the rule
-abbrev pub ram_refusal : Fault → Refusal
-ram_refusal f = record { pass = pass.Ram; number = fault_number f.0; place = f.1 }
-
--- the text is of no RAM, and this refusal is for its first fault
-pub record RefusesRam (text : List ℕ) (r : Refusal) : Type 0 where
-  pub fault : Fault
-  pub there : ram_in text ≡ Err fault
-  pub same : r ≡ ram_refusal fault
-
--- the text is that of a RAM, and this holds of it
-pub record OfRam (text : List ℕ) (Has : RamParts → Type 0) : Type 0 where
-  pub ram : RamParts
-  pub is : IsTextOf text ram
-  pub has : Has ram
-
--- the answer of a text, by those of RAMs: its RAM's, or its refusal
-abbrev pub OfText : (Has : RamParts → Answer → Type 0) → List ℕ → Answer → Type 0
-OfText Has text (answers.SourceRefused r) = RefusesRam text r
-OfText Has text answer = OfRam text (λ ram. Has ram answer)
-
--- the answer of a text that has none: its refusal
-abbrev pub RefusedHas : List ℕ → Answer → Type 0
-RefusedHas text answer = OfText (λ ram a. ⊥) text answer
-
--- the text that was read is that of this RAM
-abbrev pub ReadsRam : Port → RamParts → Type 0
-ReadsRam source ram = (text : List ℕ) × Reads text_limit source text × IsTextOf text ram
-
--- the answers where the text that was read is of no RAM, or was not read
-abbrev pub NoRamMay : Port → Answer → Type 0
-NoRamMay source answer = JudgingMay text_limit RefusedHas source answer
+use Rattle.ppm_outcomes.specs.Runs.{RunTold, WantsOf}
 
 -- the answer of a text: of its RAM, by the items of a plan, where the first so many watchers are told what their processors do; or its refusal
 abbrev pub TextHas : RunOptions → (watching : ℕ) → (before now : ToldLists) → List PlanItem → List ℕ → Answer → Type 0

@@ -14,11 +14,11 @@ use Rattle.ppm_cli.specs.declared.run.RunOptions.{RunOptions}
 use Rattle.ppm_tree.specs.Tree.{ProgramTree}
 use Rattle.ppm_program.specs.Programs.{HasProgram}
 use Rattle.ppm_loading.specs.Planned.{IsRefusedBy}
-use Rattle.ppm_driver.specs.Completeness.{IsEnough}
+use Rattle.ppm_outcomes.specs.Completeness.{IsEnough}
 use Rattle.ppm_driver.specs.Headline.{Headline}
-use Rattle.ppm_driver.specs.Meant.{undone_in, IsAsProgram}
-use Rattle.ppm_driver.specs.Runs.{ProgramHas, RunHas}
-use Rattle.ppm_driver.specs.Strikes.{fault_count}
+use Rattle.ppm_outcomes.specs.Meant.{undone_in, IsAsProgram}
+use Rattle.ppm_outcomes.specs.Runs.{ProgramHas, RunHas}
+use Rattle.ppm_outcomes.specs.Strikes.{fault_count}
 
 module _ (options : RunOptions) (watching : ℕ) (plan : List ℕ) (o : Outside) where
   -- where the plan is refused, nothing is read, and the status is 3, or 8 or 9

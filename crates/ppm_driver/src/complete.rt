@@ -1,9 +1,9 @@
 //! That runs with turns and room enough end, shown by a call that does nothing.
-ghost use Rattle.ppm_driver.specs.CompleteAsCode.{RunsOfCodeComplete};
-ghost use Rattle.ppm_driver.specs.Completeness.{RunsComplete};
-ghost use Rattle.ppm_driver.specs.Strikes.{StrikesArePlanned, UndoneArePlanned};
+ghost use Rattle.ppm_outcomes.specs.CompleteAsCode.{RunsOfCodeComplete};
+ghost use Rattle.ppm_outcomes.specs.Completeness.{RunsComplete};
+ghost use Rattle.ppm_outcomes.specs.Strikes.{StrikesArePlanned, UndoneArePlanned};
 
-use crate::meant::{runs_are_as_code, runs_are_as_programs};
+use ppm_outcomes::{runs_are_as_code, runs_are_as_programs};
 use ppm_plan::have_one_answer as plans_have_one_answer;
 use ppm_program::have_one_answer as texts_have_one_program;
 

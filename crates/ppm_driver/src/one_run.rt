@@ -1,5 +1,5 @@
 //! That a text has no two answers where it is run, shown by a call that does nothing.
-ghost use Rattle.ppm_driver.specs.Runs.{AnswersAreOne, FrontsDecideAnswers};
+ghost use Rattle.ppm_outcomes.specs.Runs.{AnswersAreOne, FrontsDecideAnswers};
 
 use ppm_choice::has_one_run;
 use ppm_layout::images_are_one;

@@ -6,13 +6,15 @@ use ppm_choice::{
 use ppm_cli::any_command_may_be_added;
 use ppm_commands::instructions_have_their_lines;
 use ppm_cut_code::{few_capsules, lines_alone, names_have_slots, procedures_stand};
-use ppm_driver::{
-    fronts_decide_resumed, resumes_leave_states, runs_in_legs_are_as_programs, runs_leave_states,
-    runs_of_code_complete, runs_of_code_complete_in_legs, stopped_cases_go_on, stopped_runs_go_on,
-};
+use ppm_driver::runs_of_code_complete;
+use ppm_outcomes::runs_in_legs_are_as_programs;
 use ppm_plan::{plan_items_read_as_written, schedule_items_read_as_written, texts_read_as_written};
 use ppm_printer::{canonical_texts_tell_programs, printed_texts_have_their_tree};
 use ppm_step::{done_has_cause, finish_stays, records_lead, room_has_cause, turns_have_cause};
+use ppm_stops::{
+    fronts_decide_resumed, resumes_leave_states, runs_leave_states, runs_of_code_complete_in_legs,
+    stopped_cases_go_on, stopped_runs_go_on,
+};
 use ppm_top::sound_cases_run_as_depth;
 
 #[test]

@@ -12,13 +12,13 @@ use Rattle.ppm_cli.specs.declared.stop.StopSavedOptions.{StopSavedOptions}
 use Rattle.ppm_cli.specs.declared.trace.TraceSavedOptions.{TraceSavedOptions}
 use Rattle.ppm_cli.specs.Words.{command_of}
 use Rattle.ppm_cli.proofs.RangeLemmas.{is_in_range}
-use Rattle.ppm_top.specs.SavedReplayRows.{ReplaySays}
-use Rattle.ppm_top.specs.SavedTexts.{RefusesSchedule}
-use Rattle.ppm_top.specs.SavedStopRows.{StopSays}
-use Rattle.ppm_top.specs.SavedTraceRows.{TraceSays}
-use Rattle.ppm_top.proofs.OfSavedReplay.{replay_rows}
-use Rattle.ppm_top.proofs.OfSavedStop.{stop_rows}
-use Rattle.ppm_top.proofs.OfSavedTrace.{trace_rows}
+use Rattle.ppm_legs.specs.SavedReplayRows.{ReplaySays}
+use Rattle.ppm_legs.specs.SavedTexts.{RefusesSchedule}
+use Rattle.ppm_legs.specs.SavedStopRows.{StopSays}
+use Rattle.ppm_legs.specs.SavedTraceRows.{TraceSays}
+use Rattle.ppm_legs.proofs.OfSavedReplay.{replay_rows}
+use Rattle.ppm_legs.proofs.OfSavedStop.{stop_rows}
+use Rattle.ppm_legs.proofs.OfSavedTrace.{trace_rows}
 use Rattle.ppm_top.specs.Causes.{CommandMay, CommandTells, IsAnswered}
 use Rattle.ppm_top.specs.Laws.{ProgramLaws}
 use Rattle.ppm_top.specs.Rows.{ReplaysSavedByWords, StopsSavedByWords, TracesSavedByWords}

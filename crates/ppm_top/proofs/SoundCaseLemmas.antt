@@ -20,12 +20,12 @@ use Rattle.ppm_commands.specs.Depth.{EndsWithin}
 use Rattle.ppm_commands.specs.Races.{IsSoundWithin}
 use Rattle.ppm_commands.proofs.DepthAnswers.{same_end}
 use Rattle.ppm_loading.specs.Planned.{PlannedHas}
-use Rattle.ppm_driver.specs.AsCode.{CodeEnds, CodeNeedsMoreRoom, CodeNeedsMoreTurns}
+use Rattle.ppm_outcomes.specs.AsCode.{CodeEnds, CodeNeedsMoreRoom, CodeNeedsMoreTurns}
 use Rattle.ppm_driver.specs.CaseRuns.{TextHas}
 use Rattle.ppm_driver.specs.CodeRuns.{AnswersAreAsCode, SaysAsCode}
-use Rattle.ppm_driver.specs.Runs.{CodeHas}
-use Rattle.ppm_driver.specs.Strikes.{fault_count}
-use Rattle.ppm_driver.proofs.CaseHeadlineLemmas.{may_run}
+use Rattle.ppm_outcomes.specs.Runs.{CodeHas}
+use Rattle.ppm_outcomes.specs.Strikes.{fault_count}
+use Rattle.ppm_outcomes.proofs.MayRunLemmas.{may_run}
 use Rattle.ppm_top.specs.SoundCases.{ComesToDepth, SoundCasesRunAsDepth}
 
 -- what is sound within so many capsules, and whose depth-first run ends with this outcome, ends so within them, with these counts

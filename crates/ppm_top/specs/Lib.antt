@@ -1,15 +1,5 @@
-pub mod SavedTexts
-pub mod SavedStops
-pub mod SavedReplays
-pub mod SavedReplayRows
-pub mod SavedTraces
-pub mod SavedTraceRows
-pub mod Chains
-pub mod SavedStopRows
 pub mod Causes
-pub mod CompleteReplays
 pub mod Laws
 pub mod Orders
-pub mod ReplayLaws
 pub mod Rows
 pub mod SoundCases

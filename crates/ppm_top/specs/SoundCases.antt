@@ -13,7 +13,7 @@ use Rattle.ppm_commands.specs.Depth.{DepthHas}
 use Rattle.ppm_commands.specs.Races.{RacesHas}
 use Rattle.ppm_loading.specs.Planned.{PlannedHas}
 use Rattle.ppm_driver.specs.CaseRuns.{TextHas}
-use Rattle.ppm_driver.specs.Strikes.{fault_count}
+use Rattle.ppm_outcomes.specs.Strikes.{fault_count}
 
 -- The answer of a run with such options, of a text that has these counts, and so many faults in the plan, is the result of `depth` of the text: its
 -- arrays, or its trap. Else the turns of a processor are fewer than 256 for each of the capsules and each of the faults, or a pool has fewer words.

@@ -2,11 +2,6 @@
 ghost use Rattle.ppm_top.specs.Laws.{ProgramLaws};
 ghost use Rattle.ppm_top.specs.SoundCases.{SoundCasesRunAsDepth};
 
-use crate::chains::stops_go_on_chains;
-use crate::complete_replay::{replays_complete, replays_of_code_complete};
-use crate::saved_answers::{
-    saved_replays_have_one_answer, saved_stops_have_one_answer, saved_traces_have_one_answer,
-};
 use ppm_case::faults_tell_cases;
 use ppm_commands::{
     case_texts_are_cases, case_texts_have_one_answer, cases_have_one_answer, codes_are_faithful,
@@ -15,16 +10,24 @@ use ppm_commands::{
 };
 use ppm_driver::{
     answers_are_as_code, answers_are_as_rams, answers_are_one as runs_have_one_answer,
-    case_answers_are_one, case_replays_have_one_answer, case_stops_have_one_answer,
-    case_sweeps_have_one_answer, case_traces_have_one_answer, counted_case_replays_have_one_answer,
-    counted_replays_have_one_answer, examples_sum_up, programs_are_as_code, ram_answers_are_one,
-    replays_are_as_code, replays_have_one_answer, resume_laws, runs_are_as_programs, runs_complete,
-    stops_have_one_answer, stops_leave_states, sweeps_are_as_code, sweeps_have_one_answer,
-    traces_have_one_answer,
+    case_answers_are_one, examples_sum_up, ram_answers_are_one, runs_complete,
 };
 use ppm_explain::fronts_are_explained;
+use ppm_legs::{
+    saved_replays_have_one_answer, saved_stops_have_one_answer, saved_traces_have_one_answer,
+    stops_go_on_chains,
+};
+use ppm_outcomes::{programs_are_as_code, replays_are_as_code, resume_laws, runs_are_as_programs};
 use ppm_plan::have_one_answer as plans_have_one_answer;
 use ppm_ram::texts_are_of_rams;
+use ppm_replays::{
+    case_replays_have_one_answer, counted_case_replays_have_one_answer,
+    counted_replays_have_one_answer, replays_complete, replays_have_one_answer,
+    replays_of_code_complete,
+};
+use ppm_stops::{case_stops_have_one_answer, stops_have_one_answer, stops_leave_states};
+use ppm_sweeps::{case_sweeps_have_one_answer, sweeps_are_as_code, sweeps_have_one_answer};
+use ppm_traces::{case_traces_have_one_answer, traces_have_one_answer};
 
 /// What the crates of the commands show of every text: all laws on which the rows of `ppm` rest.
 pub fn program_laws()

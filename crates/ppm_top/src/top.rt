@@ -3,27 +3,27 @@ ghost use Rattle.std.specs.Prelude.{◌≡◌, length, map};
 ghost use Rattle.std.specs.String.{string_bytes};
 ghost use Rattle.ppm_ports.specs.Ports.{port};
 ghost use Rattle.ppm_ports.specs.Outside.{outside};
-ghost use Rattle.ppm_driver.specs.Watchers.{watcher_count};
+ghost use Rattle.ppm_outcomes.specs.Watchers.{watcher_count};
 ghost use Rattle.ppm_top.specs.Causes.{IsAnswered};
 ghost use Rattle.ppm_top.specs.Rows.{ProgramRows};
 
 use crate::laws::program_laws;
-use crate::replay_saved::replay_saved_command;
-use crate::stop_saved::stop_saved_command;
-use crate::trace_saved::trace_saved_command;
 use ppm_answers::{Answer, Status, deliver};
 use ppm_cli::{Command, read_words};
 use ppm_commands::{
     case_command, check_command, code_command, depth_command, races_command, serial_command,
     show_command,
 };
-use ppm_driver::{
-    counted_replay_case_command, counted_replay_command, ram_command, replay_case_command,
-    replay_command, resume_command, run_case_command, run_command, self_command, stop_case_command,
-    stop_command, sweep_case_command, sweep_command, trace_case_command, trace_command,
-};
+use ppm_driver::{ram_command, run_case_command, run_command, self_command};
 use ppm_explain::explain_command;
+use ppm_legs::{replay_saved_command, stop_saved_command, trace_saved_command};
 use ppm_ports::{Sink, Source, Watch};
+use ppm_replays::{
+    counted_replay_case_command, counted_replay_command, replay_case_command, replay_command,
+};
+use ppm_stops::{resume_command, stop_case_command, stop_command};
+use ppm_sweeps::{sweep_case_command, sweep_command};
+use ppm_traces::{trace_case_command, trace_command};
 use ppm_words::NoMemory;
 use std::alloc::Global;
 use std::sync::Wait;

@@ -1,5 +1,5 @@
 use Rattle.ppm_driver.proofs.CompleteLemmas.{runs_complete}
-use Rattle.ppm_driver.proofs.StrikeLemmas.{strikes_are_planned, undone_are_planned}
+use Rattle.ppm_outcomes.proofs.StrikeLemmas.{strikes_are_planned, undone_are_planned}
 use Rattle.ppm_driver.proofs.complete.runs_complete.Goals as goal
 
 -- from what each processor obeys

@@ -2,7 +2,7 @@ use Rattle.std.proofs.Common.{map}
 use Rattle.ppm_tree.specs.Tree.{tree_of}
 use Rattle.ppm_answers.specs.declared.answer.Answer.TheVariants as answers
 use Rattle.ppm_driver.proofs.ExampleLemmas.{example_tells, none_may, program_may, sums_may, sums_tell}
-use Rattle.ppm_driver.proofs.WatchLemmas.{fronts_stay, untold}
+use Rattle.ppm_outcomes.proofs.WatchLemmas.{fronts_stay, untold}
 use Rattle.ppm_driver.proofs.example.example_answer.Goals as goal
 
 -- what the run of the program comes to

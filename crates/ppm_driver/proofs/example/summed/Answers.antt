@@ -1,11 +1,11 @@
 use Rattle.std.proofs.Common.{map, subst}
 use Rattle.ppm_cli.specs.declared.run.RunOptions.{RunOptions}
 use Rattle.ppm_tree.specs.Tree.{tree_of}
-use Rattle.ppm_driver.specs.Runs.{ProgramHas}
-use Rattle.ppm_driver.specs.Runs as runs
-use Rattle.ppm_driver.specs.Watchers.{OthersKeep, ToldWhole}
+use Rattle.ppm_outcomes.specs.Runs.{ProgramHas}
+use Rattle.ppm_outcomes.specs.Runs as runs
+use Rattle.ppm_outcomes.specs.Watchers.{OthersKeep, ToldWhole}
 use Rattle.ppm_driver.proofs.ExampleLemmas.{wants_by_plan}
-use Rattle.ppm_driver.proofs.WantLemmas.{at_err}
+use Rattle.ppm_outcomes.proofs.WantLemmas.{at_err}
 use Rattle.ppm_driver.proofs.example.summed.Goals as goal
 
 -- sums come in place of the arrays of the run

@@ -4,9 +4,9 @@ use Rattle.ppm_code.specs.declared.code.CodeParts.{CodeParts}
 use Rattle.ppm_ram.specs.Program.{memory_of}
 use Rattle.ppm_ram_code.specs.Code.{code_of}
 use Rattle.ppm_ram_code.specs.Correct.{input_of}
-use Rattle.ppm_driver.specs.Runs.{CodeHas, CodeWants}
-use Rattle.ppm_driver.proofs.WantLemmas.{at_err, nothing_told}
-use Rattle.ppm_driver.proofs.WatchLemmas.{fronts_stay, others_still}
+use Rattle.ppm_outcomes.specs.Runs.{CodeHas, CodeWants}
+use Rattle.ppm_outcomes.proofs.WantLemmas.{at_err, nothing_told}
+use Rattle.ppm_outcomes.proofs.WatchLemmas.{fronts_stay, others_still}
 use Rattle.ppm_driver.proofs.ram.ran_ram.Goals as goal
 
 -- what the run of its code on its memory comes to

@@ -3,9 +3,9 @@ use Rattle.ppm_plan.specs.Forms.{plan_form}
 use Rattle.ppm_answers.specs.declared.answer.Answer.TheVariants as answers
 use Rattle.ppm_driver.specs.RamEnds.{RamHas}
 use Rattle.ppm_driver.proofs.RamLemmas.{of_ram, ram_tells}
-use Rattle.ppm_driver.proofs.RamTaskLemmas.{no_ram_task, ram_has, ram_wants}
-use Rattle.ppm_driver.proofs.RunLemmas.{kinds, run_tells}
-use Rattle.ppm_driver.proofs.WatchLemmas.{fronts_stay, untold}
+use Rattle.ppm_orders.proofs.RamTaskLemmas.{no_ram_task, ram_has, ram_wants}
+use Rattle.ppm_outcomes.proofs.RunLemmas.{kinds, run_tells}
+use Rattle.ppm_outcomes.proofs.WatchLemmas.{fronts_stay, untold}
 use Rattle.ppm_driver.proofs.ram.read_answer.Goals as goal
 
 -- what the run of the RAM comes to, by the plan's items

@@ -3,9 +3,9 @@ use Rattle.ppm_words.specs.declared.named_array.NamedArray.{NamedArray}
 use Rattle.ppm_code.specs.declared.code.CodeParts.{CodeParts}
 use Rattle.ppm_tree.specs.Tree.{tree_of}
 use Rattle.ppm_tree.specs.Program.{initial_arrays}
-use Rattle.ppm_driver.specs.Runs.{CodeHas, CodeWants}
-use Rattle.ppm_driver.proofs.WantLemmas.{at_err, nothing_told}
-use Rattle.ppm_driver.proofs.WatchLemmas.{fronts_stay, others_still}
+use Rattle.ppm_outcomes.specs.Runs.{CodeHas, CodeWants}
+use Rattle.ppm_outcomes.proofs.WantLemmas.{at_err, nothing_told}
+use Rattle.ppm_outcomes.proofs.WatchLemmas.{fronts_stay, others_still}
 use Rattle.ppm_driver.proofs.run.ran.Goals as goal
 
 -- what the run of its code comes to

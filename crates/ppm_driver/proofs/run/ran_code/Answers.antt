@@ -2,10 +2,10 @@ use Rattle.std.proofs.Common.{ℕ, ◌≡◌, ◌<◌, ◌≤◌, ◌∙◌, ref
 use Rattle.ppm_cells.specs.declared.shape.Shape.{Shape}
 use Rattle.ppm_code.specs.Code.{IsCode}
 use Rattle.ppm_threads.specs.Driven.{OthersStay}
-use Rattle.ppm_driver.proofs.ExactLemmas.{code_opened}
-use Rattle.ppm_driver.proofs.RunLemmas.{code_has, code_wanting, code_whole, table_processors}
-use Rattle.ppm_driver.proofs.WantLemmas.{at_err, nothing_told}
-use Rattle.ppm_driver.proofs.WatchLemmas.{first_of, fronts_stay, keep_fronts, others_keep, others_still}
+use Rattle.ppm_outcomes.proofs.ExactLemmas.{code_opened}
+use Rattle.ppm_outcomes.proofs.RunLemmas.{code_has, code_wanting, code_whole, table_processors}
+use Rattle.ppm_outcomes.proofs.WantLemmas.{at_err, nothing_told}
+use Rattle.ppm_outcomes.proofs.WatchLemmas.{first_of, fronts_stay, keep_fronts, others_keep, others_still}
 use Rattle.ppm_driver.proofs.run.ran_code.Goals as goal
 
 -- what is said of the words behind the run, in which all processors obey, and what watchers were told of it

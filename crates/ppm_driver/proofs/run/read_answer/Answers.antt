@@ -2,11 +2,11 @@ use Rattle.std.proofs.Common.{map}
 use Rattle.ppm_tree.specs.Tree.{tree_of}
 use Rattle.ppm_plan.specs.Forms.{plan_form}
 use Rattle.ppm_answers.specs.declared.answer.Answer.TheVariants as answers
-use Rattle.ppm_driver.specs.Runs.{ProgramHas}
+use Rattle.ppm_outcomes.specs.Runs.{ProgramHas}
 use Rattle.ppm_driver.proofs.MadeLemmas.{source_tells}
-use Rattle.ppm_driver.proofs.OrdersLemmas.{no_task, task_has, task_wants}
-use Rattle.ppm_driver.proofs.RunLemmas.{kinds, of_program, run_tells}
-use Rattle.ppm_driver.proofs.WatchLemmas.{fronts_stay, untold}
+use Rattle.ppm_orders.proofs.OrdersLemmas.{no_task, task_has, task_wants}
+use Rattle.ppm_outcomes.proofs.RunLemmas.{kinds, of_program, run_tells}
+use Rattle.ppm_outcomes.proofs.WatchLemmas.{fronts_stay, untold}
 use Rattle.ppm_driver.proofs.run.read_answer.Goals as goal
 
 -- what the run of the program comes to, by the plan's items

@@ -1,11 +1,11 @@
 use Rattle.std.proofs.Common.{map}
 use Rattle.ppm_plan.specs.Forms.{plan_form}
 use Rattle.ppm_answers.specs.declared.answer.Answer.TheVariants as answers
-use Rattle.ppm_driver.specs.Runs.{CodeHas}
-use Rattle.ppm_driver.proofs.OrdersLemmas.{no_case_task, case_has, case_wants}
+use Rattle.ppm_outcomes.specs.Runs.{CodeHas}
+use Rattle.ppm_orders.proofs.OrdersLemmas.{no_case_task, case_has, case_wants}
 use Rattle.ppm_driver.proofs.RunCaseLemmas.{case_kinds, case_tells}
-use Rattle.ppm_driver.proofs.RunLemmas.{of_code, run_tells}
-use Rattle.ppm_driver.proofs.WatchLemmas.{fronts_stay, untold}
+use Rattle.ppm_outcomes.proofs.RunLemmas.{of_code, run_tells}
+use Rattle.ppm_outcomes.proofs.WatchLemmas.{fronts_stay, untold}
 use Rattle.ppm_driver.proofs.run_case.read_answer.Goals as goal
 
 -- what the run of the case comes to, by the plan's items

@@ -1,6 +1,0 @@
-use Rattle.ppm_driver.proofs.CodeReplayRows.{replays_are_as_code}
-use Rattle.ppm_driver.proofs.meant.replays_are_as_code.Goals as goal
-
--- from the law of runs
-pub returns : goal.returns
-returns c = record { law = replays_are_as_code c.runs_are_as_code.ensures.law }

@@ -1,0 +1,4 @@
+pub mod Orders
+pub mod CaseRefusals
+pub mod Rams
+pub mod TraceForms

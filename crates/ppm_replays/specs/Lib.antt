@@ -1,0 +1,11 @@
+pub mod RunCounts
+pub mod CountLaws
+pub mod ReplayRows
+pub mod CaseReplays
+pub mod CaseReplayRows
+pub mod CountedReplays
+pub mod CountedReplayRows
+pub mod CountedCases
+pub mod CountedCaseRows
+pub mod CompleteReplays
+pub mod ReplayLaws

@@ -1,6 +1,0 @@
-use Rattle.ppm_top.proofs.LegLemmas.{leg_is}
-use Rattle.ppm_top.proofs.leg.leg.Goals as goal
-
--- the machine goes on with what fresh processors find
-pub returns-clause-leg : goal.returns-clause-leg
-returns-clause-leg c = leg_is c.args.saved _ _ _ _ c.args.schedule.now.items c.args.acts c.renew-image.ensures c.in_ok-machine.ensures c.follow.ensures
