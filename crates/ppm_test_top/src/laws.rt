@@ -11,7 +11,7 @@ use ppm_outcomes::runs_in_legs_are_as_programs;
 use ppm_plan::{plan_items_read_as_written, schedule_items_read_as_written, texts_read_as_written};
 use ppm_printer::{canonical_texts_tell_programs, printed_texts_have_their_tree};
 use ppm_step::{done_has_cause, finish_stays, records_lead, room_has_cause, turns_have_cause};
-use ppm_stops::{
+use ppm_stop_command::{
     fronts_decide_resumed, resumes_leave_states, runs_leave_states, runs_of_code_complete_in_legs,
     stopped_cases_go_on, stopped_runs_go_on,
 };

@@ -25,20 +25,20 @@ use Rattle.ppm_cli.specs.Words.{command_of}
 use Rattle.ppm_top.specs.Causes.{CommandMay, CommandTells, IsAnswered}
 use Rattle.ppm_plan.specs.Forms.{plan_form, schedule_form}
 use Rattle.ppm_cli.specs.declared.example.SelfOptions.{SelfOptions}
-use Rattle.ppm_replays.specs.CaseReplays.{TextHas as ReplayCaseTextHas}
+use Rattle.ppm_replay_command.specs.CaseReplays.{TextHas as ReplayCaseTextHas}
 use Rattle.ppm_driver.specs.CaseRuns.{TextHas as RunCaseTextHas}
-use Rattle.ppm_stops.specs.CaseStops.{TextReads as StopCaseTextReads}
-use Rattle.ppm_sweeps.specs.CaseSweeps.{TextHas as SweepCaseTextHas}
-use Rattle.ppm_traces.specs.CaseTraces.{TextHas as TraceCaseTextHas}
-use Rattle.ppm_replays.specs.CountedCases.{TextHas as CountedCaseTextHas}
-use Rattle.ppm_replays.specs.CountedReplays.{TextHas as CountedTextHas}
+use Rattle.ppm_stop_command.specs.CaseStops.{TextReads as StopCaseTextReads}
+use Rattle.ppm_sweep_command.specs.CaseSweeps.{TextHas as SweepCaseTextHas}
+use Rattle.ppm_trace_command.specs.CaseTraces.{TextHas as TraceCaseTextHas}
+use Rattle.ppm_replay_command.specs.CountedCases.{TextHas as CountedCaseTextHas}
+use Rattle.ppm_replay_command.specs.CountedReplays.{TextHas as CountedTextHas}
 use Rattle.ppm_driver.specs.Examples.{ExampleMay, ExampleTells}
 use Rattle.ppm_driver.specs.RamRuns.{TextHas as RamTextHas}
 use Rattle.ppm_outcomes.specs.Replays.{TextHas as ReplayTextHas}
 use Rattle.ppm_outcomes.specs.Resumes.{TextHas as ResumeTextHas}
 use Rattle.ppm_outcomes.specs.Stops.{TextReads as StopTextReads}
-use Rattle.ppm_sweeps.specs.Sweeps.{TextHas as SweepTextHas}
-use Rattle.ppm_traces.specs.Traces.{TextHas as TraceTextHas}
+use Rattle.ppm_sweep_command.specs.Sweeps.{TextHas as SweepTextHas}
+use Rattle.ppm_trace_command.specs.Traces.{TextHas as TraceTextHas}
 use Rattle.ppm_outcomes.specs.Runs.{TextHas as RunTextHas}
 use Rattle.ppm_legs.specs.SavedReplays.{ReplayHas as ReplaySavedHas}
 use Rattle.ppm_legs.specs.SavedStops.{StopReads as StopSavedReads}

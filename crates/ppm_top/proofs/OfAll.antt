@@ -41,30 +41,30 @@ use Rattle.ppm_commands.proofs.ShowRows.{show_rows}
 use Rattle.ppm_plan.specs.Forms.{Form, plan_form, schedule_form}
 use Rattle.ppm_loading.specs.Planned.{PlannedMay}
 use Rattle.ppm_loading.specs.MachineRows.{RefusesPlan}
-use Rattle.ppm_replays.specs.CaseReplays.{TextHas as ReplayCaseTextHas}
+use Rattle.ppm_replay_command.specs.CaseReplays.{TextHas as ReplayCaseTextHas}
 use Rattle.ppm_driver.specs.CaseRuns.{TextHas as RunCaseTextHas}
-use Rattle.ppm_stops.specs.CaseStops.{TextReads as StopCaseTextReads}
-use Rattle.ppm_sweeps.specs.CaseSweeps.{TextHas as SweepCaseTextHas}
-use Rattle.ppm_traces.specs.CaseTraces.{TextHas as TraceCaseTextHas}
-use Rattle.ppm_replays.specs.CountedCases.{TextHas as CountedCaseTextHas}
-use Rattle.ppm_replays.specs.CountedReplays.{TextHas as CountedTextHas}
+use Rattle.ppm_stop_command.specs.CaseStops.{TextReads as StopCaseTextReads}
+use Rattle.ppm_sweep_command.specs.CaseSweeps.{TextHas as SweepCaseTextHas}
+use Rattle.ppm_trace_command.specs.CaseTraces.{TextHas as TraceCaseTextHas}
+use Rattle.ppm_replay_command.specs.CountedCases.{TextHas as CountedCaseTextHas}
+use Rattle.ppm_replay_command.specs.CountedReplays.{TextHas as CountedTextHas}
 use Rattle.ppm_driver.specs.RamRuns.{TextHas as RamTextHas}
 use Rattle.ppm_outcomes.specs.Replays.{TextHas as ReplayTextHas}
 use Rattle.ppm_outcomes.specs.Resumes.{TextHas as ResumeTextHas}
-use Rattle.ppm_stops.specs.ResumeRows.{RefusesPlan as RefusesResumed}
+use Rattle.ppm_stop_command.specs.ResumeRows.{RefusesPlan as RefusesResumed}
 use Rattle.ppm_outcomes.specs.Runs.{TextHas as RunTextHas}
 use Rattle.ppm_outcomes.specs.Stops.{TextReads as StopTextReads}
-use Rattle.ppm_sweeps.specs.Sweeps.{TextHas as SweepTextHas}
-use Rattle.ppm_traces.specs.Traces.{TextHas as TraceTextHas}
+use Rattle.ppm_sweep_command.specs.Sweeps.{TextHas as SweepTextHas}
+use Rattle.ppm_trace_command.specs.Traces.{TextHas as TraceTextHas}
 use Rattle.ppm_legs.specs.SavedReplays.{ReplayHas as ReplaySavedHas}
 use Rattle.ppm_legs.specs.SavedStops.{StopReads as StopSavedReads}
 use Rattle.ppm_legs.specs.SavedTraces.{TraceHas as TraceSavedHas}
-use Rattle.ppm_stops.proofs.OfStop as of_stop
+use Rattle.ppm_stop_command.proofs.OfStop as of_stop
 use Rattle.ppm_driver.proofs.OfExample as of_example
-use Rattle.ppm_replays.proofs.OfReplay as of_replay
-use Rattle.ppm_stops.proofs.OfResume as of_resume
+use Rattle.ppm_replay_command.proofs.OfReplay as of_replay
+use Rattle.ppm_stop_command.proofs.OfResume as of_resume
 use Rattle.ppm_driver.proofs.OfRun as of_run
-use Rattle.ppm_stops.proofs.StoppedLemmas.{saved_left}
+use Rattle.ppm_stop_command.proofs.StoppedLemmas.{saved_left}
 use Rattle.ppm_saved_reader.specs.Rules.{saved_limit}
 use Rattle.ppm_loading.proofs.PlannedLemmas as planned
 use Rattle.ppm_answers.specs.Reading.{IsUnread, JudgingMay, DeliversAnswer, Answers}
@@ -73,7 +73,7 @@ use Rattle.ppm_answers.specs.Rows.{IsOneOf}
 use Rattle.ppm_top.specs.Causes.{NoCommandMay, CommandMay, CommandTells, IsAnswered}
 use Rattle.ppm_top.specs.Laws.{ProgramLaws}
 use Rattle.ppm_top.specs.Rows.{ReportsFaults, ProgramRows}
-use Rattle.ppm_replays.proofs.CompleteReplay.{replay_ends}
+use Rattle.ppm_replay_command.proofs.CompleteReplay.{replay_ends}
 use Rattle.ppm_top.proofs.OfCases as of_cases
 use Rattle.ppm_top.proofs.OfCounts as of_counts
 use Rattle.ppm_top.proofs.OfLegs as of_legs

@@ -15,15 +15,15 @@ use Rattle.ppm_cli.proofs.RangeLemmas.{is_in_range}
 use Rattle.ppm_plan.specs.Forms.{plan_form, schedule_form}
 use Rattle.ppm_loading.specs.MachineRows.{RefusesPlan}
 use Rattle.ppm_driver.specs.CaseHeadline.{CaseHeadline}
-use Rattle.ppm_replays.specs.CaseReplayRows.{ReplayCaseRows, ReplayCaseSays}
-use Rattle.ppm_stops.specs.CaseStopRows.{StopCaseSays}
-use Rattle.ppm_replays.proofs.OfReplayCase.{replay_case_rows}
+use Rattle.ppm_replay_command.specs.CaseReplayRows.{ReplayCaseRows, ReplayCaseSays}
+use Rattle.ppm_stop_command.specs.CaseStopRows.{StopCaseSays}
+use Rattle.ppm_replay_command.proofs.OfReplayCase.{replay_case_rows}
 use Rattle.ppm_driver.proofs.OfRunCase.{case_rows}
-use Rattle.ppm_stops.proofs.CaseStoppedLemmas.{saved_by_code}
-use Rattle.ppm_stops.proofs.OfStopCase.{stop_case_rows}
+use Rattle.ppm_stop_command.proofs.CaseStoppedLemmas.{saved_by_code}
+use Rattle.ppm_stop_command.proofs.OfStopCase.{stop_case_rows}
 use Rattle.ppm_top.specs.Causes.{CommandMay, CommandTells, IsAnswered}
 use Rattle.ppm_top.specs.Laws.{ProgramLaws}
-use Rattle.ppm_replays.proofs.CompleteReplay.{case_replay_ends}
+use Rattle.ppm_replay_command.proofs.CompleteReplay.{case_replay_ends}
 use Rattle.ppm_top.specs.Rows.{RunsCaseByWords, ReplaysCaseByWords, StopsCaseByWords}
 
 module _ (laws : ProgramLaws) (words : List (List ℕ)) (o : Outside) (status : Status) (a : IsAnswered words o status) where

@@ -12,14 +12,14 @@ use Rattle.ppm_cli.specs.Words.{command_of}
 use Rattle.ppm_cli.proofs.RangeLemmas.{is_in_range}
 use Rattle.ppm_plan.specs.Forms.{schedule_form}
 use Rattle.ppm_loading.specs.MachineRows.{RefusesPlan}
-use Rattle.ppm_replays.specs.CountedCaseRows.{CountedCaseSays}
-use Rattle.ppm_replays.specs.CountedReplayRows.{CountedSays}
-use Rattle.ppm_replays.proofs.OfCounted.{counted_rows}
-use Rattle.ppm_replays.proofs.OfCountedCase.{counted_case_rows}
+use Rattle.ppm_replay_command.specs.CountedCaseRows.{CountedCaseSays}
+use Rattle.ppm_replay_command.specs.CountedReplayRows.{CountedSays}
+use Rattle.ppm_replay_command.proofs.OfCounted.{counted_rows}
+use Rattle.ppm_replay_command.proofs.OfCountedCase.{counted_case_rows}
 use Rattle.ppm_top.specs.Causes.{CommandMay, CommandTells, IsAnswered}
 use Rattle.ppm_top.specs.Laws.{ProgramLaws}
 use Rattle.ppm_top.specs.Rows.{CountsByWords, CountsCaseByWords}
-use Rattle.ppm_replays.proofs.CountedComplete.{counted_case_replay_ends, counted_replay_ends}
+use Rattle.ppm_replay_command.proofs.CountedComplete.{counted_case_replay_ends, counted_replay_ends}
 
 module _ (laws : ProgramLaws) (words : List (List ℕ)) (o : Outside) (status : Status) (a : IsAnswered words o status) where
   -- what was delivered of the command that the words give

@@ -12,10 +12,10 @@ use Rattle.ppm_cli.specs.Words.{command_of}
 use Rattle.ppm_cli.proofs.RangeLemmas.{is_in_range}
 use Rattle.ppm_plan.specs.Forms.{schedule_form}
 use Rattle.ppm_loading.specs.MachineRows.{RefusesPlan}
-use Rattle.ppm_sweeps.specs.CaseSweepRows.{SweepCaseSays}
-use Rattle.ppm_sweeps.specs.SweepRows.{SweepSays}
-use Rattle.ppm_sweeps.proofs.OfSweep.{sweep_rows}
-use Rattle.ppm_sweeps.proofs.OfSweepCase.{sweep_case_rows}
+use Rattle.ppm_sweep_command.specs.CaseSweepRows.{SweepCaseSays}
+use Rattle.ppm_sweep_command.specs.SweepRows.{SweepSays}
+use Rattle.ppm_sweep_command.proofs.OfSweep.{sweep_rows}
+use Rattle.ppm_sweep_command.proofs.OfSweepCase.{sweep_case_rows}
 use Rattle.ppm_top.specs.Causes.{CommandMay, CommandTells, IsAnswered}
 use Rattle.ppm_top.specs.Laws.{ProgramLaws}
 use Rattle.ppm_top.specs.Rows.{SweepsByWords, SweepsCaseByWords}

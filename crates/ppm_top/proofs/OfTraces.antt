@@ -12,10 +12,10 @@ use Rattle.ppm_cli.specs.Words.{command_of}
 use Rattle.ppm_cli.proofs.RangeLemmas.{is_in_range}
 use Rattle.ppm_plan.specs.Forms.{schedule_form}
 use Rattle.ppm_loading.specs.MachineRows.{RefusesPlan}
-use Rattle.ppm_traces.specs.CaseTraceRows.{TraceCaseSays}
-use Rattle.ppm_traces.specs.TraceRows.{TraceSays}
-use Rattle.ppm_traces.proofs.OfTrace.{trace_rows}
-use Rattle.ppm_traces.proofs.OfTraceCase.{trace_case_rows}
+use Rattle.ppm_trace_command.specs.CaseTraceRows.{TraceCaseSays}
+use Rattle.ppm_trace_command.specs.TraceRows.{TraceSays}
+use Rattle.ppm_trace_command.proofs.OfTrace.{trace_rows}
+use Rattle.ppm_trace_command.proofs.OfTraceCase.{trace_case_rows}
 use Rattle.ppm_top.specs.Causes.{CommandMay, CommandTells, IsAnswered}
 use Rattle.ppm_top.specs.Laws.{ProgramLaws}
 use Rattle.ppm_top.specs.Rows.{TracesByWords, TracesCaseByWords}

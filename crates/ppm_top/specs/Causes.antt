@@ -16,21 +16,21 @@ use Rattle.ppm_commands.specs.Depth.{DepthMay}
 use Rattle.ppm_commands.specs.Races.{RacesMay}
 use Rattle.ppm_commands.specs.Serial.{SerialMay}
 use Rattle.ppm_commands.specs.Show.{ShowMay}
-use Rattle.ppm_replays.specs.CaseReplays.{ReplayCaseMay}
+use Rattle.ppm_replay_command.specs.CaseReplays.{ReplayCaseMay}
 use Rattle.ppm_driver.specs.CaseRuns.{RunCaseMay, RunCaseTells}
-use Rattle.ppm_stops.specs.CaseStops.{StopCaseMay}
-use Rattle.ppm_sweeps.specs.CaseSweeps.{SweepCaseMay}
-use Rattle.ppm_traces.specs.CaseTraces.{TraceCaseMay}
-use Rattle.ppm_replays.specs.CountedCases.{CountedCaseMay}
-use Rattle.ppm_replays.specs.CountedReplays.{CountedMay}
+use Rattle.ppm_stop_command.specs.CaseStops.{StopCaseMay}
+use Rattle.ppm_sweep_command.specs.CaseSweeps.{SweepCaseMay}
+use Rattle.ppm_trace_command.specs.CaseTraces.{TraceCaseMay}
+use Rattle.ppm_replay_command.specs.CountedCases.{CountedCaseMay}
+use Rattle.ppm_replay_command.specs.CountedReplays.{CountedMay}
 use Rattle.ppm_driver.specs.Examples.{ExampleMay, ExampleTells}
 use Rattle.ppm_driver.specs.RamRuns.{RamMay, RamTells}
 use Rattle.ppm_outcomes.specs.Replays.{ReplayMay}
 use Rattle.ppm_outcomes.specs.Resumes.{ResumeMay, ResumeTells}
 use Rattle.ppm_outcomes.specs.Runs.{RunMay, RunTells}
 use Rattle.ppm_outcomes.specs.Stops.{StopMay}
-use Rattle.ppm_sweeps.specs.Sweeps.{SweepMay}
-use Rattle.ppm_traces.specs.Traces.{TraceMay}
+use Rattle.ppm_sweep_command.specs.Sweeps.{SweepMay}
+use Rattle.ppm_trace_command.specs.Traces.{TraceMay}
 use Rattle.ppm_legs.specs.SavedReplays.{ReplayMay as ReplaySavedMay}
 use Rattle.ppm_legs.specs.SavedStops.{StopMay as StopSavedMay}
 use Rattle.ppm_legs.specs.SavedTraces.{TraceMay as TraceSavedMay}

@@ -10,17 +10,17 @@ use Rattle.ppm_commands.specs.Depth.{HaveOneAnswer as DepthRunsHaveOneAnswer}
 use Rattle.ppm_commands.specs.Races.{HaveOneAnswer as CasesHaveOneAnswer}
 use Rattle.ppm_commands.specs.Serial.{HaveOneAnswer as OutcomesHaveOneAnswer}
 use Rattle.ppm_commands.specs.Show.{HaveOneAnswer as SavedTextsHaveOneAnswer}
-use Rattle.ppm_replays.specs.CaseReplays.{HaveOneCaseAnswer}
+use Rattle.ppm_replay_command.specs.CaseReplays.{HaveOneCaseAnswer}
 use Rattle.ppm_driver.specs.CaseRuns.{CaseAnswersAreOne, CaseFrontsDecide}
-use Rattle.ppm_stops.specs.CaseStops.{HaveOneStopAnswer}
-use Rattle.ppm_sweeps.specs.CaseSweeps.{HaveOneCaseAnswer as SweptCasesHaveOneAnswer}
-use Rattle.ppm_traces.specs.CaseTraces.{HaveOneTraceAnswer}
+use Rattle.ppm_stop_command.specs.CaseStops.{HaveOneStopAnswer}
+use Rattle.ppm_sweep_command.specs.CaseSweeps.{HaveOneCaseAnswer as SweptCasesHaveOneAnswer}
+use Rattle.ppm_trace_command.specs.CaseTraces.{HaveOneTraceAnswer}
 use Rattle.ppm_outcomes.specs.CodeReplays.{ReplaysAreAsCode}
 use Rattle.ppm_outcomes.specs.CodeResumes.{StopsOfCodeLeaveStates}
 use Rattle.ppm_driver.specs.CodeRuns.{AnswersAreAsCode}
 use Rattle.ppm_outcomes.specs.Completeness.{RunsComplete}
-use Rattle.ppm_replays.specs.CountedCases.{HaveOneCountedAnswer}
-use Rattle.ppm_replays.specs.CountedReplays.{HaveOneAnswer as CountedReplaysHaveOneAnswer}
+use Rattle.ppm_replay_command.specs.CountedCases.{HaveOneCountedAnswer}
+use Rattle.ppm_replay_command.specs.CountedReplays.{HaveOneAnswer as CountedReplaysHaveOneAnswer}
 use Rattle.ppm_driver.specs.Examples.{ExamplesSumUp}
 use Rattle.ppm_outcomes.specs.Meant.{RunsAreAsPrograms}
 use Rattle.ppm_outcomes.specs.ProgramsAsCode.{ProgramsAreAsCode}
@@ -31,14 +31,14 @@ use Rattle.ppm_outcomes.specs.ResumeLaws.{ResumeLaws}
 use Rattle.ppm_outcomes.specs.Resumes.{StopsLeaveStates}
 use Rattle.ppm_outcomes.specs.Runs.{AnswersAreOne, FrontsDecideAnswers}
 use Rattle.ppm_outcomes.specs.Stops.{HaveOneAnswer as StopsHaveOneAnswer}
-use Rattle.ppm_sweeps.specs.SweepRows.{SweepsAreAsCode}
-use Rattle.ppm_sweeps.specs.Sweeps.{HaveOneAnswer as SweepsHaveOneAnswer}
-use Rattle.ppm_traces.specs.Traces.{HaveOneAnswer as TracesHaveOneAnswer}
+use Rattle.ppm_sweep_command.specs.SweepRows.{SweepsAreAsCode}
+use Rattle.ppm_sweep_command.specs.Sweeps.{HaveOneAnswer as SweepsHaveOneAnswer}
+use Rattle.ppm_trace_command.specs.Traces.{HaveOneAnswer as TracesHaveOneAnswer}
 use Rattle.ppm_legs.specs.Chains.{StopsGoOnChains}
 use Rattle.ppm_legs.specs.SavedReplays.{HaveOneAnswer as SavedReplaysHaveOneAnswer}
 use Rattle.ppm_legs.specs.SavedStops.{HaveOneAnswer as SavedStopsHaveOneAnswer}
 use Rattle.ppm_legs.specs.SavedTraces.{HaveOneAnswer as SavedTracesHaveOneAnswer}
-use Rattle.ppm_replays.specs.ReplayLaws.{CaseReplaysComplete, ReplaysComplete, UnfinishedNeedMore, UnfinishedProgramsNeedMore}
+use Rattle.ppm_replay_command.specs.ReplayLaws.{CaseReplaysComplete, ReplaysComplete, UnfinishedNeedMore, UnfinishedProgramsNeedMore}
 
 -- what the crates of the commands show of every text
 pub record ProgramLaws : Type 0 where

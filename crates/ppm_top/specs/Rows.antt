@@ -32,26 +32,26 @@ use Rattle.ppm_commands.specs.Depth.{DepthRows}
 use Rattle.ppm_commands.specs.Races.{RacesRows}
 use Rattle.ppm_commands.specs.Serial.{SerialRows}
 use Rattle.ppm_loading.specs.MachineRows.{RefusesPlan}
-use Rattle.ppm_replays.specs.CaseReplayRows.{ReplayCaseRows}
+use Rattle.ppm_replay_command.specs.CaseReplayRows.{ReplayCaseRows}
 use Rattle.ppm_driver.specs.CaseRows.{RunCaseRows}
-use Rattle.ppm_sweeps.specs.CaseSweepRows.{SweepCaseRows}
-use Rattle.ppm_traces.specs.CaseTraceRows.{TraceCaseRows}
-use Rattle.ppm_replays.specs.CountedCaseRows.{CountedCaseRows}
-use Rattle.ppm_replays.specs.CountedReplayRows.{CountedRows}
+use Rattle.ppm_sweep_command.specs.CaseSweepRows.{SweepCaseRows}
+use Rattle.ppm_trace_command.specs.CaseTraceRows.{TraceCaseRows}
+use Rattle.ppm_replay_command.specs.CountedCaseRows.{CountedCaseRows}
+use Rattle.ppm_replay_command.specs.CountedReplayRows.{CountedRows}
 use Rattle.ppm_driver.specs.ExampleRows.{ExampleRows}
 use Rattle.ppm_driver.specs.RamRows.{RamRows}
-use Rattle.ppm_replays.specs.ReplayRows.{ReplayRows}
-use Rattle.ppm_replays.specs.CompleteReplays.{CaseReplayEnds, CountedCaseReplayEnds, CountedReplayEnds, ReplayEnds}
-use Rattle.ppm_stops.specs.ResumeRows.{ResumeRows, RefusesPlan as RefusesResumed}
+use Rattle.ppm_replay_command.specs.ReplayRows.{ReplayRows}
+use Rattle.ppm_replay_command.specs.CompleteReplays.{CaseReplayEnds, CountedCaseReplayEnds, CountedReplayEnds, ReplayEnds}
+use Rattle.ppm_stop_command.specs.ResumeRows.{ResumeRows, RefusesPlan as RefusesResumed}
 use Rattle.ppm_outcomes.specs.Resumes.{IsTextLeftBy}
 use Rattle.ppm_loading.specs.Telling.{MayBeRun}
 use Rattle.ppm_outcomes.specs.Strikes.{scheduled_faults}
 use Rattle.ppm_driver.specs.RunRows.{RunRows}
-use Rattle.ppm_stops.specs.CaseStopRows.{HasRead as HasCaseRead, StopCaseRows}
+use Rattle.ppm_stop_command.specs.CaseStopRows.{HasRead as HasCaseRead, StopCaseRows}
 use Rattle.ppm_outcomes.specs.CodeResumes.{IsTextLeftByCode}
-use Rattle.ppm_stops.specs.StopRows.{HasRead, StopRows}
-use Rattle.ppm_sweeps.specs.SweepRows.{SweepRows}
-use Rattle.ppm_traces.specs.TraceRows.{TraceRows}
+use Rattle.ppm_stop_command.specs.StopRows.{HasRead, StopRows}
+use Rattle.ppm_sweep_command.specs.SweepRows.{SweepRows}
+use Rattle.ppm_trace_command.specs.TraceRows.{TraceRows}
 use Rattle.ppm_legs.specs.SavedReplayRows.{SavedReplayRows}
 use Rattle.ppm_legs.specs.SavedTexts.{RefusesSchedule}
 use Rattle.ppm_legs.specs.SavedStopRows.{SavedStopRows}

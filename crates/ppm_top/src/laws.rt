@@ -20,14 +20,14 @@ use ppm_legs::{
 use ppm_outcomes::{programs_are_as_code, replays_are_as_code, resume_laws, runs_are_as_programs};
 use ppm_plan::have_one_answer as plans_have_one_answer;
 use ppm_ram::texts_are_of_rams;
-use ppm_replays::{
+use ppm_replay_command::{
     case_replays_have_one_answer, counted_case_replays_have_one_answer,
     counted_replays_have_one_answer, replays_complete, replays_have_one_answer,
     replays_of_code_complete,
 };
-use ppm_stops::{case_stops_have_one_answer, stops_have_one_answer, stops_leave_states};
-use ppm_sweeps::{case_sweeps_have_one_answer, sweeps_are_as_code, sweeps_have_one_answer};
-use ppm_traces::{case_traces_have_one_answer, traces_have_one_answer};
+use ppm_stop_command::{case_stops_have_one_answer, stops_have_one_answer, stops_leave_states};
+use ppm_sweep_command::{case_sweeps_have_one_answer, sweeps_are_as_code, sweeps_have_one_answer};
+use ppm_trace_command::{case_traces_have_one_answer, traces_have_one_answer};
 
 /// What the crates of the commands show of every text: all laws on which the rows of `ppm` rest.
 pub fn program_laws()

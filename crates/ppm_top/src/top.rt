@@ -18,12 +18,12 @@ use ppm_driver::{ram_command, run_case_command, run_command, self_command};
 use ppm_explain::explain_command;
 use ppm_legs::{replay_saved_command, stop_saved_command, trace_saved_command};
 use ppm_ports::{Sink, Source, Watch};
-use ppm_replays::{
+use ppm_replay_command::{
     counted_replay_case_command, counted_replay_command, replay_case_command, replay_command,
 };
-use ppm_stops::{resume_command, stop_case_command, stop_command};
-use ppm_sweeps::{sweep_case_command, sweep_command};
-use ppm_traces::{trace_case_command, trace_command};
+use ppm_stop_command::{resume_command, stop_case_command, stop_command};
+use ppm_sweep_command::{sweep_case_command, sweep_command};
+use ppm_trace_command::{trace_case_command, trace_command};
 use ppm_words::NoMemory;
 use std::alloc::Global;
 use std::sync::Wait;

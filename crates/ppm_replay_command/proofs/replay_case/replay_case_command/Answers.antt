@@ -1,0 +1,17 @@
+use Rattle.ppm_case.specs.Rules.{case_limit}
+use Rattle.ppm_plan.specs.Forms.{schedule_form}
+use Rattle.ppm_replay_command.specs.CaseReplays.{TextHas}
+use Rattle.ppm_loading.proofs.PlannedLemmas.{planned_done}
+use Rattle.ppm_replay_command.proofs.OfReplayCase.{replay_case_rows}
+use Rattle.ppm_replay_command.proofs.replay_case.replay_case_command.Goals as goal
+
+-- the answer was delivered, or out of memory in its place, and the rows follow from it
+pub returns : goal.returns
+returns g c = record {
+  delivers = planned_done schedule_form c.args.schedule.now c.args.options.processors (TextHas c.args.options) case_limit
+      c.have_one_answer.ensures.law.schedules _ _ _ c.read_answer-answer.ensures c.deliver.ensures;
+  rows = replay_case_rows c.replays_are_as_code.ensures.law c.args.options c.requires.options c.args.schedule.now _ _
+      (planned_done schedule_form c.args.schedule.now c.args.options.processors (TextHas c.args.options) case_limit
+      c.have_one_answer.ensures.law.schedules _ _ _ c.read_answer-answer.ensures c.deliver.ensures)
+      c.have_one_answer.ensures.law c.case_replays_have_one_answer.ensures.law;
+}

@@ -1,0 +1,80 @@
+//! The command `replay` of a case where what is counted in its run is told.
+ghost use Rattle.std.specs.Prelude.{◌≡◌, IfOk};
+ghost use Rattle.ppm_ports.specs.Ports.{port};
+ghost use Rattle.ppm_ports.specs.Outside.{ports};
+ghost use Rattle.ppm_cli.specs.Words.{AreReplayed};
+ghost use Rattle.ppm_replay_command.specs.CountedCases.{CountedCaseMay};
+ghost use Rattle.ppm_replay_command.specs.CountedCaseRows.{IsCountedCaseReplay};
+ghost use Rattle.ppm_replay_command.specs.CountedReplays.{CodeHas};
+
+use crate::counted::counted_code;
+use crate::one_counted::counted_case_replays_have_one_answer;
+use ppm_answers::{Answer, Status, deliver};
+use ppm_case::Case;
+use ppm_cli::ReplayOptions;
+use ppm_orders::read_task;
+use ppm_outcomes::replays_are_as_code;
+use ppm_plan::{Schedule, have_one_answer as schedules_have_one_answer};
+use ppm_ports::{Sink, Source};
+use ppm_words::NoMemory;
+use std::alloc::Global;
+
+/// Replays the case that is read, sound or not, on a machine whose processors act as the schedule
+/// says, with at most so many acts: its arrays or its trap, how many forks and takes there were, and
+/// what was counted in the run, are written on `out`; why there are no arrays, and what was counted,
+/// on `err`. Where the schedule is refused, the source is left unread.
+pub fn counted_replay_case_command<S: Source, K: Sink, E: Sink>(
+    alloc: Global,
+    options: ReplayOptions,
+    schedule: &[u8],
+    source: &mut S,
+    out: &mut K,
+    err: &mut E,
+) -> Status
+    requires options { AreReplayed options }
+
+    // An answer that the command's causes allow is delivered, and its rows hold.
+    ensures { IsCountedCaseReplay options schedule.now (ports (port S.left S.fault_count source.old source.new)
+        (port K.written K.fault_count out.old out.new) (port E.written E.fault_count err.old err.new)) result }
+{
+    // The rows rest on these laws; the calls do nothing.
+    counted_case_replays_have_one_answer();
+    schedules_have_one_answer();
+    replays_are_as_code();
+    let answer = read_answer(alloc, options, schedule, source);
+    deliver(alloc, &answer, out, err)
+}
+
+/// The answer of such a `replay` of a case: the schedule is read first, and then the source.
+fn read_answer<S: Source>(
+    alloc: Global,
+    options: ReplayOptions,
+    schedule: &[u8],
+    source: &mut S,
+) -> Answer
+    requires options { AreReplayed options }
+    ensures { CountedCaseMay options schedule.now (port S.left S.fault_count source.old source.new) result }
+{
+    match read_task(alloc, schedule, options.processors, source) {
+        Ok((schedule, case)) => match counted_case(alloc, options, &schedule, case) {
+            Ok(answer) => answer,
+            Err(NoMemory) => Answer::NoMemory,
+        },
+        Err(answer) => answer,
+    }
+}
+
+/// What the replay of a case comes to, and what is counted in it.
+fn counted_case(
+    alloc: Global,
+    options: ReplayOptions,
+    schedule: &Schedule,
+    case: Case,
+) -> Result<Answer, NoMemory>
+    requires options { AreReplayed options }
+    requires processors { schedule.now.processors ≡ options.processors }
+    ensures { IfOk result (CodeHas options schedule.now.items case.code case.input) }
+{
+    let Case { code, input, .. } = case;
+    counted_code(alloc, options, schedule, code, &input)
+}

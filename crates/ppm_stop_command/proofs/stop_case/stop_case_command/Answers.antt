@@ -1,0 +1,17 @@
+use Rattle.ppm_case.specs.Rules.{case_limit}
+use Rattle.ppm_plan.specs.Forms.{schedule_form}
+use Rattle.ppm_loading.proofs.PlannedLemmas.{planned_done}
+use Rattle.ppm_stop_command.specs.CaseStops.{TextReads}
+use Rattle.ppm_stop_command.proofs.OfStopCase.{stop_case_rows}
+use Rattle.ppm_stop_command.proofs.stop_case.stop_case_command.Goals as goal
+
+-- the answer was delivered, or out of memory in its place, and the rows follow from it
+pub returns : goal.returns
+returns g c = record {
+  delivers = planned_done schedule_form c.args.schedule.now c.args.options.processors (TextReads c.args.options) case_limit
+      c.have_one_answer.ensures.law.schedules _ _ _ c.read_answer-answer.ensures c.deliver.ensures;
+  rows = stop_case_rows c.args.options c.args.schedule.now _ _
+      (planned_done schedule_form c.args.schedule.now c.args.options.processors (TextReads c.args.options) case_limit
+      c.have_one_answer.ensures.law.schedules _ _ _ c.read_answer-answer.ensures c.deliver.ensures)
+      c.have_one_answer.ensures.law c.case_stops_have_one_answer.ensures.law;
+}

@@ -1,0 +1,24 @@
+use Rattle.ppm_plan.specs.Forms.{schedule_form}
+use Rattle.ppm_sweep_command.specs.Sweeps.{CodeHas}
+use Rattle.ppm_sweep_command.proofs.OneSweep.{case_kinds, of_code}
+use Rattle.ppm_orders.proofs.OrdersLemmas.{no_case_task, case_has, case_wants}
+use Rattle.ppm_sweep_command.proofs.sweep_case.read_answer.Goals as goal
+
+-- what is said of the case, by the schedule's items
+pub returns-in-Ok-swept_case : goal.returns-in-Ok-swept_case
+returns-in-Ok-swept_case g c =
+    case_has schedule_form c.args.schedule.now c.args.options.processors (CodeHas c.args.options) case_kinds (of_code c.args.options)
+    c.read_task.ensures.one c.in-Ok.schedule.items c.in-Ok.ensures.accepted _ c.in-Ok.ensures.said.0 c.in-Ok.ensures.said.1 c.in-Ok.case.code
+    c.in-Ok.case.input c.in-Ok.ensures.said.2 c.in-Ok-swept_case.answer c.in-Ok-swept_case.ensures
+
+-- memory was wanting in it
+pub returns-in-Ok : goal.returns-in-Ok
+returns-in-Ok g c =
+    case_wants schedule_form c.args.schedule.now c.args.options.processors (CodeHas c.args.options) case_kinds (of_code c.args.options)
+    c.read_task.ensures.one c.in-Ok.schedule.items c.in-Ok.ensures.accepted _ c.in-Ok.ensures.said.0 c.in-Ok.ensures.said.1 c.in-Ok.case.code
+    c.in-Ok.case.input c.in-Ok.ensures.said.2
+
+-- nothing was run
+pub returns : goal.returns
+returns g c =
+    no_case_task schedule_form c.args.schedule.now c.args.options.processors (CodeHas c.args.options) _ c.in-Err.answer c.in-Err.ensures.none
