@@ -2,11 +2,10 @@
 use Rattle.std.specs.Prelude.{◌≤◌, ◌*◌, ℕ, Bool, true, false, List, [], ◌∷◌, Option, Some, None, codes, if◌then◌else◌, option_and_then, option_map, ⊤}
 use Rattle.std.specs.Str.{bytes_eq}
 use Rattle.clap.specs.Words.{Kinds, Row, Text, fault_of, subcommand_of}
-use Rattle.ppm_cells.specs.Limits.{most_pool_words}
+use Rattle.ppm_cells.specs.Limits.{most_pool_words, most_saved_pool_words}
 use Rattle.ppm_cli.specs.Application.{ppm_application}
 use Rattle.ppm_cli.specs.CommandLine.{Form, Number, OptionRule}
 use Rattle.ppm_cli.specs.CommandLine.{processors, turns, room, slots, looks, seed, faults, schedule}
-use Rattle.ppm_cli.specs.CommandLine.{most_saved_pool_words}
 use Rattle.ppm_cli.specs.CommandLine.{few_processors, after, saved_room, few_slots, size, count, capsules, arrays}
 use Rattle.ppm_cli.specs.CommandLine.{copied_room, copied_slots, met, from, acts, runs}
 use Rattle.ppm_cli.specs.CommandLine.{traced_from, traced_acts}
