@@ -27,6 +27,7 @@ use ppm_runs::{
     work_is_bounded, work_over_legs,
 };
 use ppm_slots::{frames_stay_trim, writes_are_slots};
+use ppm_takeover::{looks_are_short, nothing_is_lost, work_turns_come_soon_by_places};
 use ppm_tickets::{
     entries_change_lawfully, heirs_follow, heirs_see, images_open, in_every_run,
     in_every_run_by_entries, places_stay_home, resumes, turns_follow,
@@ -160,6 +161,13 @@ fn the_laws_of_progress_are_called() {
     single_facts_allow_stuck_pieces();
     runs_end_fairly();
     replays_end();
+}
+
+#[test]
+fn the_laws_of_takeover_are_called() {
+    nothing_is_lost();
+    work_turns_come_soon_by_places();
+    looks_are_short();
 }
 
 #[test]
