@@ -27,6 +27,7 @@ use Rattle.ppm_core.specs.Situation.{Situation}
 use Rattle.ppm_plan.specs.Forms.{schedule_form, act_outside}
 use Rattle.ppm_plan.specs.Items.{WritesScheduleItem, Once, Times}
 use Rattle.ppm_plan.specs.Refusals.{first_at, IsAccepted}
+use Rattle.ppm_plan.proofs.AmongLemmas.{act_among}
 use Rattle.ppm_plan.specs.Schedules.{IsItemAmong, MayBeDone}
 use Rattle.ppm_plan.specs.Spellings.{TextsReadAsWritten, WritesAll, WritesInTurn, Last, More}
 use Rattle.ppm_plan.specs.declared.schedule_item.ScheduledAct.TheVariants.{Step, Fails}
