@@ -76,9 +76,9 @@ module _ (s : Shape) (code : CodeParts) (words : List ℕ) (act : Act) (x : Stan
   stays_home (Nothing e) = subst (λ (l : List ℕ). AreAtHome (view s l)) (sym e) home
   stays_home (Aside cell n is aside e) = elsewhere cell n is (λ q z. subst IsAside (sym z) aside) (λ q z. subst IsAside (sym z) aside) e
   stays_home (Notes p n is at e) = elsewhere (MessageWord p) n is (λ q z. cc) (λ q z. cc) e
-  stays_home (Carries c p is e) = elsewhere (CarryWord c) p is (λ q z. cc) (λ q z. cc) e
+  stays_home (Carries c p is moves e) = elsewhere (CarryWord c) p is (λ q z. cc) (λ q z. cc) e
   stays_home (Dies c is hard e) = absurd (not_hard act none hard)
-  stays_home (Holds seat v old new is kind raises was e) = absurd (no_bid seat v old new is kind raises was)
+  stays_home (Holds seat v old new next at is kind raises was e) = absurd (no_bid seat v old new is kind raises was)
   stays_home (Restarts p re is here gives e) = elsewhere (RestartWord p) _ is (λ q z. cc) (λ q z. cc) e
   stays_home (Changed v i old new is fits law was e) = elsewhere (EntryWord v i) _ is (λ q z. cc) (λ q z. cc) e
 

@@ -87,9 +87,9 @@ module _ (s : Shape) (code : CodeParts) (words : List ℕ) (act : Act) (x : Stan
   taken_same (Nothing e) = ap (λ (l : List ℕ). view s l (Slot v i)) e
   taken_same (Aside cell n there aside e) = unwritten cell n there (λ z. subst IsAside (sym z) aside) e
   taken_same (Notes p n there at e) = unwritten (MessageWord p) n there (λ z. cc) e
-  taken_same (Carries c p there e) = unwritten (CarryWord c) p there (λ z. cc) e
+  taken_same (Carries c p there moves e) = unwritten (CarryWord c) p there (λ z. cc) e
   taken_same (Dies c there hard e) = unwritten (DeadWord c) 1 there (λ z. cc) e
-  taken_same (Holds seat p old new there kind raises was e) = unwritten (HolderWord p) _ there (λ z. cc) e
+  taken_same (Holds seat p old new next at there kind raises was e) = unwritten (HolderWord p) _ there (λ z. cc) e
   taken_same (Restarts p re there here gives e) = unwritten (RestartWord p) _ there (λ z. cc) e
   taken_same (Changed p j old new cell fits law was e) = changed_kept p j old new cell fits law was e
 

@@ -48,8 +48,8 @@ module _ (s : Shape) (code : CodeParts) (words : List ℕ) (fit : AreWordsOf s w
   restart_goes_on now (Nothing e) w = inl (ap (λ (l : List ℕ). restart_at s l w) e)
   restart_goes_on now (Aside cell n is aside e) w = elsewhere now w cell n is (λ z. subst IsAside (sym z) aside) e
   restart_goes_on now (Notes p n is at e) w = elsewhere now w (MessageWord p) n is (λ z. cc) e
-  restart_goes_on now (Carries c p is e) w = elsewhere now w (CarryWord c) p is (λ z. cc) e
+  restart_goes_on now (Carries c p is moves e) w = elsewhere now w (CarryWord c) p is (λ z. cc) e
   restart_goes_on now (Dies c is hard e) w = elsewhere now w (DeadWord c) 1 is (λ z. cc) e
-  restart_goes_on now (Holds seat v old new is kind raises was e) w = elsewhere now w (HolderWord v) _ is (λ z. cc) e
+  restart_goes_on now (Holds seat v old new next at is kind raises was e) w = elsewhere now w (HolderWord v) _ is (λ z. cc) e
   restart_goes_on now (Restarts p re is here gives e) w = given now w p re is here gives e
   restart_goes_on now (Changed v i old new is fits law was e) w = elsewhere now w (EntryWord v i) _ is (λ z. cc) e

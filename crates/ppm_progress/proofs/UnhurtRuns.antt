@@ -80,7 +80,7 @@ module _ (s : Shape) (code : CodeParts) (fair : IsFair code) (root : Tree (Frame
       (takes_of state turn ++ tk) next.0 more among.1 none.1 next.1
 
 -- nobody is done while the finish word is 0
-done_is : (x : Standing) → is_done_at x ≡ true → x ≡ IsDone
+pub done_is : (x : Standing) → is_done_at x ≡ true → x ≡ IsDone
 done_is IsDone e = refl
 done_is IsLost e = absurd (cc)
 done_is (IsPlaced p) e = absurd (cc)

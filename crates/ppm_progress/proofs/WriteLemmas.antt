@@ -83,6 +83,11 @@ Gives (Step v) (IsWithin seat (Now (Begin r f b))) p x = (seat.place ≡ p) × (
 Gives (Step v) (IsRunning seat (Installs kind)) p x = (seat.place ≡ p) × (record { kind = kind; bottom = seat.restart.bottom } ≡ x)
 Gives act standing p x = ⊥
 
+-- an act of a processor that stands so moves processor c to this place
+abbrev pub MovesTo : Act → Standing → (c place : ℕ) → Type 0
+MovesTo (Step v) (IsWithin seat (Now (Move q))) c p = (seat.own ≡ c) × (q ≡ p)
+MovesTo act standing c p = ⊥
+
 -- who stands so stores in a row of this place
 abbrev pub StoresAt : Standing → (place : ℕ) → Type 0
 StoresAt (IsWithin seat (Store cell content next)) p = seat.place ≡ p
@@ -94,10 +99,11 @@ module _ (s : Shape) (code : CodeParts) (words : List ℕ) where
     Nothing : now ≡ words → Wrote act x now
     Aside : (cell : Cell) (w : ℕ) → IsCell s cell → IsAside cell → now ≡ store s words cell w → Wrote act x now
     Notes : (p n : ℕ) → p < s.processors → StoresAt x p → now ≡ store s words (MessageWord p) n → Wrote act x now
-    Carries : (c p : ℕ) → c < s.processors → now ≡ store s words (CarryWord c) p → Wrote act x now
+    Carries : (c p : ℕ) → c < s.processors → MovesTo act x c p → now ≡ store s words (CarryWord c) p → Wrote act x now
     Dies : (c : ℕ) → c < s.processors → act ≡ Hard → now ≡ store s words (DeadWord c) 1 → Wrote act x now
-    Holds : (seat : Seat) (v : ℕ) (old new : Content) → v < s.processors → spots.kinds s words seat.place ≡ seat.restart.kind
-        → RaisesHolder s code (spots.view s words) seat v old new → read s words (HolderWord v) ≡ word_of old
+    Holds : (seat : Seat) (v : ℕ) (old new : Content) (next : Then) → x ≡ IsWithin seat (Exchange (HolderWord v) old new next) → v < s.processors
+        → spots.kinds s words seat.place ≡ seat.restart.kind → RaisesHolder s code (spots.view s words) seat v old new
+        → read s words (HolderWord v) ≡ word_of old
         → now ≡ store s words (HolderWord v) (word_of new) → Wrote act x now
     Restarts : (p : ℕ) (re : Restart) → p < s.processors → restart_is_there s re ≡ true → Gives act x p re
         → now ≡ store s words (RestartWord p) (restart_word re) → Wrote act x now
@@ -154,29 +160,31 @@ module _ (s : Shape) (code : CodeParts) (fair : IsFair code) (root : Tree (Frame
     changed x p i _ _ is may e = absurd may
 
     -- a cell that a row exchanges
-    exchanged : (x : Standing) (cell : Cell) (old new : Content) → IsCell s cell → spots.kinds s ws seat.place ≡ seat.restart.kind
+    exchanged : (cell : Cell) (old new : Content) (next : Then) → IsCell s cell → spots.kinds s ws seat.place ≡ seat.restart.kind
         → MayChange s.takeover cell old new → IsNoRestart cell → IsNoCarry cell → Bids s code m seat cell old new
-        → NoNote cell old new → read s ws cell ≡ word_of old → W (Step v) x (store s ws cell (word_of new))
-    exchanged x (EntryWord p i) old new is kind may none a d n e = changed x p i old new is may e
-    exchanged x (HolderWord p) old new is kind may none a d n e = Holds seat p old new is kind d e refl
-    exchanged x (RestartWord p) old new is kind may none a d n e = absurd none
-    exchanged x (CarryWord p) old new is kind may none a d n e = absurd a
-    exchanged x (DeadWord p) old new is kind may none a d n e = absurd d
-    exchanged x FinishWord old new is kind may none a d n e = Aside FinishWord (word_of new) is tt refl
-    exchanged x (MessageWord p) old new is kind may none a d n e = absurd n
-    exchanged x (Top p) old new is kind may none a d n e = Aside (Top p) (word_of new) is tt refl
-    exchanged x (RoomCounter p) old new is kind may none a d n e = Aside (RoomCounter p) (word_of new) is tt refl
-    exchanged x (BlockWord i) old new is kind may none a d n e = Aside (BlockWord i) (word_of new) is tt refl
-    exchanged x (ArrayWord i) old new is kind may none a d n e = Aside (ArrayWord i) (word_of new) is tt refl
+        → NoNote cell old new → read s ws cell ≡ word_of old
+        → W (Step v) (IsWithin seat (Exchange cell old new next)) (store s ws cell (word_of new))
+    exchanged (EntryWord p i) old new next is kind may none a d n e =
+        changed (IsWithin seat (Exchange (EntryWord p i) old new next)) p i old new is may e
+    exchanged (HolderWord p) old new next is kind may none a d n e = Holds seat p old new next refl is kind d e refl
+    exchanged (RestartWord p) old new next is kind may none a d n e = absurd none
+    exchanged (CarryWord p) old new next is kind may none a d n e = absurd a
+    exchanged (DeadWord p) old new next is kind may none a d n e = absurd d
+    exchanged FinishWord old new next is kind may none a d n e = Aside FinishWord (word_of new) is tt refl
+    exchanged (MessageWord p) old new next is kind may none a d n e = absurd n
+    exchanged (Top p) old new next is kind may none a d n e = Aside (Top p) (word_of new) is tt refl
+    exchanged (RoomCounter p) old new next is kind may none a d n e = Aside (RoomCounter p) (word_of new) is tt refl
+    exchanged (BlockWord i) old new next is kind may none a d n e = Aside (BlockWord i) (word_of new) is tt refl
+    exchanged (ArrayWord i) old new next is kind may none a d n e = Aside (ArrayWord i) (word_of new) is tt refl
 
     -- what an exchange writes where the word that it expects is there
-    tried : (x : Standing) (cell : Cell) (old new : Content) (next : Then) → stand_of state c ≡ IsWithin seat (Exchange cell old new next)
+    tried : (cell : Cell) (old new : Content) (next : Then) → stand_of state c ≡ IsWithin seat (Exchange cell old new next)
         → In (Exchange cell old new next) → (made : Bool) → (read s ws cell == word_of old) ≡ made
-        → W (Step v) x (if made then store s ws cell (word_of new) else ws)
-    tried x cell old new next e w false q = Nothing refl
-    tried x cell old new next e w true q =
+        → W (Step v) (IsWithin seat (Exchange cell old new next)) (if made then store s ws cell (word_of new) else ws)
+    tried cell old new next e w false q = Nothing refl
+    tried cell old new next e w true q =
         let bids = row_bids s code m (spots.kinds s ws) (spots.bottoms s ws) seat w.sits.there (Exchange cell old new next) w.seen in
-        exchanged x cell old new (cell_there s code cell w.here (is_cell cell (Exchange cell old new next) e)) w.sits.at.kind
+        exchanged cell old new next (cell_there s code cell w.here (is_cell cell (Exchange cell old new next) e)) w.sits.at.kind
         (changes s code root input state h forked taken l t run c seat cell old new next w)
         (exchanges_no_restart s code root input state h forked taken l t run c seat cell old new next w)
         (exchanges_no_carry s code root input state h forked taken l t run c seat cell old new next w) bids
@@ -190,7 +198,7 @@ module _ (s : Shape) (code : CodeParts) (fair : IsFair code) (root : Tree (Frame
     row_wrote (Now (Install re)) e w = Restarts seat.place re w.place w.here (refl, refl) refl
     row_wrote (Now (Fork r)) e w = Restarts seat.place (forked_restart seat r) w.place w.here (refl, refl) refl
     row_wrote (Now (Begin r f b)) e w = Restarts seat.place (begun f b) w.place w.here (refl, refl) refl
-    row_wrote (Now (Move p)) e w = Carries seat.own p (subst (λ (n : ℕ). n < s.processors) (sym w.sits.own) w.sits.carried.lives.there) refl
+    row_wrote (Now (Move p)) e w = Carries seat.own p (subst (λ (n : ℕ). n < s.processors) (sym w.sits.own) w.sits.carried.lives.there) (refl, refl) refl
     row_wrote (Store cell content next) e w =
         stored cell content next (cell_there s code cell w.here (is_cell cell (Store cell content next) e))
         (stores_no_restart s code root input state h forked taken l t run c seat cell content next w)
@@ -199,7 +207,7 @@ module _ (s : Shape) (code : CodeParts) (fair : IsFair code) (root : Tree (Frame
         (row_bids s code m (spots.kinds s ws) (spots.bottoms s ws) seat w.sits.there (Store cell content next) w.seen)
         (row_notes s seat w.place w.sits.there _ (Store cell content next) w.seen)
     row_wrote (Exchange cell old new next) e w =
-        tried (IsWithin seat (Exchange cell old new next)) cell old new next e w (read s ws cell == word_of old) refl
+        tried cell old new next e w (read s ws cell == word_of old) refl
 
     rest_wrote : (rest : Rest) → stand_of state c ≡ IsRunning seat rest → W (Step v) (IsRunning seat rest) (words_after ws (wanted_rest s seat rest))
     rest_wrote (Loads cell go) e = Nothing refl

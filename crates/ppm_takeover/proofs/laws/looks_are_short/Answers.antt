@@ -1,0 +1,5 @@
+use Rattle.ppm_takeover.proofs.LookRows.{looks_are_short}
+use Rattle.ppm_takeover.proofs.laws.looks_are_short.Goals as goal
+
+pub returns : goal.returns
+returns c = record { law = looks_are_short }

@@ -1,0 +1,3 @@
+pub mod Lost
+pub mod Short
+pub mod Soon
