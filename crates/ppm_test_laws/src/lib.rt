@@ -19,6 +19,8 @@ pub mod copies;
 #[cfg(test)]
 mod depth_tests;
 #[cfg(test)]
+mod progress_tests;
+#[cfg(test)]
 mod race_tests;
 pub mod races;
 pub mod sample;

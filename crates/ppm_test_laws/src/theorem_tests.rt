@@ -1,5 +1,4 @@
 //! The laws on where a run ends, and on its trace, are there to be called.
-use ppm_advance::{advancing_trees_are_ready, trees_advance};
 use ppm_ends::{
     beside_keeps_with_stores, capsules_show, ends_show, ends_split, fork_is_shown,
     long_capsules_may_begin_again, stores_are_unseen,
@@ -15,10 +14,6 @@ use ppm_kept::{
 };
 use ppm_listing::listings_tell_codes;
 use ppm_paces::{capsules_are_short, looks_are_free, rows_are_paid, rows_keep_pace};
-use ppm_progress::{
-    idle_deques_are_empty, left_comes_later, replays_end, runs_end_fairly,
-    single_facts_allow_stuck_pieces, somebody_works, something_is_ready, work_turns_come_soon,
-};
 use ppm_runs::{
     births_follow, heirs_lead, joints_stay, legs_come_to, nothing_breaks, nothing_breaks_over_legs,
     room_is_spent, room_over_legs, runners_are_counted, runs_are_orderly, runs_come_back,
@@ -27,7 +22,6 @@ use ppm_runs::{
     work_is_bounded, work_over_legs,
 };
 use ppm_slots::{frames_stay_trim, writes_are_slots};
-use ppm_takeover::{looks_are_short, nothing_is_lost, work_turns_come_soon_by_places};
 use ppm_tickets::{
     entries_change_lawfully, heirs_follow, heirs_see, images_open, in_every_run,
     in_every_run_by_entries, places_stay_home, resumes, turns_follow,
@@ -147,27 +141,6 @@ fn the_laws_of_runs_are_called() {
     what_is_left_ends_so();
     runners_are_counted();
     seekers_are_idle();
-}
-
-#[test]
-fn the_laws_of_progress_are_called() {
-    advancing_trees_are_ready();
-    trees_advance();
-    left_comes_later();
-    something_is_ready();
-    idle_deques_are_empty();
-    somebody_works();
-    work_turns_come_soon();
-    single_facts_allow_stuck_pieces();
-    runs_end_fairly();
-    replays_end();
-}
-
-#[test]
-fn the_laws_of_takeover_are_called() {
-    nothing_is_lost();
-    work_turns_come_soon_by_places();
-    looks_are_short();
 }
 
 #[test]
