@@ -9,7 +9,6 @@ use Rattle.std.proofs.lemmas.Bool.Decides.{eqb_tells}
 use Rattle.std.proofs.lemmas.List.{append_assoc}
 use Rattle.ppm_strands.specs.Tree.{Words, Tree}
 use Rattle.ppm_strands.specs.Calm.{Calm}
-use Rattle.ppm_strands.specs.Run.{End, Ends}
 use Rattle.ppm_words.specs.declared.named_array.NamedArray.{NamedArray}
 use Rattle.ppm_cells.specs.declared.restart.RestartKind.{RestartKind}
 use Rattle.ppm_cells.specs.declared.restart.RestartKind.TheVariants.{Seek}
@@ -25,7 +24,8 @@ use Rattle.ppm_layout.specs.declared.images.Image.{Image}
 use Rattle.ppm_step.specs.Among.{IsTurnAmong}
 use Rattle.ppm_step.specs.Laws.{reached, finish_at}
 use Rattle.ppm_step.specs.Standings.{Standing, IsWithin}
-use Rattle.ppm_step.specs.State.{State as RunState, stand_of, happens, after, along, opening, is_done_at, work_of, seeks_holder}
+use Rattle.ppm_step.proofs.FinishLemmas.{finish_stays}
+use Rattle.ppm_step.specs.State.{is_work, State as RunState, stand_of, happens, after, along, opening, is_done_at, work_of, seeks_holder}
 use Rattle.ppm_step.specs.declared.row.Point.TheVariants.{SeekHolder}
 use Rattle.ppm_step.specs.declared.row.Row.TheVariants.{Now}
 use Rattle.ppm_step.specs.declared.row.Seat.{Seat}
@@ -34,7 +34,7 @@ use Rattle.ppm_step.specs.declared.turn.Act.TheVariants.{Step}
 use Rattle.ppm_step.specs.declared.turn.Turn.{Turn}
 use Rattle.ppm_tickets.specs.Along.{homes, forked as forked_in, taken as taken_in}
 use Rattle.ppm_tickets.specs.Homes.{Home}
-use Rattle.ppm_tickets.specs.Lawful.{IsDead, Names, tag}
+use Rattle.ppm_tickets.specs.Lawful.{IsDead, Names, Steals, tag}
 use Rattle.ppm_tickets.specs.Saw.{Sees}
 use Rattle.ppm_tickets.specs.View as spots
 use Rattle.ppm_tickets.specs.View.{content_by}
@@ -43,29 +43,28 @@ use Rattle.ppm_frames.specs.Views.{view}
 use Rattle.ppm_frames.specs.Seen.{arrays_at}
 use Rattle.ppm_frames.specs.Skeletons.{Skeleton}
 use Rattle.ppm_kept.specs.Running.{IsFair, strands}
-use Rattle.ppm_runs.specs.Legs.{all_homes, all_forked, all_taken}
+use Rattle.ppm_runs.specs.Legs.{Leg, words_then, state_then, AreLegs, last_state, all_homes, all_forked, all_taken, work_then, all_work}
 use Rattle.ppm_runs.specs.Sound.{IsHolderWithin}
-use Rattle.ppm_runs.specs.Work.{work_in, undone_in}
+use Rattle.ppm_runs.specs.Work.{work_in}
 use Rattle.ppm_runs.proofs.HeirWork.{work_is_bounded}
 use Rattle.ppm_runs.proofs.HolderLemmas.{deads_most}
-use Rattle.ppm_runs.proofs.SeekLemmas.{seekers_are_idle}
+use Rattle.ppm_runs.proofs.LegWork.{work_over_legs}
+use Rattle.ppm_runs.proofs.SeekLemmas.{seekers_are_idle_over_legs}
 use Rattle.ppm_runs.proofs.StandLemmas.{kinds_same}
 use Rattle.ppm_runs.proofs.WholeLemmas.{in_two}
 use Rattle.ppm_progress.specs.Laps.{Portion, turns_in}
-use Rattle.ppm_progress.specs.Works.{Works}
-use Rattle.ppm_progress.proofs.LapLemmas.{IsSet, set_on, work, work_grows}
+use Rattle.ppm_progress.specs.Works.{IsAtWork, Works}
 use Rattle.ppm_progress.proofs.ListLemmas.{both, front, back, has_some, work_both}
 use Rattle.ppm_progress.proofs.MomentLemmas.{number_of, AreMoments, first_moment, IsOn, sees_at, own_here}
 use Rattle.ppm_progress.proofs.SoonLemmas.{next_is, set_stays}
-use Rattle.ppm_progress.proofs.WorkRuns.{workers_seek_not}
-use Rattle.ppm_takeover.specs.Laps.{LooksAt, TakesPart, IsLap, holder_tags, AreLaps, LapsHaveWorkOrTakeover, RunsEndByPlaces}
+use Rattle.ppm_takeover.specs.Laps.{LooksAt, TakesPart, IsLap, holder_tags, AreLaps, LapsHaveWorkOrTakeover, RunsEndByPlaces, LegsEndByPlaces}
 use Rattle.ppm_takeover.specs.Lost.{BidsFor, ComesTo, IsLeft}
 use Rattle.ppm_progress.proofs.ThiefLemmas.{works_from_place}
 use Rattle.ppm_progress.proofs.WriteLemmas.{MovesTo}
 use Rattle.ppm_takeover.proofs.BidSteps.{tag_rises, risen_stays, holder_or, dead_still, seek_step, bid_soon}
 use Rattle.ppm_takeover.proofs.ComeSteps.{comes_few, AreAllHeld, come_soon}
 use Rattle.ppm_takeover.proofs.SoonRuns.{tended_moments, tended_held}
-use Rattle.ppm_takeover.proofs.CarriedRuns.{IsTended, all_tended, tended_then, raised_by, nothing_is_lost}
+use Rattle.ppm_takeover.proofs.CarriedRuns.{IsTended, all_tended, tended_then, raised_by, nothing_is_lost_over_legs}
 
 -- tags of so many places
 tags_rise : (n : ℕ) (m k : Spot → Word) → ((v : ℕ) → v < n → tag (m (Holder v)) ≤ tag (k (Holder v))) → holder_tags n m ≤ holder_tags n k
@@ -269,12 +268,22 @@ module _ (s : Shape) (code : CodeParts) (places : s.takeover ≡ ByPlaces) (fair
               over (inl (risen_stays s code places fair root input ws c q lt p t d left.there small there (turn ∷ looks.rest) moments among_rest risen))
         ]
 
--- whole runs
+-- a place that seeks work is not at work
+seek_not_at_work : (m : Spot → Word) (p : ℕ) (k : RestartKind) → IsAtWork m p k → k ≡ Seek → ⊥
+seek_not_at_work m p k (inl work) seeks = true≢false (sym work ∙ ap is_work seeks)
+seek_not_at_work m p k (inr steals) seeks = subst (λ (x : RestartKind). Steals m p x steals.0) seeks steals.1
+
+-- products of numbers of legs and processors
 no_legs : (n : ℕ) → n * 0 ≡ 0
 no_legs n = grind arith
 
+one_leg : (n k : ℕ) → n * (k + 1) ≡ n * k + n
+one_leg n k = grind arith
+
+-- whole runs, after any legs
 module _ (code : CodeParts) (input : List NamedArray) (s : Shape) (keeper : ℕ) (im : Image) (places : s.takeover ≡ ByPlaces) (fair : IsFair code)
-    (opens : Opens code input s keeper im) (calm : Calm (strands s code) (root_strand code input) (arrays_at (view s im.words))) where
+    (opens : Opens code input s keeper im) (calm : Calm (strands s code) (root_strand code input) (arrays_at (view s im.words)))
+    (legs : List Leg) (are_legs : AreLegs s code im.words legs) (fewer : (s.processors + 1) * (length legs + 1) < 2 ^ 58) where
   abbrev root : Tree (Frame FrameWord Point) Result
   root = root_strand code input
 
@@ -284,33 +293,39 @@ module _ (code : CodeParts) (input : List NamedArray) (s : Shape) (keeper : ℕ)
   abbrev Among : List Turn → Type 0
   Among turns = AllByRecursion (IsTurnAmong s.processors) turns
 
+  abbrev words : List ℕ
+  words = words_then s code im.words legs
+
   abbrev at : List Turn → RunState
-  at turns = reached s code im.words turns
+  at turns = last_state s code im.words legs turns
 
   abbrev Over : List Turn → Type 0
-  Over turns = IsSet code input s keeper im fair opens calm turns
+  Over turns = finish_at s (at turns) ≢ 0
+
+  set_on : (first more : List Turn) → Over first → Over (first ++ more)
+  set_on first more set unset = set (sym (finish_stays s code fair.code_is words first more set) ∙ unset)
 
   abbrev raised : ℕ
-  raised = raised_by code input s keeper im places fair opens calm []
-
-  raised_none : raised ≡ 0
-  raised_none = no_legs (s.processors + 1)
+  raised = raised_by code input s keeper im places fair opens calm legs
 
   few : raised + s.processors + 1 < 2 ^ 58
-  few = let none = raised_none in let most = s.within.processors_most in omega (arith, none, most)
+  few =
+      let is : raised ≡ (s.processors + 1) * length legs = refl in
+      let whole = one_leg (s.processors + 1) (length legs) in
+      omega (arith, is, whole, fewer)
 
   abbrev IsTendedAt : List Turn → Skeleton → Type 0
   IsTendedAt turns t =
-      IsTended s code places fair root arrays raised im.words (at turns) (all_homes s code im.words [] turns) (all_forked s code im.words [] turns)
-      (all_taken s code im.words [] turns) t
+      IsTended s code places fair root arrays raised words (at turns) (all_homes s code im.words legs turns) (all_forked s code im.words legs turns)
+      (all_taken s code im.words legs turns) t
 
   tended_at : (turns : List Turn) → Among turns → (t : Skeleton) × IsTendedAt turns t
-  tended_at turns among = tended_then code input s keeper im places fair opens calm [] tt turns among
+  tended_at turns among = tended_then code input s keeper im places fair opens calm legs are_legs turns among
 
   moments_at : (first more : List Turn) → Among first → Among more → AreMoments s code fair root arrays (at first) more
   moments_at first more a b =
       let now = tended_at first a in
-      tended_moments s code places fair root arrays raised im.words first (at first) refl _ _ _ now.0 now.1 more b
+      tended_moments s code places fair root arrays raised words first (at first) refl _ _ _ now.0 now.1 more b
 
   abbrev sum : List Turn → ℕ
   sum turns = holder_tags s.processors (spots.view s (at turns).words)
@@ -319,23 +334,23 @@ module _ (code : CodeParts) (input : List NamedArray) (s : Shape) (keeper : ℕ)
   tag_at turns v = tag (spots.view s (at turns).words (Holder v))
 
   held_all : (c q p : ℕ) (there : c < s.processors) (first more : List Turn) → Among first → Among more
-      → AreAllHeld s code fair root arrays im.words c q p there (at first) more
+      → AreAllHeld s code fair root arrays words c q p there (at first) more
   held_all c q p there first more a b =
       let now = tended_at first a in
-      tended_held s code places fair root arrays raised im.words c q p there first (at first) refl _ _ _ now.0 now.1 more b
+      tended_held s code places fair root arrays raised words c q p there first (at first) refl _ _ _ now.0 now.1 more b
 
   -- tags never sink
   tags_on : (z : RunState) (more : List Turn) → AreMoments s code fair root arrays z more → Among more → (v : ℕ)
       → tag (spots.view s z.words (Holder v)) ≤ tag (spots.view s (after s code z more).words (Holder v))
   tags_on z [] are all v = omega arith
   tags_on z (turn ∷ more) are all v =
-      let one = tag_rises s code places fair root arrays im.words 0 0 s.within.processors_least 0 0 0 s.within.processors_least (omega arith) z are.0 turn
+      let one = tag_rises s code places fair root arrays words 0 0 s.within.processors_least 0 0 0 s.within.processors_least (omega arith) z are.0 turn
       all.0.processor v in
       let rest = tags_on (happens s code z turn) more are.1 all.1 v in
       omega (arith, one, rest)
 
   abbrev next_of_all : (first more : List Turn) → at (first ++ more) ≡ after s code (at first) more
-  next_of_all first more = in_two s code (opening im.words s.processors) first more
+  next_of_all first more = in_two s code (opening words s.processors) first more
 
   tags_after : (first more : List Turn) → Among first → Among more → (v : ℕ) → tag_at first v ≤ tag_at (first ++ more) v
   tags_after first more a b v =
@@ -347,15 +362,14 @@ module _ (code : CodeParts) (input : List NamedArray) (s : Shape) (keeper : ℕ)
   sum_after first more a b =
       tags_rise s.processors (spots.view s (at first).words) (spots.view s (at (first ++ more)).words) (λ v lt. tags_after first more a b v)
 
-  sum_most : (turns : List Turn) → Among turns → sum turns ≤ s.processors * s.processors
+  sum_most : (turns : List Turn) → Among turns → sum turns ≤ s.processors * (raised + s.processors)
   sum_most turns among =
       let now = tended_at turns among in
-      tags_most s.processors s.processors (spots.view s (at turns).words) (λ v lt.
+      tags_most s.processors (raised + s.processors) (spots.view s (at turns).words) (λ v lt.
       let low = low_held s raised (spots.view s (at turns).words) (spots.view s (at turns).words (Holder v)) (now.1.low v lt) in
       let is = ap tag low.2 in
       let most = low.3 in
-      let none = raised_none in
-      omega (arith, is, most, none))
+      omega (arith, is, most))
 
   -- a lap
   abbrev Gains : (first lap : List Turn) → Type 0
@@ -368,8 +382,8 @@ module _ (code : CodeParts) (input : List NamedArray) (s : Shape) (keeper : ℕ)
 
   lap_gains : (first lap : List Turn) → Among first → Among lap → IsLap s code (at first) lap → Gains first lap
   lap_gains first lap a b is = elim (eqb_tells (finish_at s (at first)) 0) [
-    | inr set ↦ inr (inr (set_on code input s keeper im fair opens calm first lap set.1))
-    | inl unset ↦ elim (nothing_is_lost code input s keeper im places fair opens calm first a unset.1) [
+    | inr set ↦ inr (inr (set_on first lap set.1))
+    | inl unset ↦ elim (nothing_is_lost_over_legs code input s keeper im places fair opens calm legs are_legs first a unset.1) [
       | inl works ↦ who_works works.0 works.1 (is.part works.0 works.1.there)
       | inr (inl comes) ↦ who_comes comes.0 comes.1 (is.part comes.0 comes.1.there)
       | inr (inr left) ↦ what_is_left left.0 left.1
@@ -387,18 +401,23 @@ module _ (code : CodeParts) (input : List NamedArray) (s : Shape) (keeper : ℕ)
 
       who_works : (c : ℕ) → Works s (at first) c → TakesPart (at first) lap c → Gains first lap
       who_works c works (inl done) = absurd (true≢false (sym (ap is_done_at done) ∙ works.not_done))
-      who_works c works (inr (inl seeks)) = absurd (workers_seek_not code input s keeper im fair opens calm first a c works seeks)
+      who_works c works (inr (inl seeks)) =
+          let idle = seekers_are_idle_over_legs code input s keeper im places fair opens calm legs are_legs first a c seeks in
+          let place : works.place ≡ idle.place = ap number_of (sym works.carried ∙ idle.carried) in
+          let kind : spots.kinds s (at first).words works.place ≡ Seek =
+          ap (spots.kinds s (at first).words) place ∙ sym (kinds_same s (at first).words idle.place) ∙ idle.seeks in
+          absurd (seek_not_at_work (spots.view s (at first).words) works.place (spots.kinds s (at first).words works.place) works.at_work kind)
       who_works c works (inr (inr steps)) =
           let on : IsOn s code fair root arrays c works.place (at first) =
           record { moment = first_moment s code fair root arrays (at first) lap are; going = works.not_done; carried = works.carried } in
           let many = steps.0 in
           work_or_set first lap c
-          (works_from_place s code fair root arrays im.words c works.place works.there first lap are on works.at_work b steps.1 (omega (arith, many)))
+          (works_from_place s code fair root arrays words c works.place works.there first lap are on works.at_work b steps.1 (omega (arith, many)))
 
       who_comes : (c : ℕ) → ComesTo s (at first) c → TakesPart (at first) lap c → Gains first lap
       who_comes c comes_ (inl done) = absurd (true≢false (sym (ap is_done_at done) ∙ comes_.not_done))
       who_comes c comes_ (inr (inl seeks)) =
-          let idle = seekers_are_idle code input s keeper im fair opens calm first a c seeks in
+          let idle = seekers_are_idle_over_legs code input s keeper im places fair opens calm legs are_legs first a c seeks in
           let place : comes_.took.from ≡ idle.place = ap number_of (sym comes_.took.carried ∙ idle.carried) in
           let kind : spots.kinds s (at first).words comes_.took.from ≡ Seek =
           ap (spots.kinds s (at first).words) place ∙ sym (kinds_same s (at first).words idle.place) ∙ idle.seeks in
@@ -410,14 +429,14 @@ module _ (code : CodeParts) (input : List NamedArray) (s : Shape) (keeper : ℕ)
           let few_ = comes_few (spots.kinds s (at first).words q) (stand_of (at first) c) in
           let many = steps.0 in
           work_or_set first lap c
-          (come_soon s code fair root arrays im.words c q comes_.place comes_.there lap first (at first) refl are
+          (come_soon s code fair root arrays words c q comes_.place comes_.there lap first (at first) refl are
           (held_all c q comes_.place comes_.there first lap a b)
           (record { here = on; held = now.1.held; bids = comes_.took.bids; stands = comes_.took.stands; names = comes_.holds; work = comes_.at_work }) b steps.1
           (omega (arith, few_, many)))
 
       what_is_left : (p : ℕ) → IsLeft s (at first).words p → Gains first lap
       what_is_left p left =
-          elim (taken_over s code places fair root arrays raised im.words few first lap _ _ _ now.0 now.1 b p left (is.looks p left)) [
+          elim (taken_over s code places fair root arrays raised words few first lap _ _ _ now.0 now.1 b p left (is.looks p left)) [
             | inr set ↦ inr (inr (λ z. set (sym (ap (finish_at s) (next_of_all first lap)) ∙ z)))
             | inl up ↦
                 let is_ = ap (λ (z : RunState). tag (spots.view s z.words (Holder p))) (next_of_all first lap) in
@@ -426,12 +445,15 @@ module _ (code : CodeParts) (input : List NamedArray) (s : Shape) (keeper : ℕ)
           ]
 
   -- portions, one after the other
+  abbrev start : RunState
+  start = state_then s code im.words legs
+
   abbrev potential : List Turn → ℕ
-  potential turns = work code input s keeper im fair opens calm turns + sum turns
+  potential turns = work_in s code start turns + sum turns
 
   grows : (first more : List Turn) → Among first → Among more → potential first ≤ potential (first ++ more)
   grows first more a b =
-      let one = work_grows code input s keeper im fair opens calm first more in
+      let one = work_both s code start first more in
       let two = sum_after first more a b in
       omega (arith, one, two)
 
@@ -439,11 +461,10 @@ module _ (code : CodeParts) (input : List NamedArray) (s : Shape) (keeper : ℕ)
       → (1 + potential first ≤ potential (first ++ lap)) ⊎ Over (first ++ lap)
   lap_grows first lap a b is =
       let two = sum_after first lap a b in
-      let one = work_grows code input s keeper im fair opens calm first lap in
-      let both_ = work_both s code (opening im.words s.processors) first lap in
+      let both_ = work_both s code start first lap in
       elim (lap_gains first lap a b is) [
         | inl worked ↦ inl (omega (arith, worked, two, both_))
-        | inr (inl taken) ↦ inl (omega (arith, taken, one))
+        | inr (inl taken) ↦ inl (omega (arith, taken, both_))
         | inr (inr set) ↦ inr set
       ]
 
@@ -451,7 +472,6 @@ module _ (code : CodeParts) (input : List NamedArray) (s : Shape) (keeper : ℕ)
       → (length portions + potential first ≤ potential (first ++ turns_in portions)) ⊎ Over (first ++ turns_in portions)
   portions_grow [] first among all are = let le = grows first [] among tt in inl (omega (arith, le))
   portions_grow (portion ∷ portions) first among all are =
-      let start = opening im.words s.processors in
       let before = portion.before in
       let lap = portion.lap in
       let rest = turns_in portions in
@@ -465,7 +485,7 @@ module _ (code : CodeParts) (input : List NamedArray) (s : Shape) (keeper : ℕ)
       let is = subst (λ (z : RunState). IsLap s code z lap) (sym at_upto) are.0 in
       let whole : (upto ++ lap) ++ rest ≡ first ++ (before ++ (lap ++ rest)) = append_assoc upto lap rest ∙ append_assoc first before (lap ++ rest) in
       elim (lap_grows upto lap among_upto among_lap is) [
-        | inr set ↦ inr (subst Over whole (set_on code input s keeper im fair opens calm (upto ++ lap) rest set))
+        | inr set ↦ inr (subst Over whole (set_on (upto ++ lap) rest set))
         | inl one ↦
             elim (portions_grow portions (upto ++ lap) (both (IsTurnAmong s.processors) upto lap among_upto among_lap)
             (back (IsTurnAmong s.processors) lap rest all_lap)
@@ -478,23 +498,46 @@ module _ (code : CodeParts) (input : List NamedArray) (s : Shape) (keeper : ℕ)
             ]
       ]
 
-  ends : (portions : List Portion) → Among (turns_in portions) → AreLaps s code (opening im.words s.processors) portions
-      → (end : End Result) → Ends (strands s code) root arrays end
-      → 218 * end.counts.capsules + 171 * undone_in s code (opening im.words s.processors) (turns_in portions) + 6 + s.processors * s.processors
-      < length portions
-      → Over (turns_in portions)
-  ends portions among are end ends_ many = elim (portions_grow portions [] tt among are) [
-    | inr set ↦ set
-    | inl some ↦
-        let most = work_is_bounded code input s keeper im fair opens calm (turns_in portions) among end ends_ in
-        let tags = sum_most (turns_in portions) among in
-        absurd (omega (arith, many, some, most, tags))
+  -- so portions are no more than both may grow
+  pub portions_few : (portions : List Portion) → Among (turns_in portions) → AreLaps s code start portions
+      → (length portions ≤ work_in s code start (turns_in portions) + s.processors * (raised + s.processors)) ⊎ Over (turns_in portions)
+  portions_few portions among are = elim (portions_grow portions [] tt among are) [
+    | inr set ↦ inr set
+    | inl some ↦ let tags = sum_most (turns_in portions) among in inl (omega (arith, some, tags))
   ]
+
+-- a number of legs and processors that is low
+no_legs_few : (s : Shape) → (s.processors + 1) * (length {A = Leg} [] + 1) < 2 ^ 58
+no_legs_few s =
+    let whole = one_leg (s.processors + 1) 0 in
+    let none = no_legs (s.processors + 1) in
+    let most = s.within.processors_most in
+    omega (arith, whole, none, most)
 
 pub laps_have_work_or_takeover : LapsHaveWorkOrTakeover
 laps_have_work_or_takeover code input s keeper im places fair opens calm first lap a b is =
-    lap_gains code input s keeper im places fair opens calm first lap a b is
+    lap_gains code input s keeper im places fair opens calm [] tt (no_legs_few s) first lap a b is
 
 pub runs_end_by_places : RunsEndByPlaces
-runs_end_by_places code input s keeper im places fair opens calm portions among are end ends_ many =
-    ends code input s keeper im places fair opens calm portions among are end ends_ many
+runs_end_by_places code input s keeper im places fair opens calm portions among are end ends many =
+    elim (portions_few code input s keeper im places fair opens calm [] tt (no_legs_few s) portions among are) [
+      | inr set ↦ set
+      | inl some ↦
+          let most = work_is_bounded code input s keeper im fair opens calm (turns_in portions) among end ends in
+          let n = s.processors in
+          let none = no_legs (n + 1) in
+          let zero_ : (n + 1) * 0 + n ≡ n = omega (arith, none) in
+          let same : n * ((n + 1) * 0 + n) ≡ n * n = ap (λ (z : ℕ). n * z) zero_ in
+          absurd (omega (arith, many, some, most, same))
+    ]
+
+pub legs_end_by_places : LegsEndByPlaces
+legs_end_by_places code input s keeper im places fair opens calm legs are_legs fewer portions among are end ends many =
+    elim (portions_few code input s keeper im places fair opens calm legs are_legs fewer portions among are) [
+      | inr set ↦ set
+      | inl some ↦
+          let most = work_over_legs code input s keeper im places fair opens calm legs are_legs (turns_in portions) among end ends in
+          let whole : all_work s code im.words legs (turns_in portions)
+          ≡ work_then s code im.words legs + work_in s code (state_then s code im.words legs) (turns_in portions) = refl in
+          absurd (omega (arith, many, some, most, whole))
+    ]

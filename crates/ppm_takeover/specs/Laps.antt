@@ -1,6 +1,6 @@
 -- Runs by places in laps, with hard faults among the turns. A lap is a stretch of turns in which each processor that has something to do makes steps,
 -- and each place at work that a dead processor has left is looked at.
-use Rattle.std.specs.Prelude.{◌≡◌, ◌≢◌, ◌⊎◌, ◌≤◌, ◌<◌, ◌+◌, ◌*◌, ℕ, zero, suc, true, List, [], ◌∷◌, ◌++◌, length}
+use Rattle.std.specs.Prelude.{◌≡◌, ◌≢◌, ◌⊎◌, ◌≤◌, ◌<◌, ◌+◌, ◌*◌, ◌^◌, ℕ, zero, suc, true, List, [], ◌∷◌, ◌++◌, length}
 use Rattle.std.specs.List.{AllByRecursion}
 use Rattle.ppm_strands.specs.Calm.{Calm}
 use Rattle.ppm_strands.specs.Run.{End, Ends}
@@ -27,6 +27,7 @@ use Rattle.ppm_tickets.specs.Words.{Word, Spot, Holder}
 use Rattle.ppm_frames.specs.Views.{view}
 use Rattle.ppm_frames.specs.Seen.{arrays_at}
 use Rattle.ppm_kept.specs.Running.{IsFair, strands}
+use Rattle.ppm_runs.specs.Legs.{Leg, state_then, AreLegs, all_strikes, last_state}
 use Rattle.ppm_runs.specs.Work.{work_in, undone_in}
 use Rattle.ppm_progress.specs.Laps.{Portion, turns_in}
 use Rattle.ppm_progress.specs.Soon.{turns_of, StepsOnly}
@@ -90,3 +91,17 @@ RunsEndByPlaces = (code : CodeParts) (input : List NamedArray) (s : Shape) (keep
     → 218 * end.counts.capsules + 171 * undone_in s code (opening image.words s.processors) (turns_in portions) + 6 + s.processors * s.processors
     < length portions
     → read s (reached s code image.words (turns_in portions)).words FinishWord ≢ 0
+
+-- Over legs: a leg, after any others, that has more laps is over, with the work that fresh processors do again, and the tags that words had when they
+-- came back. There are fewer legs than holder words have tags.
+abbrev pub LegsEndByPlaces : Type 0
+LegsEndByPlaces = (code : CodeParts) (input : List NamedArray) (s : Shape) (keeper : ℕ) (image : Image)
+    → s.takeover ≡ ByPlaces → IsFair code → Opens code input s keeper image
+    → Calm (strands s code) (root_strand code input) (arrays_at (view s image.words))
+    → (legs : List Leg) → AreLegs s code image.words legs → (s.processors + 1) * (length legs + 1) < 2 ^ 58
+    → (portions : List Portion) → AllByRecursion (IsTurnAmong s.processors) (turns_in portions)
+    → AreLaps s code (state_then s code image.words legs) portions
+    → (end : End Result) → Ends (strands s code) (root_strand code input) (arrays_at (view s image.words)) end
+    → 218 * end.counts.capsules + 171 * all_strikes s code image.words legs (turns_in portions) + 172 * (s.processors * length legs) + 6
+    + s.processors * ((s.processors + 1) * length legs + s.processors) < length portions
+    → read s (last_state s code image.words legs (turns_in portions)).words FinishWord ≢ 0
