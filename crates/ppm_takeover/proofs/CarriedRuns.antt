@@ -6,6 +6,7 @@ use Rattle.std.proofs.lemmas.Bool.{cases_Bool, true≢false}
 use Rattle.ppm_strands.specs.Tree.{Words, Tree}
 use Rattle.ppm_strands.specs.Calm.{Calm}
 use Rattle.ppm_words.specs.declared.named_array.NamedArray.{NamedArray}
+use Rattle.ppm_cells.specs.Memory.{AreWordsOf}
 use Rattle.ppm_cells.specs.declared.restart.RestartKind.{RestartKind}
 use Rattle.ppm_cells.specs.declared.restart.RestartKind.TheVariants.{Take2}
 use Rattle.ppm_cells.specs.declared.shape.Shape.{Shape}
@@ -46,7 +47,8 @@ use Rattle.ppm_progress.proofs.LegRuns.{unhurt_then}
 use Rattle.ppm_progress.proofs.UnhurtRuns.{IsUnhurt, done_is}
 use Rattle.ppm_progress.proofs.WorkLemmas.{somewhere}
 use Rattle.ppm_progress.proofs.WorkRuns.{places_open}
-use Rattle.ppm_progress.proofs.WriteLemmas.{turn_wrote}
+use Rattle.ppm_progress.proofs.SpotLemmas.{dead_or}
+use Rattle.ppm_progress.proofs.WriteLemmas.{Wrote, turn_wrote}
 use Rattle.ppm_takeover.specs.Lost.{IsBidder, AreCarried, SomeWorkIsLeft, NothingIsLost, NothingIsLostOverLegs, HeldAreCarried}
 use Rattle.ppm_takeover.proofs.CarriedTurns.{AreHeld, held_after}
 use Rattle.ppm_takeover.proofs.DoneLemmas.{DoneHaveCause, done_after, lost_first}
@@ -62,6 +64,17 @@ module _ (s : Shape) (code : CodeParts) (places : s.takeover ≡ ByPlaces) (fair
     pub spare : AllSpare s code fair.code_is state
     pub done : DoneHaveCause s state
     pub low : AreLow s raised state.words
+    pub ones : (d : ℕ) → IsDead (spots.view s state.words (Dead d)) → spots.view s state.words (Dead d) ≡ Number 1
+
+  ones_on : (state : RunState) (turn : Turn) → AreWordsOf s state.words
+      → Wrote s code state.words turn.act (stand_of state turn.processor) (happens s code state turn).words
+      → ((d : ℕ) → IsDead (spots.view s state.words (Dead d)) → spots.view s state.words (Dead d) ≡ Number 1)
+      → (d : ℕ) → IsDead (spots.view s (happens s code state turn).words (Dead d)) → spots.view s (happens s code state turn).words (Dead d) ≡ Number 1
+  ones_on state turn fit wrote was d dead =
+      elim (dead_or s code state.words fit turn.act (stand_of state turn.processor) (happens s code state turn).words wrote d) [
+        | inl same ↦ same ∙ was d (subst IsDead same dead)
+        | inr one ↦ one
+      ]
 
   abbrev Next : RunState → (ℕ → Home) → (forked taken : List ℕ) → Turn → Skeleton → Type 0
   Next state h f tk turn u =
@@ -83,6 +96,7 @@ module _ (s : Shape) (code : CodeParts) (places : s.takeover ≡ ByPlaces) (fair
           done = done_after s code fair ws first state on run.halves.lawful.0 turn among.processor wrote now.spare now.done;
           low = turn_low s code state h f tk run.halves.lawful (pooled s code fair root input state h f tk [] t run.halves run.joint.agrees) raised now.low
               turn among;
+          ones = ones_on state turn run.halves.lawful.0 wrote now.ones;
         },
       )
 
@@ -123,20 +137,21 @@ module _ (s : Shape) (code : CodeParts) (places : s.takeover ≡ ByPlaces) (fair
     spare = opening_spares s code fair.code_is s.processors;
     done = λ c lt done. absurd (lost_first s.processors c lt done);
     low = low;
+    ones = λ d dead. absurd (now.home.alive d dead);
   }
 
 -- a word that says that its processor is dead, or not
-dead_or : (w : Word) → IsDead w ⊎ (IsDead w → ⊥)
-dead_or (Number zero) = inr (λ z. z)
-dead_or (Number (suc n)) = inl tt
-dead_or (Empty t) = inr (λ z. z)
-dead_or (Local t x) = inr (λ z. z)
-dead_or (Job t x) = inr (λ z. z)
-dead_or (Taken t x) = inr (λ z. z)
-dead_or (Held t x) = inr (λ z. z)
-dead_or (Linked x) = inr (λ z. z)
-dead_or (Restarts x y) = inr (λ z. z)
-dead_or Unread = inr (λ z. z)
+dead_or_not : (w : Word) → IsDead w ⊎ (IsDead w → ⊥)
+dead_or_not (Number zero) = inr (λ z. z)
+dead_or_not (Number (suc n)) = inl tt
+dead_or_not (Empty t) = inr (λ z. z)
+dead_or_not (Local t x) = inr (λ z. z)
+dead_or_not (Job t x) = inr (λ z. z)
+dead_or_not (Taken t x) = inr (λ z. z)
+dead_or_not (Held t x) = inr (λ z. z)
+dead_or_not (Linked x) = inr (λ z. z)
+dead_or_not (Restarts x y) = inr (λ z. z)
+dead_or_not Unread = inr (λ z. z)
 
 -- a holder word that is low names a processor that is there
 low_names : (s : Shape) (raised : ℕ) (m : Spot → Word) (w : Word) → IsHolderWithin s raised m w → (c : ℕ) × (c < s.processors) × Names w c
@@ -174,7 +189,7 @@ module _ (s : Shape) (code : CodeParts) (places : s.takeover ≡ ByPlaces) (fair
   some_work_is_left =
       let p = somewhere s code root input state h f tk t now.advancing now.empty (places_open s.takeover m places) in
       let d = low_names s raised m (m (Holder p.0)) (now.low p.0 p.1) in
-      elim (dead_or (m (Dead d.0))) [
+      elim (dead_or_not (m (Dead d.0))) [
         | inl dead ↦ inr (inr (p.0, record { there = p.1; at_work = p.2; holder = d.0; held = d.2; dead = dead }))
         | inr alive ↦
             let live = going d.0 d.1 alive in
@@ -182,7 +197,7 @@ module _ (s : Shape) (code : CodeParts) (places : s.takeover ≡ ByPlaces) (fair
               | inl carried ↦
                   inl (d.0, record { there = d.1; alive = alive; not_done = live; place = p.0; carried = carried; at_work = p.2 })
               | inr (inl took) ↦
-                  inr (inl (d.0, record { there = d.1; alive = alive; not_done = live; place = p.0; took = took; at_work = p.2 }))
+                  inr (inl (d.0, record { there = d.1; alive = alive; not_done = live; place = p.0; took = took; holds = d.2; at_work = p.2 }))
               | inr (inr left) ↦ absurd (left_not_at_work m p.0 (spots.kinds s state.words p.0) left p.2)
             ]
       ]

@@ -1,10 +1,9 @@
 -- Who is done is dead by its word, or the finish word is set.
-use Rattle.std.proofs.Common.{◌≡◌, ◌≢◌, ◌⊎◌, ◌<◌, ◌+◌, ◌*◌, ℕ, zero, suc, List, inl, inr, sym, ap, ◌∙◌, subst, arith, length}
+use Rattle.std.proofs.Common.{◌≡◌, ◌≢◌, ◌⊎◌, ◌<◌, ℕ, zero, suc, List, inl, inr, sym, ap, ◌∙◌, subst, arith}
 use Rattle.std.proofs.Common.{replicate}
 use Rattle.std.specs.Prelude.{slice_get}
 use Rattle.std.proofs.lemmas.Bool.{cases_eq, lt-ltb}
 use Rattle.ppm_cells.specs.Memory.{AreWordsOf}
-use Rattle.ppm_cells.specs.Cells.{place_size}
 use Rattle.ppm_cells.specs.declared.shape.Shape.{Shape}
 use Rattle.ppm_code.specs.declared.code.CodeParts.{CodeParts}
 use Rattle.ppm_step.specs.Laws.{reached, finish_at}
@@ -22,18 +21,13 @@ use Rattle.ppm_tickets.proofs.ViewLemmas.{view_here}
 use Rattle.ppm_kept.specs.Running.{IsFair}
 use Rattle.ppm_runs.proofs.BoundLemmas.{finish_still}
 use Rattle.ppm_runs.proofs.JoinLemmas.{stand_else}
+use Rattle.ppm_progress.proofs.MomentLemmas.{some_words}
 use Rattle.ppm_progress.proofs.WriteLemmas.{Wrote}
 use Rattle.ppm_progress.proofs.SpotLemmas.{dead_goes}
 
 -- of a state
 abbrev pub DoneHaveCause : Shape → RunState → Type 0
 DoneHaveCause s state = (c : ℕ) → c < s.processors → stand_of state c ≡ IsDone → (finish_at s state ≢ 0) ⊎ IsDead (view s state.words (Dead c))
-
-some_words : (s : Shape) (words : List ℕ) → AreWordsOf s words → 0 < length words
-some_words s words are = positive s.processors (s.processors * place_size s) s.arrays (length words) are
-  where
-    positive : (p x m n : ℕ) → n ≡ 1 + 2 * p + x + m → 0 < n
-    positive p x m n e = omega (arith, e)
 
 module _ (s : Shape) (code : CodeParts) (fair : IsFair code) (ws : List ℕ) (first : List Turn) (state : RunState) (on : state ≡ reached s code ws first)
     (fit : AreWordsOf s state.words) (turn : Turn) (among : turn.processor < s.processors)

@@ -1,5 +1,5 @@
 -- By places who works makes a work turn soon, whatever others do.
-use Rattle.std.proofs.Common.{◌≡◌, ℕ, List, [], ◌∷◌, ◌++◌, refl, sym, ap, ◌∙◌}
+use Rattle.std.proofs.Common.{◌≡◌, ◌<◌, ℕ, List, [], ◌∷◌, ◌++◌, refl, sym, ap, ◌∙◌}
 use Rattle.std.specs.List.{AllByRecursion}
 use Rattle.ppm_strands.specs.Tree.{Words, Tree}
 use Rattle.ppm_cells.specs.declared.shape.Shape.{Shape}
@@ -24,6 +24,7 @@ use Rattle.ppm_runs.proofs.WholeLemmas.{in_two}
 use Rattle.ppm_progress.proofs.MomentLemmas.{IsMoment, AreMoments, IsOn}
 use Rattle.ppm_progress.proofs.ThiefLemmas.{works_from_place}
 use Rattle.ppm_takeover.specs.Soon.{WorksSoonByPlaces}
+use Rattle.ppm_takeover.proofs.ComeSteps.{AreAllHeld}
 use Rattle.ppm_takeover.proofs.CarriedRuns.{IsTended, tended_on, tended_then, raised_by}
 
 module _ (s : Shape) (code : CodeParts) (places : s.takeover ≡ ByPlaces) (fair : IsFair code) (root : Tree (Frame FrameWord Point) Result) (input : Words)
@@ -43,6 +44,19 @@ module _ (s : Shape) (code : CodeParts) (places : s.takeover ≡ ByPlaces) (fair
         moment_of state h f tk t now,
         tended_moments (first ++ turn ∷ []) (happens s code state turn) behind (by_act s state.words turn.act (stand_of state turn.processor) h)
             (forks_of state turn ++ f) (takes_of state turn ++ tk) next.0 next.1 more among.1,
+      )
+
+  -- and at each of them holders carry their places
+  pub tended_held : (c q p : ℕ) (there : c < s.processors) (first : List Turn) (state : RunState) → state ≡ reached s code ws first
+      → (h : ℕ → Home) (f tk : List ℕ) (t : Skeleton) → IsTended s code places fair root input raised ws state h f tk t
+      → (more : List Turn) → AllByRecursion (IsTurnAmong s.processors) more → AreAllHeld s code fair root input ws c q p there state more
+  tended_held c q p there first state on h f tk t now [] among = now.held
+  tended_held c q p there first state on h f tk t now (turn ∷ more) among =
+      let next = tended_on s code places fair root input raised ws first state on h f tk t now turn among.0 in
+      let behind = ap (λ (z : RunState). happens s code z turn) on ∙ sym (in_two s code (opening ws s.processors) first (turn ∷ [])) in (
+        now.held,
+        tended_held c q p there (first ++ turn ∷ []) (happens s code state turn) behind
+            (by_act s state.words turn.act (stand_of state turn.processor) h) (forks_of state turn ++ f) (takes_of state turn ++ tk) next.0 next.1 more among.1,
       )
 
 pub works_soon_by_places : WorksSoonByPlaces

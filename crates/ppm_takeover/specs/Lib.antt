@@ -1,3 +1,4 @@
+pub mod Laps
 pub mod Lost
 pub mod Short
 pub mod Soon

@@ -57,6 +57,7 @@ pub record ComesTo (s : Shape) (state : State) (c : ℕ) : Type 0 where
   pub not_done : is_done_at (stand_of state c) ≡ false
   pub place : ℕ
   pub took : TookOver (spots s state.words) (kinds s state.words) c place
+  pub holds : Names (spots s state.words (Holder place)) c
   pub at_work : IsAtWork (spots s state.words) place (kinds s state.words place)
 
 -- the place is at work, and its holder is dead: others may take it over

@@ -21,6 +21,8 @@ mod depth_tests;
 #[cfg(test)]
 mod gap_tests;
 #[cfg(test)]
+mod progress_tests;
+#[cfg(test)]
 mod race_tests;
 pub mod races;
 pub mod sample;

@@ -1,0 +1,15 @@
+//! That runs by places with hard faults end, shown by calls that do nothing.
+ghost use Rattle.ppm_takeover.specs.Laps.{LapsHaveWorkOrTakeover, LegsEndByPlaces, RunsEndByPlaces};
+
+/// With takeover by places, hard faults among the turns: a run from an image of a sound code whose
+/// depth-first run ends is over after so many laps: 218 for each capsule of that run, 171 for each
+/// fault that undoes work, 7, and one for each pair of processors. In a lap whoever has something
+/// to do makes 23 steps or more, and each place at work that a dead processor has left is looked
+/// at. In each lap somebody makes a work turn, or a place has a new holder, or the finish word is
+/// set by its end. So it is in a leg, after any others, with more laps for what fresh processors do
+/// again.
+pub fn runs_end_by_places()
+    ensures laps { LapsHaveWorkOrTakeover }
+    ensures law { RunsEndByPlaces }
+    ensures legs { LegsEndByPlaces }
+{}
