@@ -1,22 +1,25 @@
 -- What is laid out stands for what it was made from.
-use Rattle.std.proofs.Common.{◌≡◌, ◌<◌, ℕ, ℤ, List, [], ◌∷◌, Option, Some, None, Result, Ok, Err, refl, sym, ap, subst, ◌∙◌, length, get_or}
+use Rattle.std.proofs.Common.{◌≡◌, ◌<◌, ℕ, ℤ, pos, Bool, true, false, ◌&&◌, List, [], ◌∷◌, Option, Some, None, Result, Ok, Err, refl, sym, ap, subst, ◌∙◌, length, get_or}
 use Rattle.ppm_words.specs.declared.trap.Trap.{Trap}
 use Rattle.ppm_tree.specs.declared.operator.Operator.{Operator}
+use Rattle.ppm_tree.specs.declared.operator.Operator.TheVariants as operator
+use Rattle.std.specs.Prelude.{◌||◌, if◌then◌else◌}
 use Rattle.ppm_tree.specs.declared.mode.Mode.{Mode}
 use Rattle.ppm_tree.specs.declared.mode.Mode.TheVariants as mode
 use Rattle.ppm_tree.specs.declared.named.Named.{Named}
 use Rattle.ppm_tree.specs.declared.tree.Parameter.{Parameter}
 use Rattle.ppm_tree.specs.Tree.{Expression, Argument, Side, Statement, Block, Nil, Then, Let, Assign, Put, If, While, Split, Give, Procedure}
 use Rattle.ppm_tree.specs.Tree as tree
-use Rattle.ppm_tree.specs.Values.{applied, decided, negated}
+use Rattle.ppm_tree.specs.Values.{applied, decided, holds, negated, truth}
 use Rattle.ppm_tree.specs.State.{TrapAt, then_with, Frame, Arrays, nowhere, Region, index_in, word_at, unless_decided, evaluate, lent, with_argument, with_arguments, with_local, with_region, procedure_named, no_procedure}
 use Rattle.ppm_tree.specs.State as state
 use Rattle.ppm_serial.specs.declared.code.Stop.{Stop}
 use Rattle.ppm_serial.specs.declared.code.Value.{Value}
+use Rattle.ppm_serial.specs.declared.code.Value.TheVariants as value
 use Rattle.ppm_serial.specs.declared.code.Passed.{Passed}
 use Rattle.ppm_serial.specs.declared.code.Passed.TheVariants as passed
 use Rattle.ppm_serial.specs.Slots.{Slots, with_local_at, with_region_at}
-use Rattle.ppm_serial.specs.Worth.{worth, stopped, at_line, unless}
+use Rattle.ppm_serial.specs.Worth.{worth, operated, stopped, at_line, unless}
 use Rattle.ppm_serial.specs.Names.{Slotted, slot_in, frame_of}
 use Rattle.ppm_serial.specs.Machine.{passing}
 use Rattle.ppm_serial.specs.Laying.{Fits, IsWorth, IsLocal, IsRegion, as_frame, FitsIfAny, Passes}
@@ -63,9 +66,6 @@ element_by s a g line o = then_with o (λ i. then_with (stopped (index_in line g
 abbrev minus_by : ℕ → Result ℤ Stop → Result ℤ Stop
 minus_by line o = then_with o (λ x. at_line line (negated x))
 
-abbrev binary_by : Operator → ℕ → Result ℤ Stop → Result ℤ Stop → Result ℤ Stop
-binary_by o line l r = then_with l (λ x. unless (decided o x) (then_with r (λ y. at_line line (applied o x y))))
-
 pub worth_element : (n : Slotted) (x : Named) (e : Expression) (k : ℕ) (v : Value) → k ≡ slot_in n.regions x.name → IsWorth n e v → (s : Slots) (a : Arrays)
     → element_by s a (get_or s.regions k nowhere) x.line (worth s a v) ≡ stopped (evaluate (frame_of n s) a (tree.Element x e))
 worth_element n x e k v i w s a =
@@ -77,10 +77,47 @@ pub worth_minus : (n : Slotted) (line : ℕ) (e : Expression) (v : Value) → Is
 worth_minus n line e v w s a = ap (minus_by line) (w s a) ∙ minus_worth line (evaluate (frame_of n s) a e)
 
 pub worth_binary : (n : Slotted) (o : Operator) (line : ℕ) (d e : Expression) (u v : Value) → IsWorth n d u → IsWorth n e v → (s : Slots) (a : Arrays)
-    → binary_by o line (worth s a u) (worth s a v) ≡ stopped (evaluate (frame_of n s) a (tree.Binary o line d e))
+    → operated o line (worth s a u) (worth s a v) ≡ stopped (evaluate (frame_of n s) a (tree.Binary o line d e))
 worth_binary n o line d e u v w w' s a =
-    ap (λ (r : Result ℤ Stop). binary_by o line r (worth s a v)) (w s a) ∙ ap (binary_by o line (stopped (evaluate (frame_of n s) a d))) (w' s a)
+    ap (λ (r : Result ℤ Stop). operated o line r (worth s a v)) (w s a) ∙ ap (operated o line (stopped (evaluate (frame_of n s) a d))) (w' s a)
     ∙ binary_worth o line (evaluate (frame_of n s) a d) (evaluate (frame_of n s) a e)
+
+-- what decides is what is applied
+undecided : (o : Operator) (line : ℕ) (x y : ℤ) → unless (decided o x) (at_line line (applied o x y)) ≡ at_line line (applied o x y)
+undecided operator.Add line x y = refl
+undecided operator.Sub line x y = refl
+undecided operator.Mul line x y = refl
+undecided operator.Div line x y = refl
+undecided operator.Rem line x y = refl
+undecided operator.Eq line x y = refl
+undecided operator.Ne line x y = refl
+undecided operator.Lt line x y = refl
+undecided operator.Le line x y = refl
+undecided operator.Gt line x y = refl
+undecided operator.Ge line x y = refl
+undecided operator.And line x y = go (holds x)
+  where
+    go : (h : Bool) → unless (if h then None else Some (pos 0)) (at_line line (Ok (truth (h && holds y)))) ≡ at_line line (Ok (truth (h && holds y)))
+    go true = refl
+    go false = refl
+undecided operator.Or line x y = go (holds x)
+  where
+    go : (h : Bool) → unless (if h then Some (pos 1) else None) (at_line line (Ok (truth (h || holds y)))) ≡ at_line line (Ok (truth (h || holds y)))
+    go true = refl
+    go false = refl
+
+-- an operator at two locals, and at a local and a number
+pub worth_locals : (o : Operator) (line k j : ℕ) (u v : Value) → u ≡ value.Local k → v ≡ value.Local j → (s : Slots) (a : Arrays)
+    → worth s a (value.AtLocals o line k j) ≡ operated o line (worth s a u) (worth s a v)
+worth_locals o line k j u v p q s a =
+    sym (undecided o line (get_or s.locals k (pos 0)) (get_or s.locals j (pos 0)))
+    ∙ ap (λ (u : Value). operated o line (worth s a u) (worth s a (value.Local j))) (sym p) ∙ ap (λ (v : Value). operated o line (worth s a u) (worth s a v)) (sym q)
+
+pub worth_number : (o : Operator) (line k : ℕ) (z : ℤ) (u v : Value) → u ≡ value.Local k → v ≡ value.Number z → (s : Slots) (a : Arrays)
+    → worth s a (value.AtNumber o line k z) ≡ operated o line (worth s a u) (worth s a v)
+worth_number o line k z u v p q s a =
+    sym (undecided o line (get_or s.locals k (pos 0)) z)
+    ∙ ap (λ (u : Value). operated o line (worth s a u) (worth s a (value.Number z))) (sym p) ∙ ap (λ (v : Value). operated o line (worth s a u) (worth s a v)) (sym q)
 
 -- two results with one value
 abbrev ok_or : Frame → Result Frame Stop → Frame

@@ -1,5 +1,5 @@
 -- What an expression is worth without its trap.
-use Rattle.std.proofs.Common.{◌≡◌, ◌∙◌, ap, refl, sym, ℕ, ℤ, Option, Some, None, Result, Ok, Err, get_or}
+use Rattle.std.proofs.Common.{◌≡◌, ◌∙◌, ap, refl, sym, ℕ, ℤ, pos, Option, Some, None, Result, Ok, Err, get_or}
 use Rattle.std.specs.Prelude.{option_and_then}
 use Rattle.std.specs.Result.{result_ok}
 use Rattle.ppm_words.specs.declared.trap.Trap.{Trap}
@@ -60,6 +60,8 @@ value_alone s a (value.Binary' o line p left q right) =
     ap (λ (d : Option ℤ). option_and_then (λ x. or_else (decided o x) (option_and_then (λ y. result_ok (applied o x y)) d)) (untrapped s a left)) (value_alone s a right)
     ∙ ap (λ (d : Option ℤ). option_and_then (λ x. or_else (decided o x) (option_and_then (λ y. result_ok (applied o x y)) (result_ok (worth s a right)))) d) (value_alone s a left)
     ∙ binary_found o line (worth s a left) (worth s a right)
+value_alone s a (value.AtLocals o line j k) = line_dropped line (applied o (get_or s.locals j (pos 0)) (get_or s.locals k (pos 0)))
+value_alone s a (value.AtNumber o line k z) = line_dropped line (applied o (get_or s.locals k (pos 0)) z)
 
 -- a result with this value
 ok_is : (x : ℤ) (r : Result ℤ Stop) → result_ok r ≡ Some x → r ≡ Ok x

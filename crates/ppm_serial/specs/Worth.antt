@@ -2,6 +2,7 @@
 use Rattle.std.specs.Prelude.{ℕ, ℤ, pos, Option, Some, None, Result, Ok, Err, get_or, option_and_then}
 use Rattle.std.specs.Result.{result_ok}
 use Rattle.ppm_words.specs.declared.trap.Trap.{Trap}
+use Rattle.ppm_tree.specs.declared.operator.Operator.{Operator}
 use Rattle.ppm_tree.specs.Values.{applied, decided, negated}
 use Rattle.ppm_tree.specs.State.{TrapAt, Region, then_with, nowhere, index_in, word_at, Arrays}
 use Rattle.ppm_serial.specs.declared.code.Stop.{Stop}
@@ -25,6 +26,10 @@ abbrev pub unless : Option ℤ → Result ℤ Stop → Result ℤ Stop
 unless (Some v) right = Ok v
 unless None right = right
 
+-- what an operator is worth, by what its operands are worth
+abbrev pub operated : Operator → ℕ → Result ℤ Stop → Result ℤ Stop → Result ℤ Stop
+operated o line l r = then_with l (λ x. unless (decided o x) (then_with r (λ y. at_line line (applied o x y))))
+
 -- what an expression over slots is worth
 abbrev pub worth : Slots → Arrays → Value → Result ℤ Stop
 worth s a (value.Number z) = Ok z
@@ -35,6 +40,8 @@ worth s a (value.Len k) = Ok (pos (get_or s.regions k nowhere).length)
 worth s a (value.Minus' line p e) = then_with (worth s a e) (λ x. at_line line (negated x))
 worth s a (value.Binary' o line p left q right) =
     then_with (worth s a left) (λ x. unless (decided o x) (then_with (worth s a right) (λ y. at_line line (applied o x y))))
+worth s a (value.AtLocals o line j k) = at_line line (applied o (get_or s.locals j (pos 0)) (get_or s.locals k (pos 0)))
+worth s a (value.AtNumber o line k z) = at_line line (applied o (get_or s.locals k (pos 0)) z)
 
 -- the first of two values that is there
 abbrev pub or_else : Option ℤ → Option ℤ → Option ℤ
@@ -56,3 +63,5 @@ untrapped s a (value.Len k) = Some (pos (get_or s.regions k nowhere).length)
 untrapped s a (value.Minus' line p e) = option_and_then (λ x. result_ok (negated x)) (untrapped s a e)
 untrapped s a (value.Binary' o line p left q right) =
     option_and_then (λ x. or_else (decided o x) (option_and_then (λ y. result_ok (applied o x y)) (untrapped s a right))) (untrapped s a left)
+untrapped s a (value.AtLocals o line j k) = result_ok (applied o (get_or s.locals j (pos 0)) (get_or s.locals k (pos 0)))
+untrapped s a (value.AtNumber o line k z) = result_ok (applied o (get_or s.locals k (pos 0)) z)

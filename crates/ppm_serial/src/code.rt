@@ -53,6 +53,10 @@ pub(crate) enum Value {
     Len(usize),
     Minus(u32, Box<Value>),
     Binary(Operator, u32, Box<Value>, Box<Value>),
+    /// An operator at the locals in two slots.
+    AtLocals(Operator, u32, usize, usize),
+    /// An operator at the local in a slot and a number.
+    AtNumber(Operator, u32, usize, i64),
 }
 
 /// What a call passes: a value into a slot for a local, or the region of a slot into one for a

@@ -1,5 +1,7 @@
 //! A program is laid out: names become slots, and blocks are put one behind the other.
-ghost use Rattle.std.specs.Prelude.{◌≡◌, ◌++◌, ◌∷◌, [], length, map, IfOk, OnOk};
+ghost use Rattle.std.specs.Prelude.{◌≡◌, ◌++◌, ◌∷◌, [], length, map, FitsSigned, IfOk, IfSome, OnOk};
+ghost use Rattle.std.specs.Int.{w64};
+ghost use Rattle.ppm_serial.specs.declared.code.Value.TheVariants as operand;
 ghost use Rattle.ppm_serial.specs.declared.code.Step.TheVariants as step;
 ghost use Rattle.ppm_tree.specs.Tree.{block_of, expression_of, give_of, procedure_of, side_of};
 ghost use Rattle.ppm_tree.specs.Tree.{statement_of, tree_of};
@@ -8,10 +10,13 @@ ghost use Rattle.ppm_serial.specs.Laying.{IsWorth, LaysBlock};
 ghost use Rattle.ppm_serial.specs.Laying.{LaysMore, LaysRoutine, Lends, LaysStep, PassesMore};
 ghost use Rattle.ppm_serial.specs.Laying.{PassesOne, Sets, arguments_of, place_in};
 ghost use Rattle.ppm_serial.specs.Names.{names_of};
+ghost use Rattle.ppm_serial.specs.Slots.{Slots};
+ghost use Rattle.ppm_serial.specs.Worth.{operated, worth};
+ghost use Rattle.ppm_tree.specs.State.{Arrays};
 
 use crate::code::{Blocks, Call, Code, Parts, Passed, Routine, Step, Value};
 use crate::names::Names;
-use ppm_tree::{Argument, Expr, Give, Mode, Named, Parameter, Proc, Side, Stmt, Tree};
+use ppm_tree::{Argument, Expr, Give, Mode, Named, Operator, Parameter, Proc, Side, Stmt, Tree};
 use ppm_words::NoMemory;
 use std::alloc::Global;
 
@@ -91,6 +96,52 @@ fn lay_one(
     })
 }
 
+/// The slot of a local.
+fn local_in(value: &Value) -> Option<usize>
+    ensures { IfSome result (λ slot. value.now ≡ operand.Local slot) }
+{
+    match value {
+        Value::Local(slot) => Some(*slot),
+        _ => None,
+    }
+}
+
+/// The number that a literal is.
+fn number_in(value: &Value) -> Option<i64>
+    ensures value { IfSome result (λ number. value.now ≡ operand.Number number) }
+    ensures in_range { IfSome result (λ number. FitsSigned w64 number) }
+{
+    match value {
+        Value::Number(number) => Some(*number),
+        _ => None,
+    }
+}
+
+/// An operator at operands that are laid out. At two locals, and at a local and a number, they are
+/// in the operator's own node.
+fn binary(
+    alloc: Global,
+    operator: Operator,
+    line: u32,
+    left: Value,
+    right: Value,
+) -> Result<Value, NoMemory>
+    ensures { IfOk result (λ v. (s : Slots) (a : Arrays)
+        → worth s a v ≡ operated operator line (worth s a left) (worth s a right)) }
+{
+    if let Some(slot) = local_in(&left) {
+        if let Some(other) = local_in(&right) {
+            return Ok(Value::AtLocals(operator, line, slot, other));
+        }
+        if let Some(number) = number_in(&right) {
+            return Ok(Value::AtNumber(operator, line, slot, number));
+        }
+    }
+    let left = Box::new(alloc, left)?;
+    let right = Box::new(alloc, right)?;
+    Ok(Value::Binary(operator, line, left, right))
+}
+
 /// An expression laid out.
 fn value(alloc: Global, names: &Names, e: &Expr) -> Result<Value, NoMemory>
     ensures { IfOk result (λ v. IsWorth names.now (expression_of e.now) v) }
@@ -111,9 +162,8 @@ fn value(alloc: Global, names: &Names, e: &Expr) -> Result<Value, NoMemory>
         Expr::Binary(operator, line, left, right) => {
             let left = value(alloc, names, left)?;
             let right = value(alloc, names, right)?;
-            let left = Box::new(alloc, left)?;
-            let right = Box::new(alloc, right)?;
-            Ok(Value::Binary(*operator, *line, left, right))
+            let both = binary(alloc, *operator, *line, left, right)?;
+            Ok(both)
         }
     }
 }

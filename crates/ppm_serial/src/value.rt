@@ -50,7 +50,8 @@ fn operate(operator: Operator, x: i64, y: i64) -> Option<i64>
     }
 }
 
-/// What a number, a local or a length is worth; none of any other expression.
+/// What a number, a local or a length is worth, or an operator at such locals and numbers; none of
+/// any other expression, and none where it traps.
 #[inline(always)]
 fn at_once(content: &Content, value: &Value) -> Option<i64>
     ensures { IfSome result (λ x. (a : Arrays) → untrapped content.now a value.now ≡ Some x) }
@@ -62,6 +63,12 @@ fn at_once(content: &Content, value: &Value) -> Option<i64>
         Value::Len(slot) => Some(content.region(*slot).length() as i64),
         Value::Minus(_, _) => None,
         Value::Binary(_, _, _, _) => None,
+        Value::AtLocals(operator, _, left, right) => {
+            operate(*operator, content.local(*left), content.local(*right))
+        }
+        Value::AtNumber(operator, _, left, number) => {
+            operate(*operator, content.local(*left), *number)
+        }
     }
 }
 
@@ -128,6 +135,12 @@ fn untrapped(content: &Content, store: &Store, value: &Value) -> Option<i64>
             };
             operate(*operator, x, y)
         }
+        Value::AtLocals(operator, _, left, right) => {
+            operate(*operator, content.local(*left), content.local(*right))
+        }
+        Value::AtNumber(operator, _, left, number) => {
+            operate(*operator, content.local(*left), *number)
+        }
     }
 }
 
@@ -172,6 +185,13 @@ fn trapping(content: &Content, store: &Store, value: &Value) -> Result<i64, Stop
             }
             let y = trapping(content, store, right)?;
             at_line(*line, apply(*operator, x, y))
+        }
+        Value::AtLocals(operator, line, left, right) => {
+            let x = content.local(*left);
+            at_line(*line, apply(*operator, x, content.local(*right)))
+        }
+        Value::AtNumber(operator, line, left, number) => {
+            at_line(*line, apply(*operator, content.local(*left), *number))
         }
     }
 }

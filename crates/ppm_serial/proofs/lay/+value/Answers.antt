@@ -5,5 +5,5 @@ use Rattle.ppm_serial.specs.declared.code.Value.TheViews.{the_lemmas as value_le
 use Rattle.ppm_serial.proofs.LayLemmas.{worth_binary}
 use Rattle.ppm_serial.proofs.lay.+value.Goals as goal
 
-pub returns-in_ok-right-in-Binary-2 : goal.returns-in_ok-right-in-Binary-2
-returns-in_ok-right-in-Binary-2 t c = search (rules, the_lemmas, value_lemmas, worth_binary)
+pub returns-in_ok-both-in-Binary : goal.returns-in_ok-both-in-Binary
+returns-in_ok-both-in-Binary t c = search (rules, the_lemmas, value_lemmas, worth_binary)
