@@ -22,13 +22,14 @@ use Rattle.ppm_cli.specs.Words.{with_text, AreReplayed, AreResumed, AreRun, AreS
 use Rattle.ppm_cli.specs.Values.{fitting_room, fitting_saved_room, room_given, saved_room_given}
 use Rattle.ppm_cli.specs.Words.{sweep_options, AreSwept, trace_options, AreTraced}
 use Rattle.ppm_cli.specs.Values.{swept_takeovers_given, traced_form_given, traced_lines_given}
-use Rattle.ppm_cli.specs.Words.{by_input, replay_by, replay_with, code_in, capsule_limit, with_input}
+use Rattle.ppm_cli.specs.Words.{by_input, explain_in, replay_by, replay_with, code_in, capsule_limit, with_input}
 use Rattle.ppm_cli.specs.Words.{by_any_input, command_for, replay_saved, stop_saved, trace_saved, with_any_input}
-use Rattle.ppm_cli.specs.Values.{are_counts_given, choice_given, input_given, is_case_given}
+use Rattle.ppm_cli.specs.Values.{are_counts_given, choice_given, explained_given, input_given, is_case_given}
 use Rattle.ppm_cli.specs.declared.capsules.CapsuleLimit.{CapsuleLimit}
 use Rattle.ppm_cli.specs.declared.command.Command.{Command}
 use Rattle.ppm_cli.specs.declared.command.Command.TheVariants as commands
 use Rattle.ppm_cli.specs.declared.example.SelfOptions.{SelfOptions}
+use Rattle.ppm_cli.specs.declared.explain.ExplainedText.{ExplainedText}
 use Rattle.ppm_cli.specs.declared.input.InputKind.{InputKind}
 use Rattle.ppm_cli.specs.declared.input.InputKind.TheVariants as kinds
 use Rattle.ppm_cli.specs.declared.replay.ReplayOptions.{ReplayOptions}
@@ -279,6 +280,13 @@ code_are rows = go (choice_given arrays (false ∷ true ∷ []) rows) where
   go (Some true) = tt
   go (Some false) = tt
 
+-- neither has a text that is explained
+explain_are : (rows : List Row) → IfSome (explain_in rows) IsInRange
+explain_are rows = go (explained_given rows) where
+  go : (text : Option ExplainedText) → IfSome (option_map (λ text. commands.Explain text) text) IsInRange
+  go None = tt
+  go (Some text) = tt
+
 limit_are : (rows : List Row) → IfSome (capsule_limit rows) IsLimit
 limit_are rows = go (number_given capsules rows) (λ n e. given capsules _ _ n rows refl e) where
   go : (n : Option ℕ) → ((m : ℕ) → n ≡ Some m → IsOfForm capsules.form m) → IfSome (option_map (λ n. record { capsules = n }) n) IsLimit
@@ -320,7 +328,7 @@ named_are name rows =
     (with_any_input_are AreTraced commands.Trace commands.TraceCase trace_saved schedule (trace_options rows) rows (λ o t h. h) (λ o t h. h)
     (λ o t h. (h.1, h.2)) (trace_are rows))
     (either IsInRange (bytes_eq name (codes "show")) _ _ tt
-    (either IsInRange (bytes_eq name (codes "explain")) _ _ tt
+    (either IsInRange (bytes_eq name (codes "explain")) _ _ (explain_are rows)
     tt))))))))))))))
 
 -- the options of a command that words give

@@ -9,8 +9,10 @@ use Rattle.ppm_words.specs.declared.idle.Idle.TheVariants.{Leave, Park}
 use Rattle.ppm_cells.specs.Limits.{most_pool_words}
 use Rattle.ppm_cells.specs.declared.shape.Takeover.{Takeover}
 use Rattle.ppm_cells.specs.declared.shape.Takeover.TheVariants.{ByPlaces, ByEntries}
-use Rattle.ppm_cli.specs.CommandLine.{Form, Number, Choice, AnyText, OptionRule, is_free_text, takeover, swept_takeovers, counts, idle, input, any_input, traced_form, only}
+use Rattle.ppm_cli.specs.CommandLine.{Form, Number, Choice, AnyText, OptionRule, is_free_text, takeover, swept_takeovers, counts, idle, input, any_input, explained, traced_form, only}
 use Rattle.ppm_cli.specs.CommandLine.{most_saved_pool_words}
+use Rattle.ppm_cli.specs.declared.explain.ExplainedText.{ExplainedText}
+use Rattle.ppm_cli.specs.declared.explain.ExplainedText.TheVariants as texts
 use Rattle.ppm_cli.specs.declared.input.InputKind.{InputKind}
 use Rattle.ppm_cli.specs.declared.input.InputKind.TheVariants as kinds
 use Rattle.ppm_cli.specs.declared.takeover.SweptTakeovers.{SweptTakeovers}
@@ -107,6 +109,10 @@ are_counts_given rows = choice_given counts (false ∷ true ∷ []) rows
 -- whether the text that is read is a case, and not a source
 abbrev pub is_case_given : List Row → Option Bool
 is_case_given rows = choice_given input (false ∷ true ∷ []) rows
+
+-- which text is explained
+abbrev pub explained_given : List Row → Option ExplainedText
+explained_given rows = choice_given explained (texts.Source ∷ texts.Listing ∷ []) rows
 
 -- which text is read, where it may be a saved one
 abbrev pub input_given : List Row → Option InputKind

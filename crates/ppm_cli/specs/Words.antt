@@ -11,7 +11,7 @@ use Rattle.ppm_cli.specs.CommandLine.{few_processors, after, saved_room, few_slo
 use Rattle.ppm_cli.specs.CommandLine.{copied_room, copied_slots, met, from, acts, runs}
 use Rattle.ppm_cli.specs.CommandLine.{traced_from, traced_acts}
 use Rattle.ppm_cli.specs.Values.{and_then, are_counts_given, choice_given, idle_given, is_case_given, number_given, room_given, swept_takeovers_given, takeover_given, text_given}
-use Rattle.ppm_cli.specs.Values.{input_given, saved_room_given, traced_form_given, traced_lines_given}
+use Rattle.ppm_cli.specs.Values.{explained_given, input_given, saved_room_given, traced_form_given, traced_lines_given}
 use Rattle.ppm_cli.specs.declared.capsules.CapsuleLimit.{CapsuleLimit}
 use Rattle.ppm_cli.specs.declared.command.Command.{Command}
 use Rattle.ppm_cli.specs.declared.command.Command.TheVariants as commands
@@ -217,6 +217,10 @@ depth_in rows = option_map (λ l. commands.Depth l) (capsule_limit rows)
 abbrev pub races_in : List Row → Option Command
 races_in rows = option_map (λ l. commands.Races l) (capsule_limit rows)
 
+-- the command `explain`, of this text
+abbrev pub explain_in : List Row → Option Command
+explain_in rows = option_map (λ text. commands.Explain text) (explained_given rows)
+
 -- the command of this name, with the options in its matches
 abbrev pub command_named : Text → List Row → Option Command
 command_named name rows =
@@ -234,7 +238,7 @@ command_named name rows =
     else if bytes_eq name (codes "ram") then ram_in rows
     else if bytes_eq name (codes "trace") then trace_in rows
     else if bytes_eq name (codes "show") then Some commands.Show
-    else if bytes_eq name (codes "explain") then Some commands.Explain
+    else if bytes_eq name (codes "explain") then explain_in rows
     else None
 
 -- the command of the subcommand that was met, with its options
@@ -350,4 +354,4 @@ IsInRange commands.Show = ⊤
 IsInRange (commands.StopSaved options _) = AreSavedStopped options
 IsInRange (commands.ReplaySaved options _) = AreSavedReplayed options
 IsInRange (commands.TraceSaved options _) = AreSavedTraced options
-IsInRange commands.Explain = ⊤
+IsInRange (commands.Explain text) = ⊤

@@ -314,6 +314,13 @@ pub(crate) const ANY_INPUT: ChoiceOption = ChoiceOption {
     default: "source",
 };
 
+/// Which text is explained.
+pub(crate) const EXPLAINED: ChoiceOption = ChoiceOption {
+    name: "input",
+    words: &["source", "listing"],
+    default: "source",
+};
+
 /// The schedule of acts.
 pub(crate) const SCHEDULE: TextOption = TextOption {
     name: "schedule",
@@ -452,6 +459,6 @@ pub const COMMANDS: [CommandRow; 15] = [
     },
     CommandRow {
         name: "explain",
-        options: &[],
+        options: &[OptionRow::Choice(EXPLAINED)],
     },
 ];

@@ -35,7 +35,7 @@ pub(crate) fn purpose_of(command: &str) -> &'static str {
         "ram" => "compiles a RAM, and threads run its capsules under a plan of faults",
         "trace" => "compiles a source, and tells what processors do along a schedule, act by act",
         "show" => "tells in words the state of a saved text: what runs, what waits, and the arrays",
-        "explain" => "judges a source, and says of a refusal what stands there and what could",
+        "explain" => "judges a text, and says of a refusal what stands there and what could",
         _ => NO_WORDS,
     }
 }
@@ -95,6 +95,7 @@ pub(crate) fn meaning_of(command: &str, option: &str) -> &'static str {
 fn input_of(command: &str) -> &'static str {
     match command {
         "replay" | "stop" | "trace" => "what is read; a saved text says its sizes",
+        "explain" => "what is read, and judged as the command does that reads it",
         _ => "what is read; the code of a case runs, sound or not",
     }
 }

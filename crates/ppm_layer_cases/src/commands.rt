@@ -2,7 +2,7 @@
 use crate::said::Said;
 use ppm_cells::Takeover;
 use ppm_cli::{
-    Command, ReplayOptions, RunOptions, StopOptions, SweepOptions, SweptTakeovers, TraceOptions,
+    Command, ExplainedText, ReplayOptions, RunOptions, StopOptions, SweepOptions, SweptTakeovers, TraceOptions,
     TracedForm, TracedLines, read_words,
 };
 use ppm_sheets::Fault;
@@ -41,6 +41,14 @@ fn lines_word(lines: TracedLines) -> &'static str {
         TracedLines::Turns => "turns",
         TracedLines::Rows => "rows",
         TracedLines::Marks => "marks",
+    }
+}
+
+/// The word of a text that is explained.
+fn explained_word(text: ExplainedText) -> &'static str {
+    match text {
+        ExplainedText::Source => "source",
+        ExplainedText::Listing => "listing",
     }
 }
 
@@ -145,7 +153,7 @@ fn line_of(alloc: Global, command: &Command) -> Result<Vec<u8>, Fault> {
         Command::CodeCase => String::from_str(alloc, "code with arrays")?,
         Command::Check => String::from_str(alloc, "check")?,
         Command::Show => String::from_str(alloc, "show")?,
-        Command::Explain => String::from_str(alloc, "explain")?,
+        Command::Explain(it) => format!(in alloc; "explain {}", explained_word(*it))?,
         Command::Depth(it) => format!(in alloc; "depth capsules {}", it.capsules)?,
         Command::Races(it) => format!(in alloc; "races capsules {}", it.capsules)?,
         Command::Replay(it, schedule) => {

@@ -24,8 +24,9 @@ use Rattle.ppm_cli.specs.Words.{command_of}
 use Rattle.ppm_cli.proofs.RangeLemmas.{is_in_range}
 use Rattle.ppm_commands.specs.Case.{CaseReads}
 use Rattle.ppm_commands.specs.Check.{CheckHas}
-use Rattle.ppm_explain.specs.Explaining.{ExplainHas}
-use Rattle.ppm_explain.proofs.ExplainRows.{explain_rows}
+use Rattle.ppm_explained.specs.Explaining.{ExplainHas}
+use Rattle.ppm_explained.specs.Texts.{limit_of}
+use Rattle.ppm_explained.proofs.ExplainRows.{explain_rows}
 use Rattle.ppm_commands.specs.Code.{CodeReads}
 use Rattle.ppm_commands.specs.Depth.{DepthHas}
 use Rattle.ppm_commands.specs.Races.{RacesHas}
@@ -141,7 +142,7 @@ command_reports o (Some commands.Code) = judging_reports text_limit CodeReads o
 command_reports o (Some commands.CodeCase) = judging_reports text_limit CaseReads o
 command_reports o (Some commands.Check) = judging_reports listing_limit CheckHas o
 command_reports o (Some commands.Show) = judging_reports saved_limit ShowHas o
-command_reports o (Some commands.Explain) = judging_reports text_limit ExplainHas o
+command_reports o (Some (commands.Explain text)) = judging_reports (limit_of text) (ExplainHas text) o
 command_reports o (Some (commands.Depth limit)) = judging_reports case_limit (DepthHas limit.capsules) o
 command_reports o (Some (commands.Races limit)) = judging_reports case_limit (RacesHas limit.capsules) o
 command_reports o (Some (commands.Replay options schedule)) =
@@ -158,6 +159,7 @@ command_reports o (Some (commands.Example options)) = example_reports options o
 read_answer : (may : Answer → Type 0) (answer : Answer) → may answer → status_of answer ≡ statuses.ReadFault → may answers.ReadFault
 read_answer may answers.ReadFault h e = h
 read_answer may (answers.ReplayedWith c counts) h e = absurd (delivered.came_no_fault c e)
+read_answer may (answers.Explained r notes) h e = absurd (delivered.refused_no_fault r e)
 read_answer may answer h e = cc
 
 -- faults are reported exactly, whatever the command is
@@ -203,7 +205,7 @@ program_rows laws words o status a = record {
   case = λ e. case_rows laws.texts laws.cases laws.faithful (ports_of o) status (by_words (Some commands.CodeCase) e);
   check = λ e. check_rows (ports_of o) laws.listings status (by_words (Some commands.Check) e);
   show = λ e. show_rows (ports_of o) laws.states status (by_words (Some commands.Show) e);
-  explain = λ e. explain_rows (ports_of o) laws.explained status (by_words (Some commands.Explain) e);
+  explain = λ text e. explain_rows text (ports_of o) (laws.explained text) status (by_words (Some (commands.Explain text)) e);
   depth = λ limit e. (
     is_in_range words (commands.Depth limit) e,
     depth_rows limit.capsules (ports_of o) (laws.depths limit.capsules) status (by_words (Some (commands.Depth limit)) e),

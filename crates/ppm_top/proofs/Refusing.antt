@@ -69,7 +69,7 @@ no_command (Some commands.Code) o answers.WordsRefused h e = absurd h.2
 no_command (Some commands.CodeCase) o answers.WordsRefused h e = absurd h.2
 no_command (Some commands.Check) o answers.WordsRefused h e = absurd h.2
 no_command (Some commands.Show) o answers.WordsRefused h e = absurd h.2
-no_command (Some commands.Explain) o answers.WordsRefused h e = absurd h.2
+no_command (Some (commands.Explain text)) o answers.WordsRefused h e = absurd h.2
 no_command (Some (commands.Depth limit)) o answers.WordsRefused h e = absurd h.2.1
 no_command (Some (commands.Races limit)) o answers.WordsRefused h e = absurd h.2.1
 no_command (Some (commands.Example options)) o answers.WordsRefused h e =
@@ -79,12 +79,13 @@ no_command (Some commands.Code) o (answers.PlanRefused number) h e = absurd h.2
 no_command (Some commands.CodeCase) o (answers.PlanRefused number) h e = absurd h.2
 no_command (Some commands.Check) o (answers.PlanRefused number) h e = absurd h.2
 no_command (Some commands.Show) o (answers.PlanRefused number) h e = absurd h.2
-no_command (Some commands.Explain) o (answers.PlanRefused number) h e = absurd h.2
+no_command (Some (commands.Explain text)) o (answers.PlanRefused number) h e = absurd h.2
 no_command (Some (commands.Depth limit)) o (answers.PlanRefused number) h e = absurd h.2.1
 no_command (Some (commands.Races limit)) o (answers.PlanRefused number) h e = absurd h.2.1
 no_command (Some (commands.Example options)) o (answers.PlanRefused number) h e =
     absurd (of_example.no_plan_refused options o.told_before o.told_now number h.1)
 no_command command o (answers.ReplayedWith c counts) h e = absurd (delivered.came_no_refusal c e)
+no_command command o (answers.Explained r notes) h e = absurd (delivered.refused_no_words r e)
 no_command command o answer h e = cc
 
 -- without a command nothing is read, and the words are refused or memory is

@@ -4,7 +4,7 @@ use Rattle.ppm_case.specs.Correct.{FaultsTellCases}
 use Rattle.ppm_ram.specs.Correct.{TextsAreOfRams}
 use Rattle.ppm_commands.specs.Case.{AreCases, HaveOneAnswer as CaseTextsHaveOneAnswer}
 use Rattle.ppm_commands.specs.Check.{HaveOneAnswer as ListingsHaveOneAnswer}
-use Rattle.ppm_explain.specs.Explaining.{FrontsAreExplained}
+use Rattle.ppm_explained.specs.Explaining.{HaveOneAnswer as ExplainedTextsHaveOneAnswer}
 use Rattle.ppm_commands.specs.Code.{CodesAreFaithful, HaveOneAnswer as CodesHaveOneAnswer}
 use Rattle.ppm_commands.specs.Depth.{HaveOneAnswer as DepthRunsHaveOneAnswer}
 use Rattle.ppm_commands.specs.Races.{HaveOneAnswer as CasesHaveOneAnswer}
@@ -59,7 +59,7 @@ pub record ProgramLaws : Type 0 where
   pub faithful : CodesAreFaithful
   pub listings : ListingsHaveOneAnswer
   pub states : SavedTextsHaveOneAnswer
-  pub explained : FrontsAreExplained
+  pub explained : ExplainedTextsHaveOneAnswer
   pub depths : DepthRunsHaveOneAnswer
   pub races : CasesHaveOneAnswer
   pub texts : CaseTextsHaveOneAnswer

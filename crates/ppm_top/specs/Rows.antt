@@ -12,6 +12,7 @@ use Rattle.ppm_cli.specs.declared.capsules.CapsuleLimit.{CapsuleLimit}
 use Rattle.ppm_cli.specs.declared.command.Command.{Command}
 use Rattle.ppm_cli.specs.declared.command.Command.TheVariants as commands
 use Rattle.ppm_cli.specs.declared.example.SelfOptions.{SelfOptions}
+use Rattle.ppm_cli.specs.declared.explain.ExplainedText.{ExplainedText}
 use Rattle.ppm_cli.specs.declared.serial.SerialOptions.{SerialOptions}
 use Rattle.ppm_cli.specs.declared.replay.ReplayOptions.{ReplayOptions}
 use Rattle.ppm_cli.specs.declared.replay.ReplaySavedOptions.{ReplaySavedOptions}
@@ -26,7 +27,7 @@ use Rattle.ppm_cli.specs.Words.{command_of, AreReplayed, AreResumed, AreRun, Are
 use Rattle.ppm_commands.specs.Case.{CaseRows}
 use Rattle.ppm_commands.specs.Check.{CheckRows}
 use Rattle.ppm_commands.specs.Show.{ShowRows}
-use Rattle.ppm_explain.specs.Explaining.{ExplainRows}
+use Rattle.ppm_explained.specs.Explaining.{ExplainRows}
 use Rattle.ppm_commands.specs.Code.{CodeRows}
 use Rattle.ppm_commands.specs.Depth.{DepthRows}
 use Rattle.ppm_commands.specs.Races.{RacesRows}
@@ -100,9 +101,9 @@ ChecksByWords words o status = command_of words ≡ Some commands.Check → Chec
 abbrev pub ShowsByWords : List (List ℕ) → Outside → Status → Type 0
 ShowsByWords words o status = command_of words ≡ Some commands.Show → ShowRows (ports_of o) status
 
--- and those of `explain` where they ask for that
+-- and those of `explain` where they ask for that, of this text
 abbrev pub ExplainsByWords : List (List ℕ) → Outside → Status → Type 0
-ExplainsByWords words o status = command_of words ≡ Some commands.Explain → ExplainRows (ports_of o) status
+ExplainsByWords words o status = (text : ExplainedText) → command_of words ≡ Some (commands.Explain text) → ExplainRows text (ports_of o) status
 
 -- those of `replay` where they ask for that, with these options, which are in their ranges, and this schedule
 abbrev pub ReplaysByWords : List (List ℕ) → Outside → Status → Type 0

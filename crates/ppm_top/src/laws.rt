@@ -22,7 +22,7 @@ use ppm_driver::{
     stops_have_one_answer, stops_leave_states, sweeps_are_as_code, sweeps_have_one_answer,
     traces_have_one_answer,
 };
-use ppm_explain::fronts_are_explained;
+use ppm_explained::texts_have_one_answer as explained_texts_have_one_answer;
 use ppm_plan::have_one_answer as plans_have_one_answer;
 use ppm_ram::texts_are_of_rams;
 
@@ -44,7 +44,7 @@ pub fn program_laws()
     codes_are_faithful();
     listings_have_one_answer();
     saved_texts_have_one_answer();
-    fronts_are_explained();
+    explained_texts_have_one_answer();
     depth_runs_have_one_answer();
     cases_have_one_answer();
     case_texts_have_one_answer();

@@ -1,0 +1,13 @@
+-- A refusal that is explained is an answer of the command that reads the text.
+use Rattle.ppm_answers.specs.declared.answer.Answer.{Answer}
+use Rattle.ppm_answers.specs.declared.answer.Answer.TheVariants as answers
+use Rattle.ppm_answers.specs.declared.refused.Refused.{Refused}
+use Rattle.ppm_answers.specs.declared.refused.Refused.TheVariants as refused
+
+-- the answer of the command that reads the text
+abbrev pub refused_answer : Refused → Answer
+refused_answer (refused.Source r) = answers.SourceRefused r
+refused_answer (refused.Listing r) = answers.ListingRefused r
+refused_answer (refused.Conflict c) = answers.Conflicting c
+refused_answer (refused.Input r) = answers.InputRefused r
+refused_answer (refused.Saved r) = answers.SavedRefused r

@@ -1,0 +1,67 @@
+-- What is accepted, and what is said of a refusal, by the text that is explained.
+use Rattle.std.specs.Prelude.{◌≡◌, ℕ, List}
+use Rattle.ppm_text.specs.Limits.{text_limit}
+use Rattle.ppm_tree.specs.Tree.{ProgramTree}
+use Rattle.ppm_code.specs.declared.code.CodeParts.{CodeParts}
+use Rattle.ppm_program.specs.Programs.{HasProgram}
+use Rattle.ppm_program.specs.Refusals.{IsRefusal}
+use Rattle.ppm_listing_reader.specs.Limits.{listing_limit}
+use Rattle.ppm_listing_reader.specs.Correct.{IsListing}
+use Rattle.ppm_loading.specs.Telling.{line_at}
+use Rattle.ppm_answers.specs.declared.answer.Answer.TheVariants as answers
+use Rattle.ppm_answers.specs.declared.conflict.Conflict.{Conflict}
+use Rattle.ppm_answers.specs.declared.refused.Refused.{Refused}
+use Rattle.ppm_answers.specs.declared.refused.Refused.TheVariants as refused
+use Rattle.ppm_answers.specs.Refused.{refused_answer}
+use Rattle.ppm_cli.specs.declared.explain.ExplainedText.{ExplainedText}
+use Rattle.ppm_cli.specs.declared.explain.ExplainedText.TheVariants as texts
+use Rattle.ppm_commands.specs.Check.{CheckHas}
+use Rattle.ppm_explain.specs.Sources.{AreNotes}
+use Rattle.ppm_notes.specs.Listings.{listing_notes, conflict_notes}
+
+-- how many bytes are read of each text at most, but for one
+abbrev pub limit_of : ExplainedText → ℕ
+limit_of texts.Source = text_limit
+limit_of texts.Listing = listing_limit
+
+-- the text has a program
+pub record HasSomeProgram (text : List ℕ) : Type 0 where
+  pub tree : ProgramTree
+  pub program : HasProgram text tree
+
+-- the text is accepted: a source has a program, and a listing is accepted by `check`
+abbrev pub IsAccepted : ExplainedText → List ℕ → Type 0
+IsAccepted texts.Source text = HasSomeProgram text
+IsAccepted texts.Listing text = CheckHas text answers.Accepted
+
+-- a source is refused for this reason
+abbrev pub IsSourceRefused : List ℕ → Refused → Type 0
+IsSourceRefused text (refused.Source r) = IsRefusal text r
+IsSourceRefused text r = ⊥
+
+-- the text is refused for this reason: a source as each command refuses it, a listing as `check` does
+abbrev pub IsRefused : ExplainedText → List ℕ → Refused → Type 0
+IsRefused texts.Source text r = IsSourceRefused text r
+IsRefused texts.Listing text r = CheckHas text (refused_answer r)
+
+-- the notes of a conflict, by the lines in which its two instructions stand
+pub record AreConflictNotes (text : List ℕ) (c : Conflict) (notes : List ℕ) : Type 0 where
+  pub code : CodeParts
+  pub listed : IsListing text code
+  pub is : notes ≡ conflict_notes text (line_at 0 code c.capsule c.read_at) (line_at 0 code c.capsule c.write_at)
+
+-- these are the notes of a source that is refused for this reason
+abbrev pub AreSourceNotes : List ℕ → Refused → List ℕ → Type 0
+AreSourceNotes text (refused.Source r) notes = AreNotes text r notes
+AreSourceNotes text r notes = ⊥
+
+-- those of a listing
+abbrev pub AreListingNotes : List ℕ → Refused → List ℕ → Type 0
+AreListingNotes text (refused.Listing r) notes = notes ≡ listing_notes text r
+AreListingNotes text (refused.Conflict c) notes = AreConflictNotes text c notes
+AreListingNotes text r notes = ⊥
+
+-- those of each text
+abbrev pub AreNotesOf : ExplainedText → List ℕ → Refused → List ℕ → Type 0
+AreNotesOf texts.Source text r notes = AreSourceNotes text r notes
+AreNotesOf texts.Listing text r notes = AreListingNotes text r notes

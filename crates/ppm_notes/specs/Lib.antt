@@ -1,0 +1,4 @@
+pub mod Words
+pub mod Operands
+pub mod Meanings
+pub mod Listings
