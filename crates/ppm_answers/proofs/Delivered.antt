@@ -65,14 +65,21 @@ refused_no_fault (refused.Source r) e = cc
 refused_no_fault (refused.Listing r) e = cc
 refused_no_fault (refused.Conflict c) e = cc
 refused_no_fault (refused.Input r) e = cc
+refused_no_fault (refused.ConflictAt c read write) e = cc
+refused_no_fault (refused.Untidy u) e = cc
 refused_no_fault (refused.Saved r) e = cc
+refused_no_fault (refused.Plan number) e = cc
 
-pub refused_no_words : (r : Refused) → refused_status r ≡ statuses.WordsRefused → ⊥
-refused_no_words (refused.Source r) e = cc
-refused_no_words (refused.Listing r) e = cc
-refused_no_words (refused.Conflict c) e = cc
-refused_no_words (refused.Input r) e = cc
-refused_no_words (refused.Saved r) e = cc
+-- and none but that of a plan or a schedule refuses words
+pub is_plan : (r : Refused) → refused_status r ≡ statuses.WordsRefused → (number : ℕ) × (r ≡ refused.Plan number)
+is_plan (refused.Source r) e = cc
+is_plan (refused.Listing r) e = cc
+is_plan (refused.Conflict c) e = cc
+is_plan (refused.Input r) e = cc
+is_plan (refused.ConflictAt c read write) e = cc
+is_plan (refused.Untidy u) e = cc
+is_plan (refused.Saved r) e = cc
+is_plan (refused.Plan number) e = (number, refl)
 
 -- a replay that has no end has no text on out, its counts included
 no_counted : (c : Came) (counts : RunCounts) → came_status c ≢ statuses.Ended → came_status c ≢ statuses.Trapped → counted_out c counts ≡ []

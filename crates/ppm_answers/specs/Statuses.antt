@@ -23,7 +23,10 @@ refused_status (refused.Source r) = statuses.SourceRefused
 refused_status (refused.Listing r) = statuses.CodeRefused
 refused_status (refused.Conflict c) = statuses.CodeRefused
 refused_status (refused.Input r) = statuses.CodeRefused
+refused_status (refused.ConflictAt c read write) = statuses.CodeRefused
+refused_status (refused.Untidy u) = statuses.CodeRefused
 refused_status (refused.Saved r) = statuses.SavedRefused
+refused_status (refused.Plan number) = statuses.WordsRefused
 
 -- the status of an answer whose texts are written
 abbrev pub status_of : Answer → Status

@@ -287,7 +287,10 @@ refused_text (refused.Source r) = refusal_text r
 refused_text (refused.Listing r) = listing_text r
 refused_text (refused.Conflict c) = conflict_text c
 refused_text (refused.Input r) = input_text r
+refused_text (refused.ConflictAt c read write) = conflict_at_text c read write
+refused_text (refused.Untidy u) = untidy_text u
 refused_text (refused.Saved r) = saved_line r
+refused_text (refused.Plan number) = plan_text number
 
 -- what is written on out
 abbrev pub out_text : Answer → List ℕ

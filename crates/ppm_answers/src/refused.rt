@@ -3,12 +3,14 @@ ghost use Rattle.std.specs.Prelude.{◌≡◌, ◌++◌, IfOk};
 ghost use Rattle.ppm_answers.specs.Statuses.{refused_status as status_of_refused};
 ghost use Rattle.ppm_answers.specs.Texts.{refused_text};
 
-use crate::case::{InputRefusal, input_text_of};
-use crate::conflict::{Conflict, ListingRefusal, conflict_text_of, listing_text_of};
+use crate::case::{InputRefusal, UntidyStore, input_text_of, untidy_text_of};
+use crate::conflict::{
+    Conflict, ListingRefusal, conflict_at_text_of, conflict_text_of, listing_text_of,
+};
 use crate::refusal::Refusal;
 use crate::saved::{SavedRefusal, saved_line_of};
 use crate::status::Status;
-use crate::texts::refusal_text_of;
+use crate::texts::{plan_text_of, refusal_text_of};
 use std::alloc::{AllocError, Global};
 
 /// Why a text is refused, as the command answers it that reads the text.
@@ -22,8 +24,14 @@ pub enum Refused {
     Conflict(Conflict),
     /// A text that is no case, for this fault of an array line or of its root.
     Input(InputRefusal),
+    /// A case whose code has this conflict; its two instructions stand in these lines, from 1.
+    ConflictAt(Conflict, u64, u64),
+    /// A case whose code has this store, which is not tidy.
+    Untidy(UntidyStore),
     /// A text that is that of no saved state, for this fault.
     Saved(SavedRefusal),
+    /// A plan or a schedule, for the fault of this number, from 1 to 4.
+    Plan(u32),
 }
 
 /// The line of a refusal, with the notes that explain it.
@@ -48,7 +56,12 @@ fn refused_text_of(alloc: Global, refused: Refused) -> Result<Vec<u8>, AllocErro
         Refused::Listing(refusal) => listing_text_of(alloc, refusal),
         Refused::Conflict(conflict) => conflict_text_of(alloc, conflict),
         Refused::Input(refusal) => input_text_of(alloc, refusal),
+        Refused::ConflictAt(conflict, read, write) => {
+            conflict_at_text_of(alloc, conflict, read, write)
+        }
+        Refused::Untidy(untidy) => untidy_text_of(alloc, untidy),
         Refused::Saved(refusal) => saved_line_of(alloc, refusal),
+        Refused::Plan(number) => plan_text_of(alloc, number),
     }
 }
 
@@ -59,6 +72,8 @@ pub(crate) fn refused_status(refused: Refused) -> Status
     match refused {
         Refused::Source(_) => Status::SourceRefused,
         Refused::Listing(_) | Refused::Conflict(_) | Refused::Input(_) => Status::CodeRefused,
+        Refused::ConflictAt(_, _, _) | Refused::Untidy(_) => Status::CodeRefused,
         Refused::Saved(_) => Status::SavedRefused,
+        Refused::Plan(_) => Status::WordsRefused,
     }
 }

@@ -195,7 +195,7 @@ fn turns_text_of(alloc: Global, processor: u32) -> Result<Vec<u8>, AllocError>
 }
 
 /// The line of a plan or schedule that is refused.
-fn plan_text_of(alloc: Global, number: u32) -> Result<Vec<u8>, AllocError>
+pub(crate) fn plan_text_of(alloc: Global, number: u32) -> Result<Vec<u8>, AllocError>
     ensures { IfOk result (λ text. text.items ≡ plan_text number) }
 {
     let text = format!(in alloc; "plan refused: {number}\n")?;

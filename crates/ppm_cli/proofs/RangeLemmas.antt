@@ -13,7 +13,7 @@ use Rattle.ppm_cli.specs.Application.{ppm_application}
 use Rattle.ppm_cli.specs.CommandLine.{Number, OptionRule, processors, turns, room, slots, looks, seed, faults, schedule}
 use Rattle.ppm_cli.specs.CommandLine.{few_processors, after, saved_room, few_slots, size, count, capsules, arrays}
 use Rattle.ppm_cli.specs.CommandLine.{copied_room, copied_slots, met, from, acts, runs}
-use Rattle.ppm_cli.specs.CommandLine.{traced_from, traced_acts}
+use Rattle.ppm_cli.specs.CommandLine.{traced_from, traced_acts, stated_plan, stated_schedule}
 use Rattle.ppm_cli.specs.Words.{run_options, serial_in, replay_options, resume_options, self_in, self_options, stop_options}
 use Rattle.ppm_cli.specs.Values.{number_in, number_given, value_of_digits, text_given}
 use Rattle.ppm_cli.specs.Words.{command_named, command_in, without_fault, command_of}
@@ -22,9 +22,9 @@ use Rattle.ppm_cli.specs.Words.{with_text, AreReplayed, AreResumed, AreRun, AreS
 use Rattle.ppm_cli.specs.Values.{fitting_room, fitting_saved_room, room_given, saved_room_given}
 use Rattle.ppm_cli.specs.Words.{sweep_options, AreSwept, trace_options, AreTraced}
 use Rattle.ppm_cli.specs.Values.{swept_takeovers_given, traced_form_given, traced_lines_given}
-use Rattle.ppm_cli.specs.Words.{by_input, explain_in, replay_by, replay_with, code_in, capsule_limit, with_input}
+use Rattle.ppm_cli.specs.Words.{by_input, explain_by, explain_in, replay_by, replay_with, code_in, capsule_limit, with_input}
 use Rattle.ppm_cli.specs.Words.{by_any_input, command_for, replay_saved, stop_saved, trace_saved, with_any_input}
-use Rattle.ppm_cli.specs.Values.{are_counts_given, choice_given, explained_given, input_given, is_case_given}
+use Rattle.ppm_cli.specs.Values.{are_counts_given, choice_given, explained_given, input_given, is_case_given, stated_given}
 use Rattle.ppm_cli.specs.declared.capsules.CapsuleLimit.{CapsuleLimit}
 use Rattle.ppm_cli.specs.declared.command.Command.{Command}
 use Rattle.ppm_cli.specs.declared.command.Command.TheVariants as commands
@@ -280,12 +280,21 @@ code_are rows = go (choice_given arrays (false ∷ true ∷ []) rows) where
   go (Some true) = tt
   go (Some false) = tt
 
--- neither has a text that is explained
+-- a plan or a schedule that is explained is for processors in their range
+explained_are : (text : ExplainedText) (p : ℕ) (plan schedule : Option Text) → IsOfForm processors.form p
+    → IfSome (explain_by text p plan schedule) IsInRange
+explained_are text p None None h = tt
+explained_are text p (Some plan) None h = h
+explained_are text p None (Some schedule) h = h
+explained_are text p (Some plan) (Some schedule) h = tt
+
 explain_are : (rows : List Row) → IfSome (explain_in rows) IsInRange
-explain_are rows = go (explained_given rows) where
-  go : (text : Option ExplainedText) → IfSome (option_map (λ text. commands.Explain text) text) IsInRange
-  go None = tt
-  go (Some text) = tt
+explain_are rows =
+    bound IsInRange (explained_given rows) _ (λ text a.
+    bound IsInRange (number_given processors rows) _ (λ p b.
+    bound IsInRange (stated_given stated_plan rows) _ (λ plan c.
+    bound IsInRange (stated_given stated_schedule rows) _ (λ schedule d.
+    explained_are text p plan schedule (given processors _ _ p rows refl b)))))
 
 limit_are : (rows : List Row) → IfSome (capsule_limit rows) IsLimit
 limit_are rows = go (number_given capsules rows) (λ n e. given capsules _ _ n rows refl e) where

@@ -181,7 +181,14 @@ any_input = choice "input" ("source" ∷ "case" ∷ "saved" ∷ []) "source"
 
 -- which text is explained
 abbrev pub explained : OptionRule
-explained = choice "input" ("source" ∷ "listing" ∷ []) "source"
+explained = choice "input" ("source" ∷ "listing" ∷ "case" ∷ "saved" ∷ []) "source"
+
+-- the plan that is explained, and the schedule: `-` says that it is not stated
+abbrev pub stated_plan : OptionRule
+stated_plan = text "plan" "-"
+
+abbrev pub stated_schedule : OptionRule
+stated_schedule = text "schedule" "-"
 
 -- ---- the commands
 
@@ -205,5 +212,5 @@ command_line =
     ∷ command "trace"
     (processors ∷ traced_from ∷ traced_acts ∷ room ∷ slots ∷ takeover ∷ schedule ∷ traced_form ∷ only ∷ any_input ∷ [])
     ∷ command "show" []
-    ∷ command "explain" (explained ∷ [])
+    ∷ command "explain" (explained ∷ stated_plan ∷ stated_schedule ∷ processors ∷ [])
     ∷ []

@@ -33,7 +33,7 @@ mod trace;
 pub use capsules::CapsuleLimit;
 pub use command::Command;
 pub use example::SelfOptions;
-pub use explain::ExplainedText;
+pub use explain::{ExplainOptions, ExplainedOrders, ExplainedText};
 pub use input::InputKind;
 pub use laws::any_command_may_be_added;
 pub use line::read_words;

@@ -317,8 +317,20 @@ pub(crate) const ANY_INPUT: ChoiceOption = ChoiceOption {
 /// Which text is explained.
 pub(crate) const EXPLAINED: ChoiceOption = ChoiceOption {
     name: "input",
-    words: &["source", "listing"],
+    words: &["source", "listing", "case", "saved"],
     default: "source",
+};
+
+/// The plan that is explained.
+pub(crate) const PLAN: TextOption = TextOption {
+    name: "plan",
+    default: "-",
+};
+
+/// The schedule that is explained.
+pub(crate) const STATED_SCHEDULE: TextOption = TextOption {
+    name: "schedule",
+    default: "-",
 };
 
 /// The schedule of acts.
@@ -459,6 +471,11 @@ pub const COMMANDS: [CommandRow; 15] = [
     },
     CommandRow {
         name: "explain",
-        options: &[OptionRow::Choice(EXPLAINED)],
+        options: &[
+            OptionRow::Choice(EXPLAINED),
+            OptionRow::Text(PLAN),
+            OptionRow::Text(STATED_SCHEDULE),
+            OptionRow::Number(PROCESSORS),
+        ],
     },
 ];

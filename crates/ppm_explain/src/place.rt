@@ -90,8 +90,8 @@ fn under(byte: u8) -> u8
     if byte == b'\t' { b'\t' } else { b' ' }
 }
 
-/// Appends a mark under a column.
-fn push_mark(text: &mut Vec<u8>, line: &[u8], column: usize) -> Result<(), NoMemory>
+/// Appends a mark under a column of a line, from 1.
+pub fn push_mark(text: &mut Vec<u8>, line: &[u8], column: usize) -> Result<(), NoMemory>
     ensures { OnOk result (text.new.items ≡ text.old.items ++ mark_text line.now column) }
 {
     push_word(text, "  ")?;

@@ -13,12 +13,20 @@ use Rattle.ppm_answers.specs.Refused.{refused_answer}
 use Rattle.ppm_cli.specs.declared.explain.ExplainedText.{ExplainedText}
 use Rattle.ppm_cli.specs.declared.explain.ExplainedText.TheVariants as texts
 use Rattle.ppm_commands.specs.Check.{HaveOneAnswer as ListingsAreOne}
-use Rattle.ppm_notes.specs.Listings.{listing_notes}
-use Rattle.ppm_explained.specs.Texts.{AreNotesOf, IsAccepted, IsRefused, limit_of}
+use Rattle.ppm_case.specs.Correct.{FaultsTellCases}
+use Rattle.ppm_commands.specs.Races.{RacesHas, HaveOneAnswer as CasesAreOne}
+use Rattle.ppm_commands.specs.Show.{IsShownBy, ShowHas, HaveOneAnswer as StatesAreOne}
+use Rattle.ppm_saved.specs.Names.{lengths_of}
+use Rattle.ppm_show.specs.Names.{scene_of}
+use Rattle.ppm_show.specs.Show.{show_text}
+use Rattle.ppm_notes.specs.Lines.{case_notes, input_notes, saved_notes, untidy_notes}
+use Rattle.ppm_notes.specs.Listings.{conflict_notes, listing_notes}
+use Rattle.ppm_explained.specs.Texts.{AreNotesOf, HasSomeState, IsAccepted, IsRefused, limit_of}
 use Rattle.ppm_explained.specs.Explaining.{ExplainHas, HasOneAnswer, HaveOneAnswer, IsExplained}
 use Rattle.ppm_explained.proofs.SourceLemmas as of_sources
 use Rattle.ppm_explained.proofs.FrontLemmas as fronts
 use Rattle.ppm_explained.proofs.ListingLemmas as of_listings
+use Rattle.ppm_explained.proofs.CaseLemmas as of_cases
 
 -- the refusal that an answer is
 abbrev refused_in : Answer → Option Refused
@@ -26,7 +34,10 @@ refused_in (answers.SourceRefused r) = Some (refused.Source r)
 refused_in (answers.ListingRefused r) = Some (refused.Listing r)
 refused_in (answers.Conflicting c) = Some (refused.Conflict c)
 refused_in (answers.InputRefused r) = Some (refused.Input r)
+refused_in (answers.ConflictingAt c read write) = Some (refused.ConflictAt c read write)
+refused_in (answers.Untidy u) = Some (refused.Untidy u)
 refused_in (answers.SavedRefused r) = Some (refused.Saved r)
+refused_in (answers.PlanRefused number) = Some (refused.Plan number)
 refused_in a = None
 
 refused_back : (r : Refused) → refused_in (refused_answer r) ≡ Some r
@@ -34,7 +45,10 @@ refused_back (refused.Source r) = refl
 refused_back (refused.Listing r) = refl
 refused_back (refused.Conflict c) = refl
 refused_back (refused.Input r) = refl
+refused_back (refused.ConflictAt c read write) = refl
+refused_back (refused.Untidy u) = refl
 refused_back (refused.Saved r) = refl
+refused_back (refused.Plan number) = refl
 
 some_same : {a b : Refused} → Some a ≡ Some b → a ≡ b
 some_same e = cc
@@ -49,7 +63,20 @@ not_accepted (refused.Source r) e = cc
 not_accepted (refused.Listing r) e = cc
 not_accepted (refused.Conflict c) e = cc
 not_accepted (refused.Input r) e = cc
+not_accepted (refused.ConflictAt c read write) e = cc
+not_accepted (refused.Untidy u) e = cc
 not_accepted (refused.Saved r) e = cc
+not_accepted (refused.Plan number) e = cc
+
+not_shown : (shown : List ℕ) (r : Refused) → answers.Shown shown ≡ refused_answer r → ⊥
+not_shown shown (refused.Source r) e = cc
+not_shown shown (refused.Listing r) e = cc
+not_shown shown (refused.Conflict c) e = cc
+not_shown shown (refused.Input r) e = cc
+not_shown shown (refused.ConflictAt c read write) e = cc
+not_shown shown (refused.Untidy u) e = cc
+not_shown shown (refused.Saved r) e = cc
+not_shown shown (refused.Plan number) e = cc
 
 -- what makes the answers of a text one: its refusals and their notes are, and none comes where it is accepted
 record AreSingle (kind : ExplainedText) : Type 0 where
@@ -142,7 +169,86 @@ module _ (listings : ListingsAreOne) (law : FaultsTellListings) where
   listing_answers : HasOneAnswer texts.Listing
   listing_answers = record { one = are_one texts.Listing listing_single; front = listing_front; some = listing_some }
 
+module _ (cases : CasesAreOne) (law : FaultsTellCases) where
+  case_single : AreSingle texts.Case
+  case_single = record {
+    either = of_cases.not_both law;
+    refusal = λ text q r h k.
+        one_refused q r ((cases 1).one text (refused_answer q) (refused_answer r) (of_cases.to_races text q h) (of_cases.to_races text r k));
+    notes = λ text r m n k. of_cases.one_notes text r m n;
+  }
+
+  case_front : FrontsDecide (limit_of texts.Case) (ExplainHas texts.Case)
+  case_front text rest answers.Accepted long h =
+      let short = law.short text h.0.code h.0.input h.0.is in absurd (omega (arith, long, short))
+  case_front text rest (answers.Explained r notes) long h = record {
+    refusal = of_cases.from_races (text ++ rest) r ((cases 1).front text rest (refused_answer r) long (of_cases.to_races text r h.refusal));
+    told = of_cases.notes_stay law text rest r notes long h.refusal h.told;
+  }
+  case_front text rest a long h = absurd h
+
+  case_some : (text : List ℕ) → ((r : Refused) (notes : List ℕ) → ¬ IsExplained texts.Case text r notes) → IsAccepted texts.Case text
+  case_some text none =
+      let a = (cases 1).some text
+      (λ r h. none (refused.Input r) (input_notes text r) (record { refusal = h; told = refl }))
+      (λ r h. none (refused.Listing r) (case_notes text r) (record { refusal = h; told = refl }))
+      (λ c read write h. none (refused.ConflictAt c read write) (conflict_notes text read write) (record { refusal = h; told = refl }))
+      (λ u h. none (refused.Untidy u) (untidy_notes text u) (record { refusal = h; told = refl })) in
+      ready a.0 a.1
+    where
+      ready : (a : Answer) → RacesHas 1 text a → IsAccepted texts.Case text
+      ready (answers.InputRefused r) h = absurd (none (refused.Input r) (input_notes text r) (record { refusal = h; told = refl }))
+      ready (answers.ListingRefused r) h = absurd (none (refused.Listing r) (case_notes text r) (record { refusal = h; told = refl }))
+      ready (answers.ConflictingAt c read write) h =
+          absurd (none (refused.ConflictAt c read write) (conflict_notes text read write) (record { refusal = h; told = refl }))
+      ready (answers.Untidy u) h = absurd (none (refused.Untidy u) (untidy_notes text u) (record { refusal = h; told = refl }))
+      ready (answers.Sound k) h = (h.0, record { free = h.1.sound.free; tidy = h.1.sound.tidy })
+      ready (answers.Raced r) h = (h.0, h.1.may)
+      ready (answers.NotWithinCapsules n) h = (h.0, h.1.1.may)
+      ready a h = absurd h.1
+
+  case_answers : HasOneAnswer texts.Case
+  case_answers = record { one = are_one texts.Case case_single; front = case_front; some = case_some }
+
+module _ (states : StatesAreOne) where
+  -- a state has its lines
+  shows : (text : List ℕ) (s : HasSomeState text) → ShowHas text (answers.Shown (show_text (scene_of s.shape s.arrays (lengths_of s.arrays) s.code s.words)))
+  shows text s = record { shape = s.shape; arrays = s.arrays; code = s.code; words = s.words; saved = s.saved; tells = refl }
+
+  state_of : (text shown : List ℕ) → IsShownBy text shown → HasSomeState text
+  state_of text shown s = record { shape = s.shape; arrays = s.arrays; code = s.code; words = s.words; saved = s.saved }
+
+  saved_notes_one : (text : List ℕ) (r : Refused) (m n : List ℕ) → AreNotesOf texts.Saved text r m → AreNotesOf texts.Saved text r n → m ≡ n
+  saved_notes_one text (refused.Saved r) m n a b = a ∙ sym b
+  saved_notes_one text r m n a b = absurd a
+
+  saved_single : AreSingle texts.Saved
+  saved_single = record {
+    either = λ text r h k. not_shown _ r (states.one text (answers.Shown _) (refused_answer r) (shows text h) k);
+    refusal = λ text q r h k. one_refused q r (states.one text (refused_answer q) (refused_answer r) h k);
+    notes = λ text r m n k. saved_notes_one text r m n;
+  }
+
+  saved_front : FrontsDecide (limit_of texts.Saved) (ExplainHas texts.Saved)
+  saved_front text rest answers.Accepted long h = state_of (text ++ rest) _ (states.front text rest (answers.Shown _) long (shows text h))
+  saved_front text rest (answers.Explained (refused.Saved r) notes) long h = record {
+    refusal = states.front text rest (answers.SavedRefused r) long h.refusal;
+    told = h.told ∙ of_cases.saved_long text rest r long;
+  }
+  saved_front text rest (answers.Explained r notes) long h = absurd h.told
+  saved_front text rest a long h = absurd h
+
+  saved_some : (text : List ℕ) → ((r : Refused) (notes : List ℕ) → ¬ IsExplained texts.Saved text r notes) → IsAccepted texts.Saved text
+  saved_some text none =
+      let s = states.some text (λ r u. none (refused.Saved r) (saved_notes text r) (record { refusal = u; told = refl })) in
+      state_of text s.0 s.1
+
+  saved_answers : HasOneAnswer texts.Saved
+  saved_answers = record { one = are_one texts.Saved saved_single; front = saved_front; some = saved_some }
+
 -- so it is with each text
-pub have_one_answer : ProgramsAreOne → ListingsAreOne → FaultsTellListings → HaveOneAnswer
-have_one_answer programs listings law texts.Source = source_answers programs
-have_one_answer programs listings law texts.Listing = listing_answers listings law
+pub have_one_answer : ProgramsAreOne → ListingsAreOne → FaultsTellListings → CasesAreOne → FaultsTellCases → StatesAreOne → HaveOneAnswer
+have_one_answer programs listings law cases faults states texts.Source = source_answers programs
+have_one_answer programs listings law cases faults states texts.Listing = listing_answers listings law
+have_one_answer programs listings law cases faults states texts.Case = case_answers cases faults
+have_one_answer programs listings law cases faults states texts.Saved = saved_answers states

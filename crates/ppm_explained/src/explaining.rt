@@ -6,13 +6,17 @@ ghost use Rattle.ppm_explained.specs.Texts.{limit_of};
 ghost use Rattle.ppm_explained.specs.Explaining.{ExplainHas, ExplainMay, IsToldWhy};
 ghost use Rattle.std.specs.Prelude.{◌≡◌};
 
+use crate::cases::case_answer;
 use crate::laws::texts_have_one_answer;
 use crate::listings::listing_answer;
+use crate::saved::saved_answer;
 use crate::sources::source_answer;
 use ppm_answers::{Answer, Status, answer_of_read, deliver};
+use ppm_case::CASE_LIMIT;
 use ppm_cli::ExplainedText;
 use ppm_listing_reader::LISTING_LIMIT;
 use ppm_ports::{Sink, Source, read_whole};
+use ppm_saved_reader::SAVED_LIMIT;
 use ppm_text::TEXT_LIMIT;
 use std::alloc::Global;
 
@@ -43,6 +47,8 @@ fn limit(kind: ExplainedText) -> usize
     match kind {
         ExplainedText::Source => TEXT_LIMIT,
         ExplainedText::Listing => LISTING_LIMIT,
+        ExplainedText::Case => CASE_LIMIT,
+        ExplainedText::Saved => SAVED_LIMIT,
     }
 }
 
@@ -64,5 +70,7 @@ fn text_answer(alloc: Global, kind: ExplainedText, text: &[u8]) -> Answer
     match kind {
         ExplainedText::Source => source_answer(alloc, text),
         ExplainedText::Listing => listing_answer(alloc, text),
+        ExplainedText::Case => case_answer(alloc, text),
+        ExplainedText::Saved => saved_answer(alloc, text),
     }
 }

@@ -1,22 +1,22 @@
--- The words of a line, and the capsules above it, one after another.
+-- The pieces of some bytes, and the capsules above a line, one after another.
 use Rattle.std.proofs.Common.{◌≡◌, ◌≤◌, ◌<◌, ℕ, zero, suc, ◌+◌, ◌-◌, Bool, true, false, List, [], ◌∷◌, Option, Some, None, refl, ap, arith}
 use Rattle.ppm_pieces.specs.Pieces.{halves_of, split}
-use Rattle.ppm_notes.specs.Words.{after_half, after_words, begins_capsule, capsules_in, one_if}
+use Rattle.ppm_notes.specs.Words.{after_half, after_pieces, begins_capsule, capsules_in, one_if}
 
--- behind one word one word fewer is in front
-pub next_word : (n : ℕ) (bytes : List ℕ) (p : List ℕ × List ℕ) → halves_of 32 bytes ≡ Some p → (n ≡ 0 → ⊥)
-    → after_words (n - 1) p.1 ≡ after_words n bytes
-next_word zero bytes p e more = absurd (more refl)
-next_word (suc n) bytes p e more = let one : suc n - 1 ≡ n = omega arith in rw (one, e) refl
+-- behind one piece one piece fewer is in front
+pub next_piece : (s n : ℕ) (bytes : List ℕ) (p : List ℕ × List ℕ) → halves_of s bytes ≡ Some p → (n ≡ 0 → ⊥)
+    → after_pieces s (n - 1) p.1 ≡ after_pieces s n bytes
+next_piece s zero bytes p e more = absurd (more refl)
+next_piece s (suc n) bytes p e more = let one : suc n - 1 ≡ n = omega arith in rw (one, e) refl
 
--- behind the last word there is none
-pub no_word : (n : ℕ) (bytes : List ℕ) → halves_of 32 bytes ≡ None → (n ≡ 0 → ⊥) → None ≡ after_words n bytes
-no_word zero bytes e more = absurd (more refl)
-no_word (suc n) bytes e more = rw e refl
+-- behind the last piece there is none
+pub no_piece : (s n : ℕ) (bytes : List ℕ) → halves_of s bytes ≡ None → (n ≡ 0 → ⊥) → None ≡ after_pieces s n bytes
+no_piece s zero bytes e more = absurd (more refl)
+no_piece s (suc n) bytes e more = rw e refl
 
 -- with none in front it is all
-pub all_words : (n : ℕ) (bytes : List ℕ) → n ≡ 0 → Some bytes ≡ after_words n bytes
-all_words n bytes none = rw none refl
+pub all_pieces : (s n : ℕ) (bytes : List ℕ) → n ≡ 0 → Some bytes ≡ after_pieces s n bytes
+all_pieces s n bytes none = rw none refl
 
 one_few : (b : Bool) → one_if b ≤ 1
 one_few true = omega arith

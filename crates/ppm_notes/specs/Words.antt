@@ -12,22 +12,30 @@ use Rattle.ppm_notes.specs.declared.wanted.Wanted.{Wanted}
 use Rattle.ppm_notes.specs.declared.wanted.Wanted.TheVariants as wanted
 use Rattle.ppm_explain.specs.Words.{quoted}
 
--- the first word of some bytes: what stands in front of the first blank, or all
+-- the first piece of some bytes: what stands in front of the first separator, or all
 abbrev pub first_of : Option (List ℕ × List ℕ) → List ℕ → List ℕ
 first_of None bytes = bytes
 first_of (Some halves) bytes = halves.0
 
-abbrev pub first_word : List ℕ → List ℕ
-first_word bytes = first_of (halves_of 32 bytes) bytes
+abbrev pub first_piece : (separator : ℕ) → List ℕ → List ℕ
+first_piece separator bytes = first_of (halves_of separator bytes) bytes
 
--- what a line has behind so many words; nothing where it has no more
+-- the first word of a line
+abbrev pub first_word : List ℕ → List ℕ
+first_word bytes = first_piece 32 bytes
+
+-- what some bytes have behind so many pieces; nothing where they have no more
 abbrev pub after_half : (List ℕ → Option (List ℕ)) → Option (List ℕ × List ℕ) → Option (List ℕ)
 after_half more None = None
 after_half more (Some halves) = more halves.1
 
+abbrev pub after_pieces : (separator : ℕ) → ℕ → List ℕ → Option (List ℕ)
+after_pieces separator zero bytes = Some bytes
+after_pieces separator (suc n) bytes = after_half (after_pieces separator n) (halves_of separator bytes)
+
+-- what a line has behind so many words
 abbrev pub after_words : ℕ → List ℕ → Option (List ℕ)
-after_words zero bytes = Some bytes
-after_words (suc n) bytes = after_half (after_words n) (halves_of 32 bytes)
+after_words n bytes = after_pieces 32 n bytes
 
 -- the tokens of words
 abbrev pub tokens_in : Option (List ℕ) → List Token

@@ -41,7 +41,7 @@ fn push_spot(
 /// with the keyword.
 fn expected_in(
     alloc: Global,
-    at: u32,
+    at: usize,
     capsules: u32,
     keyword: Keyword,
     bytes: &[u8],
@@ -61,7 +61,7 @@ fn expected_in(
 /// words this place is.
 fn stop_in(
     alloc: Global,
-    at: u32,
+    at: usize,
     capsules: u32,
     keyword: Option<Keyword>,
     bytes: &[u8],
@@ -84,13 +84,13 @@ fn push_stop(
     alloc: Global,
     text: &mut Vec<u8>,
     listing: &[u8],
-    above: u32,
+    above: usize,
     line: u32,
 ) -> Result<(), NoMemory>
     ensures { OnOk result (text.new.items ≡ text.old.items ++ stop_notes above listing.now line) }
 {
     let bytes = line_bytes(listing, line as usize);
-    let at = line.saturating_sub(above);
+    let at = (line as usize).saturating_sub(above);
     let capsules = capsules_above(listing, line.saturating_sub(1));
     let (count, words) = stop_in(alloc, at, capsules, lead(at, capsules, bytes), bytes)?;
     push_spot(alloc, text, listing, line, after_words(bytes, count))?;
@@ -104,7 +104,7 @@ fn push_rule(
     alloc: Global,
     text: &mut Vec<u8>,
     listing: &[u8],
-    above: u32,
+    above: usize,
     line: u32,
 ) -> Result<(), NoMemory>
     ensures { OnOk result (text.new.items ≡ text.old.items ++ rule_notes above listing.now line) }
@@ -112,7 +112,7 @@ fn push_rule(
     push_line(alloc, text, listing, line)?;
     let capsules = capsules_above(listing, line.saturating_sub(1));
     let bytes = line_bytes(listing, line as usize);
-    push_form(text, lead(line.saturating_sub(above), capsules, bytes))
+    push_form(text, lead((line as usize).saturating_sub(above), capsules, bytes))
 }
 
 /// Appends the line of a fault.
@@ -120,7 +120,7 @@ fn push_fault(
     alloc: Global,
     text: &mut Vec<u8>,
     listing: &[u8],
-    above: u32,
+    above: usize,
     refusal: ListingRefusal,
 ) -> Result<(), NoMemory>
     ensures { OnOk result (text.new.items ≡ text.old.items ++ fault_line above listing.now refusal) }
@@ -133,10 +133,10 @@ fn push_fault(
 
 /// What is said of a fault of a listing that stands below so many lines of a text: its line, and
 /// what the refusal means.
-fn fault_notes(
+pub(crate) fn fault_notes(
     alloc: Global,
     text: &[u8],
-    above: u32,
+    above: usize,
     refusal: ListingRefusal,
 ) -> Result<Vec<u8>, NoMemory>
     ensures { IfOk result (λ notes. notes.items ≡ notes_of_fault above text.now refusal) }
@@ -166,7 +166,7 @@ pub fn listing_notes(
 }
 
 /// Appends a line of a listing, with its number, from 1, after words.
-fn push_row(
+pub(crate) fn push_row(
     alloc: Global,
     text: &mut Vec<u8>,
     words: &str,

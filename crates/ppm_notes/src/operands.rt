@@ -17,7 +17,7 @@ use std::alloc::Global;
 
 /// The keywords with which a line of a listing may begin, by its number, from 1, and by how many
 /// capsules begin above it.
-pub(crate) fn leads(line: u32, capsules: u32) -> &'static [Keyword]
+pub(crate) fn leads(line: usize, capsules: u32) -> &'static [Keyword]
     ensures { result.now ≡ leads_of line capsules }
 {
     if line == 1 {
@@ -65,7 +65,7 @@ pub(crate) fn leads(line: u32, capsules: u32) -> &'static [Keyword]
 }
 
 /// The keyword with which a line begins, if it may.
-pub(crate) fn lead(line: u32, capsules: u32, bytes: &[u8]) -> Option<Keyword>
+pub(crate) fn lead(line: usize, capsules: u32, bytes: &[u8]) -> Option<Keyword>
     ensures { result ≡ lead_in line capsules bytes.now }
 {
     first_spelled(leads(line, capsules), first_word(bytes))
@@ -93,7 +93,7 @@ fn sorted(alloc: Global, sorts: &[Sort]) -> Result<Vec<Wanted>, NoMemory>
 }
 
 /// Words of these sorts, of which the first is this number.
-fn numbered(alloc: Global, number: u32, sorts: &[Sort]) -> Result<Vec<Wanted>, NoMemory>
+fn numbered(alloc: Global, number: u64, sorts: &[Sort]) -> Result<Vec<Wanted>, NoMemory>
     ensures { IfOk result (λ wanted. wanted.items ≡ numbered_as number sorts.now) }
 {
     let mut wanted = Vec::new(alloc);
@@ -162,7 +162,7 @@ fn fork_operands(alloc: Global, no_left: bool) -> Result<Vec<Wanted>, NoMemory>
 /// above it and the line has these tokens.
 pub(crate) fn operands(
     alloc: Global,
-    line: u32,
+    line: usize,
     capsules: u32,
     keyword: Keyword,
     tokens: &[Token],
@@ -171,8 +171,8 @@ pub(crate) fn operands(
 {
     match keyword {
         Keyword::Root => numbers(alloc, tokens),
-        Keyword::Proc => numbered(alloc, line.saturating_sub(3), sorts(Keyword::Proc)),
-        Keyword::Capsule => numbered(alloc, capsules, sorts(Keyword::Capsule)),
+        Keyword::Proc => numbered(alloc, line.saturating_sub(3) as u64, sorts(Keyword::Proc)),
+        Keyword::Capsule => numbered(alloc, u64::from(capsules), sorts(Keyword::Capsule)),
         Keyword::ForkTo => fork_operands(alloc, is_absent(left_slot(tokens))),
         Keyword::Ppm
         | Keyword::Slots
@@ -210,11 +210,11 @@ pub(crate) fn operands(
 }
 
 /// Whether a token is this number.
-fn is_numbered(number: u32, token: Token) -> bool
+fn is_numbered(number: u64, token: Token) -> bool
     ensures { result ≡ has_number number token }
 {
     match token {
-        Token::Number(value) => value == u64::from(number),
+        Token::Number(value) => value == number,
         Token::Name(_)
         | Token::Register(_)
         | Token::Negative(_)

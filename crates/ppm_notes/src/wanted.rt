@@ -15,7 +15,7 @@ pub enum Wanted {
     /// A word of this sort.
     Word(Sort),
     /// This number.
-    Number(u32),
+    Number(u64),
     /// The end of the line.
     End,
 }
@@ -55,7 +55,7 @@ pub(crate) fn push_wanted(
         Wanted::Word(sort) => push_sort(text, sort),
         Wanted::Number(number) => {
             push_word(text, "`")?;
-            push_number(alloc, text, u64::from(number))?;
+            push_number(alloc, text, number)?;
             push_word(text, "`")
         }
         Wanted::End => push_word(text, "the end of the line"),

@@ -2,7 +2,8 @@
 ghost use Rattle.std.specs.Prelude.{◌≡◌, ◌++◌, IfOk, MatchOption, None, OnOk, Some, map, option_map};
 ghost use Rattle.ppm_pieces.specs.Pieces.{split};
 ghost use Rattle.ppm_listing_reader.specs.Tokens.{token_of};
-ghost use Rattle.ppm_notes.specs.Words.{after_words as behind_words, begins_capsule as is_capsule};
+ghost use Rattle.ppm_notes.specs.Words.{after_pieces as behind_pieces, after_words as behind_words};
+ghost use Rattle.ppm_notes.specs.Words.{begins_capsule as is_capsule, first_piece as piece_in_front};
 ghost use Rattle.ppm_notes.specs.Words.{capsules_in, column_in, end_name as name_of_end, one_if as one_where};
 ghost use Rattle.ppm_notes.specs.Words.{first_word as word_in_front, thing_text, tokens_in, word_text};
 
@@ -12,30 +13,45 @@ use ppm_pieces::{same_bytes, split_once};
 use ppm_words::NoMemory;
 use std::alloc::Global;
 
-/// The first word of some bytes: what stands in front of the first blank, or all.
-pub(crate) fn first_word(bytes: &[u8]) -> &[u8]
-    ensures { result.now ≡ word_in_front bytes.now }
+/// The first piece of some bytes: what stands in front of the first separator, or all.
+pub(crate) fn first_piece(bytes: &[u8], separator: u8) -> &[u8]
+    ensures { result.now ≡ piece_in_front separator bytes.now }
 {
-    match split_once(bytes, b' ') {
-        Some((word, _)) => word,
+    match split_once(bytes, separator) {
+        Some((piece, _)) => piece,
         None => bytes,
     }
 }
 
-/// What a line has after so many words, if it has more.
-#[tactic(auto, using(crate::proofs::WordLemmas::next_word, crate::proofs::WordLemmas::no_word, crate::proofs::WordLemmas::all_words))]
-pub(crate) fn after_words(line: &[u8], count: usize) -> Option<&[u8]>
-    ensures { MatchOption result (behind_words count line.now ≡ None)
-        (λ rest. behind_words count line.now ≡ Some rest.now) }
+/// The first word of a line.
+pub(crate) fn first_word(bytes: &[u8]) -> &[u8]
+    ensures { result.now ≡ word_in_front bytes.now }
 {
-    let mut left = line;
+    first_piece(bytes, b' ')
+}
+
+/// What some bytes have after so many pieces, if they have more.
+#[tactic(auto, using(crate::proofs::WordLemmas::next_piece, crate::proofs::WordLemmas::no_piece, crate::proofs::WordLemmas::all_pieces))]
+pub(crate) fn after_pieces(bytes: &[u8], separator: u8, count: usize) -> Option<&[u8]>
+    ensures { MatchOption result (behind_pieces separator count bytes.now ≡ None)
+        (λ rest. behind_pieces separator count bytes.now ≡ Some rest.now) }
+{
+    let mut left = bytes;
     let mut ahead = count;
-    'words: while ahead > 0 {
-        let (_, rest) = split_once(left, b' ')?;
+    'pieces: while ahead > 0 {
+        let (_, rest) = split_once(left, separator)?;
         left = rest;
         ahead -= 1;
     }
     Some(left)
+}
+
+/// What a line has after so many words, if it has more.
+pub(crate) fn after_words(line: &[u8], count: usize) -> Option<&[u8]>
+    ensures { MatchOption result (behind_words count line.now ≡ None)
+        (λ rest. behind_words count line.now ≡ Some rest.now) }
+{
+    after_pieces(line, b' ', count)
 }
 
 /// The tokens of the words that some bytes have.
