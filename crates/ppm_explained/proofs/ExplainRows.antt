@@ -21,7 +21,7 @@ pub no_fault : (kind : ExplainedText) (text : List ℕ) → ¬ ExplainHas kind t
 no_fault kind text h = h
 
 -- nor is it a plan that is refused
-no_plan : (kind : ExplainedText) (text : List ℕ) (number : ℕ) → ¬ IsRefused kind text (refused.Plan number)
+pub no_plan : (kind : ExplainedText) (text : List ℕ) (number : ℕ) → ¬ IsRefused kind text (refused.Plan number)
 no_plan texts.Source text number h = h
 no_plan texts.Listing text number h = h
 no_plan texts.Case text number h = h.1

@@ -80,7 +80,8 @@ pub(crate) fn meaning_of(command: &str, option: &str) -> &'static str {
         "from" => from_of(command),
         "acts" => acts_of(command),
         "runs" => "acts of these that are drawn; with 0 all are taken",
-        "schedule" => "as 0*9,1>0,1!h: acts, a victim, a hard fault",
+        "schedule" => schedule_of(command),
+        "plan" => "to be explained, as 0@5s,1@9h; - is none",
         "takeover" => takeover_of(command),
         "idle" => "one that rests makes no more acts, or sleeps",
         "form" => "lines, events for a viewer of traces, or a picture",
@@ -88,6 +89,14 @@ pub(crate) fn meaning_of(command: &str, option: &str) -> &'static str {
         "input" => input_of(command),
         "counts" => "with yes a last line of counts; not with saved",
         _ => NO_WORDS,
+    }
+}
+
+/// What the schedule of a command is.
+fn schedule_of(command: &str) -> &'static str {
+    match command {
+        "explain" => "to be explained, as 0*9,1>0,1!h; - is none",
+        _ => "as 0*9,1>0,1!h: acts, a victim, a hard fault",
     }
 }
 

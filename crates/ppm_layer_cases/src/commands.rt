@@ -2,7 +2,7 @@
 use crate::said::Said;
 use ppm_cells::Takeover;
 use ppm_cli::{
-    Command, ExplainedText, ReplayOptions, RunOptions, StopOptions, SweepOptions, SweptTakeovers, TraceOptions,
+    Command, ExplainedOrders, ExplainedText, ReplayOptions, RunOptions, StopOptions, SweepOptions, SweptTakeovers, TraceOptions,
     TracedForm, TracedLines, read_words,
 };
 use ppm_sheets::Fault;
@@ -49,6 +49,16 @@ fn explained_word(text: ExplainedText) -> &'static str {
     match text {
         ExplainedText::Source => "source",
         ExplainedText::Listing => "listing",
+        ExplainedText::Case => "case",
+        ExplainedText::Saved => "saved",
+    }
+}
+
+/// What stands ahead of a plan or a schedule that is explained.
+fn orders_front(orders: ExplainedOrders) -> &'static str {
+    match orders {
+        ExplainedOrders::Plan => " plan=",
+        ExplainedOrders::Schedule => " schedule=",
     }
 }
 
@@ -154,6 +164,11 @@ fn line_of(alloc: Global, command: &Command) -> Result<Vec<u8>, Fault> {
         Command::Check => String::from_str(alloc, "check")?,
         Command::Show => String::from_str(alloc, "show")?,
         Command::Explain(it) => format!(in alloc; "explain {}", explained_word(*it))?,
+        Command::ExplainOrders(it, orders) => {
+            front = orders_front(it.orders);
+            plan = orders.as_slice();
+            format!(in alloc; "explain processors {}", it.processors)?
+        }
         Command::Depth(it) => format!(in alloc; "depth capsules {}", it.capsules)?,
         Command::Races(it) => format!(in alloc; "races capsules {}", it.capsules)?,
         Command::Replay(it, schedule) => {

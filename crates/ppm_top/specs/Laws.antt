@@ -5,6 +5,7 @@ use Rattle.ppm_ram.specs.Correct.{TextsAreOfRams}
 use Rattle.ppm_commands.specs.Case.{AreCases, HaveOneAnswer as CaseTextsHaveOneAnswer}
 use Rattle.ppm_commands.specs.Check.{HaveOneAnswer as ListingsHaveOneAnswer}
 use Rattle.ppm_explained.specs.Explaining.{HaveOneAnswer as ExplainedTextsHaveOneAnswer}
+use Rattle.ppm_explained.specs.Orders.{AllHaveOneAnswer as ExplainedOrdersHaveOneAnswer}
 use Rattle.ppm_commands.specs.Code.{CodesAreFaithful, HaveOneAnswer as CodesHaveOneAnswer}
 use Rattle.ppm_commands.specs.Depth.{HaveOneAnswer as DepthRunsHaveOneAnswer}
 use Rattle.ppm_commands.specs.Races.{HaveOneAnswer as CasesHaveOneAnswer}
@@ -60,6 +61,7 @@ pub record ProgramLaws : Type 0 where
   pub listings : ListingsHaveOneAnswer
   pub states : SavedTextsHaveOneAnswer
   pub explained : ExplainedTextsHaveOneAnswer
+  pub explained_orders : ExplainedOrdersHaveOneAnswer
   pub depths : DepthRunsHaveOneAnswer
   pub races : CasesHaveOneAnswer
   pub texts : CaseTextsHaveOneAnswer

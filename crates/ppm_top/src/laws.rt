@@ -22,7 +22,9 @@ use ppm_driver::{
     stops_have_one_answer, stops_leave_states, sweeps_are_as_code, sweeps_have_one_answer,
     traces_have_one_answer,
 };
-use ppm_explained::texts_have_one_answer as explained_texts_have_one_answer;
+use ppm_explained::{
+    orders_have_one_answer, texts_have_one_answer as explained_texts_have_one_answer,
+};
 use ppm_plan::have_one_answer as plans_have_one_answer;
 use ppm_ram::texts_are_of_rams;
 
@@ -45,6 +47,7 @@ pub fn program_laws()
     listings_have_one_answer();
     saved_texts_have_one_answer();
     explained_texts_have_one_answer();
+    orders_have_one_answer();
     depth_runs_have_one_answer();
     cases_have_one_answer();
     case_texts_have_one_answer();

@@ -22,7 +22,7 @@ use ppm_driver::{
     replay_command, resume_command, run_case_command, run_command, self_command, stop_case_command,
     stop_command, sweep_case_command, sweep_command, trace_case_command, trace_command,
 };
-use ppm_explained::explain_command;
+use ppm_explained::{explain_command, explain_orders_command};
 use ppm_ports::{Sink, Source, Watch};
 use ppm_words::NoMemory;
 use std::alloc::Global;
@@ -110,6 +110,13 @@ fn answer_words<R: Threads + Wait + Sync, S: Source, K: Sink, E: Sink, W: Watch>
         Ok(Some(Command::Check)) => check_command(alloc, source, out, err),
         Ok(Some(Command::Show)) => show_command(alloc, source, out, err),
         Ok(Some(Command::Explain(text))) => explain_command(alloc, text, source, out, err),
+        Ok(Some(Command::ExplainOrders(options, stated))) => explain_orders_command(
+            alloc,
+            options,
+            stated.as_slice(),
+            out,
+            err,
+        ),
         Ok(Some(Command::Depth(limit))) => depth_command(alloc, limit.capsules, source, out, err),
         Ok(Some(Command::Races(limit))) => races_command(alloc, limit.capsules, source, out, err),
         Ok(Some(Command::Replay(options, schedule))) => replay_command(

@@ -22,6 +22,7 @@ returns c = record {
     listings = c.listings_have_one_answer.ensures.law;
     states = c.saved_texts_have_one_answer.ensures.law;
     explained = c.texts_have_one_answer.ensures.law;
+    explained_orders = c.orders_have_one_answer.ensures.law;
     depths = c.depth_runs_have_one_answer.ensures.law;
     races = c.cases_have_one_answer.ensures.law;
     texts = c.case_texts_have_one_answer.ensures.law;

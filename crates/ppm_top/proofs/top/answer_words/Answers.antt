@@ -55,6 +55,12 @@ returns-in-Ok-Some-Explain-clause-answers g c = by_ports (map string_bytes c.arg
     (cc (c.in-Ok-Some-Explain.ensures.value, c.in-Ok-Some-Explain.field-0-is, c.in-Ok-Some-Explain.field-0-0-is)) refl refl
     c.explain_command.ensures.delivers
 
+-- the words ask to explain a plan or a schedule, which was explained, and nothing was read
+pub returns-in-Ok-Some-ExplainOrders-clause-answers : goal.returns-in-Ok-Some-ExplainOrders-clause-answers
+returns-in-Ok-Some-ExplainOrders-clause-answers g c = by_ports (map string_bytes c.args.words.now) _ _ (Some (commands.ExplainOrders _ _))
+    (cc (c.in-Ok-Some-ExplainOrders.ensures.value, c.in-Ok-Some-ExplainOrders.field-0-is, c.in-Ok-Some-ExplainOrders.field-0-0-is)) refl refl
+    (c.explain_orders_command.ensures _ (left_alone g.S.Source.left g.S.Source.fault_count c.args.source.now)).delivers
+
 -- the words ask for a run, which was answered
 pub returns-in-Ok-Some-Run-clause-answers : goal.returns-in-Ok-Some-Run-clause-answers
 returns-in-Ok-Some-Run-clause-answers g c = by_command (map string_bytes c.args.words.now) _ _ (Some (commands.Run _ _))
