@@ -1,11 +1,14 @@
 //! `explain` of a plan or a schedule.
-ghost use Rattle.std.specs.Prelude.{◌≡◌, IfErr, IsOk, true};
-ghost use Rattle.ppm_plan.specs.Correct.{is_of_text};
+ghost use Rattle.std.specs.Prelude.{◌≡◌, IfErr, IfOk, true};
+ghost use Rattle.std.specs.Int.{IsInRange};
+ghost use Rattle.ppm_plan.specs.Correct.{is_of_text, SomeAccepted};
+ghost use Rattle.ppm_plan.specs.Forms.{plan_form, schedule_form};
 ghost use Rattle.ppm_ports.specs.Ports.{Port, port};
 ghost use Rattle.ppm_ports.specs.Outside.{ports};
 ghost use Rattle.ppm_answers.specs.Reading.{IsUnread, TextMay};
 ghost use Rattle.ppm_cli.specs.Words.{AreExplained};
-ghost use Rattle.ppm_explained.specs.Orders.{AreToldWhy, IsDisorderly, IsOrderly, OrdersHave};
+ghost use Rattle.ppm_explained.specs.Orders.{AreToldWhy, IsDisorderly, IsOrderly, IsRefusedFor};
+ghost use Rattle.ppm_explained.specs.Orders.{OrdersHave};
 
 use crate::laws::orders_have_one_answer;
 use ppm_answers::{Answer, Refused, Status, deliver};
@@ -43,27 +46,51 @@ fn orders_answer(alloc: Global, options: ExplainOptions, text: &[u8]) -> Answer
     requires options { AreExplained options }
     ensures { TextMay (OrdersHave options) text.now result }
 {
-    match judged(alloc, options, text) {
+    match judge(alloc, options.orders, options.processors, text) {
         Ok(()) => Answer::Accepted,
         Err(error) => error_answer(alloc, options, text, error),
     }
 }
 
-/// Why a plan or a schedule may not be obeyed, if it may not.
-fn judged(alloc: Global, options: ExplainOptions, text: &[u8]) -> Result<(), PlanError>
-    requires options { AreExplained options }
-    ensures ok { IsOk result → IsOrderly options.orders options.processors text.now }
-    ensures err { IfErr result (λ e. is_of_text e ≡ true → IsDisorderly options.orders options.processors text.now e) }
+/// Why a plan may not be obeyed by so many processors, if it may not.
+fn judge_plan(alloc: Global, processors: u32, text: &[u8]) -> Result<(), PlanError>
+    requires range { IsInRange 1 64 processors }
+    ensures ok { IfOk result (λ done. SomeAccepted plan_form text.now processors) }
+    ensures err { IfErr result (λ e. is_of_text e ≡ true → IsRefusedFor plan_form processors text.now e) }
 {
-    match options.orders {
-        ExplainedOrders::Plan => {
-            let _ = read_plan(alloc, text, options.processors)?;
-        }
-        ExplainedOrders::Schedule => {
-            let _ = read_schedule(alloc, text, options.processors)?;
-        }
+    match read_plan(alloc, text, processors) {
+        Ok(_) => Ok(()),
+        Err(error) => Err(error),
     }
-    Ok(())
+}
+
+/// Why a schedule may not be obeyed by so many processors, if it may not.
+fn judge_schedule(alloc: Global, processors: u32, text: &[u8]) -> Result<(), PlanError>
+    requires range { IsInRange 1 64 processors }
+    ensures ok { IfOk result (λ done. SomeAccepted schedule_form text.now processors) }
+    ensures err { IfErr result (λ e. is_of_text e ≡ true → IsRefusedFor schedule_form processors text.now e) }
+{
+    match read_schedule(alloc, text, processors) {
+        Ok(_) => Ok(()),
+        Err(error) => Err(error),
+    }
+}
+
+/// Why a plan or a schedule may not be obeyed by so many processors, if it may not.
+fn judge(
+    alloc: Global,
+    orders: ExplainedOrders,
+    processors: u32,
+    text: &[u8],
+) -> Result<(), PlanError>
+    requires range { IsInRange 1 64 processors }
+    ensures ok { IfOk result (λ done. IsOrderly orders processors text.now) }
+    ensures err { IfErr result (λ e. is_of_text e ≡ true → IsDisorderly orders processors text.now e) }
+{
+    match orders {
+        ExplainedOrders::Plan => judge_plan(alloc, processors, text),
+        ExplainedOrders::Schedule => judge_schedule(alloc, processors, text),
+    }
 }
 
 /// What is said of a plan or a schedule that may not be obeyed, unless memory was refused.

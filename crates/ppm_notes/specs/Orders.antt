@@ -6,7 +6,6 @@ use Rattle.ppm_cli.specs.declared.explain.ExplainedOrders.{ExplainedOrders}
 use Rattle.ppm_cli.specs.declared.explain.ExplainedOrders.TheVariants as orders
 use Rattle.ppm_explain.specs.Meanings.{note_text}
 use Rattle.ppm_explain.specs.Places.{mark_text, shown_text}
-use Rattle.ppm_explain.specs.Words.{quoted}
 use Rattle.ppm_notes.specs.Words.{after_pieces, column_in, first_piece}
 
 -- the item that stands behind some pieces
@@ -19,7 +18,7 @@ abbrev pub item_notes : List ℕ → ℕ → List ℕ
 item_notes text n =
     let rest = after_pieces 44 (n - 1) text in
     codes "item " ++ decimal n ++ codes " column " ++ decimal (column_in text rest) ++ codes "\n" ++ shown_text text
-    ++ mark_text text (column_in text rest) ++ codes "found: " ++ quoted (item_text rest) ++ codes "\n"
+    ++ mark_text text (column_in text rest) ++ codes "found: `" ++ item_text rest ++ codes "`\n"
 
 -- what an item is
 abbrev pub item_meaning : ExplainedOrders → List ℕ

@@ -1,7 +1,6 @@
 //! What is said of a case or a saved text that is refused.
 ghost use Rattle.std.specs.Prelude.{◌≡◌, ◌++◌, IfOk, OnOk};
 ghost use Rattle.ppm_pieces.specs.Pieces.{split};
-ghost use Rattle.ppm_explain.specs.Meanings.{note_text};
 ghost use Rattle.ppm_notes.specs.Lines.{arrays_in, case_notes as notes_of_case};
 ghost use Rattle.ppm_notes.specs.Lines.{input_meaning as input_words, input_notes as notes_of_input};
 ghost use Rattle.ppm_notes.specs.Lines.{is_array as is_array_line, line_notes as notes_of_line};
@@ -10,7 +9,7 @@ ghost use Rattle.ppm_notes.specs.Lines.{saved_notes as notes_of_saved, untidy_me
 ghost use Rattle.ppm_notes.specs.Lines.{untidy_notes as notes_of_untidy};
 
 use crate::listing::{fault_notes, push_row};
-use crate::meaning::push_note;
+use crate::meaning::{note_of, push_note};
 use crate::words::first_word;
 use ppm_answers::{InputRefusal, ListingRefusal, SavedRefusal, UntidyStore};
 use ppm_case::CASE_LIMIT;
@@ -98,15 +97,6 @@ fn saved_meaning(number: u32) -> &'static str
         5 => "the words are not as many as the sizes of the text say",
         _ => "",
     }
-}
-
-/// A note alone.
-fn note_of(alloc: Global, words: &str) -> Result<Vec<u8>, NoMemory>
-    ensures { IfOk result (λ notes. notes.items ≡ note_text words.now) }
-{
-    let mut notes = Vec::new(alloc);
-    push_note(&mut notes, words)?;
-    Ok(notes)
 }
 
 /// A line, and what is said of it.

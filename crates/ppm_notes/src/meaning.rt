@@ -1,10 +1,11 @@
 //! What refusals of listings mean, in words.
-ghost use Rattle.std.specs.Prelude.{◌≡◌, ◌++◌, OnOk};
+ghost use Rattle.std.specs.Prelude.{◌≡◌, ◌++◌, IfOk, OnOk};
 ghost use Rattle.ppm_explain.specs.Meanings.{note_text};
 ghost use Rattle.ppm_notes.specs.Meanings.{conflict_meaning, listing_meaning as listing_words, long_listing};
 
 use ppm_explain::push_word;
 use ppm_words::NoMemory;
+use std::alloc::Global;
 
 /// What a fault of a listing means, by its number.
 #[tactic(auto, unfolding(crate::specs::Meanings::listing_meaning))]
@@ -48,4 +49,13 @@ pub(crate) fn push_note(text: &mut Vec<u8>, words: &str) -> Result<(), NoMemory>
     push_word(text, "note: ")?;
     push_word(text, words)?;
     push_word(text, "\n")
+}
+
+/// A note alone.
+pub(crate) fn note_of(alloc: Global, words: &str) -> Result<Vec<u8>, NoMemory>
+    ensures { IfOk result (λ notes. notes.items ≡ note_text words.now) }
+{
+    let mut notes = Vec::new(alloc);
+    push_note(&mut notes, words)?;
+    Ok(notes)
 }

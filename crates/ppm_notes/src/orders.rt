@@ -1,12 +1,11 @@
 //! What is said of a plan or a schedule that is refused.
 ghost use Rattle.std.specs.Prelude.{◌≡◌, ◌++◌, ◌-◌, IfOk, OnOk, option_map};
 ghost use Rattle.ppm_explain.specs.Meanings.{note_text};
-ghost use Rattle.ppm_explain.specs.Words.{quoted};
 ghost use Rattle.ppm_notes.specs.Orders.{item_meaning as item_words, item_notes, item_text};
 ghost use Rattle.ppm_notes.specs.Orders.{killed_meaning, many_meaning, orders_notes as notes_of_orders};
 ghost use Rattle.ppm_notes.specs.Orders.{processors_meaning};
 
-use crate::meaning::push_note;
+use crate::meaning::{note_of, push_note};
 use crate::words::{after_pieces, column, first_piece};
 use ppm_cli::ExplainedOrders;
 use ppm_explain::{push_mark, push_shown, push_word};
@@ -15,17 +14,14 @@ use ppm_plan::PlanError;
 use ppm_words::NoMemory;
 use std::alloc::Global;
 
-/// Appends an item in backticks: what stands in front of the next comma.
-fn push_item(text: &mut Vec<u8>, rest: Option<&[u8]>) -> Result<(), NoMemory>
-    ensures { OnOk result (text.new.items
-        ≡ text.old.items ++ quoted (item_text (option_map (λ r. r.now) rest))) }
+/// An item: what stands in front of the next comma.
+fn item(rest: Option<&[u8]>) -> &[u8]
+    ensures { result.now ≡ item_text (option_map (λ r. r.now) rest) }
 {
-    push_word(text, "`")?;
     match rest {
-        Some(rest) => text.extend_from_slice(first_piece(rest, b','))?,
-        None => {}
+        Some(rest) => first_piece(rest, b','),
+        None => b"",
     }
-    push_word(text, "`")
 }
 
 /// Appends an item by its number, from 1: its column, the text with a mark under it, and the item.
@@ -46,9 +42,9 @@ fn push_item_notes(
     push_word(notes, "\n")?;
     push_shown(notes, text)?;
     push_mark(notes, text, column)?;
-    push_word(notes, "found: ")?;
-    push_item(notes, rest)?;
-    push_word(notes, "\n")
+    push_word(notes, "found: `")?;
+    notes.extend_from_slice(item(rest))?;
+    push_word(notes, "`\n")
 }
 
 /// What an item is.
@@ -87,6 +83,38 @@ fn killed_words() -> &'static str
     "each processor has a hard fault; one has to be spared"
 }
 
+/// What is said of an item that has no form.
+fn bad_item_notes(
+    alloc: Global,
+    orders: ExplainedOrders,
+    text: &[u8],
+    number: u64,
+) -> Result<Vec<u8>, NoMemory>
+    ensures { IfOk result (λ notes. notes.items
+        ≡ item_notes text.now number ++ note_text (item_words orders)) }
+{
+    let mut notes = Vec::new(alloc);
+    push_item_notes(alloc, &mut notes, text, number)?;
+    push_note(&mut notes, item_meaning(orders))?;
+    Ok(notes)
+}
+
+/// What is said of an item that names a processor which is not there.
+fn no_processor_notes(
+    alloc: Global,
+    processors: u32,
+    text: &[u8],
+    number: u64,
+) -> Result<Vec<u8>, NoMemory>
+    ensures { IfOk result (λ notes. notes.items
+        ≡ item_notes text.now number ++ note_text (processors_meaning processors)) }
+{
+    let mut notes = Vec::new(alloc);
+    push_item_notes(alloc, &mut notes, text, number)?;
+    push_processors(alloc, &mut notes, processors)?;
+    Ok(notes)
+}
+
 /// What is said, after the line of its refusal, of a plan or a schedule for so many processors, for
 /// this error: the item with a mark under it, and what the refusal means. `Err` only where memory is
 /// refused.
@@ -99,19 +127,11 @@ pub fn orders_notes(
 ) -> Result<Vec<u8>, NoMemory>
     ensures { IfOk result (λ notes. notes.items ≡ notes_of_orders orders processors text.now error) }
 {
-    let mut notes = Vec::new(alloc);
     match error {
-        PlanError::BadItem(number) => {
-            push_item_notes(alloc, &mut notes, text, number)?;
-            push_note(&mut notes, item_meaning(orders))?;
-        }
-        PlanError::NoSuchProcessor(number) => {
-            push_item_notes(alloc, &mut notes, text, number)?;
-            push_processors(alloc, &mut notes, processors)?;
-        }
-        PlanError::TooManyFaults => push_note(&mut notes, many_words())?,
-        PlanError::AllKilled => push_note(&mut notes, killed_words())?,
-        PlanError::NoMemory => {}
+        PlanError::BadItem(number) => bad_item_notes(alloc, orders, text, number),
+        PlanError::NoSuchProcessor(number) => no_processor_notes(alloc, processors, text, number),
+        PlanError::TooManyFaults => note_of(alloc, many_words()),
+        PlanError::AllKilled => note_of(alloc, killed_words()),
+        PlanError::NoMemory => Ok(Vec::new(alloc)),
     }
-    Ok(notes)
 }
