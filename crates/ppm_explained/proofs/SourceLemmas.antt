@@ -205,20 +205,22 @@ module _ (text : List ℕ) where
   -- the notes of tokens that go to a place
   stopped : (r : Refusal) (ts : List Token) → HasTokens text ts → (f q : List Token) → GoTo ts f q → (notes : List ℕ) × ByStop text r notes
   stopped r ts lexed f q g =
-      let s = followed f g.begins in
-      (stop_notes text ts s.kinds s.end r, record {
-        tokens = ts;
-        lexed = lexed;
-        front = f;
-        rest = q;
-        goes = g;
-        kinds = s.kinds;
-        end = s.end;
-        follows = s.follows;
-        unexpected = λ place h. subst (λ x. Follow x s.kinds s.end) (one_front ts f h.front q (h.found ∷ h.stands.more) g (to_unexpected h)) s.follows;
-        ended = λ h. subst (λ x. Follow x s.kinds s.end) (one_front ts f ts q [] g (to_end h)) s.follows;
-        is = refl;
-      })
+      let s = followed f g.begins in (
+        stop_notes text ts s.kinds s.end r,
+        record {
+          tokens = ts;
+          lexed = lexed;
+          front = f;
+          rest = q;
+          goes = g;
+          kinds = s.kinds;
+          end = s.end;
+          follows = s.follows;
+          unexpected = λ place h. subst (λ x. Follow x s.kinds s.end) (one_front ts f h.front q (h.found ∷ h.stands.more) g (to_unexpected h)) s.follows;
+          ended = λ h. subst (λ x. Follow x s.kinds s.end) (one_front ts f ts q [] g (to_end h)) s.follows;
+          is = refl;
+        },
+      )
 
   -- those of the numbers 1 and 2
   few_notes : (r : Refusal) → r.number < 3 → (notes : List ℕ) × ByStop text r notes → (notes : List ℕ) × BySyntax text r notes
@@ -226,9 +228,10 @@ module _ (text : List ℕ) where
 
   -- those of the others
   many_notes : (r : Refusal) → 3 ≤ r.number → (ts : List Token) → HasTokens text ts → (notes : List ℕ) × BySyntax text r notes
-  many_notes r many ts lexed =
-      (limit_notes text ts r,
-       record { stops = λ few. absurd (omega (arith, few, many)); passes = λ h. record { tokens = ts; lexed = lexed; is = refl } })
+  many_notes r many ts lexed = (
+    limit_notes text ts r,
+    record { stops = λ few. absurd (omega (arith, few, many)); passes = λ h. record { tokens = ts; lexed = lexed; is = refl } },
+  )
 
   syntax_has : (e : SyntaxError) → IsSyntaxFault text e → (notes : List ℕ) × BySyntax text (syntax_refusal e) notes
   syntax_has (syntax_error.Expected place) f =

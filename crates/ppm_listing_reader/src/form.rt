@@ -134,12 +134,7 @@ pub fn sorts(keyword: Keyword) -> &'static [Sort]
         | Keyword::CutLeft
         | Keyword::CutRight
         | Keyword::Get
-        | Keyword::Put => &[
-            Sort::Register,
-            Sort::Register,
-            Sort::Register,
-            Sort::Number,
-        ],
+        | Keyword::Put => &[Sort::Register, Sort::Register, Sort::Register, Sort::Number],
         Keyword::Equal | Keyword::NotEqual | Keyword::Less | Keyword::AtMost => &[
             Sort::Register,
             Sort::Register,
@@ -211,5 +206,6 @@ pub(crate) fn has_form(keyword: Keyword, tokens: &[Token]) -> bool
 fn is_forkto(tokens: &[Token]) -> bool
     ensures { result ≡ is_form keyword.ForkTo tokens.now }
 {
-    are_of(sorts(Keyword::ForkTo), tokens) && !(is_absent(token_at(tokens, 3)) && is_absent(token_at(tokens, 4)))
+    are_of(sorts(Keyword::ForkTo), tokens)
+        && !(is_absent(token_at(tokens, 3)) && is_absent(token_at(tokens, 4)))
 }

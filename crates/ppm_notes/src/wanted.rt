@@ -44,11 +44,7 @@ pub(crate) fn push_sort(text: &mut Vec<u8>, sort: Sort) -> Result<(), NoMemory>
 }
 
 /// Appends what could stand at a place.
-pub(crate) fn push_wanted(
-    alloc: Global,
-    text: &mut Vec<u8>,
-    wanted: Wanted,
-) -> Result<(), NoMemory>
+pub(crate) fn push_wanted(alloc: Global, text: &mut Vec<u8>, wanted: Wanted) -> Result<(), NoMemory>
     ensures { OnOk result (text.new.items ≡ text.old.items ++ wanted_text wanted) }
 {
     match wanted {
