@@ -98,17 +98,11 @@ fn explained(
         (None, None) => Some(Command::Explain(text)),
         (Some(plan), None) => {
             let orders = ExplainedOrders::Plan;
-            Some(Command::ExplainOrders(
-                ExplainOptions { orders, processors },
-                plan,
-            ))
+            Some(Command::ExplainOrders(ExplainOptions { orders, processors }, plan))
         }
         (None, Some(schedule)) => {
             let orders = ExplainedOrders::Schedule;
-            Some(Command::ExplainOrders(
-                ExplainOptions { orders, processors },
-                schedule,
-            ))
+            Some(Command::ExplainOrders(ExplainOptions { orders, processors }, schedule))
         }
         (Some(_), Some(_)) => None,
     }

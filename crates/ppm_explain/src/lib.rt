@@ -18,6 +18,8 @@ mod source;
 mod words;
 
 pub use declaring::Before;
-pub use place::{is_last_line, line_bytes, push_line, push_mark, push_marked, push_shown, push_spot};
+pub use place::{
+    is_last_line, line_bytes, push_line, push_mark, push_marked, push_shown, push_spot,
+};
 pub use source::source_notes;
 pub use words::{push_quoted, push_word};

@@ -59,13 +59,7 @@ fn tidy_answer(alloc: Global, text: &[u8], code: &Code, input: &Input) -> Answer
 }
 
 /// What is said of a case whose code has this first conflict, in these lines.
-fn conflict_answer(
-    alloc: Global,
-    text: &[u8],
-    conflict: Conflict,
-    read: u64,
-    write: u64,
-) -> Answer
+fn conflict_answer(alloc: Global, text: &[u8], conflict: Conflict, read: u64, write: u64) -> Answer
     requires refused { IsRefused texts.Case text.now (refused.ConflictAt conflict read write) }
     ensures { TextMay (ExplainHas texts.Case) text.now result }
 {

@@ -3,9 +3,7 @@ ghost use Rattle.ppm_explained.specs.Explaining.{HaveOneAnswer};
 ghost use Rattle.ppm_explained.specs.Orders.{AllHaveOneAnswer};
 
 use ppm_case::faults_tell_cases;
-use ppm_commands::{
-    cases_have_one_answer, listings_have_one_answer, saved_texts_have_one_answer,
-};
+use ppm_commands::{cases_have_one_answer, listings_have_one_answer, saved_texts_have_one_answer};
 use ppm_listing_reader::faults_tell_listings;
 use ppm_plan::have_one_answer as plans_have_one_answer;
 use ppm_program::have_one_answer;

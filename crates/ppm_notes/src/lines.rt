@@ -93,19 +93,15 @@ fn saved_meaning(number: u32) -> &'static str
             "a number of this line is out of its range: there are 1 to 64 processors, 64 to 4194304 words of room in all places together, 2 to 4096 slots, 64 arrays at most with 4194304 words together; a word has 64 bits",
         3 =>
             "the bytes after this line are no listing, or its root names an array that is not there; `explain --input listing` says more of it",
-        4 => "the code after this line has a conflict, or is not tidy; `explain --input case` says more of it",
+        4 =>
+            "the code after this line has a conflict, or is not tidy; `explain --input case` says more of it",
         5 => "the words are not as many as the sizes of the text say",
         _ => "",
     }
 }
 
 /// A line, and what is said of it.
-fn line_notes(
-    alloc: Global,
-    text: &[u8],
-    line: u32,
-    words: &str,
-) -> Result<Vec<u8>, NoMemory>
+fn line_notes(alloc: Global, text: &[u8], line: u32, words: &str) -> Result<Vec<u8>, NoMemory>
     ensures { IfOk result (λ notes. notes.items ≡ notes_of_line text.now line words.now) }
 {
     let mut notes = Vec::new(alloc);

@@ -112,7 +112,10 @@ fn push_rule(
     push_line(alloc, text, listing, line)?;
     let capsules = capsules_above(listing, line.saturating_sub(1));
     let bytes = line_bytes(listing, line as usize);
-    push_form(text, lead((line as usize).saturating_sub(above), capsules, bytes))
+    push_form(
+        text,
+        lead((line as usize).saturating_sub(above), capsules, bytes),
+    )
 }
 
 /// Appends the line of a fault.

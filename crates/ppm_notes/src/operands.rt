@@ -215,11 +215,8 @@ fn is_numbered(number: u64, token: Token) -> bool
 {
     match token {
         Token::Number(value) => value == number,
-        Token::Name(_)
-        | Token::Register(_)
-        | Token::Negative(_)
-        | Token::Absent
-        | Token::Other => false,
+        Token::Name(_) | Token::Register(_) | Token::Negative(_) | Token::Absent | Token::Other =>
+            false,
     }
 }
 
