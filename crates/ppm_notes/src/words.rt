@@ -1,5 +1,5 @@
 //! The words of a line.
-ghost use Rattle.std.specs.Prelude.{◌≡◌, ◌++◌, IfOk, MatchOption, None, OnOk, Some, map, option_map};
+ghost use Rattle.std.specs.Prelude.{◌≡◌, ◌++◌, IfOk, OnOk, map, option_map};
 ghost use Rattle.ppm_pieces.specs.Pieces.{split};
 ghost use Rattle.ppm_listing_reader.specs.Tokens.{token_of};
 ghost use Rattle.ppm_notes.specs.Words.{after_pieces as behind_pieces, after_words as behind_words};
@@ -33,23 +33,23 @@ pub(crate) fn first_word(bytes: &[u8]) -> &[u8]
 /// What some bytes have after so many pieces, if they have more.
 #[tactic(auto, using(crate::proofs::WordLemmas::next_piece, crate::proofs::WordLemmas::no_piece, crate::proofs::WordLemmas::all_pieces))]
 pub(crate) fn after_pieces(bytes: &[u8], separator: u8, count: usize) -> Option<&[u8]>
-    ensures { MatchOption result (behind_pieces separator count bytes.now ≡ None)
-        (λ rest. behind_pieces separator count bytes.now ≡ Some rest.now) }
+    ensures { option_map (λ r. r.now) result ≡ behind_pieces separator count bytes.now }
 {
     let mut left = bytes;
     let mut ahead = count;
-    'pieces: while ahead > 0 {
-        let (_, rest) = split_once(left, separator)?;
+    'pieces: while let Some((_, rest)) = split_once(left, separator) {
+        if ahead == 0 {
+            return Some(left);
+        }
         left = rest;
         ahead -= 1;
     }
-    Some(left)
+    if ahead == 0 { Some(left) } else { None }
 }
 
 /// What a line has after so many words, if it has more.
 pub(crate) fn after_words(line: &[u8], count: usize) -> Option<&[u8]>
-    ensures { MatchOption result (behind_words count line.now ≡ None)
-        (λ rest. behind_words count line.now ≡ Some rest.now) }
+    ensures { option_map (λ r. r.now) result ≡ behind_words count line.now }
 {
     after_pieces(line, b' ', count)
 }

@@ -1,4 +1,4 @@
-use Rattle.std.proofs.Common.{◌≡◌}
+use Rattle.std.proofs.Common.{◌≡◌, length}
 use Rattle.ppm_notes.specs.Words.{after_pieces}
 use Rattle.ppm_notes.proofs.words.after_pieces.Given as goal
 
@@ -7,4 +7,4 @@ abbrev pub invariant-pieces : goal.invariant-pieces
 invariant-pieces l = after_pieces l.separator l.ahead l.left ≡ after_pieces l.fn.separator l.fn.count l.fn.bytes
 
 abbrev pub decreases-pieces : goal.decreases-pieces
-decreases-pieces l = l.ahead
+decreases-pieces l = length l.left
