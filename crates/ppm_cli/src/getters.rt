@@ -109,7 +109,7 @@ pub(crate) fn stated_of(
 fn is_unstated(bytes: &[u8]) -> bool
     ensures { result ≡ bytes_eq bytes.now (codes "-") }
 {
-    bytes == b"-"
+    bytes == b"-".as_slice()
 }
 
 /// The text of these bytes, if it is stated.
