@@ -1,5 +1,5 @@
 -- The lines of arrays in front of a text, one after another.
-use Rattle.std.proofs.Common.{◌≡◌, ◌≤◌, ◌<◌, ℕ, zero, suc, ◌+◌, Bool, true, false, List, [], ◌∷◌, length, refl, sym, ap, arith}
+use Rattle.std.proofs.Common.{◌≡◌, ◌≤◌, ℕ, suc, ◌+◌, ◌==◌, Bool, true, false, if◌then◌else◌, List, [], ◌∷◌, length, refl, sym, arith}
 use Rattle.ppm_pieces.specs.Pieces.{in_front, split}
 use Rattle.ppm_notes.specs.Lines.{arrays_in, is_array}
 
@@ -21,3 +21,19 @@ few_lines (l ∷ ls) = go (is_array l) (few_lines ls) where
   go : (b : Bool) → arrays_in ls ≤ length ls → (if b then 1 + arrays_in ls else 0) ≤ suc (length ls)
   go true h = omega (arith, h)
   go false h = omega arith
+
+-- a text has no more lines than line feeds and one
+pieces_few : (bs : List ℕ) → length (split 10 bs) ≤ length bs + 1
+pieces_few [] = omega arith
+pieces_few (b ∷ bs) = go (b == 10) (split 10 bs) (pieces_few bs) where
+  go : (feed : Bool) (ps : List (List ℕ)) → length ps ≤ length bs + 1 → length (if feed then [] ∷ ps else in_front b ps) ≤ suc (length bs) + 1
+  go true ps h = omega (arith, h)
+  go false [] h = omega arith
+  go false (p ∷ ps) h = omega (arith, h)
+
+-- so no more lines of arrays are counted than it has bytes and one
+pub few : (text : List ℕ) → arrays_in (split 10 text) ≤ length text + 1
+few text =
+    let lines = few_lines (split 10 text) in
+    let pieces = pieces_few text in
+    omega (arith, lines, pieces)
