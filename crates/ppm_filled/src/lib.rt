@@ -5,7 +5,7 @@
 //! Contract: laws alone; a code whose paths are filled and have no conflict has capsules that are
 //! ordered and filled, and its faults are invisible where what they do stands; the strands are
 //! those of the code, capsule by capsule (`specs/Alone`).
-//! Stands on `ppm_code` and `ppm_unseen`; no crate stands on it.
+//! Stands on `ppm_code` and `ppm_unseen`; `ppm_gaps` checks a code for it.
 //! After the capsules with compare-and-modify of Blelloch et al., SPAA 2018; the conditions are
 //! this project's.
 #![tactic(auto)]

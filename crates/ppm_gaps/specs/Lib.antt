@@ -1,0 +1,9 @@
+pub mod Blocks
+pub mod Correct
+pub mod Finds
+pub mod Flaws
+pub mod Gaps
+pub mod Hanging
+pub mod LeftOut
+pub mod Stops
+pub mod Unbuilt
