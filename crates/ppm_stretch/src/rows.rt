@@ -17,7 +17,8 @@ ghost use Rattle.ppm_stretch.specs.Steady.{Moves, Refuses, is_exchange, looks_be
 use crate::asking::fills;
 use crate::frames::{ends, rounds};
 use crate::refusing::give_way;
-use crate::way::{NONE, OneStep, REFUSED, Steps, row};
+use crate::scheduling::{MOST_OF_A_ROW, has_row, rows_along};
+use crate::way::{NONE, OneStep, REFUSED, Steps, looks_behind, one_of, row};
 use atomic_table::Seat;
 use ppm_cells::{RestartKind, Shape};
 use ppm_code::{Code, Step};
@@ -128,6 +129,11 @@ fn frame_steps<W: Watch>(
             if is_of_frame(restart.kind) && most >= 2 {
                 return rounds(
                     local, words, mine, watch, shape, code, widths, place, restart, most,
+                );
+            }
+            if has_row(restart.kind) && most >= MOST_OF_A_ROW {
+                return rows_along(
+                    local, words, mine, watch, shape, code, place, restart, most,
                 );
             }
         }
@@ -338,23 +344,6 @@ pub(crate) fn steps_along<W: Watch>(
         work += more.work;
     }
     row(made, work, looks, exchanged)
-}
-
-/// Whether one of them holds.
-#[inline(always)]
-fn one_of(first: bool, second: bool) -> bool
-    ensures { result ≡ (first || second) }
-{
-    first || second
-}
-
-/// How many looks there are with these, since the last work.
-#[inline(always)]
-fn looks_behind(before: u64, work: u64, looks: u64) -> u64
-    requires { before + looks < 2 ^ 64 }
-    ensures { result ≡ looks_behind before work looks }
-{
-    if work == 0 { before + looks } else { looks }
 }
 
 /// Makes steps of a processor in a row, at most so many, up to one for which something is to be
