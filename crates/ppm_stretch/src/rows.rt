@@ -18,12 +18,13 @@ use crate::asking::fills;
 use crate::frames::{ends, rounds};
 use crate::refusing::give_way;
 use crate::scheduling::{MOST_OF_A_ROW, has_row, rows_along};
+use crate::seated::Seated;
 use crate::way::{NONE, OneStep, REFUSED, Steps, looks_behind, one_of, row};
 use atomic_table::Seat;
 use ppm_cells::{RestartKind, Shape};
 use ppm_code::{Code, Step};
 use ppm_ports::Watch;
-use ppm_step::{Local, Next, Point, Row, Stage, Stand, Then, Want};
+use ppm_step::{Local, Next, Point, Row, Seat as Place, Stage, Stand, Then, Want};
 use ppm_table::{Processor, Shared, View, Words, tell};
 
 /// Whether a victim is due for the coming step.
@@ -132,9 +133,16 @@ fn frame_steps<W: Watch>(
                 );
             }
             if has_row(restart.kind) && most >= MOST_OF_A_ROW {
-                return rows_along(
-                    local, words, mine, watch, shape, code, place, restart, most,
-                );
+                let memory = Seated {
+                    words,
+                    shape: *shape,
+                };
+                let seat = Place {
+                    own: local.own,
+                    place,
+                    restart,
+                };
+                return rows_along(local, &memory, mine, watch, code, &seat, most);
             }
         }
     }

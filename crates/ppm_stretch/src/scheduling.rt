@@ -5,7 +5,7 @@ ghost use Rattle.ppm_engine.specs.Steps.{HasRow};
 ghost use Rattle.ppm_step.specs.Facts.{IsSeat as IsPlace};
 ghost use Rattle.ppm_step.specs.Locals.{IsLocal, standing_of};
 ghost use Rattle.ppm_step.specs.Rows.{row_of};
-ghost use Rattle.ppm_step.specs.Standings.{IsAt, stands};
+ghost use Rattle.ppm_step.specs.Standings.{stands};
 ghost use Rattle.ppm_table.specs.Run.{stands_by, deeds_in, IsAtCode, IsSeat};
 ghost use Rattle.ppm_stretch.specs.Entering.{StandsBefore};
 ghost use Rattle.ppm_stretch.specs.Rows.{Makes, GivesUpIfRefused};
@@ -17,13 +17,13 @@ use crate::refusing::withdraw;
 use crate::seated::Seated;
 use crate::way::{NONE, REFUSED, RowEnd, Rowed, Steps, looks_behind, one_of};
 use atomic_table::Seat;
-use ppm_cells::{Restart, RestartKind, Shape};
+use ppm_cells::{Restart, RestartKind};
 use ppm_code::Code;
 use ppm_core::{wait_at, wait_broken};
 use ppm_engine::{Stop, Tally, make_row};
 use ppm_ports::Watch;
 use ppm_step::{Local, Seat as Place, Stand, restart_there};
-use ppm_table::{View, Words};
+use ppm_table::View;
 
 /// The most steps that a row of work has, with the load of the finish word.
 pub(crate) const MOST_OF_A_ROW: u64 = 16;
@@ -54,31 +54,26 @@ pub(crate) fn has_row(kind: RestartKind) -> bool
 /// Makes the steps of a row after the load of the finish word.
 #[inline(always)]
 fn work_at<W: Watch>(
-    words: &Words,
-    shape: &Shape,
-    code: &Code,
+    memory: &Seated<'_>,
     mine: &mut Seat<(), View>,
     watch: &mut W,
+    code: &Code,
     place: &Place,
 ) -> Rowed
-    requires table { IsAtCode mine.old.table_id words.now.shared.table_id words.now.shared.key shape.now code.now }
+    requires table { IsAtCode mine.old.table_id memory.now.words.now.shared.table_id memory.now.words.now.shared.key memory.now.shape code.now }
     requires sits { IsSeat place.now.own mine.old.me }
-    requires seat { IsPlace shape.now place.now × HasRow place.now.restart.kind }
-    requires stands { stands_by words.now.shared.key place.now.own (deeds_in mine.old.me.0)
-        ≡ stands shape.now code.now place.now (row_of shape.now place.now place.now.restart.kind) }
+    requires seat { IsPlace memory.now.shape place.now × HasRow place.now.restart.kind }
+    requires stands { stands_by memory.now.words.now.shared.key place.now.own (deeds_in mine.old.me.0)
+        ≡ stands memory.now.shape code.now place.now (row_of memory.now.shape place.now place.now.restart.kind) }
     ensures table { (mine.new.table_id ≡ mine.old.table_id) × (result.work ≤ 12) }
-    ensures worked { HasWorked W.told words.now.shared.key place.now mine.old.me mine.new.me watch.old watch.new result.work result.exchanged result.end }
+    ensures worked { HasWorked W.told memory.now.words.now.shared.key place.now mine.old.me mine.new.me watch.old watch.new result.work result.exchanged result.end }
 {
     let _ = code.parts().root;
-    let memory = Seated {
-        words,
-        shape: *shape,
-    };
     let mut tally = Tally {
         made: 0,
         exchanged: false,
     };
-    match make_row(&memory, mine, watch, &mut tally, place) {
+    match make_row(memory, mine, watch, &mut tally, place) {
         Ok(restart) => Rowed {
             work: tally.made,
             exchanged: tally.exchanged,
@@ -103,21 +98,20 @@ fn work_at<W: Watch>(
 /// Makes the row of a restart of work.
 #[inline(always)]
 fn row_at<W: Watch>(
-    words: &Words,
-    shape: &Shape,
-    code: &Code,
+    memory: &Seated<'_>,
     mine: &mut Seat<(), View>,
     watch: &mut W,
+    code: &Code,
     place: &Place,
 ) -> Rowed
-    requires table { IsAtCode mine.old.table_id words.now.shared.table_id words.now.shared.key shape.now code.now }
+    requires table { IsAtCode mine.old.table_id memory.now.words.now.shared.table_id memory.now.words.now.shared.key memory.now.shape code.now }
     requires sits { IsSeat place.now.own mine.old.me }
-    requires seat { (place.now.own < shape.now.processors) × (place.now.place < shape.now.processors) × IsRestart place.now.restart × HasRow place.now.restart.kind }
-    requires stands { StandsBefore words.now.shared.key place.now mine.old.me }
+    requires seat { (place.now.own < memory.now.shape.processors) × (place.now.place < memory.now.shape.processors) × IsRestart place.now.restart × HasRow place.now.restart.kind }
+    requires stands { StandsBefore memory.now.words.now.shared.key place.now mine.old.me }
     ensures table { (mine.new.table_id ≡ mine.old.table_id) × (result.work ≤ 12) }
-    ensures rowed { HasRowed W.told words.now.shared.key place.now mine.old.me mine.new.me watch.old watch.new result.work result.exchanged result.end }
+    ensures rowed { HasRowed W.told memory.now.words.now.shared.key place.now mine.old.me mine.new.me watch.old watch.new result.work result.exchanged result.end }
 {
-    let finish = load_finish(words, shape, code, mine, watch, place);
+    let finish = load_finish(memory.words, &memory.shape, code, mine, watch, place);
     if finish.word != 0 {
         if finish.fine {
             return Rowed {
@@ -139,14 +133,14 @@ fn row_at<W: Watch>(
             end: RowEnd::Refused(true),
         };
     }
-    if !restart_there(shape, place.restart) {
+    if !restart_there(&memory.shape, place.restart) {
         return Rowed {
             work: 0,
             exchanged: false,
             end: RowEnd::Broken,
         };
     }
-    work_at(words, shape, code, mine, watch, place)
+    work_at(memory, mine, watch, code, place)
 }
 
 /// These steps, and then those of a row.
@@ -169,38 +163,33 @@ fn with_row(steps: Steps, rowed: Rowed) -> Steps
 /// Makes the rows of work with which the place goes on, one after the other, at most so many steps.
 pub(crate) fn rows_along<W: Watch>(
     local: &mut Local,
-    words: &Words,
+    memory: &Seated<'_>,
     mine: &mut Seat<(), View>,
     watch: &mut W,
-    shape: &Shape,
     code: &Code,
-    place: u32,
-    restart: Restart,
+    from: &Place,
     most: u64,
 ) -> Steps
-    requires table { IsAtCode mine.old.table_id words.now.shared.table_id words.now.shared.key shape.now code.now }
-    requires own { local.old.own < shape.now.processors }
+    requires table { IsAtCode mine.old.table_id memory.now.words.now.shared.table_id memory.now.words.now.shared.key memory.now.shape code.now }
     requires sits { IsSeat local.old.own mine.old.me }
-    requires place { place < shape.now.processors }
-    requires restart { IsRestart restart }
-    requires stands { stands_by words.now.shared.key local.old.own (deeds_in mine.old.me.0) ≡ IsAt place (Some restart) }
-    ensures table { mine.new.table_id ≡ mine.old.table_id }
+    requires seat { (from.now.own ≡ local.old.own) × (local.old.own < memory.now.shape.processors) × (from.now.place < memory.now.shape.processors) × IsRestart from.now.restart }
+    requires stands { StandsBefore memory.now.words.now.shared.key from.now mine.old.me }
+    ensures table { (mine.new.table_id ≡ mine.old.table_id) × IsSeat local.old.own mine.new.me }
     ensures few { (result.made ≤ most) × (result.work ≤ result.made) × (result.looks ≤ result.made) }
-    ensures makes { Makes W.told words.now.shared.key local.old.own mine.old.me mine.new.me watch.old watch.new result }
-    ensures stops { GivesUpIfRefused W.told words.now.shared.key local.old.own mine.old.me mine.new.me watch.old watch.new most result }
-    ensures sits_on { IsSeat local.old.own mine.new.me }
-    ensures stands_on { standing_of shape.now code.now local.new ≡ stands_by words.now.shared.key local.old.own (deeds_in mine.new.me.0) }
-    ensures holds { IsLocal shape.now code.now local.new }
-    ensures own_stays { local.new.own ≡ local.old.own }
+    ensures makes { Makes W.told memory.now.words.now.shared.key local.old.own mine.old.me mine.new.me watch.old watch.new result }
+    ensures stops { GivesUpIfRefused W.told memory.now.words.now.shared.key local.old.own mine.old.me mine.new.me watch.old watch.new most result }
+    ensures stands_on { standing_of memory.now.shape code.now local.new ≡ stands_by memory.now.words.now.shared.key local.old.own (deeds_in mine.new.me.0) }
+    ensures holds { IsLocal memory.now.shape code.now local.new × (local.new.own ≡ local.old.own) }
 {
     // As in `rounds`.
-    let sizes = *shape;
+    let seated = *memory;
     let own = local.own;
-    let mut at = restart;
+    let place = from.place;
+    let mut at = from.restart;
     let mut so_far = NONE;
     while most - so_far.made >= MOST_OF_A_ROW {
         if !has_row(at.kind) {
-            wait_at(local, shape, code, place, at);
+            wait_at(local, &memory.shape, code, place, at);
             return so_far;
         }
         let seat = Place {
@@ -208,16 +197,16 @@ pub(crate) fn rows_along<W: Watch>(
             place,
             restart: at,
         };
-        let rowed = row_at(words, &sizes, code, mine, watch, &seat);
+        let rowed = row_at(&seated, mine, watch, code, &seat);
         if let RowEnd::Refused(lives) = rowed.end {
-            withdraw(local, words, mine, shape, code, lives);
+            withdraw(local, memory.words, mine, &memory.shape, code, lives);
             return REFUSED;
         }
         so_far = with_row(so_far, rowed);
         match rowed.end {
             RowEnd::Installed(next) => at = next,
             RowEnd::Broken => {
-                wait_broken(local, shape, code, place);
+                wait_broken(local, &memory.shape, code, place);
                 return so_far;
             }
             RowEnd::Over => {
@@ -227,6 +216,6 @@ pub(crate) fn rows_along<W: Watch>(
             RowEnd::Refused(_) => unreachable!(),
         }
     }
-    wait_at(local, shape, code, place, at);
+    wait_at(local, &memory.shape, code, place, at);
     so_far
 }

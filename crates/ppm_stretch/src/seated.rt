@@ -14,7 +14,7 @@ use ppm_table::{View, Words, step_event, touch};
 
 /// The words that threads share, with their sizes.
 #[derive(Clone, Copy)]
-pub struct Seated<'a> {
+pub(crate) struct Seated<'a> {
     pub words: &'a Words,
     pub shape: Shape,
     pub ghost told: { words.now.shared.key.shape ≡ shape },

@@ -10,10 +10,10 @@ use Rattle.ppm_stretch.proofs.scheduling.rows_along.Goals as goal
 
 pub loop-so_far-preserved : goal.loop-so_far-preserved
 loop-so_far-preserved g c =
-    let k = c.args.words.now.shared.key in
+    let k = c.args.memory.now.words.now.shared.key in
     let i = c.loop-so_far.invariant in
     let own = c.args.local.now.own in
-    let seat : Seat = record { own = own; place = c.args.place; restart = c.loop-so_far.at } in
+    let seat : Seat = record { own = own; place = c.args.from.now.place; restart = c.loop-so_far.at } in
     let rowed = c.row_at-rowed.result in
     let new = c.row_at-rowed.new in
     let sum = c.with_row-so_far.result in
@@ -31,9 +31,9 @@ loop-so_far-preserved g c =
 
 pub withdraw-requires-clause-lives : goal.withdraw-requires-clause-lives
 withdraw-requires-clause-lives g c =
-    let k = c.args.words.now.shared.key in
+    let k = c.args.memory.now.words.now.shared.key in
     let own = c.args.local.now.own in
-    let seat : Seat = record { own = own; place = c.args.place; restart = c.loop-so_far.at } in
+    let seat : Seat = record { own = own; place = c.args.from.now.place; restart = c.loop-so_far.at } in
     let rowed = c.row_at-rowed.result in
     let new = c.row_at-rowed.new in
     let came = subst (λ (end : RowEnd). HasRowed g.W.Watch.told k seat c.loop-so_far.mine.me new.mine.me c.loop-so_far.watch new.watch rowed.work rowed.exchanged end) c.in-Refused.is c.row_at-rowed.ensures.rowed in
@@ -41,10 +41,10 @@ withdraw-requires-clause-lives g c =
 
 pub returns-in-Refused-clause-stops : goal.returns-in-Refused-clause-stops
 returns-in-Refused-clause-stops g c = λ refused.
-    let k = c.args.words.now.shared.key in
+    let k = c.args.memory.now.words.now.shared.key in
     let i = c.loop-so_far.invariant in
     let own = c.args.local.now.own in
-    let seat : Seat = record { own = own; place = c.args.place; restart = c.loop-so_far.at } in
+    let seat : Seat = record { own = own; place = c.args.from.now.place; restart = c.loop-so_far.at } in
     let rowed = c.row_at-rowed.result in
     let new = c.row_at-rowed.new in
     let so_far = c.loop-so_far.so_far in

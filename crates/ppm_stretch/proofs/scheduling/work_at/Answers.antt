@@ -12,9 +12,9 @@ make_row-requires-clause-seat g c κs within = (c.requires.seat.0, row_works c.a
 
 pub make_row-requires-clause-stands : goal.make_row-requires-clause-stands
 make_row-requires-clause-stands g c κs within =
-    let words = c.args.words.now.shared in
+    let words = c.args.memory.now.words.now.shared in
     let place = c.args.place.now in
-    let s = c.args.shape.now in
+    let s = c.args.memory.now.shape in
     let x = stands s words.key.code place (row_of s place place.restart.kind) in
     let t = g.W.Watch.told c.args.watch.now in (
       spot c.args.mine.now x t,
