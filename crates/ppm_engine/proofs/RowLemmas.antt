@@ -1,5 +1,5 @@
 -- The rows of work: where each goes on with what it has found.
-use Rattle.std.proofs.Common.{◌≡◌, ◌≢◌, ◌⊎◌, inl, inr, ◌∙◌, ◌+◌, ◌-◌, ◌<◌, ◌^◌, ◌==◌, ne_eqb, eqb-refl, ℕ, zero, suc, Bool, true, false, if◌then◌else◌, Option, Some, None, sym, refl, ap, subst, arith}
+use Rattle.std.proofs.Common.{◌≡◌, ◌≢◌, ◌⊎◌, inl, inr, ◌∙◌, ◌+◌, ◌-◌, ◌<◌, ◌^◌, ◌==◌, ne_eqb, ℕ, zero, suc, Bool, true, false, if◌then◌else◌, Option, Some, None, sym, refl, ap, subst, arith}
 use Rattle.std.specs.Prelude.{nat_lt}
 use Rattle.ppm_cells.specs.Cells.{word_count}
 use Rattle.ppm_cells.specs.Entry.{IsEntry}
@@ -186,12 +186,6 @@ order_above seat block order h = ap (λ (b : Bool). if b then Now (left_begins b
 -- and by whether the slot is the last one
 pub push_as : (seat : Seat) (how takeover : Takeover) (block : ℕ) (last b : Bool) → takeover ≡ how → last ≡ b → push_at seat takeover block last ≡ push_at seat how block b
 push_as seat how takeover block last b e f = ap (λ (x : Takeover). push_at seat x block last) e ∙ ap (λ (x : Bool). push_at seat how block x) f
-
-pub is_slot : (n at slots : ℕ) → n ≡ at → at ≡ slots → (n == slots) ≡ true
-is_slot n at slots e f = subst (λ (x : ℕ). (n == x) ≡ true) (e ∙ f) (eqb-refl n)
-
-pub no_slot : (n at slots : ℕ) → n ≢ at → at ≡ slots → (n == slots) ≡ false
-no_slot n at slots h f = ne_eqb n slots (λ e. h (e ∙ sym f))
 
 -- a link of the root or of a branch does not rise
 pub bump_breaks : (seat : Seat) (block size : ℕ) (kind : LinkKind) → (kind ≡ Root) ⊎ ((side : Side) × (other : ℕ) × (kind ≡ Branch side other)) → bumped seat block size kind ≡ Now Broken

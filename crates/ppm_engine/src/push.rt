@@ -1,6 +1,6 @@
 //! The rows that take a new block in: its words are taken from the pool, and the right branch of a
 //! fork becomes a job.
-ghost use Rattle.std.specs.Prelude.{◌≡◌, ◌<◌, ◌≤◌, ◌+◌, ℕ, true, Some};
+ghost use Rattle.std.specs.Prelude.{◌≡◌, ◌<◌, ◌≤◌, ◌+◌, ◌^◌, ◌==◌, ℕ, true, Some};
 ghost use Rattle.ppm_cells.specs.Restart.{IsRestart};
 ghost use Rattle.ppm_cells.specs.declared.restart.Restart.{Restart};
 ghost use Rattle.ppm_cells.specs.declared.restart.RestartKind.TheVariants.{Bump, Push1, Push2};
@@ -168,6 +168,15 @@ fn push_by_order<M: Memory, W: Watch>(
     push_above(memory, own, watch, tally, seat, block)
 }
 
+/// Whether a slot is the last one.
+#[inline(always)]
+fn is_last(slot: u32, slots: u32) -> bool
+    requires { slot + 1 < 2 ^ 32 }
+    ensures { result ≡ (slot + 1 == slots) }
+{
+    slot + 1 == slots
+}
+
 /// Push1: at the last slot one strand runs both branches; else the entry above becomes local.
 #[inline(always)]
 pub(crate) fn push1<M: Memory, W: Watch>(
@@ -190,7 +199,7 @@ pub(crate) fn push1<M: Memory, W: Watch>(
         IsRestart (λ restart. IsAt seat.now.place (Some restart)) result }
 {
     let shape = memory.shape();
-    if seat.restart.bottom + 1 == shape.slots {
+    if is_last(seat.restart.bottom, shape.slots) {
         return push_inline(memory, own, watch, tally, seat, block);
     }
     match shape.takeover {

@@ -27,7 +27,7 @@ use Rattle.ppm_table.specs.Run.{Mine, stands_by, deeds_in}
 use Rattle.ppm_stretch.specs.declared.way.RowEnd.{RowEnd}
 use Rattle.ppm_stretch.specs.declared.way.RowEnd.TheVariants.{Installed, Broken, Over, Refused as RefusedAt}
 use Rattle.ppm_stretch.specs.declared.way.Steps.{Steps}
-use Rattle.ppm_stretch.specs.Scheduling.{HasRowed, HasWorked, most_of_a_row}
+use Rattle.ppm_stretch.specs.Scheduling.{HasRowed, HasWorked, end_by, most_of_a_row}
 use Rattle.ppm_words.specs.declared.event.Event.{Event}
 
 -- the load of the finish word before a row of work is a look, and its steps are work
@@ -138,26 +138,22 @@ sum_few steps sum work exchanged is few looks =
     subst (λ (x : Steps). (x.made ≡ steps.made + (work + 1)) × (x.work ≤ x.made) × (x.looks ≤ x.made) × (x.refused ≡ steps.refused)) (sym is)
     (refl, omega (arith, few), sum_few_by steps.looks steps.made work (looks_behind 1 work 0) (work == 0) looks (looks_few_by work (work == 0)), refl)
 
--- what the engine says of a row of a seat, in the words of steps in a row
-module _ {W Own : Type 0} (told : W → Option (List Event)) (table : TableId) (k : Opening) (place : Seat) (id : Own → TableId) (me : Own → Mine) where
-  abbrev pub led_by : Spot Own → Spot Own → Counts → Type 0
-  led_by a b c = Led table k place.own (id a.own) (me a.own) a.stands a.told (id b.own) (me b.own) b.stands b.told c
+-- what the engine says of steps of a seat, in the words of steps in a row
+abbrev pub led_by : {Own : Type 0} → TableId → Opening → Seat → (Own → TableId) → (Own → Mine) → Spot Own → Spot Own → Counts → Type 0
+led_by table k place id me a b c = Led table k place.own (id a.own) (me a.own) a.stands a.told (id b.own) (me b.own) b.stands b.told c
 
-  abbrev pub refused_by : Spot Own → Spot Own → ℕ → Type 0
-  refused_by a b most = Refused table k place.own (id a.own) (me a.own) a.stands a.told (id b.own) (me b.own) b.stands b.told most
+abbrev pub refused_by : {Own : Type 0} → TableId → Opening → Seat → (Own → TableId) → (Own → Mine) → Spot Own → Spot Own → ℕ → Type 0
+refused_by table k place id me a b most = Refused table k place.own (id a.own) (me a.own) a.stands a.told (id b.own) (me b.own) b.stands b.told most
 
-  -- by its answer
-  abbrev pub HasMade : (o o' : Own) → W → W → Tally → Result Restart Stop → Type 0
-  HasMade o o' w w' tally (Ok restart) = HasWorked told k place (me o) (me o') w w' tally.made tally.exchanged (Installed restart)
-  HasMade o o' w w' tally (Err stops.Broken) = HasWorked told k place (me o) (me o') w w' tally.made tally.exchanged Broken
-  HasMade o o' w w' tally (Err stops.Refused) = HasWorked told k place (me o) (me o') w w' 0 false (RefusedAt true)
-  HasMade o o' w w' tally (Err stops.Over) = ⊥
-
-  pub made_so : (x : Standing) (o o' : Own) (w w' : W) (tally : Tally) (r : Result Restart Stop) → tally.made ≤ 12
-      → Came led_by (spot o x (told w)) refused_by ⊥ place.place o' (told w') tally IsRestart (λ restart. IsAt place.place (Some restart)) r → HasMade o o' w w' tally r
-  made_so x o o' w w' tally (Ok restart) few h =
-      (of_told told k place.own (me o) (me o') w w' tally.made tally.made 0 tally.exchanged h.1.moves, h.1.to.stands, h.0)
-  made_so x o o' w w' tally (Err stops.Broken) few h = (of_told told k place.own (me o) (me o') w w' tally.made tally.made 0 tally.exchanged h.moves, h.to.stands)
-  made_so x o o' w w' tally (Err stops.Refused) few h =
-      refuses_alive told table k place.own (id o) (id o') (me o) (me o') x h.0 w w' (tally.made + 1) 13 h.1 (omega (arith, few)) h.2
-  made_so x o o' w w' tally (Err stops.Over) few h = h.1
+-- by what came of a row
+pub made_so : {W Own : Type 0} (told : W → Option (List Event)) (table : TableId) (k : Opening) (place : Seat) (x : Standing) (o o' : Own) (id : Own → TableId) (me : Own → Mine) (w w' : W)
+    (tally : Tally) (r : Result Restart Stop) → tally.made ≤ 12
+    → Came (led_by table k place id me) (spot o x (told w)) (refused_by table k place id me) ⊥ place.place o' (told w') tally IsRestart (λ restart. IsAt place.place (Some restart)) r
+    → HasWorked told k place (me o) (me o') w w' tally.made tally.exchanged (end_by r)
+made_so told table k place x o o' id me w w' tally (Ok restart) few h =
+    (of_told told k place.own (me o) (me o') w w' tally.made tally.made 0 tally.exchanged h.1.moves, h.1.to.stands, h.0)
+made_so told table k place x o o' id me w w' tally (Err stops.Broken) few h =
+    (of_told told k place.own (me o) (me o') w w' tally.made tally.made 0 tally.exchanged h.moves, h.to.stands)
+made_so told table k place x o o' id me w w' tally (Err stops.Refused) few h =
+    refuses_alive told table k place.own (id o) (id o') (me o) (me o') x h.0 w w' (tally.made + 1) 13 h.1 (omega (arith, few)) h.2
+made_so told table k place x o o' id me w w' tally (Err stops.Over) few h = absurd h.1

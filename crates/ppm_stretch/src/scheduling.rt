@@ -9,7 +9,7 @@ ghost use Rattle.ppm_step.specs.Standings.{stands};
 ghost use Rattle.ppm_table.specs.Run.{stands_by, deeds_in, IsAtCode, IsSeat};
 ghost use Rattle.ppm_stretch.specs.Entering.{StandsBefore};
 ghost use Rattle.ppm_stretch.specs.Rows.{Makes, GivesUpIfRefused};
-ghost use Rattle.ppm_stretch.specs.Scheduling.{HasRowed, HasWorked};
+ghost use Rattle.ppm_stretch.specs.Scheduling.{HasRowed, HasWorked, end_by};
 ghost use Rattle.ppm_stretch.specs.Steady.{looks_behind};
 
 use crate::entering::load_finish;
@@ -51,6 +51,21 @@ pub(crate) fn has_row(kind: RestartKind) -> bool
     }
 }
 
+/// How a row ends, by what came of its steps.
+#[inline(always)]
+fn end_by(made: Result<Restart, Stop>) -> RowEnd
+    ensures { result ≡ end_by made }
+{
+    match made {
+        Ok(restart) => RowEnd::Installed(restart),
+        Err(stop) => match stop {
+            Stop::Broken => RowEnd::Broken,
+            Stop::Over => RowEnd::Over,
+            Stop::Refused => RowEnd::Refused(true),
+        },
+    }
+}
+
 /// Makes the steps of a row after the load of the finish word.
 #[inline(always)]
 fn work_at<W: Watch>(
@@ -73,25 +88,11 @@ fn work_at<W: Watch>(
         made: 0,
         exchanged: false,
     };
-    match make_row(memory, mine, watch, &mut tally, place) {
-        Ok(restart) => Rowed {
-            work: tally.made,
-            exchanged: tally.exchanged,
-            end: RowEnd::Installed(restart),
-        },
-        Err(stop) => match stop {
-            Stop::Broken => Rowed {
-                work: tally.made,
-                exchanged: tally.exchanged,
-                end: RowEnd::Broken,
-            },
-            Stop::Refused => Rowed {
-                work: 0,
-                exchanged: false,
-                end: RowEnd::Refused(true),
-            },
-            Stop::Over => unreachable!(),
-        },
+    let made = make_row(memory, mine, watch, &mut tally, place);
+    Rowed {
+        work: tally.made,
+        exchanged: tally.exchanged,
+        end: end_by(made),
     }
 }
 

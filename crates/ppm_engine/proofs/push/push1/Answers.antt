@@ -3,7 +3,7 @@ use Rattle.ppm_step.specs.declared.row.Row.{Row}
 use Rattle.ppm_step.specs.Standings.{stands}
 use Rattle.ppm_cells.specs.declared.shape.Shape.{Shape}
 use Rattle.ppm_cells.specs.declared.shape.Takeover.TheVariants.{ByPlaces, ByEntries}
-use Rattle.ppm_engine.proofs.RowLemmas.{is_slot, no_slot, push_as}
+use Rattle.ppm_engine.proofs.RowLemmas.{push_as}
 use Rattle.ppm_engine.proofs.MakingLemmas.{moved}
 use Rattle.ppm_engine.proofs.push.push1.Goals as goal
 
@@ -14,17 +14,17 @@ push_inline-requires-clause-stands g c κs within =
     let code = g.M.Memory.code m in
     let place = c.args.seat.now in
     let led = g.M.Memory.led m place.own in
-    let last = is_slot (place.restart.bottom + 1) c.shape-shape.result.slots s.slots c.if-slots.true (ap (λ (x : Shape). x.slots) c.shape-shape.ensures) in
+    let last = ap (λ (x : Shape). place.restart.bottom + 1 == x.slots) (sym c.shape-shape.ensures) ∙ sym c.if-is_last.ensures in
     (c.requires.stands.0, moved led c.requires.stands.0 (ap (λ (r : Row). stands s code place r) (push_as place s.takeover s.takeover c.args.block (place.restart.bottom + 1 == s.slots) true refl last)) (c.requires.stands.1))
 
-pub returns-then-slots-clause-came : goal.returns-then-slots-clause-came
-returns-then-slots-clause-came g c = λ first l.
+pub returns-then-is_last-clause-came : goal.returns-then-is_last-clause-came
+returns-then-is_last-clause-came g c = λ first l.
     let m = c.args.memory.now in
     let s = g.M.Memory.shape m in
     let code = g.M.Memory.code m in
     let place = c.args.seat.now in
     let led = g.M.Memory.led m place.own in
-    let last = is_slot (place.restart.bottom + 1) c.shape-shape.result.slots s.slots c.if-slots.true (ap (λ (x : Shape). x.slots) c.shape-shape.ensures) in
+    let last = ap (λ (x : Shape). place.restart.bottom + 1 == x.slots) (sym c.shape-shape.ensures) ∙ sym c.if-is_last.ensures in
     c.push_inline.ensures.came first (moved led first (ap (λ (r : Row). stands s code place r) (push_as place s.takeover s.takeover c.args.block (place.restart.bottom + 1 == s.slots) true refl last)) (l))
 
 pub push_above-requires-clause-stands : goal.push_above-requires-clause-stands
@@ -34,7 +34,7 @@ push_above-requires-clause-stands g c κs within =
     let code = g.M.Memory.code m in
     let place = c.args.seat.now in
     let led = g.M.Memory.led m place.own in
-    let more = no_slot (place.restart.bottom + 1) c.shape-shape.result.slots s.slots c.if-slots.false (ap (λ (x : Shape). x.slots) c.shape-shape.ensures) in
+    let more = ap (λ (x : Shape). place.restart.bottom + 1 == x.slots) (sym c.shape-shape.ensures) ∙ sym c.if-is_last.ensures in
     let how = sym (ap (λ (x : Shape). x.takeover) c.shape-shape.ensures) ∙ c.in-ByPlaces.is in
     (c.requires.stands.0, moved led c.requires.stands.0 (ap (λ (r : Row). stands s code place r) (push_as place ByPlaces s.takeover c.args.block (place.restart.bottom + 1 == s.slots) false how more)) (c.requires.stands.1))
 
@@ -45,7 +45,7 @@ returns-in-ByPlaces-clause-came g c = λ first l.
     let code = g.M.Memory.code m in
     let place = c.args.seat.now in
     let led = g.M.Memory.led m place.own in
-    let more = no_slot (place.restart.bottom + 1) c.shape-shape.result.slots s.slots c.if-slots.false (ap (λ (x : Shape). x.slots) c.shape-shape.ensures) in
+    let more = ap (λ (x : Shape). place.restart.bottom + 1 == x.slots) (sym c.shape-shape.ensures) ∙ sym c.if-is_last.ensures in
     let how = sym (ap (λ (x : Shape). x.takeover) c.shape-shape.ensures) ∙ c.in-ByPlaces.is in
     c.push_above.ensures.came first (moved led first (ap (λ (r : Row). stands s code place r) (push_as place ByPlaces s.takeover c.args.block (place.restart.bottom + 1 == s.slots) false how more)) (l))
 
@@ -56,7 +56,7 @@ push_by_order-requires-clause-stands g c κs within =
     let code = g.M.Memory.code m in
     let place = c.args.seat.now in
     let led = g.M.Memory.led m place.own in
-    let more = no_slot (place.restart.bottom + 1) c.shape-shape.result.slots s.slots c.if-slots.false (ap (λ (x : Shape). x.slots) c.shape-shape.ensures) in
+    let more = ap (λ (x : Shape). place.restart.bottom + 1 == x.slots) (sym c.shape-shape.ensures) ∙ sym c.if-is_last.ensures in
     let how = sym (ap (λ (x : Shape). x.takeover) c.shape-shape.ensures) ∙ c.in-ByEntries.is in
     (c.requires.stands.0, moved led c.requires.stands.0 (ap (λ (r : Row). stands s code place r) (push_as place ByEntries s.takeover c.args.block (place.restart.bottom + 1 == s.slots) false how more)) (c.requires.stands.1))
 
@@ -67,6 +67,6 @@ returns-in-ByEntries-clause-came g c = λ first l.
     let code = g.M.Memory.code m in
     let place = c.args.seat.now in
     let led = g.M.Memory.led m place.own in
-    let more = no_slot (place.restart.bottom + 1) c.shape-shape.result.slots s.slots c.if-slots.false (ap (λ (x : Shape). x.slots) c.shape-shape.ensures) in
+    let more = ap (λ (x : Shape). place.restart.bottom + 1 == x.slots) (sym c.shape-shape.ensures) ∙ sym c.if-is_last.ensures in
     let how = sym (ap (λ (x : Shape). x.takeover) c.shape-shape.ensures) ∙ c.in-ByEntries.is in
     c.push_by_order.ensures.came first (moved led first (ap (λ (r : Row). stands s code place r) (push_as place ByEntries s.takeover c.args.block (place.restart.bottom + 1 == s.slots) false how more)) (l))

@@ -19,7 +19,7 @@ loop-so_far-preserved g c =
     let sum = c.with_row-so_far.result in
     let came = subst (λ (end : RowEnd). HasRowed g.W.Watch.told k seat c.loop-so_far.mine.me new.mine.me c.loop-so_far.watch new.watch rowed.work rowed.exchanged end) c.in-Installed.is c.row_at-rowed.ensures.rowed in
     let few = sum_few c.loop-so_far.so_far sum rowed.work rowed.exchanged c.with_row-so_far.ensures i.1 i.2 in (
-      omega (arith, few.0, i.0, c.row_at-rowed.ensures.table.1),
+      omega (arith, few.0, i.0, c.loop-so_far-test.true, c.row_at-rowed.ensures.table.1),
       few.1,
       few.2,
       c.row_at-rowed.ensures.table.0 ∙ i.3,
@@ -53,6 +53,6 @@ returns-in-Refused-clause-stops g c = λ refused.
       lives = c.in-Refused.lives;
       behind = new.mine.me;
       refuses = refuses_both g.W.Watch.told k own c.args.mine.now.me c.loop-so_far.mine.me new.mine.me c.args.watch.now c.loop-so_far.watch new.watch
-          so_far.made so_far.work so_far.looks so_far.exchanged c.in-Refused.lives 16 c.args.most (omega (arith, i.0)) i.4 came;
+          so_far.made so_far.work so_far.looks so_far.exchanged c.in-Refused.lives 16 c.args.most (omega (arith, i.0, c.loop-so_far-test.true)) i.4 came;
       quits = c.withdraw.ensures.quits;
     }
