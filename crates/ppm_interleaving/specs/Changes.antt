@@ -1,7 +1,7 @@
 -- The changes of the machine as those of the model.
-use Rattle.std.specs.Prelude.{ℕ, List, map}
+use Rattle.std.specs.Prelude.{◌≡◌, ◌<◌, ℕ, List, [], ◌∷◌, map, get_or, slice_get, take, Some}
 use Rattle.ppm_unseen.specs.Capsule.{constant, exchange}
-use Rattle.ppm_unseen.specs.Run.{Change as Asking, change}
+use Rattle.ppm_unseen.specs.Run.{AllStill, Change as Asking, change}
 use Rattle.ppm_interleaving.specs.declared.change.Change.{Change}
 use Rattle.ppm_interleaving.specs.declared.change.Change.TheVariants.{Puts, Exchanges}
 
@@ -12,3 +12,14 @@ change_of (Exchanges x old new) = change x (exchange old new)
 
 abbrev pub changes_of : List Change → List Asking
 changes_of changes = map change_of changes
+
+-- made again now, these changes would leave the words as they are
+abbrev pub AreStill : (words : List ℕ) → List Change → Type 0
+AreStill words changes = AllStill (λ x. get_or words x 0) (changes_of changes)
+
+-- the first of so many that would not
+pub record IsFirstNotStill (words : List ℕ) (changes : List Change) (settled number : ℕ) (change : Change) : Type 0 where
+  pub there : slice_get changes number ≡ Some change
+  pub within : number < settled
+  pub before : AreStill words (take number changes)
+  pub falls : AreStill words (change ∷ []) → ⊥

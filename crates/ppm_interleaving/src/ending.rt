@@ -1,4 +1,16 @@
 //! What the end of a capsule opens, and how frames go on.
+ghost use Rattle.std.specs.Prelude.{◌≡◌, ◌∷◌, [], ◌<◌, ◌^◌, IfOk};
+ghost use Rattle.ppm_strands.specs.Capsule.{Memory};
+ghost use Rattle.ppm_strands.specs.Strand.{Frame};
+ghost use Rattle.ppm_code.specs.declared.code.CodeParts.{CodeParts};
+ghost use Rattle.ppm_code.specs.Sizes.{slots_of as slots_in_code};
+ghost use Rattle.ppm_code.specs.Strands.{entry_of as entry_in_code};
+ghost use Rattle.ppm_filled.specs.Racing.{At, OwnWord, Of, Place, beginning, block_in, exit_opens};
+ghost use Rattle.ppm_filled.specs.Racing.{rejoining, standing};
+ghost use Rattle.ppm_racy.specs.Code.{plain_code};
+ghost use Rattle.ppm_interleaving.specs.Owns.{ShowsOwn};
+ghost use Rattle.ppm_interleaving.specs.Steps.{BeginsFrame, GoesOnAs, Opens, point_by, result_of};
+ghost use Rattle.ppm_interleaving.specs.declared.strand.Branches.TheVariants.{Callee, Both as BothBranches};
 use crate::own::Own;
 use crate::running::Running;
 use crate::strand::{Branches, Strand, Waiting};
@@ -10,7 +22,7 @@ use std::alloc::Global;
 
 /// What an end opens.
 #[derive(Debug, Drop)]
-pub(crate) enum Opened {
+pub enum Opened {
     /// The strand's next capsule.
     GoesOn(Running),
     /// One branch, for which a frame waits.
@@ -23,6 +35,7 @@ pub(crate) enum Opened {
 
 /// How many slots the frames of a procedure have; none where there is no procedure.
 fn slots_of(code: &RacyCode, procedure: u32) -> u32
+    ensures { result ≡ slots_in_code (plain_code code.now) procedure }
 {
     match code.parts().procedures.as_slice().get(procedure as usize) {
         Some(found) => found.slots,
@@ -32,6 +45,7 @@ fn slots_of(code: &RacyCode, procedure: u32) -> u32
 
 /// The capsule with which a procedure begins.
 fn entry_of(code: &RacyCode, procedure: u32) -> u32
+    ensures { result ≡ entry_in_code (plain_code code.now) procedure }
 {
     match code.parts().procedures.as_slice().get(procedure as usize) {
         Some(found) => found.entry,
@@ -64,6 +78,8 @@ fn without_block(alloc: Global, own: Own) -> Own
 
 /// What an end opens, where so many strands are there already.
 pub(crate) fn open(alloc: Global, code: &RacyCode, own: Own, end: End, count: usize) -> Result<Opened, NoMemory>
+    ensures { IfOk result (λ opened. (o : Memory OwnWord) → ShowsOwn own o
+        → Opens code.now count opened (exit_opens (plain_code code.now) (Of end) o)) }
 {
     match end {
         End::Next { capsule } => Ok(Opened::GoesOn(Running::new(
@@ -122,6 +138,8 @@ fn take_in(own: &mut Own, to: Option<u32>, value: u64) -> Result<(), NoMemory>
 
 /// How a frame goes on once its callee, or its right branch, is over.
 pub(crate) fn go_on(alloc: Global, own: Own, capsule: u32, to: Option<u32>, finish: Finish) -> Result<Strand, NoMemory>
+    ensures { IfOk result (λ strand. (code : CodeParts) (o : Memory OwnWord) → ShowsOwn own o
+        → GoesOnAs strand (rejoining code o (At (point_by capsule (Callee to))) (result_of finish ∷ []))) }
 {
     match finish {
         Finish::Trapped(..) => Ok(Strand::Tells(finish)),
@@ -142,6 +160,9 @@ pub(crate) fn join(
     left: Finish,
     right: Finish,
 ) -> Result<Strand, NoMemory>
+    ensures { IfOk result (λ strand. (code : CodeParts) (o : Memory OwnWord) → ShowsOwn own o
+        → GoesOnAs strand (rejoining code o (At (point_by capsule (BothBranches slots.0 slots.1)))
+            (result_of left ∷ result_of right ∷ []))) }
 {
     match left {
         Finish::Trapped(..) => Ok(Strand::Tells(left)),

@@ -1,6 +1,18 @@
 //! What capsules have settled, and whether it stands.
+ghost use Rattle.std.specs.Prelude.{◌≡◌, ◌↔◌, ℕ, List, [], ◌∷◌, IsTrue, MatchOption, get_or, length, take};
+ghost use Rattle.ppm_strands.specs.Tree.{Words};
+ghost use Rattle.ppm_unseen.specs.Run.{Deed as Made};
+ghost use Rattle.ppm_code.specs.Strands.{Result as Outcome};
+ghost use Rattle.ppm_code.specs.declared.location.FrameWord.{FrameWord};
+ghost use Rattle.ppm_filled.specs.Racing.{OwnWord, Place};
+ghost use Rattle.ppm_racy.specs.declared.code.RacyParts.{RacyParts};
+ghost use Rattle.ppm_interleaving.specs.Changes.{AreStill, IsFirstNotStill};
+ghost use Rattle.ppm_interleaving.specs.Shows.{Shows, TellsFallen, changes_in, settled_in};
+ghost use Rattle.ppm_interleaving.specs.declared.deed.Turn.{Turn};
+
 use crate::change::Change;
 use crate::machine::Machine;
+use crate::own::word_at;
 use crate::strand::Strand;
 
 /// A change that the capsule of a strand under way has settled and that does not stand: made again
@@ -12,35 +24,61 @@ pub struct Fallen {
     pub change: Change,
 }
 
-/// The first of some changes that does not stand.
-fn first_fallen(changes: &[Change], settled: usize, words: &[u64]) -> Option<usize>
+/// Whether a change, made again now, would leave its word as it is.
+fn is_still(change: Change, words: &[u64]) -> bool
+    ensures { IsTrue result ↔ AreStill words.now (change ∷ []) }
+{
+    let is = word_at(words, change.word() as usize);
+    change.made_of(is) == is
+}
+
+/// The first of so many changes that would not, with its number.
+fn first_fallen(changes: &[Change], settled: usize, words: &[u64]) -> Option<(usize, Change)>
+    ensures { MatchOption result (AreStill words.now (take settled changes.now))
+        (λ found. IsFirstNotStill words.now changes.now settled found.0 found.1) }
 {
     let mut number = 0;
     while number < settled {
-        let change = changes[number];
-        let is = words[change.word() as usize];
-        if !(change.made_of(is) == is) {
-            return Some(number);
+        match changes.get(number) {
+            None => return None,
+            Some(change) => {
+                if !is_still(*change, words) {
+                    return Some((number, *change));
+                }
+            }
         }
         number += 1;
     }
     None
 }
 
+/// That of the changes that the capsule of a strand has settled.
+fn fallen_of(strand: &Strand, words: &[u64]) -> Option<(usize, Change)>
+    ensures { MatchOption result
+        (AreStill words.now (take (settled_in strand.now) (changes_in strand.now)))
+        (λ found. IsFirstNotStill words.now (changes_in strand.now) (settled_in strand.now) found.0 found.1) }
+{
+    match strand {
+        Strand::Running(running) => first_fallen(&running.asked, running.settled, words),
+        Strand::Waiting(_) | Strand::Tells(_) | Strand::Over(_) => None,
+    }
+}
+
 impl Machine {
     /// The first change that does not stand: of the strand of the least number, its first.
     pub fn fallen(&self) -> Option<Fallen>
+        ensures { (code : RacyParts) (root : FrameWord → ℕ) (arrays : Words) (h : List Turn)
+            (t : List (Made OwnWord Place Outcome)) → Shows code (length self.now.words.items) root arrays h t self.now
+            → TellsFallen code (length self.now.words.items) root arrays h t result }
     {
         let mut strand = 0;
         while strand < self.strands.len() {
-            if let Strand::Running(running) = &self.strands[strand] {
-                if let Some(number) = first_fallen(&running.asked, running.settled, &self.words) {
-                    return Some(Fallen {
-                        strand,
-                        number,
-                        change: running.asked[number],
-                    });
-                }
+            if let Some((number, change)) = fallen_of(&self.strands[strand], &self.words) {
+                return Some(Fallen {
+                    strand,
+                    number,
+                    change,
+                });
             }
             strand += 1;
         }

@@ -1,4 +1,9 @@
 //! All strands of a code, and the array words.
+ghost use Rattle.std.specs.Prelude.{◌≡◌, [], ℕ, IfOk, length, get_or};
+ghost use Rattle.ppm_strands.specs.Tree.{Words};
+ghost use Rattle.ppm_code.specs.declared.location.FrameWord.{FrameWord};
+ghost use Rattle.ppm_interleaving.specs.Shows.{MakesTurn, Shows};
+ghost use Rattle.ppm_interleaving.specs.Owns.{AreRootWords};
 use crate::deed::{Deed, Turn};
 use crate::ending::{Opened, begun, go_on, join, open};
 use crate::own::Own;
@@ -21,6 +26,9 @@ pub struct Machine {
 impl Machine {
     /// The root's strand alone, with these words in its slots, and the words of the arrays.
     pub fn new(alloc: Global, code: &RacyCode, slots: Vec<u64>, words: Vec<u64>) -> Result<Machine, NoMemory>
+        ensures { IfOk result (λ machine. (root : FrameWord → ℕ) (arrays : Words)
+            → AreRootWords slots.items root → ((x : ℕ) → arrays x ≡ get_or words.items x 0)
+            → Shows code.now (length words.items) root arrays [] [] machine) }
     {
         let own = Own {
             slots,
@@ -142,6 +150,8 @@ impl Machine {
     /// Makes a turn, and tells what others see of it. A turn of a strand that isn't forked yet,
     /// waits for branches that aren't over, or is over, passes.
     pub fn turn(&mut self, alloc: Global, code: &RacyCode, turn: Turn) -> Result<Option<Deed>, NoMemory>
+        ensures { IfOk result (λ told. (root : FrameWord → ℕ) (arrays : Words)
+            → MakesTurn code.now (length self.old.words.items) root arrays turn told self.old self.new) }
     {
         match turn {
             Turn::Step { strand } => {
@@ -151,7 +161,7 @@ impl Machine {
                 self.step(alloc, code, strand as usize)
             }
             Turn::Fault { strand } => {
-                if strand as usize < self.strands.len() {
+                if (strand as usize) < self.strands.len() {
                     self.fail(alloc, strand as usize);
                 }
                 Ok(None)

@@ -1,7 +1,10 @@
 //! The words of a strand's own.
 ghost use Rattle.std.specs.Prelude.{◌≡◌, ℕ, OnOk, IfOk, get_or};
-ghost use Rattle.std.specs.Prelude.{◌==◌, if◌then◌else◌};
-ghost use Rattle.ppm_interleaving.specs.Owns.{HasStored, IsBuilt, frame_word_in, slots_from};
+ghost use Rattle.std.specs.Prelude.{◌==◌, ◌<◌, ◌^◌, if◌then◌else◌};
+ghost use Rattle.ppm_strands.specs.Capsule.{Memory, store};
+ghost use Rattle.ppm_code.specs.Strands.{built};
+ghost use Rattle.ppm_filled.specs.Racing.{OwnWord, OfFrame, OfBlock, own_words, framed, block_in};
+ghost use Rattle.ppm_interleaving.specs.Owns.{ShowsOwn, frame_word_in, slots_from};
 
 use ppm_code::FrameWord;
 use ppm_words::NoMemory;
@@ -17,7 +20,7 @@ pub struct Own {
 }
 
 /// The word at a place; 0 past the last.
-fn word_at(words: &[u64], place: usize) -> u64
+pub(crate) fn word_at(words: &[u64], place: usize) -> u64
     ensures { result ≡ get_or words.now place 0 }
 {
     match words.get(place) {
@@ -40,6 +43,7 @@ fn put_at(words: &mut Vec<u64>, place: usize, word: u64) -> Result<(), NoMemory>
 
 /// The words from a place on, so many.
 fn words_from(alloc: Global, words: &[u64], place: usize, count: u32) -> Result<Vec<u64>, NoMemory>
+    requires { place < 2 ^ 41 }
     ensures { IfOk result (λ found. found.items ≡ slots_from words.now place count) }
 {
     let mut found = Vec::new(alloc);
@@ -69,6 +73,8 @@ impl Own {
 
     /// Puts a word into the frame.
     pub(crate) fn put_frame(&mut self, word: FrameWord, value: u64) -> Result<(), NoMemory>
+        ensures { OnOk result ((o : Memory OwnWord) → ShowsOwn self.old o
+            → ShowsOwn self.new (store own_words o (OfFrame word) value)) }
     {
         match word {
             FrameWord::Slot(slot) => put_at(&mut self.slots, slot as usize, value),
@@ -81,12 +87,17 @@ impl Own {
 
     /// Puts a word into the block.
     pub(crate) fn put_block(&mut self, offset: u32, value: u64) -> Result<(), NoMemory>
+        ensures { OnOk result ((o : Memory OwnWord) → ShowsOwn self.old o
+            → ShowsOwn self.new (store own_words o (OfBlock offset) value)) }
     {
         put_at(&mut self.block, offset as usize, value)
     }
 
     /// The frame of a procedure with so many slots, as it lies in the block.
     pub(crate) fn built(&self, alloc: Global, slots: u32, frame: usize) -> Result<Own, NoMemory>
+        requires { frame < 2 ^ 40 }
+        ensures { IfOk result (λ own. (o : Memory OwnWord) → ShowsOwn self.now o
+            → ShowsOwn own (framed (built slots frame (block_in o)))) }
     {
         let slots = words_from(alloc, &self.block, frame + 6, slots)?;
         Ok(Own {

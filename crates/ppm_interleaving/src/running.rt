@@ -1,4 +1,10 @@
 //! Strands under way.
+ghost use Rattle.std.specs.Prelude.{◌≡◌, ◌<◌, length, IfOk};
+ghost use Rattle.ppm_racy.specs.declared.code.RacyParts.{RacyParts};
+ghost use Rattle.ppm_racy.specs.Capsules.{IsWithin};
+ghost use Rattle.ppm_racy.specs.Code.{instrs_of};
+ghost use Rattle.ppm_interleaving.specs.Changes.{change_of};
+ghost use Rattle.ppm_interleaving.specs.Steps.{IsBegun, TurnsTo, found_at};
 use crate::change::Change;
 use crate::own::Own;
 use ppm_code::{End, FrameWord, Location};
@@ -21,7 +27,7 @@ pub struct Running {
 
 /// What a turn of a strand under way comes to.
 #[derive(Debug, Drop)]
-pub(crate) enum Touched {
+pub enum Touched {
     /// It goes on, unseen by others.
     Goes(Running),
     /// It has changed a word.
@@ -37,6 +43,8 @@ pub(crate) enum Touched {
 
 /// The word at a location, with these own words and array words.
 fn found(own: &Own, words: &[u64], location: Location) -> u64
+    requires { IsWithin (length words.now) location }
+    ensures { result ≡ found_at own.now words.now location }
 {
     match location {
         Location::Frame(word) => own.frame_word(word),
@@ -48,6 +56,7 @@ fn found(own: &Own, words: &[u64], location: Location) -> u64
 impl Running {
     /// A strand at the beginning of a capsule, with these own words.
     pub(crate) fn new(alloc: Global, capsule: u32, own: Own) -> Running
+        ensures { IsBegun capsule own result }
     {
         Running {
             capsule,
@@ -62,6 +71,7 @@ impl Running {
     /// The strand after a soft fault: at the beginning of its capsule, with its own words as they
     /// are.
     pub(crate) fn failed(self, alloc: Global) -> Running
+        ensures { IsBegun self.capsule self.own result }
     {
         Running::new(alloc, self.capsule, self.own)
     }
@@ -111,6 +121,9 @@ impl Running {
     /// Makes a turn in a capsule of these instructions: register work up to the next touch of a
     /// word, and this touch, or up to the end.
     pub(crate) fn turn(mut self, instrs: &[RacyInstr], words: &mut Vec<u64>) -> Result<Touched, NoMemory>
+        ensures { IfOk result (λ touched. (code : RacyParts)
+            → instrs_of code self.entry.capsule ≡ instrs.now
+            → TurnsTo code (length words.old.items) self.entry words.old.items touched words.new.items) }
     {
         let stop = reach(instrs, words.len() as u64, self.at, &mut self.registers);
         self.at = stop.next;

@@ -1,0 +1,6 @@
+pub mod Changes
+pub mod Falls
+pub mod Owns
+pub mod Shows
+pub mod Steps
+pub mod Turns
