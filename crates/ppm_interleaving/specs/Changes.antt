@@ -1,5 +1,5 @@
 -- The changes of the machine as those of the model.
-use Rattle.std.specs.Prelude.{◌≡◌, ◌<◌, ℕ, List, [], ◌∷◌, map, get_or, slice_get, take, Some}
+use Rattle.std.specs.Prelude.{◌≡◌, ℕ, List, [], ◌∷◌, ◌++◌, length, map, get_or}
 use Rattle.ppm_unseen.specs.Capsule.{constant, exchange}
 use Rattle.ppm_unseen.specs.Run.{AllStill, Change as Asking, change}
 use Rattle.ppm_interleaving.specs.declared.change.Change.{Change}
@@ -17,9 +17,11 @@ changes_of changes = map change_of changes
 abbrev pub AreStill : (words : List ℕ) → List Change → Type 0
 AreStill words changes = AllStill (λ x. get_or words x 0) (changes_of changes)
 
--- the first of so many that would not
-pub record IsFirstNotStill (words : List ℕ) (changes : List Change) (settled number : ℕ) (change : Change) : Type 0 where
-  pub there : slice_get changes number ≡ Some change
-  pub within : number < settled
-  pub before : AreStill words (take number changes)
-  pub falls : AreStill words (change ∷ []) → ⊥
+-- the first of them that would not, with its number from 0
+pub record IsFirstNotStill (words : List ℕ) (changes : List Change) (number : ℕ) (k : Change) : Type 0 where
+  pub front : List Change
+  pub later : List Change
+  pub same : changes ≡ front ++ k ∷ later
+  pub number : length front ≡ number
+  pub stand : AreStill words front
+  pub falls : AreStill words (k ∷ []) → ⊥

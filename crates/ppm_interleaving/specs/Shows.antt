@@ -26,14 +26,10 @@ use Rattle.ppm_interleaving.specs.Owns.{ShowsOwn}
 use Rattle.ppm_interleaving.specs.Steps.{WaitsAs, asked_by, result_of, under_way}
 use Rattle.ppm_interleaving.specs.Turns.{ComesBy, came, strand_of}
 
--- the changes that the capsule of a strand has asked for, and how many of them are settled
-abbrev pub changes_in : Strand → List Asking
-changes_in (Running r) = r.asked.items
-changes_in strand = []
-
-abbrev pub settled_in : Strand → ℕ
-settled_in (Running r) = r.settled
-settled_in strand = 0
+-- the changes that the capsule of a strand has settled
+abbrev pub settled_in : Strand → List Asking
+settled_in (Running r) = r.settled.items
+settled_in strand = []
 
 -- what the capsule of a strand has asked for
 abbrev pub asked_in : Option Strand → Asked

@@ -1,5 +1,5 @@
 //! What capsules have settled, and whether it stands.
-ghost use Rattle.std.specs.Prelude.{◌≡◌, ◌↔◌, ℕ, List, [], ◌∷◌, IsTrue, MatchOption, get_or, length, take};
+ghost use Rattle.std.specs.Prelude.{◌≡◌, ◌↔◌, ℕ, List, [], ◌∷◌, IsTrue, MatchOption, length};
 ghost use Rattle.ppm_strands.specs.Tree.{Words};
 ghost use Rattle.ppm_unseen.specs.Run.{Deed as Made};
 ghost use Rattle.ppm_code.specs.Strands.{Result as Outcome};
@@ -7,7 +7,7 @@ ghost use Rattle.ppm_code.specs.declared.location.FrameWord.{FrameWord};
 ghost use Rattle.ppm_filled.specs.Racing.{OwnWord, Place};
 ghost use Rattle.ppm_racy.specs.declared.code.RacyParts.{RacyParts};
 ghost use Rattle.ppm_interleaving.specs.Changes.{AreStill, IsFirstNotStill};
-ghost use Rattle.ppm_interleaving.specs.Shows.{Shows, TellsFallen, changes_in, settled_in};
+ghost use Rattle.ppm_interleaving.specs.Shows.{Shows, TellsFallen, settled_in};
 ghost use Rattle.ppm_interleaving.specs.declared.deed.Turn.{Turn};
 
 use crate::change::Change;
@@ -32,34 +32,30 @@ fn is_still(change: Change, words: &[u64]) -> bool
     change.made_of(is) == is
 }
 
-/// The first of so many changes that would not, with its number.
-fn first_fallen(changes: &[Change], settled: usize, words: &[u64]) -> Option<(usize, Change)>
-    ensures { MatchOption result (AreStill words.now (take settled changes.now))
-        (λ found. IsFirstNotStill words.now changes.now settled found.0 found.1) }
+/// The first of some changes that would not, with its number.
+fn first_fallen(changes: &[Change], words: &[u64]) -> Option<(usize, Change)>
+    ensures { MatchOption result (AreStill words.now changes.now)
+        (λ found. IsFirstNotStill words.now changes.now found.0 found.1) }
 {
-    let mut number = 0;
-    while number < settled {
-        match changes.get(number) {
-            None => return None,
-            Some(change) => {
-                if !is_still(*change, words) {
-                    return Some((number, *change));
-                }
-            }
+    let mut number: usize = 0;
+    let mut left = changes;
+    while let [change, rest @ ..] = left {
+        if !is_still(*change, words) {
+            return Some((number, *change));
         }
         number += 1;
+        left = rest;
     }
     None
 }
 
 /// That of the changes that the capsule of a strand has settled.
 fn fallen_of(strand: &Strand, words: &[u64]) -> Option<(usize, Change)>
-    ensures { MatchOption result
-        (AreStill words.now (take (settled_in strand.now) (changes_in strand.now)))
-        (λ found. IsFirstNotStill words.now (changes_in strand.now) (settled_in strand.now) found.0 found.1) }
+    ensures { MatchOption result (AreStill words.now (settled_in strand.now))
+        (λ found. IsFirstNotStill words.now (settled_in strand.now) found.0 found.1) }
 {
     match strand {
-        Strand::Running(running) => first_fallen(&running.asked, running.settled, words),
+        Strand::Running(running) => first_fallen(&running.settled, words),
         Strand::Waiting(_) | Strand::Tells(_) | Strand::Over(_) => None,
     }
 }

@@ -4,7 +4,7 @@ ghost use Rattle.ppm_racy.specs.declared.code.RacyParts.{RacyParts};
 ghost use Rattle.ppm_racy.specs.Capsules.{IsWithin};
 ghost use Rattle.ppm_racy.specs.Code.{instrs_of};
 ghost use Rattle.ppm_interleaving.specs.Changes.{change_of};
-ghost use Rattle.ppm_interleaving.specs.Steps.{IsBegun, TurnsTo, found_at};
+ghost use Rattle.ppm_interleaving.specs.Steps.{AsksFor, IsBegun, StoresAt, TurnsTo, found_at};
 use crate::change::Change;
 use crate::own::Own;
 use ppm_code::{End, FrameWord, Location};
@@ -13,16 +13,16 @@ use ppm_words::NoMemory;
 use std::alloc::Global;
 
 /// A strand in a capsule: the instruction at which its register work begins next, its registers and
-/// own words, the changes that the capsule has asked for, and how many of them are settled, which
-/// are those up to the last one that changed a word.
+/// own words, and the changes that the capsule has asked for: those that are settled, which are
+/// those up to the last one that changed a word, and those asked for since.
 #[derive(Debug, Drop)]
 pub struct Running {
     pub capsule: u32,
     pub at: usize,
     pub registers: [u64; 64],
     pub own: Own,
-    pub asked: Vec<Change>,
-    pub settled: usize,
+    pub settled: Vec<Change>,
+    pub since: Vec<Change>,
 }
 
 /// What a turn of a strand under way comes to.
@@ -63,8 +63,8 @@ impl Running {
             at: 0,
             registers: [0; 64],
             own,
-            asked: Vec::new(alloc),
-            settled: 0,
+            settled: Vec::new(alloc),
+            since: Vec::new(alloc),
         }
     }
 
@@ -78,16 +78,19 @@ impl Running {
 
     /// Asks for a change, and makes it.
     fn change(mut self, change: Change, words: &mut Vec<u64>) -> Result<Touched, NoMemory>
+        requires { (change_of change).at < length words.old.items }
+        ensures { IfOk result (λ touched. AsksFor self.entry change words.old.items touched words.new.items) }
     {
         let word = change.word();
         let was = words[word as usize];
         let is = change.made_of(was);
-        self.asked.push(change)?;
+        self.since.push(change)?;
         if is == was {
             return Ok(Touched::Goes(self));
         }
         words[word as usize] = is;
-        self.settled = self.asked.len();
+        self.settled.extend_from_slice(&self.since)?;
+        self.since.clear();
         Ok(Touched::Changed {
             running: self,
             word,
@@ -98,6 +101,8 @@ impl Running {
 
     /// Stores a word at a location.
     fn store(mut self, location: Location, word: u64, words: &mut Vec<u64>) -> Result<Touched, NoMemory>
+        requires { IsWithin (length words.old.items) location }
+        ensures { IfOk result (λ touched. StoresAt self.entry location word words.old.items touched words.new.items) }
     {
         match location {
             Location::Frame(frame_word) => {

@@ -4,6 +4,7 @@ use Rattle.std.proofs.Common.{◌∷◌, length, get_or, refl, sym, ap, ◌∙�
 use Rattle.std.specs.Prelude.{slice_get}
 use Rattle.std.proofs.lemmas.Option.{slice_get_read}
 use Rattle.ppm_unseen.specs.Capsule.{Capsule as Racing, Changes, exchange}
+use Rattle.ppm_code.specs.declared.act.Act.{Act}
 use Rattle.ppm_code.specs.declared.act.Act.TheVariants.{Sets, Passes, Jumps, Steps, Ends as Stops}
 use Rattle.ppm_code.specs.declared.act.Step.{Step}
 use Rattle.ppm_code.specs.declared.act.Step.TheVariants.{Loads, Stores, Asks}
@@ -81,3 +82,7 @@ module _ (block : List OwnWord) where
         ap (λ (b : RacyAct). at_act block (λ t h. capsule_from block words 0 t is h) (at + 1) b g) acts
         ∙ sym (at_instr at is g i (slice_get_read is (length is) at i refl less read))
         ∙ before
+
+-- an act of a code, as it is read off in two matches
+pub decoded : (a d : RacyAct) (p q : Act) → a ≡ d → a ≡ Plain p → p ≡ q → Plain q ≡ d
+decoded a d p q acts plain is = ap Plain (sym is) ∙ sym plain ∙ acts

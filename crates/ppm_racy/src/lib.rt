@@ -18,5 +18,5 @@ mod touch;
 
 pub use code::{RacyCapsule, RacyCode, RacyParts};
 pub use instr::{RacyAct, RacyInstr};
-pub use laws::plain_codes_race_as_before;
+pub use laws::{faults_of_racy_paths_are_invisible, plain_codes_race_as_before};
 pub use touch::{Stop, Touch, reach};
