@@ -1,2 +1,10 @@
 -- How the machine is shown: what a turn of a strand comes to is said of any run that it may be in
 -- (`specs/Steps`), and a machine shows each strand of its run (`specs/Shows`).
+
+mod EndLemmas
+mod OwnLemmas
+mod RunLemmas
+mod ShowLemmas
+mod StepLemmas
+mod TurnLemmas
+mod WaitLemmas

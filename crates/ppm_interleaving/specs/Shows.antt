@@ -26,6 +26,14 @@ use Rattle.ppm_interleaving.specs.Owns.{ShowsOwn}
 use Rattle.ppm_interleaving.specs.Steps.{WaitsAs, asked_by, result_of, under_way}
 use Rattle.ppm_interleaving.specs.Turns.{ComesBy, came, strand_of}
 
+-- how a strand is over, if it is, and that of the strand with a number
+abbrev pub finish_of : Option Strand → Option Finish
+finish_of (Some (Over f)) = Some f
+finish_of found = None
+
+abbrev pub finish_in : List Strand → ℕ → Option Finish
+finish_in strands i = finish_of (slice_get strands i)
+
 -- the changes that the capsule of a strand has settled
 abbrev pub settled_in : Strand → List Asking
 settled_in (Running r) = r.settled.items
@@ -35,6 +43,11 @@ settled_in strand = []
 abbrev pub asked_in : Option Strand → Asked
 asked_in (Some (Running r)) = asked_by r
 asked_in found = nothing
+
+-- strands are over so, and no others are
+pub record FinishesAre (finishes : ℕ → Option Finish) (t : List (Deed OwnWord Place Result)) : Type 0 where
+  pub told : (i : ℕ) (f : Finish) → finishes i ≡ Some f → HasFinished i (result_of f) t
+  pub alone : (i : ℕ) (result : Result) → HasFinished i result t → (f : Finish) × (finishes i ≡ Some f) × (result ≡ result_of f)
 
 module _ (code : RacyParts) (array_words : ℕ) where
   -- a strand of the machine shows a state, if it is there
@@ -62,9 +75,7 @@ module _ (code : RacyParts) (array_words : ℕ) (root : FrameWord → ℕ) (arra
     pub word_count : length m.words.items ≡ array_words
     pub count : count system t ≡ length m.strands.items
     pub strands : (i : ℕ) → ShowsStrand (slice_get m.strands.items i) i h t
-    pub over : (i : ℕ) (f : Finish) → slice_get m.strands.items i ≡ Some (Over f) → HasFinished i (result_of f) t
-    pub over_alone : (i : ℕ) (result : Result) → HasFinished i result t
-        → (f : Finish) × (slice_get m.strands.items i ≡ Some (Over f)) × (result ≡ result_of f)
+    pub finishes : FinishesAre (finish_in m.strands.items) t
 
   -- what is told of a turn is the deed that it makes, if it makes one
   abbrev pub IsTold : Turn → Option Told → (t u : List (Deed OwnWord Place Result)) → Type 0

@@ -16,6 +16,7 @@ mod fallen;
 mod machine;
 mod own;
 mod running;
+mod stepped;
 mod strand;
 
 pub use change::Change;

@@ -4,12 +4,12 @@ ghost use Rattle.ppm_strands.specs.Tree.{Words};
 ghost use Rattle.ppm_code.specs.declared.location.FrameWord.{FrameWord};
 ghost use Rattle.ppm_interleaving.specs.Shows.{MakesTurn, Shows};
 ghost use Rattle.ppm_interleaving.specs.Owns.{AreRootWords};
+
 use crate::deed::{Deed, Turn};
-use crate::ending::{Opened, begun, go_on, join, open};
+use crate::ending::begun;
 use crate::own::Own;
-use crate::running::{Running, Touched};
-use crate::strand::{Branches, Strand, Waiting};
-use ppm_code::End;
+use crate::stepped::{Stepped, step};
+use crate::strand::Strand;
 use ppm_depth::Finish;
 use ppm_racy::RacyCode;
 use ppm_words::NoMemory;
@@ -25,7 +25,12 @@ pub struct Machine {
 
 impl Machine {
     /// The root's strand alone, with these words in its slots, and the words of the arrays.
-    pub fn new(alloc: Global, code: &RacyCode, slots: Vec<u64>, words: Vec<u64>) -> Result<Machine, NoMemory>
+    pub fn new(
+        alloc: Global,
+        code: &RacyCode,
+        slots: Vec<u64>,
+        words: Vec<u64>,
+    ) -> Result<Machine, NoMemory>
         ensures { IfOk result (λ machine. (root : FrameWord → ℕ) (arrays : Words)
             → AreRootWords slots.items root → ((x : ℕ) → arrays x ≡ get_or words.items x 0)
             → Shows code.now (length words.items) root arrays [] [] machine) }
@@ -41,115 +46,81 @@ impl Machine {
         Ok(Machine { strands, words })
     }
 
-    /// How a strand is over, if it is.
-    fn finish_of(&self, strand: usize) -> Option<Finish>
-    {
-        match self.strands.get(strand) {
-            Some(Strand::Over(finish)) => Some(*finish),
-            Some(Strand::Running(_)) | Some(Strand::Waiting(_)) | Some(Strand::Tells(_)) | None => {
-                None
-            }
-        }
+    /// Takes out the strand with a number, which is there.
+    fn take(&mut self, strand: usize) -> Strand {
+        mem::replace(&mut self.strands[strand], Strand::Tells(Finish::Gave(0)))
     }
 
-    /// What follows an end of a capsule, whose strand has been taken out.
-    fn end(&mut self, alloc: Global, code: &RacyCode, own: Own, end: End) -> Result<(Strand, Option<Deed>), NoMemory>
+    /// Puts a strand back where it is after a step, with the branches that it forked; what others
+    /// see of that.
+    fn put_back(&mut self, strand: usize, stepped: Stepped) -> Result<Option<Deed>, NoMemory>
     {
-        let count = self.strands.len();
-        match open(alloc, code, own, end, count)? {
-            Opened::GoesOn(running) => Ok((Strand::Running(running), None)),
-            Opened::Calls(callee, waiting) => {
-                self.strands.push(Strand::Running(callee))?;
-                let deed = Deed::Forked {
-                    first: count as u64,
-                    branches: 1,
-                };
-                Ok((Strand::Waiting(waiting), Some(deed)))
+        let first = self.strands.len() as u64;
+        match stepped {
+            Stepped::Goes(now) => {
+                self.strands[strand] = now;
+                Ok(None)
             }
-            Opened::Forks(left, right, waiting) => {
-                self.strands.push(Strand::Running(left))?;
-                self.strands.push(Strand::Running(right))?;
-                let deed = Deed::Forked {
-                    first: count as u64,
-                    branches: 2,
-                };
-                Ok((Strand::Waiting(waiting), Some(deed)))
-            }
-            Opened::Closes(finish) => Ok((Strand::Over(finish), Some(Deed::Finished(finish)))),
-        }
-    }
-
-    /// A turn of a strand under way, which has been taken out.
-    fn run(&mut self, alloc: Global, code: &RacyCode, running: Running) -> Result<(Strand, Option<Deed>), NoMemory>
-    {
-        let touched = match code.capsule(running.capsule) {
-            Some(capsule) => running.turn(capsule.instrs.as_slice(), &mut self.words)?,
-            None => running.turn(&[], &mut self.words)?,
-        };
-        match touched {
-            Touched::Goes(running) => Ok((Strand::Running(running), None)),
-            Touched::Changed {
+            Stepped::Changed {
                 running,
                 word,
                 was,
                 is,
-            } => Ok((Strand::Running(running), Some(Deed::Changed { word, was, is }))),
-            Touched::Ends(own, end) => self.end(alloc, code, own, end),
-        }
-    }
-
-    /// A turn of a frame that waits, which has been taken out: it goes on if its branches are over.
-    fn wait(&mut self, alloc: Global, waiting: Waiting) -> Result<Strand, NoMemory>
-    {
-        match waiting.branches {
-            Branches::Callee { to } => match self.finish_of(waiting.first) {
-                Some(finish) => go_on(alloc, waiting.own, waiting.capsule, to, finish),
-                None => Ok(Strand::Waiting(waiting)),
-            },
-            Branches::Both { left_to, to } => match self.finish_of(waiting.first) {
-                Some(left) => match self.finish_of(waiting.first + 1) {
-                    Some(right) => join(
-                        alloc,
-                        waiting.own,
-                        waiting.capsule,
-                        (left_to, to),
-                        left,
-                        right,
-                    ),
-                    None => Ok(Strand::Waiting(waiting)),
-                },
-                None => Ok(Strand::Waiting(waiting)),
-            },
+            } => {
+                self.strands[strand] = Strand::Running(running);
+                Ok(Some(Deed::Changed { word, was, is }))
+            }
+            Stepped::Calls(callee, waiting) => {
+                self.strands[strand] = Strand::Waiting(waiting);
+                self.strands.push(Strand::Running(callee))?;
+                Ok(Some(Deed::Forked { first, branches: 1 }))
+            }
+            Stepped::Forks(left, right, waiting) => {
+                self.strands[strand] = Strand::Waiting(waiting);
+                self.strands.push(Strand::Running(left))?;
+                self.strands.push(Strand::Running(right))?;
+                Ok(Some(Deed::Forked { first, branches: 2 }))
+            }
+            Stepped::Closes(finish) => {
+                self.strands[strand] = Strand::Over(finish);
+                Ok(Some(Deed::Finished(finish)))
+            }
         }
     }
 
     /// A step of the strand with a number, which is there.
-    fn step(&mut self, alloc: Global, code: &RacyCode, strand: usize) -> Result<Option<Deed>, NoMemory>
+    fn step(
+        &mut self,
+        alloc: Global,
+        code: &RacyCode,
+        strand: usize,
+    ) -> Result<Option<Deed>, NoMemory>
     {
-        let taken = mem::replace(&mut self.strands[strand], Strand::Over(Finish::Gave(0)));
-        let (now, deed) = match taken {
-            Strand::Running(running) => self.run(alloc, code, running)?,
-            Strand::Waiting(waiting) => (self.wait(alloc, waiting)?, None),
-            Strand::Tells(finish) => (Strand::Over(finish), Some(Deed::Finished(finish))),
-            Strand::Over(finish) => (Strand::Over(finish), None),
-        };
-        self.strands[strand] = now;
-        Ok(deed)
+        let taken = self.take(strand);
+        let stepped = step(alloc, code, taken, &mut self.words, &self.strands)?;
+        self.put_back(strand, stepped)
     }
 
     /// A soft fault of the strand with a number, which is there.
     fn fail(&mut self, alloc: Global, strand: usize)
     {
-        let taken = mem::replace(&mut self.strands[strand], Strand::Over(Finish::Gave(0)));
+        let taken = self.take(strand);
         self.strands[strand] = match taken {
             Strand::Running(running) => Strand::Running(running.failed(alloc)),
-            Strand::Waiting(_) | Strand::Tells(_) | Strand::Over(_) => taken,
+            Strand::Waiting(waiting) => Strand::Waiting(waiting),
+            Strand::Tells(finish) => Strand::Tells(finish),
+            Strand::Over(finish) => Strand::Over(finish),
         };
     }
 
     /// Makes a turn, and tells what others see of it. A turn of a strand that isn't forked yet,
     /// waits for branches that aren't over, or is over, passes.
-    pub fn turn(&mut self, alloc: Global, code: &RacyCode, turn: Turn) -> Result<Option<Deed>, NoMemory>
+    pub fn turn(
+        &mut self,
+        alloc: Global,
+        code: &RacyCode,
+        turn: Turn,
+    ) -> Result<Option<Deed>, NoMemory>
         ensures { IfOk result (λ told. (root : FrameWord → ℕ) (arrays : Words)
             → MakesTurn code.now (length self.old.words.items) root arrays turn told self.old self.new) }
     {
