@@ -1,6 +1,7 @@
 -- How the machine is shown: what a turn of a strand comes to is said of any run that it may be in
 -- (`specs/Steps`), and a machine shows each strand of its run (`specs/Shows`).
 
+mod AlongLemmas
 mod EndLemmas
 mod OwnLemmas
 mod RunLemmas

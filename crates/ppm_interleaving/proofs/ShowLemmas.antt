@@ -47,7 +47,7 @@ module _ (code : RacyParts) (array_words : ℕ) (root : FrameWord → ℕ) (arra
       → ((σ : State OwnWord Place Exit) → ShowsState code array_words found σ → once_done s j t d σ ≡ σ)
       → ShowsStrand code array_words root arrays found j h t → ShowsStrand code array_words root arrays found j (Step (doer d) ∷ h) (d ∷ t)
   sees found j d other same shows =
-      (once_done s j t d shows.0, Sees d other shows.1, subst (ShowsState code array_words found) (sym (same shows.0 shows.2)) shows.2, shows.3)
+      (once_done s j t d shows.0, Sees d (doer d) refl other shows.1, subst (ShowsState code array_words found) (sym (same shows.0 shows.2)) shows.2, shows.3)
 
   -- no strand is moved by a change or an end of another one
   by_change : (j who x v : ℕ) (σ : State OwnWord Place Exit) → once_done s j t (HasChanged who x v) σ ≡ σ
@@ -87,7 +87,7 @@ module _ (code : RacyParts) (array_words : ℕ) (root : FrameWord → ℕ) (arra
       → ShowsStrand code array_words root arrays (Some (IsRunning r)) j (Step who ∷ h) (HasForked who fs ∷ t)
   begins_by_fork r f j who fs begins is other shows =
       let there = subst (λ (σ : State OwnWord Place Exit). (c : ComesBy s j h t σ) × (asked (came s c) ≡ nothing)) shows.2 (shows.1, shows.3) in
-      (begun_if_any s (numbered (count s t) fs j), Sees (HasForked who fs) other there.0,
+      (begun_if_any s (numbered (count s t) fs j), Sees (HasForked who fs) who refl other there.0,
       (f.own, begins.own, ap (begun_if_any s) is ∙ begun_state code array_words root arrays r f begins), there.1 ∙ sym (begun_asks r.capsule r.own r begins.begun))
 
   -- a strand that isn't forked by that
@@ -95,4 +95,4 @@ module _ (code : RacyParts) (array_words : ℕ) (root : FrameWord → ℕ) (arra
       → ShowsStrand code array_words root arrays None j h t → ShowsStrand code array_words root arrays None j (Step who ∷ h) (HasForked who fs ∷ t)
   waits_for_fork j who fs is other shows =
       let there = subst (λ (σ : State OwnWord Place Exit). (c : ComesBy s j h t σ) × (asked (came s c) ≡ nothing)) shows.2 (shows.1, shows.3) in
-      (begun_if_any s (numbered (count s t) fs j), Sees (HasForked who fs) other there.0, ap (begun_if_any s) is, there.1)
+      (begun_if_any s (numbered (count s t) fs j), Sees (HasForked who fs) who refl other there.0, ap (begun_if_any s) is, there.1)

@@ -1,5 +1,5 @@
 -- What one step of a strand comes to beside the others.
-use Rattle.std.specs.Prelude.{◌≡◌, ℕ, List, [], ◌∷◌, length, get_or, Some, None}
+use Rattle.std.specs.Prelude.{◌≡◌, ℕ, List, [], ◌∷◌, ◌++◌, length, get_or, set, Option, Some, None}
 use Rattle.ppm_strands.specs.Ahead.{put}
 use Rattle.ppm_strands.specs.Tree.{Words}
 use Rattle.ppm_strands.specs.Strand.{Frame}
@@ -8,6 +8,8 @@ use Rattle.ppm_code.specs.declared.location.FrameWord.{FrameWord}
 use Rattle.ppm_code.specs.Strands.{Result}
 use Rattle.ppm_filled.specs.Racing.{OwnWord, Place}
 use Rattle.ppm_racy.specs.declared.code.RacyParts.{RacyParts}
+use Rattle.ppm_interleaving.specs.declared.deed.Deed.{Deed as Told}
+use Rattle.ppm_interleaving.specs.declared.deed.Deed.TheVariants as told
 use Rattle.ppm_interleaving.specs.declared.deed.Turn.{Turn}
 use Rattle.ppm_interleaving.specs.declared.deed.Turn.TheVariants.{Step}
 use Rattle.ppm_interleaving.specs.declared.ending.Opened.{Opened}
@@ -58,3 +60,12 @@ MakesStep code strand strands words stepped after = WordsAfter words stepped aft
     × ((root : FrameWord → ℕ) (arrays : Words) (h : List Turn) (t : List (Deed OwnWord Place Result)) (i : ℕ)
     → IsBeside code (length words) root arrays t words strands → ShowsStrand code (length words) root arrays (Some strand) i h t
     → StepsTo code (length words) root arrays h t i strand stepped)
+
+-- the strand with a number is put back after its step, with the branches that it forked; and what is told of that
+abbrev pub PutsBack : (strands : List Strand) → (i : ℕ) → Stepped → Option Told → (after : List Strand) → Type 0
+PutsBack strands i (Goes x) tells after = (tells ≡ None) × (after ≡ set strands i x)
+PutsBack strands i (Changed r word was is) tells after = (tells ≡ Some (told.Changed word was is)) × (after ≡ set strands i (Running r))
+PutsBack strands i (Calls r w) tells after = (tells ≡ Some (told.Forked (length strands) 1)) × (after ≡ set strands i (Waiting w) ++ Running r ∷ [])
+PutsBack strands i (Forks l r w) tells after =
+    (tells ≡ Some (told.Forked (length strands) 2)) × (after ≡ set strands i (Waiting w) ++ Running l ∷ Running r ∷ [])
+PutsBack strands i (Closes f) tells after = (tells ≡ Some (told.Finished f)) × (after ≡ set strands i (Over f))

@@ -1,5 +1,5 @@
 -- Runs of strands by a schedule: whose turn it is, one after the other.
-use Rattle.std.proofs.Common.{◌≡◌, ℕ, Bool, true, false, List, [], ◌∷◌, refl}
+use Rattle.std.proofs.Common.{◌≡◌, ℕ, Bool, true, false, List, [], ◌∷◌, refl, sym, ◌∙◌}
 use Rattle.ppm_strands.specs.Capsule.{Memory, store}
 use Rattle.ppm_unseen.specs.Capsule.{Capsule as Racing, Keeps, Ends as Stops}
 use Rattle.ppm_unseen.specs.Run.{System, Deed, doer, State, NotYet, UnderWay, Waits, IsOver, HaveFinished, numbered, begun_if_any, once_done}
@@ -50,8 +50,8 @@ module _ (s : System OwnWord Place Exit Result) where
     Begins : ComesBy me [] [] (begun_if_any s (numbered 0 s.start me))
     Rests : {h : List Turn} {t : List (Deed OwnWord Place Result)} {σ : State OwnWord Place Exit} (turn : Turn) → (strand_of turn ≡ me → ⊥)
         → ComesBy me h t σ → ComesBy me (turn ∷ h) t σ
-    Sees : {h : List Turn} {t : List (Deed OwnWord Place Result)} {σ : State OwnWord Place Exit} (d : Deed OwnWord Place Result) → (doer d ≡ me → ⊥)
-        → ComesBy me h t σ → ComesBy me (Step (doer d) ∷ h) (d ∷ t) (once_done s me t d σ)
+    Sees : {h : List Turn} {t : List (Deed OwnWord Place Result)} {σ : State OwnWord Place Exit} (d : Deed OwnWord Place Result) (who : ℕ) → doer d ≡ who
+        → (who ≡ me → ⊥) → ComesBy me h t σ → ComesBy me (Step who ∷ h) (d ∷ t) (once_done s me t d σ)
     Goes : {h : List Turn} {t : List (Deed OwnWord Place Result)} {σ ρ τ : State OwnWord Place Exit} → ComesBy me h t σ → Ready σ ρ
         → Unseen s ⊥ t ρ τ → ComesBy me (Step me ∷ h) t τ
     Does : {h : List Turn} {t : List (Deed OwnWord Place Result)} {σ ρ τ : State OwnWord Place Exit} {d : Deed OwnWord Place Result}
@@ -96,7 +96,7 @@ module _ (s : System OwnWord Place Exit Result) where
       → ComesBy me h t σ → Comes s (Unit {0}) me t σ
   came Begins = BeginsAlone
   came (Rests turn other c) = came c
-  came (Sees d other c) = Others d other (came c)
+  came (Sees d who is other c) = Others d (λ same. other (sym is ∙ same)) (came c)
   came (Goes c ready step) = GoesUnseen (made_ready (came c) ready) (with_faults step)
   came (Does c ready deed) = DoesSeen (made_ready (came c) ready) deed
   came (Passes c still) = came c

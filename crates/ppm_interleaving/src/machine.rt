@@ -1,14 +1,19 @@
 //! All strands of a code, and the array words.
-ghost use Rattle.std.specs.Prelude.{◌≡◌, [], ℕ, IfOk, length, get_or};
+ghost use Rattle.std.specs.Prelude.{◌≡◌, ◌<◌, [], ℕ, IfOk, OnOk, length, get_or, set, slice_get, Some, None};
 ghost use Rattle.ppm_strands.specs.Tree.{Words};
 ghost use Rattle.ppm_code.specs.declared.location.FrameWord.{FrameWord};
-ghost use Rattle.ppm_interleaving.specs.Shows.{MakesTurn, Shows};
+ghost use Rattle.ppm_depth.specs.declared.frame.Finish.TheVariants.{Gave};
+ghost use Rattle.ppm_racy.specs.declared.code.RacyParts.{RacyParts};
+ghost use Rattle.ppm_interleaving.specs.declared.deed.Turn.TheVariants.{Step, Fault};
+ghost use Rattle.ppm_interleaving.specs.declared.strand.Strand.TheVariants.{Tells as IsTelling};
+ghost use Rattle.ppm_interleaving.specs.Shows.{MakesTurn, Shows, finish_in};
+ghost use Rattle.ppm_interleaving.specs.Stepping.{PutsBack};
 ghost use Rattle.ppm_interleaving.specs.Owns.{AreRootWords};
 
 use crate::deed::{Deed, Turn};
 use crate::ending::begun;
 use crate::own::Own;
-use crate::stepped::{Stepped, step};
+use crate::stepped::{Stepped, finish_among, step};
 use crate::strand::Strand;
 use ppm_depth::Finish;
 use ppm_racy::RacyCode;
@@ -47,13 +52,21 @@ impl Machine {
     }
 
     /// Takes out the strand with a number, which is there.
-    fn take(&mut self, strand: usize) -> Strand {
+    fn take(&mut self, strand: usize) -> Strand
+        requires { strand < length self.old.strands.items }
+        ensures there { slice_get self.old.strands.items strand ≡ Some result }
+        ensures strands { self.new.strands.items ≡ set self.old.strands.items strand (IsTelling (Gave 0)) }
+        ensures words { self.new.words.items ≡ self.old.words.items }
+    {
         mem::replace(&mut self.strands[strand], Strand::Tells(Finish::Gave(0)))
     }
 
     /// Puts a strand back where it is after a step, with the branches that it forked; what others
     /// see of that.
     fn put_back(&mut self, strand: usize, stepped: Stepped) -> Result<Option<Deed>, NoMemory>
+        requires { strand < length self.old.strands.items }
+        ensures strands { IfOk result (λ told. PutsBack self.old.strands.items strand stepped told self.new.strands.items) }
+        ensures words { OnOk result (self.new.words.items ≡ self.old.words.items) }
     {
         let first = self.strands.len() as u64;
         match stepped {
@@ -88,13 +101,17 @@ impl Machine {
         }
     }
 
-    /// A step of the strand with a number, which is there.
+    /// A step of the strand with a number, which is there and isn't over.
     fn step(
         &mut self,
         alloc: Global,
         code: &RacyCode,
         strand: usize,
     ) -> Result<Option<Deed>, NoMemory>
+        requires there { strand < length self.old.strands.items }
+        requires not_over { finish_in self.old.strands.items strand ≡ None }
+        ensures { IfOk result (λ told. (root : FrameWord → ℕ) (arrays : Words)
+            → MakesTurn code.now (length self.old.words.items) root arrays (Step strand) told self.old self.new) }
     {
         let taken = self.take(strand);
         let stepped = step(alloc, code, taken, &mut self.words, &self.strands)?;
@@ -103,6 +120,9 @@ impl Machine {
 
     /// A soft fault of the strand with a number, which is there.
     fn fail(&mut self, alloc: Global, strand: usize)
+        requires { strand < length self.old.strands.items }
+        ensures { (code : RacyParts) (root : FrameWord → ℕ) (arrays : Words)
+            → MakesTurn code (length self.old.words.items) root arrays (Fault strand) None self.old self.new }
     {
         let taken = self.take(strand);
         self.strands[strand] = match taken {
@@ -127,6 +147,9 @@ impl Machine {
         match turn {
             Turn::Step { strand } => {
                 if self.strands.len() <= strand as usize {
+                    return Ok(None);
+                }
+                if finish_among(&self.strands, strand as usize).is_some() {
                     return Ok(None);
                 }
                 self.step(alloc, code, strand as usize)

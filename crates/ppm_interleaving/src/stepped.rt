@@ -3,7 +3,7 @@ ghost use Rattle.std.specs.Prelude.{◌≡◌, ℕ, List, IfOk};
 ghost use Rattle.ppm_racy.specs.declared.code.RacyParts.{RacyParts};
 ghost use Rattle.ppm_interleaving.specs.declared.stepped.Stepped.TheVariants.{Goes};
 ghost use Rattle.ppm_interleaving.specs.declared.strand.Strand.TheVariants.{Running as IsRunning, Waiting as IsWaiting};
-ghost use Rattle.ppm_interleaving.specs.Shows.{finish_in as finish_among};
+ghost use Rattle.ppm_interleaving.specs.Shows.{finish_in};
 ghost use Rattle.ppm_interleaving.specs.Stepping.{MakesStep, as_step};
 
 use crate::ending::{Opened, go_on, join, open};
@@ -35,8 +35,8 @@ pub enum Stepped {
 }
 
 /// How the strand with a number is over, if it is.
-fn finish_in(strands: &[Strand], strand: usize) -> Option<Finish>
-    ensures { result ≡ finish_among strands.now strand }
+pub(crate) fn finish_among(strands: &[Strand], strand: usize) -> Option<Finish>
+    ensures { result ≡ finish_in strands.now strand }
 {
     match strands.get(strand) {
         Some(found) => match found {
@@ -99,12 +99,12 @@ fn wait(alloc: Global, waiting: Waiting, strands: &[Strand]) -> Result<Strand, N
         → MakesStep code (IsWaiting waiting) strands.now words (Goes now) words) }
 {
     match waiting.branches {
-        Branches::Callee { to } => match finish_in(strands, waiting.first) {
+        Branches::Callee { to } => match finish_among(strands, waiting.first) {
             Some(finish) => go_on(alloc, waiting.own, waiting.capsule, to, finish),
             None => Ok(Strand::Waiting(waiting)),
         },
-        Branches::Both { left_to, to } => match finish_in(strands, waiting.first) {
-            Some(left) => match finish_in(strands, waiting.first.saturating_add(1)) {
+        Branches::Both { left_to, to } => match finish_among(strands, waiting.first) {
+            Some(left) => match finish_among(strands, waiting.first.saturating_add(1)) {
                 Some(right) => join(
                     alloc,
                     waiting.own,

@@ -5,6 +5,8 @@ use Rattle.ppm_listing.specs.Listing.{listing_of}
 use Rattle.ppm_listing.specs.Correct.{NumbersFit}
 use Rattle.ppm_listing_reader.specs.declared.listing_error.Fault.{Fault}
 use Rattle.ppm_listing_reader.specs.declared.listing_error.Fault.TheVariants as fault
+use Rattle.ppm_listing_reader.specs.declared.listing_error.ListingError.{ListingError}
+use Rattle.ppm_listing_reader.specs.declared.listing_error.ListingError.TheVariants as error
 use Rattle.ppm_listing_reader.specs.Correct.{HasFault, IsNotAfter}
 use Rattle.ppm_racy.specs.declared.code.RacyParts.{RacyParts}
 use Rattle.ppm_racy.specs.Code.{IsRacyCode, as_racy, plain_code}
@@ -20,6 +22,16 @@ pub data HasRacyFault (text : List ℕ) : Fault → (line : ℕ) → Type 0 wher
 pub record IsFirstRacyFault (text : List ℕ) (rule : Fault) (line : ℕ) : Type 0 where
   pub there : HasRacyFault text rule line
   pub first : (other : Fault) (later : ℕ) → HasRacyFault text other later → IsNotAfter (rule, line) (other, later)
+
+-- a refusal is the first fault of the text; that memory was refused is none
+abbrev pub IsRacyRefusal : List ℕ → ListingError → Type 0
+IsRacyRefusal text (error.NoSuchForm line) = IsFirstRacyFault text fault.NoSuchForm line
+IsRacyRefusal text (error.OutOfRange line) = IsFirstRacyFault text fault.OutOfRange line
+IsRacyRefusal text (error.NotForward line) = IsFirstRacyFault text fault.NotForward line
+IsRacyRefusal text (error.NoEnd line) = IsFirstRacyFault text fault.NoEnd line
+IsRacyRefusal text (error.WrongRoom line) = IsFirstRacyFault text fault.WrongRoom line
+IsRacyRefusal text (error.NotThere line) = IsFirstRacyFault text fault.NotThere line
+IsRacyRefusal text error.NoMemory = Unit {0}
 
 -- a text is the listing of a code with exchanges, whose numbers fit 64 bits
 pub record IsRacyListing (text : List ℕ) (c : RacyParts) : Type 0 where

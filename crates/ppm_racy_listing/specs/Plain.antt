@@ -1,18 +1,17 @@
 -- Texts with a put in place of each exchange.
-use Rattle.std.specs.Prelude.{◌≡◌, ℕ, ◌+◌, ◌==◌, Bool, true, false, ◌&&◌, List, [], ◌∷◌, ◌++◌, codes, map, Option, Some, None}
+use Rattle.std.specs.Prelude.{ℕ, ◌+◌, ◌-◌, ◌^◌, ◌==◌, min, ◌&&◌, ◌||◌, nat_le, nat_lt, if◌then◌else◌, List, [], ◌∷◌, ◌++◌, codes, map, Option, Some, None}
 use Rattle.std.specs.Option.{option_map}
 use Rattle.std.specs.Str.{bytes_eq}
 use Rattle.ppm_pieces.specs.Numbers.{is_numeral, value}
 use Rattle.ppm_pieces.specs.Pieces.{split}
+use Rattle.ppm_listing_reader.specs.declared.listing_error.ListingError.{ListingError}
+use Rattle.ppm_listing_reader.specs.declared.listing_error.ListingError.TheVariants.{OutOfRange}
+use Rattle.ppm_listing_reader.specs.ErrorNumbers.{number_of, line_of}
 
 -- the number of a register, from its word
 abbrev pub register_in : List ℕ → Option ℕ
 register_in [] = None
-register_in (b ∷ bs) = cond' (b == 114 && is_numeral bs) (value bs)
-  where
-    cond' : Bool → ℕ → Option ℕ
-    cond' true n = Some n
-    cond' false n = None
+register_in (b ∷ bs) = if b == 114 && is_numeral bs then Some (value bs) else None
 
 -- the line of an exchange: its words, and the number of its old register
 pub record CamLine : Type 0 where
@@ -26,11 +25,7 @@ pub record CamLine : Type 0 where
 abbrev pub cam_with : (keyword region index new line : List ℕ) → Option ℕ → Option CamLine
 cam_with keyword region index new line None = None
 cam_with keyword region index new line (Some old) =
-    by (bytes_eq keyword (codes "cam"))
-  where
-    by : Bool → Option CamLine
-    by true = Some (record { region = region; index = index; old = old; new = new; line = line })
-    by false = None
+    if bytes_eq keyword (codes "cam") then Some (record { region = region; index = index; old = old; new = new; line = line }) else None
 
 abbrev pub cam_in : List (List ℕ) → Option CamLine
 cam_in (keyword ∷ region ∷ index ∷ old ∷ new ∷ line ∷ []) = cam_with keyword region index new line (register_in old)
@@ -64,3 +59,16 @@ plain_of_text text = joined (map plain_line (split 10 text))
 -- the old registers of its lines
 abbrev pub olds_of : List ℕ → List (Option ℕ)
 olds_of text = map old_in (split 10 text)
+
+-- the first line whose old register is none; a line past 2^32 - 1 stands as that one
+abbrev pub first_wrong : (line : ℕ) → List (Option ℕ) → Option ℕ
+first_wrong line [] = None
+first_wrong line (None ∷ olds) = first_wrong (min (line + 1) (2 ^ 32 - 1)) olds
+first_wrong line (Some old ∷ olds) = if nat_le 64 old then Some line else first_wrong (min (line + 1) (2 ^ 32 - 1)) olds
+
+-- the first of that and of another fault
+abbrev pub earlier_of : Option ℕ → ListingError → ListingError
+earlier_of None e = e
+earlier_of (Some line) e =
+    if number_of e == 0 then e
+    else (if nat_lt line (line_of e) || (line == line_of e && nat_lt 2 (number_of e)) then OutOfRange line else e)

@@ -10,6 +10,8 @@
 
 mod exchanges;
 mod plain;
+mod reading;
 
 pub use exchanges::with_exchanges;
 pub use plain::{Plain, plain_text};
+pub use reading::read_racy_listing;

@@ -1,4 +1,8 @@
 //! Texts with puts in place of exchanges.
+ghost use Rattle.std.specs.Prelude.{◌≡◌, ◌++◌, ◌∷◌, IfOk, OnOk};
+ghost use Rattle.ppm_racy_listing.specs.Plain.{register_in as number_in, plain_line, old_in};
+ghost use Rattle.ppm_racy_listing.specs.Plain.{plain_of_text, olds_of};
+
 use ppm_pieces::{is_numeral, same_bytes, split_once, value};
 use ppm_words::NoMemory;
 use std::alloc::Global;
@@ -23,6 +27,7 @@ struct CamLine<'a> {
 
 /// The number of a register's word.
 fn register_in(word: &[u8]) -> Option<u64>
+    ensures { result ≡ number_in word.now }
 {
     match word {
         [first, rest @ ..] => {
@@ -65,6 +70,7 @@ fn cam_line(line: &[u8]) -> Option<CamLine<'_>>
 
 /// Appends a space and a word.
 fn push_word(text: &mut Vec<u8>, word: &[u8]) -> Result<(), NoMemory>
+    ensures { OnOk result (text.new.items ≡ text.old.items ++ 32 ∷ word.now) }
 {
     text.push(b' ')?;
     text.extend_from_slice(word)?;
@@ -74,6 +80,8 @@ fn push_word(text: &mut Vec<u8>, word: &[u8]) -> Result<(), NoMemory>
 /// Appends a line without its line feed, with a put in place of an exchange; the exchange's old
 /// register.
 fn push_plain(text: &mut Vec<u8>, line: &[u8]) -> Result<Option<u64>, NoMemory>
+    ensures text { OnOk result (text.new.items ≡ text.old.items ++ plain_line line.now) }
+    ensures old { IfOk result (λ old. old ≡ old_in line.now) }
 {
     match cam_line(line) {
         Some(cam) => {
@@ -93,6 +101,8 @@ fn push_plain(text: &mut Vec<u8>, line: &[u8]) -> Result<Option<u64>, NoMemory>
 
 /// A text with puts in place of its exchanges.
 pub fn plain_text(alloc: Global, text: &[u8]) -> Result<Plain, NoMemory>
+    ensures text { IfOk result (λ plain. plain.text.items ≡ plain_of_text text.now) }
+    ensures olds { IfOk result (λ plain. plain.olds.items ≡ olds_of text.now) }
 {
     let mut plain = Vec::new(alloc);
     let mut olds = Vec::new(alloc);
