@@ -3,6 +3,7 @@
 
 mod AlongLemmas
 mod EndLemmas
+mod MachineLemmas
 mod OwnLemmas
 mod RunLemmas
 mod ShowLemmas

@@ -39,10 +39,12 @@ pub record IsRacyListing (text : List ℕ) (c : RacyParts) : Type 0 where
   pub fits : NumbersFit (plain_code c)
   pub same : text ≡ racy_listing_of c
 
--- a listing has no fault, a text without one is a listing, and two of one text are one; a code without exchanges has the listing that it has without
--- this crate
+-- a listing has no fault, a text without one is a listing, and two codes of one text are one
 pub record RacyFaultsTellListings : Type 0 where
   pub excludes : (text : List ℕ) (code : RacyParts) (rule : Fault) (line : ℕ) → IsRacyListing text code → HasRacyFault text rule line → ⊥
   pub covers : (text : List ℕ) → ((rule : Fault) (line : ℕ) → HasRacyFault text rule line → ⊥) → (code : RacyParts) × IsRacyListing text code
   pub one_code : (text : List ℕ) (c d : RacyParts) → IsRacyListing text c → IsRacyListing text d → c ≡ d
-  pub plain : (code : CodeParts) → racy_listing_of (as_racy code) ≡ listing_of code
+
+-- a code without exchanges has the listing that it has without this crate
+abbrev pub PlainListingsStay : Type 0
+PlainListingsStay = (code : CodeParts) → racy_listing_of (as_racy code) ≡ listing_of code

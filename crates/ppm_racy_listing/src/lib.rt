@@ -9,9 +9,11 @@
 #![tactic(auto)]
 
 mod exchanges;
+mod laws;
 mod plain;
 mod reading;
 
 pub use exchanges::with_exchanges;
+pub use laws::plain_listings_stay;
 pub use plain::{Plain, plain_text};
 pub use reading::read_racy_listing;
