@@ -3,10 +3,12 @@
 
 mod AlongLemmas
 mod EndLemmas
+mod FallenLemmas
 mod MachineLemmas
 mod OwnLemmas
 mod RunLemmas
 mod ShowLemmas
+mod StartLemmas
 mod StepLemmas
 mod TurnLemmas
 mod WaitLemmas
