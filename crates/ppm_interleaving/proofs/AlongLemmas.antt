@@ -1,16 +1,15 @@
 -- A strand that comes along turns without faults comes along their deeds without faults, and its capsules have asked for the same.
-use Rattle.std.proofs.Common.{◌≡◌, ℕ, List, [], ◌∷◌, refl, sym, ap, ◌∙◌, subst}
+use Rattle.std.proofs.Common.{◌≡◌, ℕ, List, [], ◌∷◌, Some, None, refl, sym, ap, ◌∙◌, subst}
 use Rattle.ppm_strands.specs.Capsule.{Memory}
 use Rattle.ppm_unseen.specs.Capsule.{Capsule as Racing, Ends as Stops}
 use Rattle.ppm_unseen.specs.Run.{System, Deed, State, UnderWay, AllStill, Asked, asked, change, now}
 use Rattle.ppm_unseen.specs.Run.{Unseen, Takes, Stores, Finds, Leaves, Opens, Joins, Faults, Seen, Alters, Splits, Finishes}
-use Rattle.ppm_unseen.specs.Run.{Comes, Begins as BeginsAlone, Others, Goes as GoesUnseen, Does as DoesSeen}
+use Rattle.ppm_unseen.specs.Run.{Comes, Begins as BeginsAlone, Others as SeesDeed, Goes as GoesUnseen, Does as DoesSeen}
 use Rattle.ppm_code.specs.Strands.{Result}
 use Rattle.ppm_filled.specs.Racing.{OwnWord, Place, Exit}
-use Rattle.ppm_interleaving.specs.declared.deed.Turn.{Turn}
 use Rattle.ppm_interleaving.specs.declared.deed.Turn.TheVariants.{Step, Fault}
 use Rattle.ppm_interleaving.specs.Falls.{HaveNoFault, FallsRefute}
-use Rattle.ppm_interleaving.specs.Turns.{ComesBy, Begins, Rests, Sees, Goes, Does, Passes, Fails, Spared, KeepsUpTo, Here, Before, Ready, AsItIs, AtEnd}
+use Rattle.ppm_interleaving.specs.Turns.{Moment, deeds, turns, ComesBy, Begins, Others, Goes, Does, Passes, Fails, Spared, KeepsUpTo, Here, Before, Ready, AsItIs, AtEnd}
 use Rattle.ppm_interleaving.specs.Turns.{came, made_ready, kept_up, with_faults}
 
 module _ (s : System OwnWord Place Exit Result) (me : ℕ) where
@@ -33,14 +32,14 @@ module _ (s : System OwnWord Place Exit Result) (me : ℕ) where
   stepped c (Joins g n fs os over) a = record { comes = GoesUnseen a.comes (Joins g n fs os over); same = refl }
   stepped c (Faults none o kept) a = absurd none
 
-  done : {t : List (Deed OwnWord Place Result)} {σ τ : State OwnWord Place Exit} {d : Deed OwnWord Place Result} (c : Comes s (Unit {0}) me t σ)
+  done_by : {t : List (Deed OwnWord Place Result)} {σ τ : State OwnWord Place Exit} {d : Deed OwnWord Place Result} (c : Comes s (Unit {0}) me t σ)
       (u : Seen s me t σ d τ) → Along t σ (asked c) → Along (d ∷ t) τ (asked (DoesSeen c u))
-  done c (Alters x g rest other) a = record {
+  done_by c (Alters x g rest other) a = record {
     comes = DoesSeen a.comes (Alters x g rest other);
     same = ap (λ (b : Asked). record { all = change x g ∷ b.all; settled = change x g ∷ b.all }) a.same;
   }
-  done c (Splits e fs g is) a = record { comes = DoesSeen a.comes (Splits e fs g is); same = refl }
-  done c (Finishes e outcome is) a = record { comes = DoesSeen a.comes (Finishes e outcome is); same = refl }
+  done_by c (Splits e fs g is) a = record { comes = DoesSeen a.comes (Splits e fs g is); same = refl }
+  done_by c (Finishes e outcome is) a = record { comes = DoesSeen a.comes (Finishes e outcome is); same = refl }
 
   -- the stores of an end
   kept : {t : List (Deed OwnWord Place Result)} {k : Place} {rest : Racing OwnWord Exit} {o p : Memory OwnWord} {e : Exit}
@@ -54,21 +53,20 @@ module _ (s : System OwnWord Place Exit Result) (me : ℕ) where
   readied c (AsItIs no) a = a
   readied c (AtEnd yes up) a = kept c up a
 
-  pub along : {h : List Turn} {t : List (Deed OwnWord Place Result)} {σ : State OwnWord Place Exit} (c : ComesBy s me h t σ) → HaveNoFault h
-      → Along t σ (asked (came s c))
+  pub along : {h : List Moment} {σ : State OwnWord Place Exit} (c : ComesBy s me h σ) → HaveNoFault (turns h) → Along (deeds h) σ (asked (came s c))
   along Begins no = record { comes = BeginsAlone; same = refl }
-  along (Rests (Step i) other c) no = let a = along c no in record { comes = a.comes; same = a.same }
-  along (Rests (Fault i) other c) no = absurd no
-  along (Sees d who is other c) no =
-      let a = along c no in record { comes = Others d (λ same. other (sym is ∙ same)) a.comes; same = a.same }
+  along (Others (Step i) None other done c) no = let a = along c no in record { comes = a.comes; same = a.same }
+  along (Others (Step i) (Some d) other done c) no =
+      let a = along c no in record { comes = SeesDeed d (λ same. other (sym done ∙ same)) a.comes; same = a.same }
+  along (Others (Fault i) d other done c) no = absurd no
   along (Goes c r u) no = stepped (made_ready s (came s c) r) u (readied (came s c) r (along c no))
-  along (Does c r u) no = done (made_ready s (came s c) r) u (readied (came s c) r (along c no))
+  along (Does c r u) no = done_by (made_ready s (came s c) r) u (readied (came s c) r (along c no))
   along (Passes c still) no = let a = along c no in record { comes = a.comes; same = a.same }
   along (Fails c) no = absurd no
   along (Spared c not) no = absurd no
 
 pub falls_refute : (s : System OwnWord Place Exit Result) → FallsRefute s
-falls_refute s h t i no run falls stands =
+falls_refute s h i no run falls stands =
     let a = along s i falls.1 no in
-    falls.2 (subst (λ (b : Asked). AllStill (now s t) b.settled) a.same
-    (stands i t falls.0 a.comes (λ j. ((run j).0, (along s j (run j).1 no).comes))))
+    falls.2 (subst (λ (b : Asked). AllStill (now s (deeds h)) b.settled) a.same
+    (stands i (deeds h) falls.0 a.comes (λ j. ((run j).0, (along s j (run j).1 no).comes))))

@@ -11,13 +11,13 @@ use Rattle.ppm_code.specs.Strands.{Result}
 use Rattle.ppm_depth.specs.declared.frame.Finish.{Finish}
 use Rattle.ppm_filled.specs.Racing.{OwnWord, Place}
 use Rattle.ppm_racy.specs.declared.code.RacyParts.{RacyParts}
-use Rattle.ppm_interleaving.specs.declared.deed.Turn.{Turn}
 use Rattle.ppm_interleaving.specs.declared.deed.Turn.TheVariants.{Step}
 use Rattle.ppm_interleaving.specs.declared.machine.Machine.{Machine}
 use Rattle.ppm_interleaving.specs.declared.strand.Strand.{Strand}
 use Rattle.ppm_interleaving.specs.Steps.{result_of}
 use Rattle.ppm_interleaving.specs.Shows.{FinishesAre, Shows, ShowsStrand, finish_in, finish_of, system}
 use Rattle.ppm_interleaving.specs.Stepping.{IsBeside}
+use Rattle.ppm_interleaving.specs.Turns.{Moment, moment, deeds}
 use Rattle.ppm_interleaving.proofs.ShowLemmas.{set_there, set_elsewhere}
 
 -- two numbers are one, or they are not
@@ -46,11 +46,11 @@ is_back old i x y less = record {
   elsewhere = λ j other. set_elsewhere (set old i x) i j y other ∙ set_elsewhere old i j x other;
 }
 
-module _ (code : RacyParts) (array_words : ℕ) (root : FrameWord → ℕ) (arrays : Words) (h : List Turn) (t : List (Deed OwnWord Place Result))
-    (old : Machine) (shows : Shows code array_words root arrays h t old) (i : ℕ) where
+module _ (code : RacyParts) (array_words : ℕ) (root : FrameWord → ℕ) (arrays : Words) (h : List Moment)
+    (old : Machine) (shows : Shows code array_words root arrays h old) (i : ℕ) where
   -- without the one that was taken out and isn't over, strands are over as before
   pub beside : (x : Strand) → i < length old.strands.items → finish_in old.strands.items i ≡ None → finish_of (Some x) ≡ None
-      → IsBeside code array_words root arrays t old.words.items (set old.strands.items i x)
+      → IsBeside code array_words root arrays (deeds h) old.words.items (set old.strands.items i x)
   beside x less not_over none = record {
     words = shows.words;
     word_count = shows.word_count;
@@ -58,7 +58,7 @@ module _ (code : RacyParts) (array_words : ℕ) (root : FrameWord → ℕ) (arra
     finishes = record { told = λ j f is. told j f is (compare i j); alone = λ j result over. alone j result over (compare i j) };
   }
     where
-      told : (j : ℕ) (f : Finish) → finish_in (set old.strands.items i x) j ≡ Some f → Same i j → HasFinished j (result_of f) t
+      told : (j : ℕ) (f : Finish) → finish_in (set old.strands.items i x) j ≡ Some f → Same i j → HasFinished j (result_of f) (deeds h)
       told j f is (One e) =
           let here : finish_in (set old.strands.items i x) j ≡ None = ap (finish_in (set old.strands.items i x)) (sym e) ∙ ap finish_of (set_there old.strands.items i x less) ∙ none in
           absurd (none_is_not_some (sym here ∙ is))
@@ -67,7 +67,7 @@ module _ (code : RacyParts) (array_words : ℕ) (root : FrameWord → ℕ) (arra
           none_is_not_some h = cc
       told j f is (Two other) = shows.finishes.told j f (ap finish_of (sym (set_elsewhere old.strands.items i j x other)) ∙ is)
 
-      alone : (j : ℕ) (result : Result) → HasFinished j result t → Same i j
+      alone : (j : ℕ) (result : Result) → HasFinished j result (deeds h) → Same i j
           → (f : Finish) × (finish_in (set old.strands.items i x) j ≡ Some f) × (result ≡ result_of f)
       alone j result over (Two other) =
           let a = shows.finishes.alone j result over in (a.0, ap finish_of (set_elsewhere old.strands.items i j x other) ∙ a.1, a.2)
@@ -79,14 +79,14 @@ module _ (code : RacyParts) (array_words : ℕ) (root : FrameWord → ℕ) (arra
           none_is_not_some f h = cc
 
   -- one strand alone is put back: the others are where they were, along what others saw of its turn
-  pub put_one : (u : List (Deed OwnWord Place Result)) (new : Machine) (x : Strand) → IsBack old.strands.items new.strands.items i x
+  pub put_one : (d : Option (Deed OwnWord Place Result)) (new : Machine) (x : Strand) → IsBack old.strands.items new.strands.items i x
       → length new.strands.items ≡ length old.strands.items
-      → ShowsStrand code array_words root arrays (Some x) i (Step i ∷ h) u
-      → ((found : Option Strand) (j : ℕ) → (i ≡ j → ⊥) → ShowsStrand code array_words root arrays found j h t → ShowsStrand code array_words root arrays found j (Step i ∷ h) u)
-      → ((y : ℕ) → now (system code array_words root arrays) u y ≡ get_or new.words.items y 0) → length new.words.items ≡ array_words
-      → count (system code array_words root arrays) u ≡ count (system code array_words root arrays) t
-      → FinishesAre (finish_in new.strands.items) u → Shows code array_words root arrays (Step i ∷ h) u new
-  put_one u new x back same_length here others words word_count same_count finishes = record {
+      → ShowsStrand code array_words root arrays (Some x) i (moment (Step i) d ∷ h)
+      → ((found : Option Strand) (j : ℕ) → (i ≡ j → ⊥) → ShowsStrand code array_words root arrays found j h → ShowsStrand code array_words root arrays found j (moment (Step i) d ∷ h))
+      → ((y : ℕ) → now (system code array_words root arrays) (deeds (moment (Step i) d ∷ h)) y ≡ get_or new.words.items y 0) → length new.words.items ≡ array_words
+      → count (system code array_words root arrays) (deeds (moment (Step i) d ∷ h)) ≡ count (system code array_words root arrays) (deeds h)
+      → FinishesAre (finish_in new.strands.items) (deeds (moment (Step i) d ∷ h)) → Shows code array_words root arrays (moment (Step i) d ∷ h) new
+  put_one d new x back same_length here others words word_count same_count finishes = record {
     words = words;
     word_count = word_count;
     count = same_count ∙ shows.count ∙ sym same_length;
@@ -94,12 +94,12 @@ module _ (code : RacyParts) (array_words : ℕ) (root : FrameWord → ℕ) (arra
     finishes = finishes;
   }
     where
-      at : (j : ℕ) → Same i j → ShowsStrand code array_words root arrays (slice_get new.strands.items j) j (Step i ∷ h) u
+      at : (j : ℕ) → Same i j → ShowsStrand code array_words root arrays (slice_get new.strands.items j) j (moment (Step i) d ∷ h)
       at j (One e) =
-          subst (λ (k : ℕ). ShowsStrand code array_words root arrays (slice_get new.strands.items k) k (Step i ∷ h) u) e
-          (subst (λ found. ShowsStrand code array_words root arrays found i (Step i ∷ h) u) (sym back.there) here)
+          subst (λ (k : ℕ). ShowsStrand code array_words root arrays (slice_get new.strands.items k) k (moment (Step i) d ∷ h)) e
+          (subst (λ found. ShowsStrand code array_words root arrays found i (moment (Step i) d ∷ h)) (sym back.there) here)
       at j (Two other) =
-          subst (λ found. ShowsStrand code array_words root arrays found j (Step i ∷ h) u) (sym (back.elsewhere j other))
+          subst (λ found. ShowsStrand code array_words root arrays found j (moment (Step i) d ∷ h)) (sym (back.elsewhere j other))
           (others (slice_get old.strands.items j) j other (shows.strands j))
 
   -- where it is over as before, so are all

@@ -14,7 +14,6 @@ use Rattle.ppm_depth.specs.declared.frame.Finish.{Finish}
 use Rattle.ppm_filled.specs.Racing.{OwnWord, OfFrame, Place, At, HasTrapped, Exit, Tells as Telling, beginning, framed}
 use Rattle.ppm_racy.specs.declared.code.RacyParts.{RacyParts}
 use Rattle.ppm_racy.specs.Code.{plain_code}
-use Rattle.ppm_interleaving.specs.declared.deed.Turn.{Turn}
 use Rattle.ppm_interleaving.specs.declared.deed.Turn.TheVariants.{Fault}
 use Rattle.ppm_interleaving.specs.declared.machine.Machine.{Machine}
 use Rattle.ppm_interleaving.specs.declared.own.Own.{Own}
@@ -24,7 +23,7 @@ use Rattle.ppm_interleaving.specs.declared.strand.Strand.TheVariants.{Running as
 use Rattle.ppm_interleaving.specs.Owns.{AreRootWords, ShowsOwn, frame_word_in}
 use Rattle.ppm_interleaving.specs.Steps.{IsBegun, BeginsFrame, result_of}
 use Rattle.ppm_interleaving.specs.Shows.{FinishesAre, Shows, ShowsStrand, finish_in, system}
-use Rattle.ppm_interleaving.specs.Turns.{ComesBy, Begins, Fails, Spared, came, is_under_way}
+use Rattle.ppm_interleaving.specs.Turns.{Moment, moment, ComesBy, Begins, Fails, Spared, came, is_under_way}
 use Rattle.ppm_interleaving.proofs.EndLemmas.{begun_state, begun_asks}
 
 -- the words of the root's frame
@@ -39,12 +38,12 @@ module _ (code : RacyParts) (array_words : ℕ) (root : FrameWord → ℕ) (arra
   -- the root's strand alone
   pub starts : (m : Machine) (r : Running) → m.strands.items ≡ IsRunning r ∷ [] → IsBegun (entry_of (plain_code code) code.root) r.own r
       → AreRootWords r.own.slots.items root → r.own.value ≡ 0 → r.own.block.items ≡ [] → ((x : ℕ) → arrays x ≡ get_or m.words.items x 0)
-      → length m.words.items ≡ array_words → Shows code array_words root arrays [] [] m
+      → length m.words.items ≡ array_words → Shows code array_words root arrays [] m
   starts m r strands begins words value block same word_count = record {
     words = same;
     word_count = word_count;
     count = ap length (sym strands);
-    strands = λ j. subst (λ (xs : List Strand). ShowsStrand code array_words root arrays (slice_get xs j) j [] []) (sym strands) (at j);
+    strands = λ j. subst (λ (xs : List Strand). ShowsStrand code array_words root arrays (slice_get xs j) j []) (sym strands) (at j);
     finishes = record {
       told = λ j f is. absurd (none j f (ap (λ (xs : List Strand). finish_in xs j) (sym strands) ∙ is));
       alone = λ j result over. absurd over;
@@ -61,7 +60,7 @@ module _ (code : RacyParts) (array_words : ℕ) (root : FrameWord → ℕ) (arra
         own = root_own r.own root words value block;
       }
 
-      at : (j : ℕ) → ShowsStrand code array_words root arrays (slice_get (IsRunning r ∷ []) j) j [] []
+      at : (j : ℕ) → ShowsStrand code array_words root arrays (slice_get (IsRunning r ∷ []) j) j []
       at zero = (begun (system code array_words root arrays) frame, Begins,
           (framed root, as_frame.own, begun_state code array_words root arrays r frame as_frame), sym (begun_asks r.capsule r.own r as_frame.begun))
       at (suc j) = (NotYet, Begins, refl, refl)
@@ -70,12 +69,12 @@ module _ (code : RacyParts) (array_words : ℕ) (root : FrameWord → ℕ) (arra
       none zero f is = cc
       none (suc j) f is = cc
 
-  module _ (h : List Turn) (t : List (Deed OwnWord Place Result)) (i : ℕ) where
+  module _ (h : List Moment) (i : ℕ) where
     -- a fault of a strand under way
-    pub fails : (old new : Running) → IsBegun old.capsule old.own new → ShowsStrand code array_words root arrays (Some (IsRunning old)) i h t
-        → ShowsStrand code array_words root arrays (Some (IsRunning new)) i (Fault i ∷ h) t
+    pub fails : (old new : Running) → IsBegun old.capsule old.own new → ShowsStrand code array_words root arrays (Some (IsRunning old)) i h
+        → ShowsStrand code array_words root arrays (Some (IsRunning new)) i (moment (Fault i) None ∷ h)
     fails old new begins shows =
-        let at = subst (λ (σ : State OwnWord Place Exit). ComesBy (system code array_words root arrays) i h t σ) shows.2.2 shows.1 in
+        let at = subst (λ (σ : State OwnWord Place Exit). ComesBy (system code array_words root arrays) i h σ) shows.2.2 shows.1 in
         let as_frame : BeginsFrame new (record { own = shows.2.0; point = At (at_capsule old.capsule) }) = record {
           begun = record { capsule = refl; at = begins.at; registers = begins.registers; own = refl; settled = begins.settled; since = begins.since };
           point = ap (λ (n : ℕ). At (at_capsule n)) (sym begins.capsule);
@@ -86,15 +85,15 @@ module _ (code : RacyParts) (array_words : ℕ) (root : FrameWord → ℕ) (arra
         sym (begun_asks new.capsule new.own new as_frame.begun))
 
     -- of one that tells the trap of a branch, which begins that anew
-    pub tells_again : (f : Finish) → ShowsStrand code array_words root arrays (Some (Tells f)) i h t
-        → ShowsStrand code array_words root arrays (Some (Tells f)) i (Fault i ∷ h) t
+    pub tells_again : (f : Finish) → ShowsStrand code array_words root arrays (Some (Tells f)) i h
+        → ShowsStrand code array_words root arrays (Some (Tells f)) i (moment (Fault i) None ∷ h)
     tells_again f shows =
-        let at = subst (λ (σ : State OwnWord Place Exit). ComesBy (system code array_words root arrays) i h t σ) shows.2.1 shows.1 in
+        let at = subst (λ (σ : State OwnWord Place Exit). ComesBy (system code array_words root arrays) i h σ) shows.2.1 shows.1 in
         (_, Fails at, (shows.2.0, refl), refl)
 
     -- and of all others
     pub spared : (found : Option Strand) → ((o : Running) → found ≡ Some (IsRunning o) → ⊥) → ((f : Finish) → found ≡ Some (Tells f) → ⊥)
-        → ShowsStrand code array_words root arrays found i h t → ShowsStrand code array_words root arrays found i (Fault i ∷ h) t
+        → ShowsStrand code array_words root arrays found i h → ShowsStrand code array_words root arrays found i (moment (Fault i) None ∷ h)
     spared None not_running not_telling shows =
         (shows.0, Spared shows.1 (ap is_under_way shows.2), shows.2, shows.3)
     spared (Some (IsRunning r)) not_running not_telling shows = absurd (not_running r refl)

@@ -10,7 +10,6 @@ use Rattle.ppm_depth.specs.declared.frame.Finish.{Finish}
 use Rattle.ppm_filled.specs.Racing.{OwnWord, Place, At, Exit, rejoining}
 use Rattle.ppm_racy.specs.declared.code.RacyParts.{RacyParts}
 use Rattle.ppm_racy.specs.Code.{plain_code}
-use Rattle.ppm_interleaving.specs.declared.deed.Turn.{Turn}
 use Rattle.ppm_interleaving.specs.declared.deed.Turn.TheVariants.{Step}
 use Rattle.ppm_interleaving.specs.declared.own.Own.{Own}
 use Rattle.ppm_interleaving.specs.declared.strand.Branches.TheVariants.{Callee, Both}
@@ -21,10 +20,10 @@ use Rattle.ppm_interleaving.specs.Owns.{ShowsOwn}
 use Rattle.ppm_interleaving.specs.Steps.{GoesOnAs, point_by, result_of}
 use Rattle.ppm_interleaving.specs.Shows.{FinishesAre, ShowsStrand, ShowsState, asked_in, finish_in, system}
 use Rattle.ppm_interleaving.specs.Stepping.{IsBeside}
-use Rattle.ppm_interleaving.specs.Turns.{ComesBy, Goes as GoesBy, Passes, AsItIs, IsStill, came}
+use Rattle.ppm_interleaving.specs.Turns.{Moment, moment, deeds, ComesBy, Goes as GoesBy, Passes, AsItIs, IsStill, came}
 use Rattle.ppm_interleaving.proofs.EndLemmas.{begun_state, begun_asks, telling_state}
 
-module _ (code : RacyParts) (array_words : ℕ) (root : FrameWord → ℕ) (arrays : Words) (h : List Turn) (t : List (Deed OwnWord Place Result)) (i : ℕ) where
+module _ (code : RacyParts) (array_words : ℕ) (root : FrameWord → ℕ) (arrays : Words) (h : List Moment) (i : ℕ) where
   -- a strand that begins as a frame does, or tells a trap
   begins : (x : Strand) (f : Frame OwnWord Place) → GoesOnAs x f
       → ShowsState code array_words (Some x) (begun (system code array_words root arrays) f) × (asked_in (Some x) ≡ nothing)
@@ -33,7 +32,7 @@ module _ (code : RacyParts) (array_words : ℕ) (root : FrameWord → ℕ) (arra
   begins (IsWaiting w) f goes = absurd goes
   begins (Over fin) f goes = absurd goes
 
-  module _ (w : Waiting) (shows : ShowsStrand code array_words root arrays (Some (IsWaiting w)) i h t) where
+  module _ (w : Waiting) (shows : ShowsStrand code array_words root arrays (Some (IsWaiting w)) i h) where
     abbrev g : Frame OwnWord Place
     g = shows.2.0
 
@@ -41,17 +40,17 @@ module _ (code : RacyParts) (array_words : ℕ) (root : FrameWord → ℕ) (arra
     fs = shows.2.1
 
     -- it waits
-    waits : (c : ComesBy (system code array_words root arrays) i h t (Waits g w.first fs)) × (asked (came (system code array_words root arrays) c) ≡ nothing)
-    waits = subst (λ (σ : State OwnWord Place Exit). (c : ComesBy (system code array_words root arrays) i h t σ)
+    waits : (c : ComesBy (system code array_words root arrays) i h (Waits g w.first fs)) × (asked (came (system code array_words root arrays) c) ≡ nothing)
+    waits = subst (λ (σ : State OwnWord Place Exit). (c : ComesBy (system code array_words root arrays) i h σ)
         × (asked (came (system code array_words root arrays) c) ≡ nothing)) shows.2.3 (shows.1, shows.3)
 
     -- some branch is not over
-    pub passes : ((os : List Result) → HaveFinished w.first fs os t → ⊥) → ShowsStrand code array_words root arrays (Some (IsWaiting w)) i (Step i ∷ h) t
+    pub passes : ((os : List Result) → HaveFinished w.first fs os (deeds h) → ⊥) → ShowsStrand code array_words root arrays (Some (IsWaiting w)) i (moment (Step i) None ∷ h)
     passes still = (Waits g w.first fs, Passes waits.0 still, (g, fs, shows.2.2, refl), waits.1)
 
     -- all are over
-    pub joins : (x : Strand) (os : List Result) → HaveFinished w.first fs os t
-        → GoesOnAs x (rejoining (plain_code code) g.own g.point os) → ShowsStrand code array_words root arrays (Some x) i (Step i ∷ h) t
+    pub joins : (x : Strand) (os : List Result) → HaveFinished w.first fs os (deeds h)
+        → GoesOnAs x (rejoining (plain_code code) g.own g.point os) → ShowsStrand code array_words root arrays (Some x) i (moment (Step i) None ∷ h)
     joins x os over goes =
         let c = GoesBy waits.0 (AsItIs refl) (Joins g w.first fs os over) in
         let b = begins x (rejoining (plain_code code) g.own g.point os) goes in

@@ -1,12 +1,12 @@
 -- When what a capsule has settled does not stand.
 use Rattle.std.specs.Prelude.{ℕ, List, [], ◌∷◌}
-use Rattle.ppm_unseen.specs.Run.{System, Deed, State, AllStill, now, settled}
+use Rattle.ppm_unseen.specs.Run.{System, State, AllStill, now, settled}
 use Rattle.ppm_unseen.specs.Conditions.{Stands}
 use Rattle.ppm_code.specs.Strands.{Result}
 use Rattle.ppm_filled.specs.Racing.{OwnWord, Place, Exit}
 use Rattle.ppm_interleaving.specs.declared.deed.Turn.{Turn}
 use Rattle.ppm_interleaving.specs.declared.deed.Turn.TheVariants.{Step, Fault}
-use Rattle.ppm_interleaving.specs.Turns.{ComesBy, IsRun, came}
+use Rattle.ppm_interleaving.specs.Turns.{Moment, ComesBy, IsRun, came, deeds, turns}
 
 -- turns without a fault
 abbrev pub HaveNoFault : List Turn → Type 0
@@ -15,15 +15,15 @@ HaveNoFault (Step i ∷ h) = HaveNoFault h
 HaveNoFault (Fault i ∷ h) = ⊥
 
 module _ (s : System OwnWord Place Exit Result) where
-  -- after these turns it stands, of each strand: what the capsule under way has settled would, made again now, change nothing. It is what `Stands` of
-  -- `ppm_unseen` asks at each moment of a run without faults.
-  abbrev pub AllStand : List Turn → List (Deed OwnWord Place Result) → Type 0
-  AllStand h t = (i : ℕ) (σ : State OwnWord Place Exit) (c : ComesBy s i h t σ) → AllStill (now s t) (settled (came s c))
+  -- after these moments it stands, of each strand: what the capsule under way has settled would, made again now, change nothing. It is what `Stands`
+  -- of `ppm_unseen` asks at each moment of a run without faults.
+  abbrev pub AllStand : List Moment → Type 0
+  AllStand h = (i : ℕ) (σ : State OwnWord Place Exit) (c : ComesBy s i h σ) → AllStill (now s (deeds h)) (settled (came s c))
 
   -- of strand i it does not
-  abbrev pub Falls : List Turn → List (Deed OwnWord Place Result) → ℕ → Type 0
-  Falls h t i = (σ : State OwnWord Place Exit) × (c : ComesBy s i h t σ) × (AllStill (now s t) (settled (came s c)) → ⊥)
+  abbrev pub Falls : List Moment → ℕ → Type 0
+  Falls h i = (σ : State OwnWord Place Exit) × (c : ComesBy s i h σ) × (AllStill (now s (deeds h)) (settled (came s c)) → ⊥)
 
   -- where something falls in the run of a schedule without faults, what is done does not stand as the law on invisible faults asks
   abbrev pub FallsRefute : Type 0
-  FallsRefute = (h : List Turn) (t : List (Deed OwnWord Place Result)) (i : ℕ) → HaveNoFault h → IsRun s h t → Falls h t i → Stands s → ⊥
+  FallsRefute = (h : List Moment) (i : ℕ) → HaveNoFault (turns h) → IsRun s h → Falls h i → Stands s → ⊥

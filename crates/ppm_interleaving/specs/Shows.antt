@@ -24,7 +24,7 @@ use Rattle.ppm_interleaving.specs.Changes.{change_of}
 use Rattle.ppm_interleaving.specs.Falls.{AllStand}
 use Rattle.ppm_interleaving.specs.Owns.{ShowsOwn}
 use Rattle.ppm_interleaving.specs.Steps.{WaitsAs, asked_by, result_of, under_way}
-use Rattle.ppm_interleaving.specs.Turns.{ComesBy, came, strand_of}
+use Rattle.ppm_interleaving.specs.Turns.{Moment, moment, deeds, ComesBy, came, strand_of}
 
 -- how a strand is over, if it is, and that of the strand with a number
 abbrev pub finish_of : Option Strand → Option Finish
@@ -65,44 +65,44 @@ module _ (code : RacyParts) (array_words : ℕ) (root : FrameWord → ℕ) (arra
   system = racy_system code array_words root arrays
 
   -- a strand that comes along turns and deeds is what the machine has of it, and its capsule has asked for the same changes
-  abbrev pub ShowsStrand : Option Strand → (i : ℕ) → List Turn → List (Deed OwnWord Place Result) → Type 0
-  ShowsStrand found i h t = (σ : State OwnWord Place Exit) × (c : ComesBy system i h t σ) × ShowsState code array_words found σ
+  abbrev pub ShowsStrand : Option Strand → (i : ℕ) → List Moment → Type 0
+  ShowsStrand found i h = (σ : State OwnWord Place Exit) × (c : ComesBy system i h σ) × ShowsState code array_words found σ
       × (asked (came system c) ≡ asked_in found)
 
   -- a machine shows the run of a schedule: its words, and all its strands
-  pub record Shows (h : List Turn) (t : List (Deed OwnWord Place Result)) (m : Machine) : Type 0 where
-    pub words : (x : ℕ) → now system t x ≡ get_or m.words.items x 0
+  pub record Shows (h : List Moment) (m : Machine) : Type 0 where
+    pub words : (x : ℕ) → now system (deeds h) x ≡ get_or m.words.items x 0
     pub word_count : length m.words.items ≡ array_words
-    pub count : count system t ≡ length m.strands.items
-    pub strands : (i : ℕ) → ShowsStrand (slice_get m.strands.items i) i h t
-    pub finishes : FinishesAre (finish_in m.strands.items) t
+    pub count : count system (deeds h) ≡ length m.strands.items
+    pub strands : (i : ℕ) → ShowsStrand (slice_get m.strands.items i) i h
+    pub finishes : FinishesAre (finish_in m.strands.items) (deeds h)
 
-  -- what is told of a turn is the deed that it makes, if it makes one
-  abbrev pub IsTold : Turn → Option Told → (t u : List (Deed OwnWord Place Result)) → Type 0
-  IsTold turn None t u = u ≡ t
-  IsTold turn (Some (Changed word was is)) t u = (u ≡ HasChanged (strand_of turn) word is ∷ t) × (was ≡ now system t word)
-  IsTold turn (Some (Forked first branches)) t u = (fs : List (Frame OwnWord Place)) × (u ≡ HasForked (strand_of turn) fs ∷ t)
+  -- what is told of a turn is the deed that it made, if it made one
+  abbrev pub IsTold : (who : ℕ) → Option Told → List (Deed OwnWord Place Result) → Option (Deed OwnWord Place Result) → Type 0
+  IsTold who None t d = d ≡ None
+  IsTold who (Some (Changed word was is)) t d = (d ≡ Some (HasChanged who word is)) × (was ≡ now system t word)
+  IsTold who (Some (Forked first branches)) t d = (fs : List (Frame OwnWord Place)) × (d ≡ Some (HasForked who fs))
       × (first ≡ count system t) × (branches ≡ length fs)
-  IsTold turn (Some (Finished f)) t u = u ≡ IsFinished (strand_of turn) (result_of f) ∷ t
+  IsTold who (Some (Finished f)) t d = d ≡ Some (IsFinished who (result_of f))
 
   -- a machine makes a turn: whatever run it showed, it then shows the run with this turn
   abbrev pub MakesTurn : Turn → Option Told → (old new : Machine) → Type 0
-  MakesTurn turn told old new = (h : List Turn) (t : List (Deed OwnWord Place Result)) → Shows h t old
-      → (u : List (Deed OwnWord Place Result)) × Shows (turn ∷ h) u new × IsTold turn told t u
+  MakesTurn turn told old new = (h : List Moment) → Shows h old
+      → (d : Option (Deed OwnWord Place Result)) × Shows (moment turn d ∷ h) new × IsTold (strand_of turn) told (deeds h) d
 
   -- the first change that does not stand: the capsule of a strand has settled it, those that it settled before stand, and all of strands before it
-  pub record IsFirstFallen (h : List Turn) (t : List (Deed OwnWord Place Result)) (fallen : Fallen) : Type 0 where
+  pub record IsFirstFallen (h : List Moment) (fallen : Fallen) : Type 0 where
     pub state : State OwnWord Place Exit
-    pub comes : ComesBy system fallen.strand h t state
+    pub comes : ComesBy system fallen.strand h state
     pub front : List Change
     pub later : List Change
     pub settled : reverse (settled (came system comes)) ≡ front ++ change_of fallen.change ∷ later
     pub number : length front ≡ fallen.number
-    pub stand : AllStill (now system t) front
-    pub falls : AllStill (now system t) (change_of fallen.change ∷ []) → ⊥
-    pub before : (i : ℕ) → i < fallen.strand → (σ : State OwnWord Place Exit) (c : ComesBy system i h t σ) → AllStill (now system t) (settled (came system c))
+    pub stand : AllStill (now system (deeds h)) front
+    pub falls : AllStill (now system (deeds h)) (change_of fallen.change ∷ []) → ⊥
+    pub before : (i : ℕ) → i < fallen.strand → (σ : State OwnWord Place Exit) (c : ComesBy system i h σ) → AllStill (now system (deeds h)) (settled (came system c))
 
   -- what is said of a machine: all stands, or this is the first that does not
-  abbrev pub TellsFallen : List Turn → List (Deed OwnWord Place Result) → Option Fallen → Type 0
-  TellsFallen h t None = AllStand system h t
-  TellsFallen h t (Some fallen) = IsFirstFallen h t fallen
+  abbrev pub TellsFallen : List Moment → Option Fallen → Type 0
+  TellsFallen h None = AllStand system h
+  TellsFallen h (Some fallen) = IsFirstFallen h fallen

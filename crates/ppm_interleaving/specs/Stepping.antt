@@ -10,7 +10,6 @@ use Rattle.ppm_filled.specs.Racing.{OwnWord, Place}
 use Rattle.ppm_racy.specs.declared.code.RacyParts.{RacyParts}
 use Rattle.ppm_interleaving.specs.declared.deed.Deed.{Deed as Told}
 use Rattle.ppm_interleaving.specs.declared.deed.Deed.TheVariants as told
-use Rattle.ppm_interleaving.specs.declared.deed.Turn.{Turn}
 use Rattle.ppm_interleaving.specs.declared.deed.Turn.TheVariants.{Step}
 use Rattle.ppm_interleaving.specs.declared.ending.Opened.{Opened}
 use Rattle.ppm_interleaving.specs.declared.ending.Opened.TheVariants as opened
@@ -20,6 +19,7 @@ use Rattle.ppm_interleaving.specs.declared.strand.Strand.{Strand}
 use Rattle.ppm_interleaving.specs.declared.strand.Strand.TheVariants.{Running, Waiting, Over}
 use Rattle.ppm_interleaving.specs.Steps.{BeginsFrame, result_of}
 use Rattle.ppm_interleaving.specs.Shows.{FinishesAre, ShowsStrand, finish_in, finish_of, system}
+use Rattle.ppm_interleaving.specs.Turns.{Moment, moment, deeds}
 
 -- what an end opens, as a step
 abbrev pub as_step : Opened → Stepped
@@ -43,23 +43,23 @@ module _ (code : RacyParts) (array_words : ℕ) (root : FrameWord → ℕ) (arra
     pub finishes : FinishesAre (finish_in strands) t
 
   -- where the strand with a number is after its step, and which deed the step was, if it was one
-  abbrev pub StepsTo : List Turn → List (Deed OwnWord Place Result) → (i : ℕ) → Strand → Stepped → Type 0
-  StepsTo h t i old (Goes new) = ShowsStrand code array_words root arrays (Some new) i (Step i ∷ h) t × (finish_of (Some new) ≡ finish_of (Some old))
-  StepsTo h t i old (Changed r word was is) = ShowsStrand code array_words root arrays (Some (Running r)) i (Step i ∷ h) (HasChanged i word is ∷ t)
-      × (finish_of (Some old) ≡ finish_of (Some (Running r)))
-  StepsTo h t i old (Calls r w) = (f : Frame OwnWord Place) × BeginsFrame r f
-      × ShowsStrand code array_words root arrays (Some (Waiting w)) i (Step i ∷ h) (HasForked i (f ∷ []) ∷ t) × (finish_of (Some old) ≡ finish_of (Some (Waiting w)))
-  StepsTo h t i old (Forks l r w) = (e : Frame OwnWord Place) × (f : Frame OwnWord Place) × BeginsFrame l e × BeginsFrame r f
-      × ShowsStrand code array_words root arrays (Some (Waiting w)) i (Step i ∷ h) (HasForked i (e ∷ f ∷ []) ∷ t) × (finish_of (Some old) ≡ finish_of (Some (Waiting w)))
-  StepsTo h t i old (Closes f) = ShowsStrand code array_words root arrays (Some (Over f)) i (Step i ∷ h) (IsFinished i (result_of f) ∷ t)
+  abbrev pub StepsTo : List Moment → (i : ℕ) → Strand → Stepped → Type 0
+  StepsTo h i old (Goes new) = ShowsStrand code array_words root arrays (Some new) i (moment (Step i) None ∷ h) × (finish_of (Some new) ≡ finish_of (Some old))
+  StepsTo h i old (Changed r word was is) = ShowsStrand code array_words root arrays (Some (Running r)) i (moment (Step i) (Some (HasChanged i word is)) ∷ h)
+      × (finish_of (Some old) ≡ None)
+  StepsTo h i old (Calls r w) = (f : Frame OwnWord Place) × BeginsFrame r f
+      × ShowsStrand code array_words root arrays (Some (Waiting w)) i (moment (Step i) (Some (HasForked i (f ∷ []))) ∷ h) × (finish_of (Some old) ≡ None)
+  StepsTo h i old (Forks l r w) = (e : Frame OwnWord Place) × (f : Frame OwnWord Place) × BeginsFrame l e × BeginsFrame r f
+      × ShowsStrand code array_words root arrays (Some (Waiting w)) i (moment (Step i) (Some (HasForked i (e ∷ f ∷ []))) ∷ h) × (finish_of (Some old) ≡ None)
+  StepsTo h i old (Closes f) = ShowsStrand code array_words root arrays (Some (Over f)) i (moment (Step i) (Some (IsFinished i (result_of f))) ∷ h)
       × (finish_of (Some old) ≡ None)
 
 -- a strand makes a step, in any run in which it is
 abbrev pub MakesStep : RacyParts → (strand : Strand) → (strands : List Strand) → (words : List ℕ) → Stepped → (after : List ℕ) → Type 0
 MakesStep code strand strands words stepped after = WordsAfter words stepped after
-    × ((root : FrameWord → ℕ) (arrays : Words) (h : List Turn) (t : List (Deed OwnWord Place Result)) (i : ℕ)
-    → IsBeside code (length words) root arrays t words strands → ShowsStrand code (length words) root arrays (Some strand) i h t
-    → StepsTo code (length words) root arrays h t i strand stepped)
+    × ((root : FrameWord → ℕ) (arrays : Words) (h : List Moment) (i : ℕ)
+    → IsBeside code (length words) root arrays (deeds h) words strands → ShowsStrand code (length words) root arrays (Some strand) i h
+    → StepsTo code (length words) root arrays h i strand stepped)
 
 -- the strand with a number is put back after its step, with the branches that it forked; and what is told of that
 abbrev pub PutsBack : (strands : List Strand) → (i : ℕ) → Stepped → Option Told → (after : List Strand) → Type 0

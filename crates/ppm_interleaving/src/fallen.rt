@@ -1,14 +1,11 @@
 //! What capsules have settled, and whether it stands.
 ghost use Rattle.std.specs.Prelude.{◌≡◌, ◌↔◌, ℕ, List, [], ◌∷◌, IsTrue, MatchOption, length};
 ghost use Rattle.ppm_strands.specs.Tree.{Words};
-ghost use Rattle.ppm_unseen.specs.Run.{Deed as Made};
-ghost use Rattle.ppm_code.specs.Strands.{Result as Outcome};
 ghost use Rattle.ppm_code.specs.declared.location.FrameWord.{FrameWord};
-ghost use Rattle.ppm_filled.specs.Racing.{OwnWord, Place};
 ghost use Rattle.ppm_racy.specs.declared.code.RacyParts.{RacyParts};
 ghost use Rattle.ppm_interleaving.specs.Changes.{AreStill, IsFirstNotStill};
 ghost use Rattle.ppm_interleaving.specs.Shows.{Shows, TellsFallen, settled_in};
-ghost use Rattle.ppm_interleaving.specs.declared.deed.Turn.{Turn};
+ghost use Rattle.ppm_interleaving.specs.Turns.{Moment};
 
 use crate::change::Change;
 use crate::machine::Machine;
@@ -63,9 +60,9 @@ fn fallen_of(strand: &Strand, words: &[u64]) -> Option<(usize, Change)>
 impl Machine {
     /// The first change that does not stand: of the strand of the least number, its first.
     pub fn fallen(&self) -> Option<Fallen>
-        ensures { (code : RacyParts) (root : FrameWord → ℕ) (arrays : Words) (h : List Turn)
-            (t : List (Made OwnWord Place Outcome)) → Shows code (length self.now.words.items) root arrays h t self.now
-            → TellsFallen code (length self.now.words.items) root arrays h t result }
+        ensures { (code : RacyParts) (root : FrameWord → ℕ) (arrays : Words) (h : List Moment)
+            → Shows code (length self.now.words.items) root arrays h self.now
+            → TellsFallen code (length self.now.words.items) root arrays h result }
     {
         let mut strand = 0;
         while strand < self.strands.len() {

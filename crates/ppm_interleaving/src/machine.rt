@@ -38,7 +38,7 @@ impl Machine {
     ) -> Result<Machine, NoMemory>
         ensures { IfOk result (λ machine. (root : FrameWord → ℕ) (arrays : Words)
             → AreRootWords slots.items root → ((x : ℕ) → arrays x ≡ get_or words.items x 0)
-            → Shows code.now (length words.items) root arrays [] [] machine) }
+            → Shows code.now (length words.items) root arrays [] machine) }
     {
         let own = Own {
             slots,
