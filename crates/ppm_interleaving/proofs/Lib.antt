@@ -4,6 +4,7 @@
 mod AlongLemmas
 mod EndLemmas
 mod FallenLemmas
+mod ForkLemmas
 mod MachineLemmas
 mod OwnLemmas
 mod RunLemmas
