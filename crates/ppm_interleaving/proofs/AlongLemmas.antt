@@ -50,23 +50,23 @@ module _ (s : System OwnWord Place Exit Result) (me : ℕ) where
 
   readied : {t : List (Deed OwnWord Place Result)} {σ ρ : State OwnWord Place Exit} (c : Comes s (Unit {0}) me t σ) (r : Ready s σ ρ)
       → Along t σ (asked c) → Along t ρ (asked (made_ready s c r))
-  readied c (AsItIs no) a = a
-  readied c (AtEnd yes up) a = kept c up a
+  readied c (AsItIs elsewhere) a = a
+  readied c (AtEnd there up) a = kept c up a
 
   pub along : {h : List Moment} {σ : State OwnWord Place Exit} (c : ComesBy s me h σ) → HaveNoFault (turns h) → Along (deeds h) σ (asked (came s c))
-  along Begins no = record { comes = BeginsAlone; same = refl }
-  along (Others (Step i) None other done c) no = let a = along c no in record { comes = a.comes; same = a.same }
-  along (Others (Step i) (Some d) other done c) no =
-      let a = along c no in record { comes = SeesDeed d (λ same. other (sym done ∙ same)) a.comes; same = a.same }
-  along (Others (Fault i) d other done c) no = absurd no
-  along (Goes c r u) no = stepped (made_ready s (came s c) r) u (readied (came s c) r (along c no))
-  along (Does c r u) no = done_by (made_ready s (came s c) r) u (readied (came s c) r (along c no))
-  along (Passes c still) no = let a = along c no in record { comes = a.comes; same = a.same }
-  along (Fails c) no = absurd no
-  along (Spared c not) no = absurd no
+  along Begins free = record { comes = BeginsAlone; same = refl }
+  along (Others (Step i) None other done c) free = let a = along c free in record { comes = a.comes; same = a.same }
+  along (Others (Step i) (Some d) other done c) free =
+      let a = along c free in record { comes = SeesDeed d (λ same. other (sym done ∙ same)) a.comes; same = a.same }
+  along (Others (Fault i) d other done c) free = absurd free
+  along (Goes c r u) free = stepped (made_ready s (came s c) r) u (readied (came s c) r (along c free))
+  along (Does c r u) free = done_by (made_ready s (came s c) r) u (readied (came s c) r (along c free))
+  along (Passes c still) free = let a = along c free in record { comes = a.comes; same = a.same }
+  along (Fails c) free = absurd free
+  along (Spared c elsewhere) free = absurd free
 
 pub falls_refute : (s : System OwnWord Place Exit Result) → FallsRefute s
-falls_refute s h i no run falls stands =
-    let a = along s i falls.1 no in
+falls_refute s h i free run falls stands =
+    let a = along s i falls.1 free in
     falls.2 (subst (λ (b : Asked). AllStill (now s (deeds h)) b.settled) a.same
-    (stands i (deeds h) falls.0 a.comes (λ j. ((run j).0, (along s j (run j).1 no).comes))))
+    (stands i (deeds h) falls.0 a.comes (λ j. ((run j).0, (along s j (run j).1 free).comes))))

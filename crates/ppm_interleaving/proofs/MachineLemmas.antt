@@ -35,6 +35,9 @@ compare (suc i) (suc j) = by (compare i j)
     by (One e) = One (ap suc e)
     by (Two n) = Two (λ e. n (omega arith))
 
+none_is_not_some : (f : Finish) → None ≡ Some f → ⊥
+none_is_not_some f h = cc
+
 -- the strands with one put back
 pub record IsBack (old new : List Strand) (i : ℕ) (x : Strand) : Type 0 where
   pub there : slice_get new i ≡ Some x
@@ -54,17 +57,14 @@ module _ (code : RacyParts) (array_words : ℕ) (root : FrameWord → ℕ) (arra
   beside x less not_over none = record {
     words = shows.words;
     word_count = shows.word_count;
-    count = shows.count ∙ sym (length-set old.strands.items i x);
+    strand_count = shows.strand_count ∙ sym (length-set old.strands.items i x);
     finishes = record { told = λ j f is. told j f is (compare i j); alone = λ j result over. alone j result over (compare i j) };
   }
     where
       told : (j : ℕ) (f : Finish) → finish_in (set old.strands.items i x) j ≡ Some f → Same i j → HasFinished j (result_of f) (deeds h)
       told j f is (One e) =
           let here : finish_in (set old.strands.items i x) j ≡ None = ap (finish_in (set old.strands.items i x)) (sym e) ∙ ap finish_of (set_there old.strands.items i x less) ∙ none in
-          absurd (none_is_not_some (sym here ∙ is))
-        where
-          none_is_not_some : None ≡ Some f → ⊥
-          none_is_not_some h = cc
+          absurd (none_is_not_some f (sym here ∙ is))
       told j f is (Two other) = shows.finishes.told j f (ap finish_of (sym (set_elsewhere old.strands.items i j x other)) ∙ is)
 
       alone : (j : ℕ) (result : Result) → HasFinished j result (deeds h) → Same i j
@@ -74,9 +74,6 @@ module _ (code : RacyParts) (array_words : ℕ) (root : FrameWord → ℕ) (arra
       alone j result over (One e) =
           let a = shows.finishes.alone j result over in
           absurd (none_is_not_some a.0 (sym not_over ∙ ap (finish_in old.strands.items) e ∙ a.1))
-        where
-          none_is_not_some : (f : Finish) → None ≡ Some f → ⊥
-          none_is_not_some f h = cc
 
   -- one strand alone is put back: the others are where they were, along what others saw of its turn
   pub put_one : (d : Option (Deed OwnWord Place Result)) (new : Machine) (x : Strand) → IsBack old.strands.items new.strands.items i x
@@ -89,7 +86,7 @@ module _ (code : RacyParts) (array_words : ℕ) (root : FrameWord → ℕ) (arra
   put_one d new x back same_length here others words word_count same_count finishes = record {
     words = words;
     word_count = word_count;
-    count = same_count ∙ shows.count ∙ sym same_length;
+    strand_count = same_count ∙ shows.strand_count ∙ sym same_length;
     strands = λ j. at j (compare i j);
     finishes = finishes;
   }

@@ -70,13 +70,13 @@ module _ (code : RacyParts) (array_words : ℕ) (root : FrameWord → ℕ) (arra
           let f = opens shows.2.0 (to.1 shows.2.0 shows.2.1).0 in
           (f.0, f.3, (Waits f.1 (count (system code array_words root arrays) (deeds h)) (f.0 ∷ []),
           DoesBy at_end.0 ready.ready (Splits (Of end) (f.0 ∷ []) f.1 (ready.opens ∙ f.2)),
-          (f.1, f.0 ∷ [], f.4, ap (λ (n : ℕ). Waits f.1 n (f.0 ∷ [])) (beside.count ∙ sym f.5)), refl), refl)
+          (f.1, f.0 ∷ [], f.4, ap (λ (n : ℕ). Waits f.1 n (f.0 ∷ [])) (beside.strand_count ∙ sym f.5)), refl), refl)
       ends (opened.Forks l r w) opens =
           let ready = ready_to_open code array_words root arrays (At (at_capsule old.capsule)) (built (instrs_of code old.capsule)) end shows.2.0 in
           let f = opens shows.2.0 (to.1 shows.2.0 shows.2.1).0 in
           (f.0, f.1, f.4, f.5, (Waits f.2 (count (system code array_words root arrays) (deeds h)) (f.0 ∷ f.1 ∷ []),
           DoesBy at_end.0 ready.ready (Splits (Of end) (f.0 ∷ f.1 ∷ []) f.2 (ready.opens ∙ f.3)),
-          (f.2, f.0 ∷ f.1 ∷ [], f.6, ap (λ (n : ℕ). Waits f.2 n (f.0 ∷ f.1 ∷ [])) (beside.count ∙ sym f.7)), refl), refl)
+          (f.2, f.0 ∷ f.1 ∷ [], f.6, ap (λ (n : ℕ). Waits f.2 n (f.0 ∷ f.1 ∷ [])) (beside.strand_count ∙ sym f.7)), refl), refl)
       ends (opened.Closes fin) opens =
           let ready = ready_to_open code array_words root arrays (At (at_capsule old.capsule)) (built (instrs_of code old.capsule)) end shows.2.0 in
           let is = opens shows.2.0 (to.1 shows.2.0 shows.2.1).0 in

@@ -34,7 +34,7 @@ set_elsewhere (y ∷ ys) (suc i) zero x other = refl
 set_elsewhere (y ∷ ys) (suc i) (suc j) x other = set_elsewhere ys i j x (λ e. other (ap suc e))
 
 module _ (code : RacyParts) (array_words : ℕ) (root : FrameWord → ℕ) (arrays : Words) (h : List Moment) where
-  abbrev s : System OwnWord Place Exit Result
+  abbrev pub s : System OwnWord Place Exit Result
   s = system code array_words root arrays
 
   -- a strand in the turn of another one, of which it sees nothing

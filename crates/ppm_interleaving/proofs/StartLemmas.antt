@@ -42,7 +42,7 @@ module _ (code : RacyParts) (array_words : ℕ) (root : FrameWord → ℕ) (arra
   starts m r strands begins words value block same word_count = record {
     words = same;
     word_count = word_count;
-    count = ap length (sym strands);
+    strand_count = ap length (sym strands);
     strands = λ j. subst (λ (xs : List Strand). ShowsStrand code array_words root arrays (slice_get xs j) j []) (sym strands) (at j);
     finishes = record {
       told = λ j f is. absurd (none j f (ap (λ (xs : List Strand). finish_in xs j) (sym strands) ∙ is));

@@ -47,10 +47,10 @@ same_asked : (old new : Running) → new.settled.items ≡ old.settled.items →
 same_asked old new settled since = λ i. record { all = reverse (changes_of (settled i ++ since i)); settled = reverse (changes_of (settled i)) }
 
 -- the strand before its touch, with the registers as they are then
-pub record IsBefore (old mid : Running) (next : ℕ) (registers : List ℕ) : Type 0 where
+pub record IsBefore (old mid : Running) (next : ℕ) (g : List ℕ) : Type 0 where
   pub capsule : mid.capsule ≡ old.capsule
   pub at : mid.at ≡ next
-  pub registers : mid.registers ≡ registers
+  pub registers : mid.registers ≡ g
   pub own : mid.own ≡ old.own
   pub settled : mid.settled.items ≡ old.settled.items
   pub since : mid.since.items ≡ old.since.items
@@ -70,7 +70,7 @@ module _ (code : RacyParts) (array_words : ℕ) where
   same_state old new next g o capsule at registers = λ i. standing_at (capsule i) (at i) (registers i) o
 
   module _ (root : FrameWord → ℕ) (arrays : Words) (t : List (Deed OwnWord Place Result)) where
-    abbrev s : System OwnWord Place Exit Result
+    abbrev pub s : System OwnWord Place Exit Result
     s = system code array_words root arrays
 
     carried : {σ ρ τ υ : State OwnWord Place Exit} {a b c : Asked} → ρ ≡ σ → υ ≡ τ → c ≡ b → MovesUnseen s t σ τ a b → MovesUnseen s t ρ υ a c

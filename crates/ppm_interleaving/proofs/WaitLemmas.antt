@@ -33,10 +33,10 @@ module _ (code : RacyParts) (array_words : ℕ) (root : FrameWord → ℕ) (arra
   begins (Over fin) f goes = absurd goes
 
   module _ (w : Waiting) (shows : ShowsStrand code array_words root arrays (Some (IsWaiting w)) i h) where
-    abbrev g : Frame OwnWord Place
+    abbrev pub g : Frame OwnWord Place
     g = shows.2.0
 
-    abbrev fs : List (Frame OwnWord Place)
+    abbrev pub fs : List (Frame OwnWord Place)
     fs = shows.2.1
 
     -- it waits

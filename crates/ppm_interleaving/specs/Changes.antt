@@ -18,10 +18,10 @@ abbrev pub AreStill : (words : List ℕ) → List Change → Type 0
 AreStill words changes = AllStill (λ x. get_or words x 0) (changes_of changes)
 
 -- the first of them that would not, with its number from 0
-pub record IsFirstNotStill (words : List ℕ) (changes : List Change) (number : ℕ) (k : Change) : Type 0 where
+pub record IsFirstNotStill (words : List ℕ) (changes : List Change) (at : ℕ) (k : Change) : Type 0 where
   pub front : List Change
   pub later : List Change
   pub same : changes ≡ front ++ k ∷ later
-  pub number : length front ≡ number
+  pub number : length front ≡ at
   pub stand : AreStill words front
   pub falls : AreStill words (k ∷ []) → ⊥

@@ -22,6 +22,6 @@ slots_from words place zero = []
 slots_from words place (suc n) = get_or words place 0 ∷ slots_from words (place + 1) n
 
 -- the words of the root's frame: these in its first slots, and 0 in all others
-pub record AreRootWords (slots : List ℕ) (root : FrameWord → ℕ) : Type 0 where
-  pub slots : (i : ℕ) → root (Slot i) ≡ get_or slots i 0
+pub record AreRootWords (words : List ℕ) (root : FrameWord → ℕ) : Type 0 where
+  pub slots : (i : ℕ) → root (Slot i) ≡ get_or words i 0
   pub value : root Value ≡ 0

@@ -73,7 +73,7 @@ module _ (code : RacyParts) (array_words : ℕ) (root : FrameWord → ℕ) (arra
   pub record Shows (h : List Moment) (m : Machine) : Type 0 where
     pub words : (x : ℕ) → now system (deeds h) x ≡ get_or m.words.items x 0
     pub word_count : length m.words.items ≡ array_words
-    pub count : count system (deeds h) ≡ length m.strands.items
+    pub strand_count : count system (deeds h) ≡ length m.strands.items
     pub strands : (i : ℕ) → ShowsStrand (slice_get m.strands.items i) i h
     pub finishes : FinishesAre (finish_in m.strands.items) (deeds h)
 
@@ -96,7 +96,7 @@ module _ (code : RacyParts) (array_words : ℕ) (root : FrameWord → ℕ) (arra
     pub comes : ComesBy system fallen.strand h state
     pub front : List Change
     pub later : List Change
-    pub settled : reverse (settled (came system comes)) ≡ front ++ change_of fallen.change ∷ later
+    pub order : reverse (settled (came system comes)) ≡ front ++ change_of fallen.change ∷ later
     pub number : length front ≡ fallen.number
     pub stand : AllStill (now system (deeds h)) front
     pub falls : AllStill (now system (deeds h)) (change_of fallen.change ∷ []) → ⊥

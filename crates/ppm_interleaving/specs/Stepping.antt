@@ -36,11 +36,11 @@ WordsAfter words stepped after = after ≡ words
 
 module _ (code : RacyParts) (array_words : ℕ) (root : FrameWord → ℕ) (arrays : Words) where
   -- words and strands as a run has them
-  pub record IsBeside (t : List (Deed OwnWord Place Result)) (words : List ℕ) (strands : List Strand) : Type 0 where
-    pub words : (x : ℕ) → now (system code array_words root arrays) t x ≡ get_or words x 0
-    pub word_count : length words ≡ array_words
-    pub count : count (system code array_words root arrays) t ≡ length strands
-    pub finishes : FinishesAre (finish_in strands) t
+  pub record IsBeside (t : List (Deed OwnWord Place Result)) (array : List ℕ) (others : List Strand) : Type 0 where
+    pub words : (x : ℕ) → now (system code array_words root arrays) t x ≡ get_or array x 0
+    pub word_count : length array ≡ array_words
+    pub strand_count : count (system code array_words root arrays) t ≡ length others
+    pub finishes : FinishesAre (finish_in others) t
 
   -- where the strand with a number is after its step, and which deed the step was, if it was one
   abbrev pub StepsTo : List Moment → (i : ℕ) → Strand → Stepped → Type 0

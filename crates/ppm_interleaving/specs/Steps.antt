@@ -42,11 +42,11 @@ found_at own words (New o) = get_or own.block.items o 0
 found_at own words (Array x) = get_or words x 0
 
 -- a strand at the beginning of a capsule, which has asked for nothing
-pub record IsBegun (capsule : ℕ) (own : Own) (r : Running) : Type 0 where
-  pub capsule : r.capsule ≡ capsule
+pub record IsBegun (number : ℕ) (words : Own) (r : Running) : Type 0 where
+  pub capsule : r.capsule ≡ number
   pub at : r.at ≡ 0
   pub registers : r.registers ≡ replicate 64 0
-  pub own : r.own ≡ own
+  pub own : r.own ≡ words
   pub settled : r.settled.items ≡ []
   pub since : r.since.items ≡ []
 

@@ -116,8 +116,8 @@ module _ (s : System OwnWord Place Exit Result) where
 
   abbrev pub made_ready : {me : ℕ} {t : List (Deed OwnWord Place Result)} {σ ρ : State OwnWord Place Exit}
       → Comes s (Unit {0}) me t σ → Ready σ ρ → Comes s (Unit {0}) me t ρ
-  made_ready c (AsItIs no) = c
-  made_ready c (AtEnd yes up) = kept_up c up
+  made_ready c (AsItIs elsewhere) = c
+  made_ready c (AtEnd there up) = kept_up c up
 
   abbrev pub came : {me : ℕ} {h : List Moment} {σ : State OwnWord Place Exit} → ComesBy me h σ → Comes s (Unit {0}) me (deeds h) σ
   came Begins = BeginsAlone
@@ -126,5 +126,5 @@ module _ (s : System OwnWord Place Exit Result) where
   came (Goes c ready step) = GoesUnseen (made_ready (came c) ready) (with_faults step)
   came (Does c ready deed) = DoesSeen (made_ready (came c) ready) deed
   came (Passes c still) = came c
-  came (Fails {o = o} c) = GoesUnseen (came c) (Faults tt o (λ x no. refl))
-  came (Spared c not) = came c
+  came (Fails {o = o} c) = GoesUnseen (came c) (Faults tt o (λ x other. refl))
+  came (Spared c elsewhere) = came c
