@@ -15,6 +15,7 @@ pub mod StepLemmas
 pub mod NameLemmas
 pub mod RunningLemmas
 pub mod WeightLemmas
+pub mod AssignLemmas
 pub mod KeepLemmas
 pub mod LayLemmas
 pub mod ProgramLemmas

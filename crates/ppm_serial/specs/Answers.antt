@@ -1,5 +1,5 @@
 -- What a call answers, and what it leaves.
-use Rattle.std.specs.Prelude.{◌≡◌, List, [], ◌∷◌, Option, Some, None, Result, Ok, Err, ⊤}
+use Rattle.std.specs.Prelude.{◌≡◌, ◌<◌, ℕ, Bool, true, false, List, [], ◌∷◌, Option, Some, None, Result, Ok, Err, ⊤}
 use Rattle.ppm_serial.specs.declared.code.Stop.{Stop}
 use Rattle.ppm_serial.specs.declared.code.Stop.TheVariants as stop
 
@@ -21,3 +21,15 @@ Gives (Err stop.NoMemory) said = ⊤
 abbrev pub IsPopped : {A : Type 0} → Option A → List A → List A → Type 0
 IsPopped None old left = (old ≡ []) × (left ≡ [])
 IsPopped (Some x) old left = old ≡ x ∷ left
+
+-- a call stops where it is said
+abbrev pub StopsAt : {A : Type 0} → Stop → Option (Result A Stop) → Type 0
+StopsAt (stop.Trapped t line) said = said ≡ Some (Err (stop.Trapped t line))
+StopsAt stop.NotWithin said = said ≡ Some (Err stop.NotWithin)
+StopsAt stop.NoMemory said = ⊤
+
+-- an assignment for which a turn is left is done, or stops where it is said; all else stays
+abbrev pub Assigns : {A : Type 0} → Result Bool Stop → ℕ → Option (Result A Stop) → A → A → Type 0
+Assigns (Ok true) left said old new = (0 < left) × (said ≡ Some (Ok new))
+Assigns (Ok false) left said old new = new ≡ old
+Assigns (Err e) left said old new = (0 < left) × StopsAt e said

@@ -226,3 +226,19 @@ stepping_at c (Some st) s = then_with (spending 1 s) (λ t. doing c st (with_pla
 -- one step: the statement at the place, or what comes behind its block
 abbrev pub stepping : Laid → Run → Result Run Stop
 stepping c s = stepping_at c (step_at c s.place) s
+
+-- a run at another place of its block, with other turns left
+abbrev pub standing : Run → ℕ → ℕ → Run
+standing s n l = with_left (with_place s (record { block = s.place.block; at = n })) l
+
+-- what an assignment does; none of any other statement
+abbrev pub assigning : Step → Run → Option (Result Run Stop)
+assigning (step.Set k v) s = Some (setting k v s)
+assigning (step.Put k line i v) s = Some (putting k line i v s)
+assigning (step.Choose v p q) s = None
+assigning (step.Loop p) s = None
+assigning (step.Test v p) s = None
+assigning (step.Call d) s = None
+assigning (step.Fork l r) s = None
+assigning (step.Split line k v q) s = None
+assigning (step.Each i x k b) s = None

@@ -58,6 +58,11 @@ Answers t turns (Err (stop.Trapped kind line)) a = TrapsSo t turns kind line
 Answers t turns (Err stop.NotWithin) a = (k : Counts) (z : End ℤ) → Spends t k z → turns < k.turns
 Answers t turns (Err stop.NoMemory) a = ⊤
 
+-- a call after which a run has still to do what the program means, or that answers of it
+abbrev pub GoesOn : {B : Type 0} → ProgramTree → Laid → ℕ → Result B Stop → Run → Type 0
+GoesOn t c turns (Ok x) s = Serves t c turns s
+GoesOn {B = B} t c turns (Err e) s = Answers {B = B} t turns (Err e) s.store
+
 -- what a run has still to do, which gets less with each step
 abbrev pub weight : Run → ℕ
 weight s = 2 * s.left + length s.stack + (if s.ended then 0 else 1)

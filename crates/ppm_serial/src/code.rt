@@ -1,7 +1,6 @@
 //! A program laid out: names are slots, and blocks stand one after the other.
-ghost use Rattle.std.specs.Prelude.{◌≡◌, None, Some, ◌+◌, ◌<◌, ◌^◌, [], ◌∷◌, ◌++◌, length, IfOk};
-ghost use Rattle.std.specs.Prelude.{IfSome, MatchOption, OnOk};
-ghost use Rattle.ppm_serial.specs.Code.{routine_at, step_at};
+ghost use Rattle.std.specs.Prelude.{◌≡◌, None, Some, [], ◌∷◌, ◌++◌, length, IfOk, MatchOption, OnOk};
+ghost use Rattle.ppm_serial.specs.Code.{block_at, routine_at};
 
 use ppm_tree::Operator;
 use ppm_words::{NoMemory, Trap};
@@ -195,15 +194,13 @@ impl Code {
         self.main
     }
 
-    /// The step at a place, none behind the last one of a block.
-    pub(crate) fn step(&self, place: &Place) -> Option<&Step>
-        ensures bound { IfSome result (λ s. place.now.at + 1 < 2 ^ 64) }
-        ensures value { MatchOption result (step_at self.now place.now
-            ≡ None) (λ s. step_at self.now place.now ≡ Some s.now) }
+    /// The steps of a block, none where there is no such block.
+    pub(crate) fn block(&self, place: usize) -> &[Step]
+        ensures { result.now ≡ block_at self.now place }
     {
-        match self.blocks.blocks.get(place.block) {
-            Some(steps) => steps.get(place.at),
-            None => None,
+        match self.blocks.blocks.get(place) {
+            Some(steps) => steps.as_slice(),
+            None => &[],
         }
     }
 

@@ -1,17 +1,18 @@
 //! A run: one step after the other.
 //! A `?` on a `Result` of unit is compiled to a call of its own, which takes its result through
 //! memory. So what runs again and again returns early by an `if let` in its place.
-ghost use Rattle.std.specs.Prelude.{◌≡◌, Ok};
+ghost use Rattle.std.specs.Prelude.{◌≡◌, ◌≤◌, ℕ, false, Ok, None, Some, IfOk, MatchOption, OnOk};
 ghost use Rattle.ppm_tree.specs.Tree.{ProgramTree};
-ghost use Rattle.ppm_serial.specs.Answers.{Does, Gives};
+ghost use Rattle.ppm_serial.specs.Answers.{Assigns, Does, Gives};
+ghost use Rattle.ppm_serial.specs.Code.{step_at};
 ghost use Rattle.ppm_serial.specs.Laying.{IsLaid};
-ghost use Rattle.ppm_serial.specs.Running.{Answers, Starts};
-ghost use Rattle.ppm_serial.specs.Machine.{beginning, called, calling, choosing, crossing};
+ghost use Rattle.ppm_serial.specs.Running.{Answers, GoesOn, Serves, Starts, weight};
+ghost use Rattle.ppm_serial.specs.Machine.{assigning, beginning, called, calling, choosing, crossing};
 ghost use Rattle.ppm_serial.specs.Machine.{delivering, doing, ending};
 ghost use Rattle.ppm_serial.specs.Machine.{entering, forking, give_spending, giving, inside};
 ghost use Rattle.ppm_serial.specs.Machine.{joining, leaving, passing};
 ghost use Rattle.ppm_serial.specs.Machine.{putting, returning, setting, spending, splitting};
-ghost use Rattle.ppm_serial.specs.Machine.{stepping, sweep_begins};
+ghost use Rattle.ppm_serial.specs.Machine.{standing, stepping, sweep_begins};
 ghost use Rattle.ppm_serial.specs.Machine.{sweeping, testing, with_frame};
 
 use crate::code::{Call, Code, Parts, Passed, Place, Step, Stop, Value};
@@ -19,7 +20,7 @@ use crate::frame::Frame;
 use crate::region::Region;
 use crate::stack::{Caller, Rest, Stack, Sweep};
 use crate::store::Store;
-use crate::value::{index_in, split_at, worth};
+use crate::value::{index_in, split_at, worth, worth_assigned};
 use std::alloc::Global;
 use std::mem;
 
@@ -36,11 +37,14 @@ pub(crate) struct Run {
 }
 
 impl Run {
-    /// One step: a statement, or what comes behind a block.
-    pub(crate) fn step(&mut self, alloc: Global, code: &Code) -> Result<(), Stop>
+    /// One step: the statement at the place, or what comes behind its block.
+    #[inline(always)]
+    fn step(&mut self, alloc: Global, code: &Code, step: Option<&Step>) -> Result<(), Stop>
+        requires { MatchOption step (step_at code.now self.old.place
+            ≡ None) (λ s. step_at code.now self.old.place ≡ Some s.now) }
         ensures { Does result self.new (stepping code.now self.old) }
     {
-        match code.step(&self.place) {
+        match step {
             None => self.leave(alloc, code),
             Some(step) => {
                 let behind = Place {
@@ -63,11 +67,77 @@ impl Run {
     {
         self.begin(code, code.main())?;
         while !self.ended {
-            if let Err(stop) = self.step(alloc, code) {
+            let step = self.assign(code)?;
+            if let Err(stop) = self.step(alloc, code, step) {
                 return Err(stop);
             }
         }
         Ok(())
+    }
+
+    /// Does the assignments from the place on, as many as there are turns for, and answers the
+    /// statement that is next, if the block has one more. The place and the turns that are left are
+    /// variables meanwhile.
+    #[inline(always)]
+    fn assign<'a>(&mut self, code: &'a Code) -> Result<Option<&'a Step>, Stop>
+        requires { self.old.ended ≡ false }
+        ensures goes { (t : ProgramTree) (turns : ℕ) → IsLaid t.procedures code.now
+            → Serves t code.now turns self.old → GoesOn t code.now turns result self.new }
+        ensures next { IfOk result (λ step. MatchOption step (step_at code.now self.new.place
+            ≡ None) (λ s. step_at code.now self.new.place ≡ Some s.now)) }
+        ensures running { OnOk result (self.new.ended ≡ false) }
+        ensures lighter { OnOk result (weight self.new ≤ weight self.old) }
+    {
+        let steps = code.block(self.place.block);
+        let mut at = self.place.at;
+        let mut left = self.left;
+        while let Some(step) = steps.get(at) {
+            let done = self.assigned(step, left)?;
+            if !done {
+                self.stand(at, left);
+                return Ok(Some(step));
+            }
+            at += 1;
+            left -= 1;
+        }
+        self.stand(at, left);
+        Ok(None)
+    }
+
+    /// Stands at another place of its block, with other turns left.
+    #[inline(always)]
+    fn stand(&mut self, at: usize, left: u64)
+        ensures { self.new ≡ standing self.old at left }
+    {
+        self.place.at = at;
+        self.left = left;
+    }
+
+    /// Does an assignment for which a turn is left, and says so; any other statement stays.
+    #[inline(always)]
+    fn assigned(&mut self, step: &Step, left: u64) -> Result<bool, Stop>
+        ensures { Assigns result left (assigning step.now self.old) self.old self.new }
+    {
+        if left == 0 {
+            return Ok(false);
+        }
+        match step {
+            Step::Set(slot, value) => {
+                if let Err(stop) = self.set(*slot, value) {
+                    return Err(stop);
+                }
+                Ok(true)
+            }
+            Step::Put(slot, line, index, value) => {
+                if let Err(stop) = self.put(*slot, *line, index, value) {
+                    return Err(stop);
+                }
+                Ok(true)
+            }
+            Step::Choose(_, _, _) | Step::Loop(_) | Step::Test(_, _) => Ok(false),
+            Step::Call(_) | Step::Fork(_, _) => Ok(false),
+            Step::Split(_, _, _, _) | Step::Each(_, _, _, _) => Ok(false),
+        }
     }
 
     /// Spends turns.
@@ -82,6 +152,7 @@ impl Run {
     }
 
     /// A statement, whose turn is spent.
+    #[inline(always)]
     fn perform(&mut self, alloc: Global, code: &Code, step: &Step) -> Result<(), Stop>
         ensures { Does result self.new (doing code.now step.now self.old) }
     {
@@ -101,20 +172,22 @@ impl Run {
     }
 
     /// A local gets a value.
+    #[inline(always)]
     fn set(&mut self, slot: usize, value: &Value) -> Result<(), Stop>
         ensures { Does result self.new (setting slot value.now self.old) }
     {
-        let value = worth(&self.frame, &self.store, value)?;
+        let value = worth_assigned(&self.frame, &self.store, value)?;
         self.frame.set_local(slot, value);
         Ok(())
     }
 
     /// An element gets a value: index, then value, then the test of the index.
+    #[inline(always)]
     fn put(&mut self, slot: usize, line: u32, index: &Value, value: &Value) -> Result<(), Stop>
         ensures { Does result self.new (putting slot line index.now value.now self.old) }
     {
         let index = worth(&self.frame, &self.store, index)?;
-        let value = worth(&self.frame, &self.store, value)?;
+        let value = worth_assigned(&self.frame, &self.store, value)?;
         let region = self.frame.region(slot);
         let at = index_in(line, &region, index)?;
         self.store.put(region.array(), region.place(at), value);
@@ -134,6 +207,7 @@ impl Run {
     }
 
     /// Enters one of two blocks.
+    #[inline(always)]
     fn choose(&mut self, test: &Value, holds: usize, otherwise: usize) -> Result<(), Stop>
         ensures { Does result self.new (choosing test.now holds otherwise self.old) }
     {
@@ -146,6 +220,7 @@ impl Run {
 
     /// The test of a loop, which is the first step of its block: where it holds, the loop's block
     /// is entered, and the test comes again behind it.
+    #[inline(always)]
     fn test(&mut self, test: &Value, block: usize) -> Result<(), Stop>
         ensures { Does result self.new (testing test.now block self.old) }
     {
@@ -228,6 +303,7 @@ impl Run {
     }
 
     /// A call.
+    #[inline(always)]
     fn call(&mut self, alloc: Global, code: &Code, call: &Call) -> Result<(), Stop>
         ensures { Does result self.new (calling code.now call.now self.old) }
     {
@@ -249,6 +325,7 @@ impl Run {
     }
 
     /// A fork: both frames are made before the left branch begins.
+    #[inline(always)]
     fn fork(&mut self, alloc: Global, code: &Code, left: &Call, right: &Call) -> Result<(), Stop>
         ensures { Does result self.new (forking code.now left.now right.now self.old) }
     {
@@ -268,6 +345,7 @@ impl Run {
     }
 
     /// A split, whose parts have slots in its block.
+    #[inline(never)]
     fn split(
         &mut self,
         alloc: Global,
@@ -295,6 +373,7 @@ impl Run {
     }
 
     /// An `each`, whose start spends 9 turns with that of the statement.
+    #[inline(never)]
     fn each(
         &mut self,
         alloc: Global,
@@ -321,6 +400,7 @@ impl Run {
     }
 
     /// The next block of an `each`, or what follows the last one; each block spends 8 turns.
+    #[inline(always)]
     fn sweep(&mut self, alloc: Global, mut sweep: Sweep) -> Result<(), Stop>
         ensures { Does result self.new (sweeping sweep self.old) }
     {
@@ -379,6 +459,7 @@ impl Run {
     }
 
     /// What a procedure gives, 0 if it gives nothing.
+    #[inline(always)]
     fn give(&self, code: &Code, routine: usize) -> Result<i64, Stop>
         ensures { Gives result (giving code.now routine self.now) }
     {
