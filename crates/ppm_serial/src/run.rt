@@ -379,6 +379,7 @@ impl Run {
     }
 
     /// What a procedure gives, 0 if it gives nothing.
+    #[inline(always)]
     fn give(&self, code: &Code, routine: usize) -> Result<i64, Stop>
         ensures { Gives result (giving code.now routine self.now) }
     {

@@ -28,6 +28,7 @@ fn decide(operator: Operator, x: i64) -> Option<i64>
 }
 
 /// The value of an operator at two values, none where it traps.
+#[inline(always)]
 fn operate(operator: Operator, x: i64, y: i64) -> Option<i64>
     ensures { result ≡ result_ok (applied operator x y) }
 {
@@ -100,6 +101,30 @@ fn operand(content: &Content, store: &Store, value: &Value) -> Option<i64>
     at_once(content, value)
 }
 
+/// What an expression is worth in a frame, none where it traps. An element or an operator whose
+/// operands are known at once is answered without a call, and so without a register to be kept.
+#[inline(never)]
+fn quick(content: &Content, store: &Store, value: &Value) -> Option<i64>
+    ensures { result ≡ untrapped content.now store.now value.now }
+{
+    if let Value::Element(slot, line, index) = value {
+        if let Some(index) = at_once(content, index) {
+            return element(content, store, *slot, *line, index);
+        }
+    }
+    if let Value::Binary(operator, _, left, right) = value {
+        if let Some(x) = operand(content, store, left) {
+            if let Some(value) = decide(*operator, x) {
+                return Some(value);
+            }
+            if let Some(y) = operand(content, store, right) {
+                return operate(*operator, x, y);
+            }
+        }
+    }
+    untrapped(content, store, value)
+}
+
 /// What an expression is worth in a frame, none where it traps. A value and its absence fit into
 /// registers, where a trap with its line does not, so this is tried first.
 #[inline(never)]
@@ -153,7 +178,7 @@ pub(crate) fn worth(frame: &Frame, store: &Store, value: &Value) -> Result<i64, 
     if let Some(x) = at_once(content, value) {
         return Ok(x);
     }
-    match untrapped(content, store, value) {
+    match quick(content, store, value) {
         Some(x) => Ok(x),
         None => trapping(content, store, value),
     }

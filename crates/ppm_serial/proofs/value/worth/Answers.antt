@@ -9,8 +9,8 @@ returns-in-Some c =
     let f = c.content-content.ensures in
     search (rules, e, f)
 
-pub returns-in-Some-untrapped : goal.returns-in-Some-untrapped
-returns-in-Some-untrapped c =
-    let e = worth_is _ c.args.store.now c.args.value.now c.in-Some-untrapped.x (sym c.in-Some-untrapped.ensures) in
+pub returns-in-Some-quick : goal.returns-in-Some-quick
+returns-in-Some-quick c =
+    let e = worth_is _ c.args.store.now c.args.value.now c.in-Some-quick.x (sym c.in-Some-quick.ensures) in
     let f = c.content-content.ensures in
     search (rules, e, f)
