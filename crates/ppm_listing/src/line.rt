@@ -5,7 +5,7 @@ ghost use Rattle.ppm_listing.specs.Listing.{number};
 ghost use Rattle.ppm_listing.specs.Correct.{Fits};
 
 use crate::keyword::Keyword;
-use crate::token::{Token, push_operands};
+use crate::token::{Token, push_byte, push_keyword, push_operands};
 use ppm_words::NoMemory;
 
 /// Appends a line: its keyword and its other tokens, with one space between two, and a line feed.
@@ -17,9 +17,15 @@ pub(crate) fn push_line(
     ensures { OnOk result (text.new.items
         ≡ text.old.items ++ line_text (line keyword operands.now)) }
 {
-    text.extend_from_slice(keyword.spelling().as_bytes())?;
-    push_operands(text, operands)?;
-    text.push(b'\n')?;
+    if let Err(error) = push_keyword(text, keyword) {
+        return Err(error);
+    }
+    if let Err(error) = push_operands(text, operands) {
+        return Err(error);
+    }
+    if let Err(error) = push_byte(text, b'\n') {
+        return Err(error);
+    }
     Ok(())
 }
 

@@ -1,5 +1,7 @@
 //! The tokens of a line as they are written, with numbers of any size.
 ghost use Rattle.std.specs.Prelude.{◌≡◌, ◌∷◌, ℕ, List, OnOk};
+ghost use Rattle.std.specs.Str.{bytes_eq};
+ghost use Rattle.ppm_listing.specs.Tokens.{keyword_text};
 ghost use Rattle.ppm_listing_reader.specs.Tokens.{keyword_of, keywords, named as named_token, spelled};
 ghost use Rattle.ppm_listing_reader.specs.Tokens.{minus as minus_token, token_of};
 ghost use Rattle.ppm_listing_reader.specs.Forms.{part_in, line_of, may_go_on as goes_on};
@@ -27,12 +29,24 @@ pub enum Token {
     Other,
 }
 
+/// Whether a keyword has this spelling. Most that have another have another length.
+#[inline(always)]
+fn is_spelled(keyword: Keyword, bytes: &[u8]) -> bool
+    ensures { result ≡ bytes_eq (keyword_text keyword) bytes.now }
+{
+    let spelling = keyword.spelling().as_bytes();
+    if spelling.len() != bytes.len() {
+        return false;
+    }
+    same_bytes(spelling, bytes)
+}
+
 /// The first of some keywords that has this spelling.
 fn first_spelled(mut table: &[Keyword], bytes: &[u8]) -> Option<Keyword>
     ensures { result ≡ spelled table.entry.now bytes.now }
 {
     while let [keyword, rest @ ..] = table {
-        if same_bytes(keyword.spelling().as_bytes(), bytes) {
+        if is_spelled(*keyword, bytes) {
             return Some(*keyword);
         }
         table = rest;
@@ -80,7 +94,9 @@ fn beginning_with(first: u8) -> &'static [Keyword]
     }
 }
 
-/// The keyword of this spelling: those that begin with its first byte are compared with it.
+/// The keyword of this spelling: those that begin with its first byte are compared with it. It is a
+/// call of its own, so that numbers and registers keep no registers of the processor for it.
+#[inline(never)]
 fn keyword(bytes: &[u8]) -> Option<Keyword>
     ensures { result ≡ keyword_of bytes.now }
 {

@@ -16,8 +16,8 @@ pub returns-then-number-ge0 : goal.returns-then-number-ge0
 returns-then-number-ge0 c =
     let back = to_z-of_z c.ranges.number in
     let size : c.unsigned_abs.result ≡ unsigned_abs c.args.number = search (rules, back, c.unsigned_abs.ensures.value) in
-    subst (λ (d : List ℕ). OnOk c.push_decimal.result (c.push_decimal.new.text.items ≡ c.args.text.now.items ++ d))
-    (ap decimal size ∙ plain c.args.number (rw back at c.if-number-ge0.true)) c.push_decimal.ensures
+    subst (λ (d : List ℕ). OnOk c.push_number.result (c.push_number.new.text.items ≡ c.args.text.now.items ++ d))
+    (ap decimal size ∙ plain c.args.number (rw back at c.if-number-ge0.true)) c.push_number.ensures
 
 pub returns : goal.returns
 returns c =
@@ -25,6 +25,6 @@ returns c =
     let size : c.unsigned_abs-2.result ≡ unsigned_abs c.args.number = search (rules, back, c.unsigned_abs-2.ensures.value) in
     let front = c.args.text.now.items in
     let rest = decimal c.unsigned_abs-2.result in
-    subst (λ (d : List ℕ). OnOk c.push_decimal-2.result (c.push_decimal-2.new.text.items ≡ d))
-    (ap (λ l. l ++ rest) c.in_ok-push.ensures.items ∙ append_assoc front (45 ∷ []) rest
-    ∙ ap (λ d. front ++ d) (ap (λ n. 45 ∷ decimal n) size ∙ minus c.args.number (rw back at c.if-number-ge0.false))) c.push_decimal-2.ensures
+    subst (λ (d : List ℕ). OnOk c.push_decimal.result (c.push_decimal.new.text.items ≡ d))
+    (ap (λ l. l ++ rest) c.in_default.ensures ∙ append_assoc front (45 ∷ []) rest
+    ∙ ap (λ d. front ++ d) (ap (λ n. 45 ∷ decimal n) size ∙ minus c.args.number (rw back at c.if-number-ge0.false))) c.push_decimal.ensures
