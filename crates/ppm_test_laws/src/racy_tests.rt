@@ -1,7 +1,7 @@
 //! A compare-and-modify, and register work up to it.
-use ppm_code::{Act, End, Instr, Location, Procedure, Register, Step};
-use ppm_racy::{RacyAct, RacyCapsule, RacyCode, RacyInstr, RacyParts, Stop, Touch, reach};
-use ppm_words::{Items, Trap};
+use ppm_code::{Act, End, Instr, Location, Register, Step};
+use ppm_racy::{RacyAct, RacyInstr, Stop, Touch, reach};
+use ppm_words::Trap;
 use std::test::Fail;
 
 fn register(index: u8) -> Result<Register, Fail> {
@@ -19,10 +19,10 @@ fn exchange() -> Result<RacyInstr, Fail> {
     })
 }
 
-/// The region of two words from word 5 on, element 1 of it, and 8 and 9 to be exchanged.
+/// The region of two words from word 5 on, an index of it, and 8 and 9 to be exchanged.
 fn registers(index: u64) -> [u64; 64] {
     let mut registers = [0; 64];
-    registers[1] = 5 * (1 << 32) + 2;
+    registers[1] = 21_474_836_482;
     registers[2] = index;
     registers[3] = 8;
     registers[4] = 9;
@@ -30,43 +30,48 @@ fn registers(index: u64) -> [u64; 64] {
 }
 
 #[test]
-fn an_exchange_names_its_word() -> Result<(), Fail> {
-    let act = exchange()?.act(&registers(1), 7);
+fn an_exchange_names_its_word(rt: HostRuntime) -> Result<(), Fail> {
+    let cam = exchange()?;
+    let held = registers(1);
     let want = RacyAct::Exchanges {
         word: 6,
         old: 8,
         new: 9,
     };
-    assert_eq!(act, want);
+    assert_eq!(rt; cam.act(&held, 7), want);
     Ok(())
 }
 
 #[test]
-fn an_exchange_past_its_region_traps() -> Result<(), Fail> {
-    let act = exchange()?.act(&registers(2), 9);
+fn an_exchange_past_its_region_traps(rt: HostRuntime) -> Result<(), Fail> {
+    let cam = exchange()?;
+    let held = registers(2);
     let want = RacyAct::Plain(Act::Ends(End::Trap {
         trap: Trap::Index,
         line: 7,
     }));
-    assert_eq!(act, want);
+    assert_eq!(rt; cam.act(&held, 9), want);
     Ok(())
 }
 
 #[test]
-fn with_a_put_in_its_place_it_stores() -> Result<(), Fail> {
-    let act = exchange()?.plain().act(&registers(0), 7);
-    assert_eq!(act, Act::Steps(Step::Stores(Location::Array(5), 9)));
+fn with_a_put_in_its_place_it_stores(rt: HostRuntime) -> Result<(), Fail> {
+    let put = exchange()?.plain();
+    let held = registers(0);
+    let want = Act::Steps(Step::Stores(Location::Array(5), 9));
+    assert_eq!(rt; put.act(&held, 7), want);
     Ok(())
 }
 
 #[test]
-fn register_work_passes_room_and_comes_to_an_exchange() -> Result<(), Fail> {
+fn register_work_passes_room_and_comes_to_an_exchange(rt: HostRuntime) -> Result<(), Fail> {
     let room = RacyInstr::Plain(Instr::Room { words: 3 });
     let set = RacyInstr::Plain(Instr::Const {
         to: register(2)?,
         value: 0,
     });
-    let stop = reach(&[room, set, exchange()?], 7, 0, &mut registers(1));
+    let instrs = [room, set, exchange()?];
+    let mut held = registers(1);
     let want = Stop {
         next: 3,
         touch: Touch::Exchanges {
@@ -75,6 +80,6 @@ fn register_work_passes_room_and_comes_to_an_exchange() -> Result<(), Fail> {
             new: 9,
         },
     };
-    assert_eq!(stop, want);
+    assert_eq!(rt; reach(&instrs, 7, 0, &mut held), want);
     Ok(())
 }
