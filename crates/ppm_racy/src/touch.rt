@@ -30,7 +30,8 @@ pub struct Stop {
 /// Does the register work of a capsule from an instruction to its next touch of a word, or to its
 /// end.
 pub fn reach(instrs: &[RacyInstr], array_words: u64, from: usize, registers: &mut [u64; 64]) -> Stop
-    ensures left { (block : List OwnWord) → capsule_from block array_words 0 from instrs.now registers.old
+    ensures left { (block : List OwnWord)
+        → capsule_from block array_words 0 from instrs.now registers.old
         ≡ reached block array_words instrs.now result.next result.touch registers.new }
     ensures within { TouchesWithin array_words result.touch }
 {
