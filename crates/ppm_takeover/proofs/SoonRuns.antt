@@ -23,7 +23,9 @@ use Rattle.ppm_runs.specs.Legs.{words_then, last_state, all_homes, all_forked, a
 use Rattle.ppm_runs.proofs.WholeLemmas.{in_two}
 use Rattle.ppm_progress.proofs.MomentLemmas.{IsMoment, AreMoments, IsOn}
 use Rattle.ppm_progress.proofs.ThiefLemmas.{works_from_place}
+use Rattle.ppm_takeover.specs.Looks.{LooksComeSoon}
 use Rattle.ppm_takeover.specs.Soon.{WorksSoonByPlaces}
+use Rattle.ppm_takeover.proofs.LookSteps.{look_soon_from}
 use Rattle.ppm_takeover.proofs.ComeSteps.{AreAllHeld}
 use Rattle.ppm_takeover.proofs.CarriedRuns.{IsTended, tended_on, tended_then, raised_by}
 
@@ -77,3 +79,23 @@ works_soon_by_places code input s keeper im places fair opens calm legs are firs
       carried = works.carried;
     } in
     works_from_place s code fair root arrays back c works.place works.there first more moments on works.at_work among_more steps many
+
+pub looks_come_soon : LooksComeSoon
+looks_come_soon code input s keeper im places fair opens calm legs are first more among_first among_more c there going steps many =
+    let root = root_strand code input in
+    let arrays = arrays_at (view s im.words) in
+    let back = words_then s code im.words legs in
+    let state = last_state s code im.words legs first in
+    let raised = raised_by code input s keeper im places fair opens calm legs in
+    let h = all_homes s code im.words legs first in
+    let f = all_forked s code im.words legs first in
+    let tk = all_taken s code im.words legs first in
+    let a = tended_then code input s keeper im places fair opens calm legs are first among_first in
+    let moments = tended_moments s code places fair root arrays raised back first state refl h f tk a.0 a.1 more among_more in
+    let place = a.1.advancing.run.halves.lawful.1.holding.carried c in
+    let on : IsOn s code fair root arrays c place.0 state = record {
+      moment = moment_of s code places fair root arrays raised back state h f tk a.0 a.1;
+      going = going;
+      carried = place.1;
+    } in
+    look_soon_from s code places fair root arrays back c place.0 there first more moments on among_more steps many

@@ -1,4 +1,5 @@
 pub mod Laps
+pub mod Looks
 pub mod Lost
 pub mod Short
 pub mod Soon

@@ -1,4 +1,5 @@
 //! What is at work while processors die, shown by calls that do nothing.
+ghost use Rattle.ppm_takeover.specs.Looks.{LooksComeSoon};
 ghost use Rattle.ppm_takeover.specs.Lost.{HeldAreCarried, NothingIsLost, NothingIsLostOverLegs};
 ghost use Rattle.ppm_takeover.specs.Short.{LooksAreShort};
 ghost use Rattle.ppm_takeover.specs.Soon.{WorksSoonByPlaces};
@@ -23,7 +24,10 @@ pub fn work_turns_come_soon_by_places()
 
 /// With takeover by places a row that seeks work, steals, checks what it stole, bids for a place or
 /// looks whether its bid stands makes at most 6, 3, 4, 3 or 3 word steps, whatever it finds, after
-/// the load of the finish word. Each ends as its kind allows, or has met broken words.
+/// the load of the finish word. Each ends as its kind allows, or has met broken words. So of the
+/// next seventeen steps of a processor that isn't done one is the load of a holder word as it seeks
+/// work, or a work turn, or it moves to a place that it has taken over, or the finish word is set.
 pub fn looks_are_short()
     ensures law { LooksAreShort }
+    ensures soon { LooksComeSoon }
 {}
