@@ -1,0 +1,5 @@
+pub mod Acts
+pub mod Capsules
+pub mod Code
+pub mod Correct
+pub mod Racing
