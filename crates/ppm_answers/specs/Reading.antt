@@ -105,6 +105,7 @@ TellsOfRun Tells (answers.TrappedAfter t line counts) before now = Tells (answer
 TellsOfRun Tells (answers.Sound counts) before now = Tells (answers.Sound counts) before now
 TellsOfRun Tells (answers.NotWithinCapsules capsules) before now = Tells (answers.NotWithinCapsules capsules) before now
 TellsOfRun Tells (answers.Raced race) before now = Tells (answers.Raced race) before now
+TellsOfRun Tells (answers.Gapped g) before now = Tells (answers.Gapped g) before now
 TellsOfRun Tells (answers.Swept sweep) before now = Tells (answers.Swept sweep) before now
 TellsOfRun Tells (answers.Differs difference) before now = Tells (answers.Differs difference) before now
 

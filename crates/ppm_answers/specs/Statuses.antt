@@ -36,6 +36,7 @@ status_of (answers.SourceRefused r) = statuses.SourceRefused
 status_of (answers.SourceExplained r notes) = statuses.SourceRefused
 status_of answers.Accepted = statuses.Ended
 status_of (answers.Conflicting c) = statuses.CodeRefused
+status_of (answers.Gapped g) = statuses.CodeRefused
 status_of (answers.ListingRefused r) = statuses.CodeRefused
 status_of (answers.SavedRefused r) = statuses.SavedRefused
 status_of (answers.Counted arrays counts) = statuses.Ended

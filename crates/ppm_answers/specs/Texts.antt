@@ -15,6 +15,12 @@ use Rattle.ppm_answers.specs.declared.conflict.Class.{Class}
 use Rattle.ppm_answers.specs.declared.conflict.Class.TheVariants as class
 use Rattle.ppm_answers.specs.declared.conflict.Conflict.{Conflict}
 use Rattle.ppm_answers.specs.declared.conflict.ListingRefusal.{ListingRefusal}
+use Rattle.ppm_answers.specs.declared.gap.Gap.{Gap}
+use Rattle.ppm_answers.specs.declared.gap.Gap.TheVariants as gaps
+use Rattle.ppm_answers.specs.declared.gap.Hung.{Hung}
+use Rattle.ppm_answers.specs.declared.gap.LeftOut.{LeftOut}
+use Rattle.ppm_answers.specs.declared.gap.OtherBlock.{OtherBlock}
+use Rattle.ppm_answers.specs.declared.gap.Unbuilt.{Unbuilt}
 use Rattle.ppm_answers.specs.declared.case.InputRefusal.{InputRefusal}
 use Rattle.ppm_answers.specs.declared.case.UntidyStore.{UntidyStore}
 use Rattle.ppm_answers.specs.declared.counts.Counts.{Counts}
@@ -147,6 +153,32 @@ lines_end read write = ended_line (codes " lines " ++ decimal read ++ codes " " 
 -- a line with a conflict, and with the lines of its two instructions
 abbrev pub conflict_at_text : Conflict → ℕ → ℕ → List ℕ
 conflict_at_text c read write = conflict_words c ++ lines_end read write
+
+-- a line with a word of the frame that is left out: the instruction that finds, the one that stores, the end that is come to without, and the class
+abbrev pub left_out_text : LeftOut → List ℕ
+left_out_text g = ended_line (codes "left out: capsule " ++ decimal g.capsule ++ codes " find " ++ decimal g.find
+    ++ codes " write " ++ decimal g.write ++ codes " stop " ++ decimal g.stop ++ codes " class " ++ class_text g.class)
+
+-- a line with a word of the new block that isn't built: the instruction that stores it, and the end that is come to without
+abbrev pub unbuilt_text : Unbuilt → List ℕ
+unbuilt_text g = ended_line (codes "unbuilt: capsule " ++ decimal g.capsule ++ codes " write " ++ decimal g.write
+    ++ codes " stop " ++ decimal g.stop ++ codes " class new " ++ decimal g.word)
+
+-- a line with an end that builds a block, and one that builds something else
+abbrev pub other_block_text : OtherBlock → List ℕ
+other_block_text g = ended_line (codes "other block: capsule " ++ decimal g.capsule ++ codes " end " ++ decimal g.end
+    ++ codes " stop " ++ decimal g.stop)
+
+-- a line with a trap that hangs on what was found
+abbrev pub hung_text : Hung → List ℕ
+hung_text g = ended_line (codes "hung: capsule " ++ decimal g.capsule ++ codes " trap " ++ decimal g.trap)
+
+-- a line with a gap
+abbrev pub gap_text : Gap → List ℕ
+gap_text (gaps.LeftOut g) = left_out_text g
+gap_text (gaps.Unbuilt g) = unbuilt_text g
+gap_text (gaps.OtherBlock g) = other_block_text g
+gap_text (gaps.Hung g) = hung_text g
 
 -- a line with the fault of a text that is no listing, and where that is
 abbrev pub listing_text : ListingRefusal → List ℕ
@@ -305,6 +337,7 @@ out_text (answers.PlanRefused number) = []
 out_text (answers.SourceRefused r) = []
 out_text (answers.SourceExplained r notes) = []
 out_text (answers.Conflicting c) = []
+out_text (answers.Gapped g) = []
 out_text (answers.ListingRefused r) = []
 out_text (answers.SavedRefused r) = []
 out_text (answers.NotWithinCapsules capsules) = []
@@ -329,6 +362,7 @@ err_text (answers.PlanRefused number) = plan_text number
 err_text (answers.SourceRefused r) = refusal_text r
 err_text (answers.SourceExplained r notes) = refusal_text r ++ notes
 err_text (answers.Conflicting c) = conflict_text c
+err_text (answers.Gapped g) = gap_text g
 err_text (answers.ListingRefused r) = listing_text r
 err_text (answers.SavedRefused r) = saved_line r
 err_text (answers.NotWithinCapsules capsules) = not_within_capsules_text capsules

@@ -2,6 +2,7 @@
 use crate::case::{InputRefusal, UntidyStore};
 use crate::conflict::{Conflict, ListingRefusal};
 use crate::counts::Counts;
+use crate::gap::Gap;
 use crate::race::Race;
 use crate::refusal::Refusal;
 use crate::run_counts::RunCounts;
@@ -55,6 +56,8 @@ pub enum Answer {
     Accepted,
     /// The text is the listing of a code with this conflict.
     Conflicting(Conflict),
+    /// The text is the listing of a code with this gap.
+    Gapped(Gap),
     /// The text is the listing of no code, for this fault.
     ListingRefused(ListingRefusal),
     /// The text is that of no saved state, for this fault.

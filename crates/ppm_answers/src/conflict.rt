@@ -93,7 +93,7 @@ fn conflict_words_of(alloc: Global, conflict: Conflict) -> Result<Vec<u8>, Alloc
 }
 
 /// The name of a class, with its number.
-fn class_text_of(alloc: Global, class: Class) -> Result<String, AllocError>
+pub(crate) fn class_text_of(alloc: Global, class: Class) -> Result<String, AllocError>
     ensures { IfOk result (λ text. string_bytes text ≡ class_text class) }
 {
     match class {

@@ -72,6 +72,7 @@ fn own_status(answer: &Answer) -> Status
         Answer::Differs(_) => Status::Differs,
         Answer::Conflicting(_) | Answer::ListingRefused(_) => Status::CodeRefused,
         Answer::ConflictingAt(_, _, _) | Answer::Untidy(_) => Status::CodeRefused,
+        Answer::Gapped(_) => Status::CodeRefused,
         Answer::Raced(_) | Answer::InputRefused(_) => Status::CodeRefused,
         Answer::SavedRefused(_) => Status::SavedRefused,
         Answer::WordsRefused | Answer::PlanRefused(_) => Status::WordsRefused,

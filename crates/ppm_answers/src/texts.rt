@@ -10,6 +10,7 @@ use crate::case::{input_text_of, untidy_text_of};
 use crate::conflict::{conflict_at_text_of, conflict_text_of, listing_text_of};
 use crate::counts::{not_within_capsules_text_of, sound_text_of, with_counts};
 use crate::ends::{arrays_text_of, broken_text_of, room_text_of, trap_text_of, unfinished_text_of};
+use crate::gap::gap_text_of;
 use crate::race::race_text_of;
 use crate::refusal::{Pass, Refusal};
 use crate::replayed::{counted_err_of, counted_out_of};
@@ -154,6 +155,10 @@ pub fn texts_of(alloc: Global, answer: &Answer) -> Result<(Text, Text), AllocErr
         Answer::Conflicting(conflict) => Ok((
             CowSlice::Borrowed(none),
             CowSlice::Owned(conflict_text_of(alloc, *conflict)?),
+        )),
+        Answer::Gapped(gap) => Ok((
+            CowSlice::Borrowed(none),
+            CowSlice::Owned(gap_text_of(alloc, *gap)?),
         )),
         Answer::ConflictingAt(conflict, read, write) => Ok((
             CowSlice::Borrowed(none),

@@ -11,7 +11,7 @@ use Rattle.clap.proofs.ValueTestLemmas.{accepts-Accepts}
 use Rattle.ppm_cells.specs.Limits.{most_pool_words, most_saved_pool_words}
 use Rattle.ppm_cli.specs.Application.{ppm_application}
 use Rattle.ppm_cli.specs.CommandLine.{Number, OptionRule, processors, turns, room, slots, looks, seed, faults, schedule}
-use Rattle.ppm_cli.specs.CommandLine.{few_processors, after, saved_room, few_slots, size, count, capsules, arrays}
+use Rattle.ppm_cli.specs.CommandLine.{few_processors, after, saved_room, few_slots, size, count, capsules, arrays, racy}
 use Rattle.ppm_cli.specs.CommandLine.{copied_room, copied_slots, met, from, acts, runs}
 use Rattle.ppm_cli.specs.CommandLine.{traced_from, traced_acts}
 use Rattle.ppm_cli.specs.Words.{run_options, serial_in, replay_options, resume_options, self_in, self_options, stop_options}
@@ -22,7 +22,7 @@ use Rattle.ppm_cli.specs.Words.{with_text, AreReplayed, AreResumed, AreRun, AreS
 use Rattle.ppm_cli.specs.Values.{fitting_room, fitting_saved_room, room_given, saved_room_given}
 use Rattle.ppm_cli.specs.Words.{sweep_options, AreSwept, trace_options, AreTraced}
 use Rattle.ppm_cli.specs.Values.{swept_takeovers_given, traced_form_given, traced_lines_given}
-use Rattle.ppm_cli.specs.Words.{by_input, replay_by, replay_with, code_in, capsule_limit, with_input}
+use Rattle.ppm_cli.specs.Words.{by_input, replay_by, replay_with, check_in, code_in, capsule_limit, with_input}
 use Rattle.ppm_cli.specs.Words.{by_any_input, command_for, replay_saved, stop_saved, trace_saved, with_any_input}
 use Rattle.ppm_cli.specs.Values.{are_counts_given, choice_given, input_given, is_case_given}
 use Rattle.ppm_cli.specs.declared.capsules.CapsuleLimit.{CapsuleLimit}
@@ -279,6 +279,14 @@ code_are rows = go (choice_given arrays (false ∷ true ∷ []) rows) where
   go (Some true) = tt
   go (Some false) = tt
 
+-- nor has a check
+check_are : (rows : List Row) → IfSome (check_in rows) IsInRange
+check_are rows = go (choice_given racy (false ∷ true ∷ []) rows) where
+  go : (yes : Option Bool) → IfSome (option_map (λ yes. if yes then commands.CheckRacing else commands.Check) yes) IsInRange
+  go None = tt
+  go (Some true) = tt
+  go (Some false) = tt
+
 limit_are : (rows : List Row) → IfSome (capsule_limit rows) IsLimit
 limit_are rows = go (number_given capsules rows) (λ n e. given capsules _ _ n rows refl e) where
   go : (n : Option ℕ) → ((m : ℕ) → n ≡ Some m → IsOfForm capsules.form m) → IfSome (option_map (λ n. record { capsules = n }) n) IsLimit
@@ -299,7 +307,7 @@ named_are name rows =
     (with_input_are AreRun commands.Run commands.RunCase faults (run_options rows) rows (λ o t h. h) (λ o t h. h) (run_are rows))
     (either IsInRange (bytes_eq name (codes "serial")) _ _ (serial_are rows)
     (either IsInRange (bytes_eq name (codes "code")) _ _ (code_are rows)
-    (either IsInRange (bytes_eq name (codes "check")) _ _ tt
+    (either IsInRange (bytes_eq name (codes "check")) _ _ (check_are rows)
     (either IsInRange (bytes_eq name (codes "depth")) _ _
     (limited_are (λ l. commands.Depth l) (λ l h. h) (capsule_limit rows) (limit_are rows))
     (either IsInRange (bytes_eq name (codes "races")) _ _

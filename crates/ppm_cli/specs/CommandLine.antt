@@ -163,6 +163,10 @@ traced_form = choice "form" ("text" ∷ "json" ∷ "svg" ∷ []) "text"
 abbrev pub only : OptionRule
 only = choice "only" ("turns" ∷ "rows" ∷ "marks" ∷ []) "turns"
 
+-- whether the strands of a code may race
+abbrev pub racy : OptionRule
+racy = choice "racy" ("no" ∷ "yes" ∷ []) "no"
+
 -- whether the arrays of a source are written before its code
 abbrev pub arrays : OptionRule
 arrays = choice "arrays" ("no" ∷ "yes" ∷ []) "no"
@@ -188,7 +192,7 @@ command_line =
     (processors ∷ turns ∷ room ∷ slots ∷ looks ∷ seed ∷ faults ∷ takeover ∷ idle ∷ input ∷ [])
     ∷ command "serial" (turns ∷ [])
     ∷ command "code" (arrays ∷ [])
-    ∷ command "check" []
+    ∷ command "check" (racy ∷ [])
     ∷ command "depth" (capsules ∷ [])
     ∷ command "races" (capsules ∷ [])
     ∷ command "replay" (processors ∷ turns ∷ room ∷ slots ∷ takeover ∷ schedule ∷ any_input ∷ counts ∷ [])

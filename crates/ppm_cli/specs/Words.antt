@@ -6,7 +6,7 @@ use Rattle.ppm_cells.specs.Limits.{most_pool_words, most_saved_pool_words}
 use Rattle.ppm_cli.specs.Application.{ppm_application}
 use Rattle.ppm_cli.specs.CommandLine.{Form, Number, OptionRule}
 use Rattle.ppm_cli.specs.CommandLine.{processors, turns, room, slots, looks, seed, faults, schedule}
-use Rattle.ppm_cli.specs.CommandLine.{few_processors, after, saved_room, few_slots, size, count, capsules, arrays}
+use Rattle.ppm_cli.specs.CommandLine.{few_processors, after, saved_room, few_slots, size, count, capsules, arrays, racy}
 use Rattle.ppm_cli.specs.CommandLine.{copied_room, copied_slots, met, from, acts, runs}
 use Rattle.ppm_cli.specs.CommandLine.{traced_from, traced_acts}
 use Rattle.ppm_cli.specs.Values.{and_then, are_counts_given, choice_given, idle_given, is_case_given, number_given, room_given, swept_takeovers_given, takeover_given, text_given}
@@ -204,6 +204,10 @@ self_in rows = option_map (λ o. commands.Example o) (self_options rows)
 abbrev pub code_in : List Row → Option Command
 code_in rows = option_map (λ yes. if yes then commands.CodeCase else commands.Code) (choice_given arrays (false ∷ true ∷ []) rows)
 
+-- the command `check`: with its option strands of the code may race
+abbrev pub check_in : List Row → Option Command
+check_in rows = option_map (λ yes. if yes then commands.CheckRacing else commands.Check) (choice_given racy (false ∷ true ∷ []) rows)
+
 -- the limit of a depth-first run, if it has a value of its form
 abbrev pub capsule_limit : List Row → Option CapsuleLimit
 capsule_limit rows = option_map (λ n. record { capsules = n }) (number_given capsules rows)
@@ -222,7 +226,7 @@ command_named name rows =
     if bytes_eq name (codes "run") then run_in rows
     else if bytes_eq name (codes "serial") then serial_in rows
     else if bytes_eq name (codes "code") then code_in rows
-    else if bytes_eq name (codes "check") then Some commands.Check
+    else if bytes_eq name (codes "check") then check_in rows
     else if bytes_eq name (codes "depth") then depth_in rows
     else if bytes_eq name (codes "races") then races_in rows
     else if bytes_eq name (codes "replay") then replay_in rows
@@ -328,6 +332,7 @@ IsInRange (commands.Run options _) = AreRun options
 IsInRange (commands.Serial options) = IsOfForm turns.form options.turns
 IsInRange commands.Code = ⊤
 IsInRange commands.Check = ⊤
+IsInRange commands.CheckRacing = ⊤
 IsInRange (commands.Replay options _) = AreReplayed options
 IsInRange (commands.Example options) = AreSelf options
 IsInRange (commands.Stop options _) = AreStopped options

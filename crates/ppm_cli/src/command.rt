@@ -4,6 +4,7 @@ ghost use Rattle.clap.specs.Words.{found_of, rows_of, subcommand_rows_of};
 ghost use Rattle.ppm_cli.specs.Words.{IsInRange, command_in, command_named as named_by};
 
 use crate::capsules::{CapsuleLimit, depth_from, races_from};
+use crate::check::check_from;
 use crate::code::code_from;
 use crate::example::{SelfOptions, self_from};
 use crate::ram::ram_from;
@@ -29,6 +30,8 @@ pub enum Command {
     Code,
     /// To check the listing that is read for conflicts.
     Check,
+    /// To check the listing that is read, of a code whose strands may race, for conflicts and gaps.
+    CheckRacing,
     /// To replay the source that is read, by a schedule, of which these are the bytes.
     Replay(ReplayOptions, Items<u8>),
     /// To run the program's own example.
@@ -113,7 +116,7 @@ fn command_named(
         "run" => run_from(alloc, matches),
         "serial" => Ok(serial_from(matches)),
         "code" => Ok(code_from(matches)),
-        "check" => Ok(Some(Command::Check)),
+        "check" => Ok(check_from(matches)),
         "depth" => Ok(depth_from(matches)),
         "races" => Ok(races_from(matches)),
         "replay" => replay_from(alloc, matches),

@@ -9,6 +9,7 @@
 
 mod application;
 mod capsules;
+mod check;
 mod code;
 mod command;
 mod counts;

@@ -300,6 +300,13 @@ pub(crate) const INPUT: ChoiceOption = ChoiceOption {
     default: "source",
 };
 
+/// Whether the strands of a code may race.
+pub(crate) const RACY: ChoiceOption = ChoiceOption {
+    name: "racy",
+    words: &["no", "yes"],
+    default: "no",
+};
+
 /// Whether what is counted in the run is told.
 pub(crate) const COUNTS: ChoiceOption = ChoiceOption {
     name: "counts",
@@ -347,7 +354,7 @@ pub const COMMANDS: [CommandRow; 15] = [
     },
     CommandRow {
         name: "check",
-        options: &[],
+        options: &[OptionRow::Choice(RACY)],
     },
     CommandRow {
         name: "depth",

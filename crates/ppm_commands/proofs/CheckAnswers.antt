@@ -9,7 +9,7 @@ use Rattle.ppm_answers.specs.declared.conflict.ListingRefusal.{ListingRefusal}
 use Rattle.ppm_answers.specs.declared.answer.Answer.{Answer}
 use Rattle.ppm_answers.specs.declared.answer.Answer.TheVariants as answers
 use Rattle.ppm_commands.specs.Check.{IsAccepted, IsConflicting, IsUnlisted, CheckHas, conflict_told, HaveOneAnswer}
-use Rattle.ppm_commands.proofs.FirstConflict.{one_conflict}
+use Rattle.ppm_gaps.proofs.FirstConflict.{one_conflict}
 use Rattle.ppm_commands.proofs.LeastLemmas.{no_fault, no_conflict}
 use Rattle.ppm_commands.proofs.LongTexts.{front}
 
@@ -26,7 +26,7 @@ module _ (law : FaultsTellListings) where
       a.free k.conflict.capsule k.conflict.read_at k.conflict.write_at k.conflict.class of_a.first.first.conflict
 
   -- a listing has no fault
-  not_listed : (text : List ℕ) (code : CodeParts) (r : ListingRefusal) → IsListing text code → IsUnlisted text r → ⊥
+  pub not_listed : (text : List ℕ) (code : CodeParts) (r : ListingRefusal) → IsListing text code → IsUnlisted text r → ⊥
   not_listed text code r l u = law.excludes text code u.rule r.line l u.first.there
 
   -- two conflicts of a text are one
@@ -38,7 +38,7 @@ module _ (law : FaultsTellListings) where
       k.tells ∙ ap conflict_told one ∙ sym l.tells
 
   -- two refusals of a text are one
-  same_refusal : (text : List ℕ) (q r : ListingRefusal) → IsUnlisted text q → IsUnlisted text r → q ≡ r
+  pub same_refusal : (text : List ℕ) (q r : ListingRefusal) → IsUnlisted text q → IsUnlisted text r → q ≡ r
   same_refusal text q r u v =
       let same = law.one_fault text u.rule v.rule q.line r.line u.first v.first in
       refusal_path q r (u.number ∙ ap fault_number same.0 ∙ sym v.number) same.1

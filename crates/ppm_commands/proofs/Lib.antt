@@ -1,10 +1,11 @@
 pub mod Pieces
 pub mod FirstLine
 pub mod LongTexts
-pub mod FirstConflict
 pub mod LeastLemmas
 pub mod CheckAnswers
 pub mod CheckRows
+pub mod RacingAnswers
+pub mod RacingRows
 pub mod CodeAnswers
 pub mod FaithfulLemmas
 pub mod CodeRows

@@ -22,7 +22,7 @@ use Rattle.ppm_commands.specs.Races.{IsWordOf, TellsRace, HasConflict, RacesOf, 
 use Rattle.ppm_loading.specs.Telling.{MayBeRun}
 use Rattle.ppm_commands.specs.Races.{conflict_answer, opener_told, visit_told, touching_told}
 use Rattle.ppm_commands.proofs.CaseAnswers as case_answers
-use Rattle.ppm_commands.proofs.FirstConflict.{one_conflict}
+use Rattle.ppm_gaps.proofs.FirstConflict.{one_conflict}
 use Rattle.ppm_loading.proofs.FirstStore.{one_told, none_told}
 use Rattle.ppm_commands.proofs.LeastLemmas.{no_conflict}
 use Rattle.ppm_loading.proofs.TidyLemmas.{all_are}

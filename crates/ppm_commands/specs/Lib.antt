@@ -4,5 +4,6 @@ pub mod Code
 pub mod Case
 pub mod Depth
 pub mod Races
+pub mod RacingCheck
 pub mod Serial
 pub mod Show

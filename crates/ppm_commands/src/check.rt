@@ -71,7 +71,7 @@ fn code_answer(code: &Code) -> Answer
 }
 
 /// What `check` says of a text that is no listing.
-fn error_answer(error: ListingError) -> Answer
+pub(crate) fn error_answer(error: ListingError) -> Answer
     ensures { result ≡ answer_of error }
 {
     match error {
@@ -101,7 +101,7 @@ pub(crate) fn conflict_told(conflict: Conflict) -> ppm_answers::Conflict
 }
 
 /// A class as an answer tells it.
-fn class_told(class: Class) -> ppm_answers::Class
+pub(crate) fn class_told(class: Class) -> ppm_answers::Class
     ensures { result ≡ told_class class }
 {
     match class {

@@ -5,6 +5,7 @@ ghost use Rattle.ppm_commands.specs.Check.{HaveOneAnswer as ListingsHaveOneAnswe
 ghost use Rattle.ppm_commands.specs.Code.{CodesAreFaithful, HaveOneAnswer as CodesHaveOneAnswer};
 ghost use Rattle.ppm_commands.specs.Depth.{HaveOneAnswer as DepthRunsHaveOneAnswer};
 ghost use Rattle.ppm_commands.specs.Races.{HaveOneAnswer as CasesHaveOneAnswer};
+ghost use Rattle.ppm_commands.specs.RacingCheck.{HaveOneAnswer as RacingListingsHaveOneAnswer};
 ghost use Rattle.ppm_commands.specs.Serial.{HaveOneAnswer as OutcomesHaveOneAnswer};
 ghost use Rattle.ppm_commands.specs.Show.{HaveOneAnswer as SavedTextsHaveOneAnswer};
 
@@ -13,6 +14,7 @@ use ppm_cut_code::keeps_the_rules;
 use ppm_cut_correct::{end_as_meant, name_arrays, start_with_input};
 use ppm_cut_sound::{code_is_sound, may_be_stopped, store_tidily};
 use ppm_depth::runs_are_there;
+use ppm_gaps::{codes_without_flaws_are_restartable, flaws_tell_codes};
 use ppm_listing_reader::faults_tell_listings;
 use ppm_program::have_one_answer as have_one_program;
 use ppm_races::{verdicts_are_one, verdicts_are_there};
@@ -27,6 +29,18 @@ pub fn listings_have_one_answer()
 {
     // The law rests on this one; the call does nothing.
     faults_tell_listings();
+}
+
+/// Where it is checked as one whose strands may race, a text has one answer: its first fault, its
+/// code's first flaw, or that it is accepted; and a text that is too long is refused as its front
+/// is.
+pub fn racing_listings_have_one_answer()
+    ensures law { RacingListingsHaveOneAnswer }
+{
+    // The law rests on these; the calls do nothing.
+    faults_tell_listings();
+    flaws_tell_codes();
+    codes_without_flaws_are_restartable();
 }
 
 /// Where its state is shown, a text has one answer: its fault, or the lines of its state; and a text

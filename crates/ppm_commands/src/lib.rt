@@ -1,15 +1,16 @@
 //! The commands that judge a text and tell no watcher: `check`, `code`, `serial`, `depth`, `races`
-//! and `show`, each in the file of its name, and `code` with arrays in `case`.
+//! and `show`, each in the file of its name, `code` with arrays in `case`, and `check` of a code whose
+//! strands may race in `racing_check`.
 //! Model: a text has an answer by each: of the listing of a code, whether its capsules may be
 //! stopped anywhere and begun again; of a program, its code, with or without its arrays, or its
 //! outcome within a number of turns; of a case, what its depth-first run comes to within a number
 //! of capsules, and whether it is sound; of a saved text, its state in words (`specs/Check`,
-//! `specs/Code`, `specs/Case`, `specs/Serial`, `specs/Depth`, `specs/Races`, `specs/Show`;
-//! `specs/Cases` has what `depth` and `races` share).
+//! `specs/RacingCheck`, `specs/Code`, `specs/Case`, `specs/Serial`, `specs/Depth`, `specs/Races`,
+//! `specs/Show`; `specs/Cases` has what `depth` and `races` share).
 //! Contract: each call delivers the answer of the text that was read, or says that a port failed or
 //! memory was refused, and what follows from each status is a sentence of its table (`CheckSays`,
-//! `CodeSays`, `CaseSays`, `SerialSays`, `DepthSays`, `RacesSays`, `ShowSays`).
-//! Stands on `ppm_listing_reader` and `ppm_war`, on `ppm_program`, `ppm_cut` and `ppm_serial`, on
+//! `RacingCheckSays`, `CodeSays`, `CaseSays`, `SerialSays`, `DepthSays`, `RacesSays`, `ShowSays`).
+//! Stands on `ppm_listing_reader`, `ppm_war` and `ppm_gaps`, on `ppm_program`, `ppm_cut` and `ppm_serial`, on
 //! `ppm_case`, `ppm_depth` and `ppm_races`, on `ppm_saved_reader` and `ppm_show`, on `ppm_loading`
 //! for the refusals of cases, and on `ppm_answers`; `ppm_top` calls it.
 //! After the write-after-read conflicts of Blelloch et al., SPAA 2018; the commands and their
@@ -23,6 +24,7 @@ mod depth;
 mod laws;
 mod race;
 mod races;
+mod racing_check;
 mod serial;
 mod show;
 
@@ -33,8 +35,10 @@ pub use depth::depth_command;
 pub use laws::{
     case_texts_are_cases, case_texts_have_one_answer, cases_have_one_answer, codes_are_faithful,
     codes_have_one_answer, depth_runs_have_one_answer, instructions_have_their_lines,
-    listings_have_one_answer, outcomes_have_one_answer, saved_texts_have_one_answer,
+    listings_have_one_answer, outcomes_have_one_answer, racing_listings_have_one_answer,
+    saved_texts_have_one_answer,
 };
 pub use races::races_command;
+pub use racing_check::racing_check_command;
 pub use serial::serial_command;
 pub use show::show_command;

@@ -5,7 +5,7 @@
 //! blocks, both ways (`end_as_meant`), and so the serial outcome (`ends_serially`); the arrays that
 //! a text gives are such an input (`start_with_input`), and the code's root names arrays of each
 //! (`name_arrays`).
-//! Stands on `ppm_cut_code`, `ppm_depth` and the chains in turn of `ppm_strands`; `ppm_driver`
+//! Stands on `ppm_cut_code`, `ppm_depth` and the chains in turn of `ppm_strands`; `ppm_outcomes`
 //! rests on the last three laws, `ppm_commands` on `end_as_meant`.
 #![tactic(auto)]
 

@@ -1,9 +1,10 @@
 //! The check of capsules that may race: whether each is filled, as its paths tell.
 //! Model: the four things that a filled capsule has not (`ppm_filled`, `specs/Filled`), here its
 //! gaps.
-//! Contract: `first_gap` answers the first gap by a stated order, exactly where there is one; a
-//! code without one has filled paths.
-//! Stands on `ppm_filled` and on the walks of `ppm_war`; no crate stands on it.
+//! Contract: `first_gap` answers the first gap by a stated order, exactly where there is one, and
+//! `check_racing` the first conflict or gap; a code without one has capsules that are ordered and
+//! filled (`specs/Correct`).
+//! Stands on `ppm_filled` and on the walks of `ppm_war`; `ppm_commands` calls it.
 //! After the capsules with compare-and-modify of Blelloch et al., SPAA 2018; the check is this
 //! project's.
 #![tactic(auto)]

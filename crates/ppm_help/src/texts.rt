@@ -24,7 +24,7 @@ pub(crate) fn purpose_of(command: &str) -> &'static str {
         "run" => "compiles a source, and threads run its capsules under a plan of faults",
         "serial" => "interprets a source by its serial meaning",
         "code" => "compiles a source, and writes the listing of its capsules, or a case",
-        "check" => "whether the capsules of a listing may be run again; races are not asked",
+        "check" => "whether the capsules of a listing may be run again, or also where strands race",
         "depth" => "runs the code of a case alone, left branch first, and counts what it takes",
         "races" => "whether the code of a case is sound with its arrays, or its first race",
         "replay" => "compiles a source, and processors run its capsules along a schedule",
@@ -86,6 +86,7 @@ pub(crate) fn meaning_of(command: &str, option: &str) -> &'static str {
         "form" => "lines, events for a viewer of traces, or a picture",
         "only" => "lines: all, those that end a row, or those with a mark",
         "input" => input_of(command),
+        "racy" => "with yes strands may race, and gaps are told too",
         "counts" => "with yes a last line of counts; not with saved",
         _ => NO_WORDS,
     }

@@ -144,6 +144,7 @@ fn line_of(alloc: Global, command: &Command) -> Result<Vec<u8>, Fault> {
         Command::Code => String::from_str(alloc, "code")?,
         Command::CodeCase => String::from_str(alloc, "code with arrays")?,
         Command::Check => String::from_str(alloc, "check")?,
+        Command::CheckRacing => String::from_str(alloc, "check of strands that may race")?,
         Command::Show => String::from_str(alloc, "show")?,
         Command::Explain => String::from_str(alloc, "explain")?,
         Command::Depth(it) => format!(in alloc; "depth capsules {}", it.capsules)?,

@@ -4,7 +4,7 @@
 //! Contract: the frame at the keeper's place shows that strand, and the array words are those
 //! words; as trees of strands and words by cells they are one (`ShowsTheRun`).
 //! Stands on `ppm_layout` and `ppm_depth`, so that neither stands on the other, and on `ppm_frames`;
-//! `ppm_driver` carries by it what is said of the machine's runs over to the program's meaning.
+//! `ppm_outcomes` carries by it what is said of the machine's runs over to the program's meaning.
 //! After the root of a fork-join computation in Blelloch et al., SPAA 2018; images are this
 //! project's.
 #![tactic(auto)]

@@ -67,6 +67,7 @@ told_none (answers.TrappedAfter t line counts) lists = tt
 told_none (answers.Sound counts) lists = tt
 told_none (answers.NotWithinCapsules capsules) lists = tt
 told_none (answers.Raced race) lists = tt
+told_none (answers.Gapped g) lists = tt
 told_none (answers.Swept sweep) lists = tt
 told_none (answers.Differs difference) lists = tt
 

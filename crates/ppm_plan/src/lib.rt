@@ -4,7 +4,7 @@
 //! (`specs/Schedules`).
 //! Contract: a reader answers the items of the text, or its one refusal; texts are read as written
 //! (`specs/Spellings`).
-//! Stands on `ppm_words` and `rand_xoshiro`; `ppm_choice` and `ppm_driver` call it.
+//! Stands on `ppm_words` and `rand_xoshiro`; `ppm_choice` and `ppm_orders` call it.
 //! After the soft and hard faults of Blelloch et al., SPAA 2018; the two forms of text are this
 //! project's.
 #![tactic(auto)]

@@ -3,7 +3,7 @@
 //! Model: the words that `renew` gives (`ppm_saved`), and renewals as the tickets have them
 //! (`ppm_tickets`).
 //! Contract: the one is the other, where no holder has the last tag (`renewed_words_come_back`).
-//! Stands on `ppm_saved` and `ppm_tickets`; what `ppm_driver` says of a resumed run stands on it.
+//! Stands on `ppm_saved` and `ppm_tickets`; what `ppm_outcomes` says of a resumed run stands on it.
 //! After the restart from persistent memory of Blelloch et al., SPAA 2018.
 #![tactic(auto)]
 

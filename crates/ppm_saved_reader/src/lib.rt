@@ -4,7 +4,7 @@
 //! that place (`specs/Lines`, `specs/Rules`, `specs/Places`).
 //! Contract: `read_saved` answers the state whose text it is, or the fault of the first wrong line
 //! (`specs/Correct`).
-//! Stands on `ppm_saved`, `ppm_listing_reader` and `ppm_war`; `resume_command` of `ppm_driver` calls
+//! Stands on `ppm_saved`, `ppm_listing_reader` and `ppm_war`; `resume_command` of `ppm_stop_command` calls
 //! it.
 //! After the readers of listings; the form and its faults are this project's.
 #![tactic(auto)]

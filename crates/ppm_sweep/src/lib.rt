@@ -6,7 +6,7 @@
 //! Contract: `sweep` finds that all of them come to the outcome, and counts them, or the first that
 //! does not (`specs/Found`); those of too many items are left out and counted. The text of a
 //! schedule is read back as its items (`specs/Text`).
-//! Stands on `ppm_following` and `ppm_core`; the command `sweep` of `ppm_driver` stands on it. No
+//! Stands on `ppm_following` and `ppm_core`; the command `sweep` of `ppm_sweep_command` stands on it. No
 //! run begins anew: the machine is copied before each fault, and goes on from there.
 //! Faults before each act are those of exhaustive crash tests; the order is this project's.
 #![tactic(auto)]

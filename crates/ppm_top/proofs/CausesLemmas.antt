@@ -15,6 +15,7 @@ use Rattle.ppm_cli.specs.declared.command.Command.{Command}
 use Rattle.ppm_cli.specs.declared.command.Command.TheVariants as commands
 use Rattle.ppm_commands.specs.Case.{CaseReads}
 use Rattle.ppm_commands.specs.Check.{CheckHas}
+use Rattle.ppm_commands.specs.RacingCheck.{RacingHas}
 use Rattle.ppm_explain.specs.Explaining.{ExplainHas}
 use Rattle.ppm_commands.specs.Code.{CodeReads}
 use Rattle.ppm_commands.specs.Depth.{DepthHas}
@@ -57,6 +58,7 @@ memory_before (Some (commands.Serial options)) o h = judged.memory_before text_l
 memory_before (Some commands.Code) o h = judged.memory_before text_limit CodeReads o.source h
 memory_before (Some commands.CodeCase) o h = judged.memory_before text_limit CaseReads o.source h
 memory_before (Some commands.Check) o h = judged.memory_before listing_limit CheckHas o.source h
+memory_before (Some commands.CheckRacing) o h = judged.memory_before listing_limit RacingHas o.source h
 memory_before (Some commands.Show) o h = judged.memory_before saved_limit ShowHas o.source h
 memory_before (Some commands.Explain) o h = judged.memory_before text_limit ExplainHas o.source h
 memory_before (Some (commands.Depth limit)) o h = judged.memory_before case_limit (DepthHas limit.capsules) o.source h
@@ -121,6 +123,7 @@ told_nothing (Some (commands.Serial options)) o answer lists = refl
 told_nothing (Some commands.Code) o answer lists = refl
 told_nothing (Some commands.CodeCase) o answer lists = refl
 told_nothing (Some commands.Check) o answer lists = refl
+told_nothing (Some commands.CheckRacing) o answer lists = refl
 told_nothing (Some commands.Show) o answer lists = refl
 told_nothing (Some commands.Explain) o answer lists = refl
 told_nothing (Some (commands.Depth limit)) o answer lists = refl

@@ -29,6 +29,7 @@ use Rattle.ppm_explain.proofs.ExplainRows.{explain_rows}
 use Rattle.ppm_commands.specs.Code.{CodeReads}
 use Rattle.ppm_commands.specs.Depth.{DepthHas}
 use Rattle.ppm_commands.specs.Races.{RacesHas}
+use Rattle.ppm_commands.specs.RacingCheck.{RacingHas}
 use Rattle.ppm_commands.specs.Serial.{SerialHas}
 use Rattle.ppm_commands.specs.Show.{ShowHas}
 use Rattle.ppm_commands.proofs.CaseRows.{case_rows}
@@ -36,6 +37,7 @@ use Rattle.ppm_commands.proofs.CheckRows.{check_rows}
 use Rattle.ppm_commands.proofs.CodeRows.{code_rows}
 use Rattle.ppm_commands.proofs.DepthRows.{depth_rows}
 use Rattle.ppm_commands.proofs.RacesRows.{races_rows}
+use Rattle.ppm_commands.proofs.RacingRows.{racing_check_rows}
 use Rattle.ppm_commands.proofs.SerialRows.{serial_rows}
 use Rattle.ppm_commands.proofs.ShowRows.{show_rows}
 use Rattle.ppm_plan.specs.Forms.{Form, plan_form, schedule_form}
@@ -140,6 +142,7 @@ command_reports o (Some (commands.Serial options)) = judging_reports text_limit 
 command_reports o (Some commands.Code) = judging_reports text_limit CodeReads o
 command_reports o (Some commands.CodeCase) = judging_reports text_limit CaseReads o
 command_reports o (Some commands.Check) = judging_reports listing_limit CheckHas o
+command_reports o (Some commands.CheckRacing) = judging_reports listing_limit RacingHas o
 command_reports o (Some commands.Show) = judging_reports saved_limit ShowHas o
 command_reports o (Some commands.Explain) = judging_reports text_limit ExplainHas o
 command_reports o (Some (commands.Depth limit)) = judging_reports case_limit (DepthHas limit.capsules) o
@@ -202,6 +205,7 @@ program_rows laws words o status a = record {
   code = λ e. code_rows laws.codes laws.faithful (ports_of o) status (by_words (Some commands.Code) e);
   case = λ e. case_rows laws.texts laws.cases laws.faithful (ports_of o) status (by_words (Some commands.CodeCase) e);
   check = λ e. check_rows (ports_of o) laws.listings status (by_words (Some commands.Check) e);
+  racing_check = λ e. racing_check_rows (ports_of o) laws.racing_listings status (by_words (Some commands.CheckRacing) e);
   show = λ e. show_rows (ports_of o) laws.states status (by_words (Some commands.Show) e);
   explain = λ e. explain_rows (ports_of o) laws.explained status (by_words (Some commands.Explain) e);
   depth = λ limit e. (

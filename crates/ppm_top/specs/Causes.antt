@@ -14,6 +14,7 @@ use Rattle.ppm_explain.specs.Explaining.{ExplainMay}
 use Rattle.ppm_commands.specs.Code.{CodeMay}
 use Rattle.ppm_commands.specs.Depth.{DepthMay}
 use Rattle.ppm_commands.specs.Races.{RacesMay}
+use Rattle.ppm_commands.specs.RacingCheck.{RacingCheckMay}
 use Rattle.ppm_commands.specs.Serial.{SerialMay}
 use Rattle.ppm_commands.specs.Show.{ShowMay}
 use Rattle.ppm_replay_command.specs.CaseReplays.{ReplayCaseMay}
@@ -49,6 +50,7 @@ CommandMay (Some (commands.Serial options)) o answer = SerialMay options.turns o
 CommandMay (Some commands.Code) o answer = CodeMay o.source answer
 CommandMay (Some commands.CodeCase) o answer = CaseMay o.source answer
 CommandMay (Some commands.Check) o answer = CheckMay o.source answer
+CommandMay (Some commands.CheckRacing) o answer = RacingCheckMay o.source answer
 CommandMay (Some commands.Show) o answer = ShowMay o.source answer
 CommandMay (Some commands.Explain) o answer = ExplainMay o.source answer
 CommandMay (Some (commands.Depth limit)) o answer = DepthMay limit.capsules o.source answer
@@ -80,6 +82,7 @@ CommandTells (Some (commands.Serial options)) o = TellsNothing
 CommandTells (Some commands.Code) o = TellsNothing
 CommandTells (Some commands.CodeCase) o = TellsNothing
 CommandTells (Some commands.Check) o = TellsNothing
+CommandTells (Some commands.CheckRacing) o = TellsNothing
 CommandTells (Some commands.Show) o = TellsNothing
 CommandTells (Some commands.Explain) o = TellsNothing
 CommandTells (Some (commands.Depth limit)) o = TellsNothing

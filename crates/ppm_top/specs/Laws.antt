@@ -4,6 +4,7 @@ use Rattle.ppm_case.specs.Correct.{FaultsTellCases}
 use Rattle.ppm_ram.specs.Correct.{TextsAreOfRams}
 use Rattle.ppm_commands.specs.Case.{AreCases, HaveOneAnswer as CaseTextsHaveOneAnswer}
 use Rattle.ppm_commands.specs.Check.{HaveOneAnswer as ListingsHaveOneAnswer}
+use Rattle.ppm_commands.specs.RacingCheck.{HaveOneAnswer as RacingListingsHaveOneAnswer}
 use Rattle.ppm_explain.specs.Explaining.{FrontsAreExplained}
 use Rattle.ppm_commands.specs.Code.{CodesAreFaithful, HaveOneAnswer as CodesHaveOneAnswer}
 use Rattle.ppm_commands.specs.Depth.{HaveOneAnswer as DepthRunsHaveOneAnswer}
@@ -58,6 +59,7 @@ pub record ProgramLaws : Type 0 where
   pub codes : CodesHaveOneAnswer
   pub faithful : CodesAreFaithful
   pub listings : ListingsHaveOneAnswer
+  pub racing_listings : RacingListingsHaveOneAnswer
   pub states : SavedTextsHaveOneAnswer
   pub explained : FrontsAreExplained
   pub depths : DepthRunsHaveOneAnswer

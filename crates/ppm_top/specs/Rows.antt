@@ -30,6 +30,7 @@ use Rattle.ppm_explain.specs.Explaining.{ExplainRows}
 use Rattle.ppm_commands.specs.Code.{CodeRows}
 use Rattle.ppm_commands.specs.Depth.{DepthRows}
 use Rattle.ppm_commands.specs.Races.{RacesRows}
+use Rattle.ppm_commands.specs.RacingCheck.{RacingCheckRows}
 use Rattle.ppm_commands.specs.Serial.{SerialRows}
 use Rattle.ppm_loading.specs.MachineRows.{RefusesPlan}
 use Rattle.ppm_replay_command.specs.CaseReplayRows.{ReplayCaseRows}
@@ -95,6 +96,10 @@ SeeksRacesByWords words o status = (limit : CapsuleLimit) → command_of words �
 -- and those of `check` where they ask for that
 abbrev pub ChecksByWords : List (List ℕ) → Outside → Status → Type 0
 ChecksByWords words o status = command_of words ≡ Some commands.Check → CheckRows (ports_of o) status
+
+-- of a code whose strands may race too
+abbrev pub ChecksRacingByWords : List (List ℕ) → Outside → Status → Type 0
+ChecksRacingByWords words o status = command_of words ≡ Some commands.CheckRacing → RacingCheckRows (ports_of o) status
 
 -- those of `show` where they ask for that
 abbrev pub ShowsByWords : List (List ℕ) → Outside → Status → Type 0
@@ -247,6 +252,7 @@ pub record ProgramRows (words : List (List ℕ)) (o : Outside) (status : Status)
   pub code : ListsByWords words o status
   pub case : ListsCaseByWords words o status
   pub check : ChecksByWords words o status
+  pub racing_check : ChecksRacingByWords words o status
   pub show : ShowsByWords words o status
   pub explain : ExplainsByWords words o status
   pub depth : RunsDepthFirstByWords words o status

@@ -6,7 +6,7 @@ use ppm_case::faults_tell_cases;
 use ppm_commands::{
     case_texts_are_cases, case_texts_have_one_answer, cases_have_one_answer, codes_are_faithful,
     codes_have_one_answer, depth_runs_have_one_answer, listings_have_one_answer,
-    outcomes_have_one_answer, saved_texts_have_one_answer,
+    outcomes_have_one_answer, racing_listings_have_one_answer, saved_texts_have_one_answer,
 };
 use ppm_driver::{
     answers_are_as_code, answers_are_as_rams, answers_are_one as runs_have_one_answer,
@@ -46,6 +46,7 @@ pub fn program_laws()
     codes_have_one_answer();
     codes_are_faithful();
     listings_have_one_answer();
+    racing_listings_have_one_answer();
     saved_texts_have_one_answer();
     fronts_are_explained();
     depth_runs_have_one_answer();

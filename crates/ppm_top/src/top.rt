@@ -11,8 +11,8 @@ use crate::laws::program_laws;
 use ppm_answers::{Answer, Status, deliver};
 use ppm_cli::{Command, read_words};
 use ppm_commands::{
-    case_command, check_command, code_command, depth_command, races_command, serial_command,
-    show_command,
+    case_command, check_command, code_command, depth_command, races_command, racing_check_command,
+    serial_command, show_command,
 };
 use ppm_driver::{ram_command, run_case_command, run_command, self_command};
 use ppm_explain::explain_command;
@@ -108,6 +108,7 @@ fn answer_words<R: Threads + Wait + Sync, S: Source, K: Sink, E: Sink, W: Watch>
         Ok(Some(Command::Code)) => code_command(alloc, source, out, err),
         Ok(Some(Command::CodeCase)) => case_command(alloc, source, out, err),
         Ok(Some(Command::Check)) => check_command(alloc, source, out, err),
+        Ok(Some(Command::CheckRacing)) => racing_check_command(alloc, source, out, err),
         Ok(Some(Command::Show)) => show_command(alloc, source, out, err),
         Ok(Some(Command::Explain)) => explain_command(alloc, source, out, err),
         Ok(Some(Command::Depth(limit))) => depth_command(alloc, limit.capsules, source, out, err),

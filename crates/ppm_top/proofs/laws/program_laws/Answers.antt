@@ -20,6 +20,7 @@ returns c = record {
     codes = c.codes_have_one_answer.ensures.law;
     faithful = c.codes_are_faithful.ensures.law;
     listings = c.listings_have_one_answer.ensures.law;
+    racing_listings = c.racing_listings_have_one_answer.ensures.law;
     states = c.saved_texts_have_one_answer.ensures.law;
     explained = c.fronts_are_explained.ensures.law;
     depths = c.depth_runs_have_one_answer.ensures.law;

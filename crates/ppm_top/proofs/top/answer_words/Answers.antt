@@ -43,6 +43,12 @@ returns-in-Ok-Some-Check-clause-answers g c = by_ports (map string_bytes c.args.
     (cc (c.in-Ok-Some-Check.ensures.value, c.in-Ok-Some-Check.field-0-is, c.in-Ok-Some-Check.field-0-0-is)) refl refl
     c.check_command.ensures.delivers
 
+-- the words ask to check a code whose strands may race, which was answered
+pub returns-in-Ok-Some-CheckRacing-clause-answers : goal.returns-in-Ok-Some-CheckRacing-clause-answers
+returns-in-Ok-Some-CheckRacing-clause-answers g c = by_ports (map string_bytes c.args.words.now) _ _ (Some commands.CheckRacing)
+    (cc (c.in-Ok-Some-CheckRacing.ensures.value, c.in-Ok-Some-CheckRacing.field-0-is, c.in-Ok-Some-CheckRacing.field-0-0-is)) refl refl
+    c.racing_check_command.ensures.delivers
+
 -- the words ask for a state, which was shown
 pub returns-in-Ok-Some-Show-clause-answers : goal.returns-in-Ok-Some-Show-clause-answers
 returns-in-Ok-Some-Show-clause-answers g c = by_ports (map string_bytes c.args.words.now) _ _ (Some commands.Show)

@@ -1,0 +1,13 @@
+use Rattle.std.proofs.Common.{◌≡◌, ◌++◌, ℕ, List, [], ◌∷◌, ◌∙◌, ap, codes, append_assoc}
+use Rattle.std.specs.Prelude.{decimal}
+use Rattle.ppm_answers.proofs.gap.hung_text_of.Goals as goal
+
+-- the parts of the line, put together from the right
+from_the_right : (a m b : List ℕ) → a ++ (m ++ (b ++ 10 ∷ [])) ≡ (a ++ m ++ b) ++ 10 ∷ []
+from_the_right a m b = simp (append_assoc)
+
+-- the bytes of the string
+pub returns : goal.returns
+returns c = let g = c.args.hung in
+    ap (λ v. v.items) c.into_bytes.ensures.value ∙ c.in_ok-text.ensures.ok ∙
+    ap (λ l. codes "hung: capsule " ++ l) (from_the_right (decimal g.capsule) (codes " trap ") (decimal g.trap))
