@@ -6,13 +6,15 @@ use Rattle.std.proofs.KnownBytes.{Keeps-refl}
 use Rattle.ppm_ports.specs.Ports.{Port, port, Fails, Holds}
 use Rattle.ppm_answers.specs.declared.answer.Answer.{Answer}
 use Rattle.ppm_answers.specs.declared.answer.Answer.TheVariants as answers
+use Rattle.ppm_answers.specs.declared.refused.Refused.{Refused}
+use Rattle.ppm_answers.specs.declared.refused.Refused.TheVariants as refused
 use Rattle.ppm_answers.specs.declared.status.Status.{Status}
 use Rattle.ppm_answers.specs.declared.status.Status.TheVariants as statuses
 use Rattle.ppm_answers.specs.declared.run_counts.RunCounts.{RunCounts}
 use Rattle.ppm_answers.specs.declared.sweep.Came.{Came}
 use Rattle.ppm_answers.specs.declared.sweep.Came.TheVariants as came
 use Rattle.ppm_answers.specs.Texts.{IsFixed, counted_out, out_text}
-use Rattle.ppm_answers.specs.Statuses.{came_status, status_of}
+use Rattle.ppm_answers.specs.Statuses.{came_status, refused_status, status_of}
 use Rattle.ppm_answers.specs.Delivery.{IsWritten, Delivers}
 use Rattle.ppm_answers.specs.Reading.{IsUnread, DeliversAnswer, TellsNothing, Answers}
 use Rattle.ppm_ports.specs.Outside.{ToldLists, Outside, ports_of}
@@ -56,6 +58,28 @@ came_no_refusal (came.Trapped t line) e = cc
 came_no_refusal (came.Unfinished acts) e = cc
 came_no_refusal (came.OutOfRoom place) e = cc
 came_no_refusal (came.Broken place) e = cc
+
+-- neither is a refusal of a text
+pub refused_no_fault : (r : Refused) → refused_status r ≡ statuses.ReadFault → ⊥
+refused_no_fault (refused.Source r) e = cc
+refused_no_fault (refused.Listing r) e = cc
+refused_no_fault (refused.Conflict c) e = cc
+refused_no_fault (refused.Input r) e = cc
+refused_no_fault (refused.ConflictAt c read write) e = cc
+refused_no_fault (refused.Untidy u) e = cc
+refused_no_fault (refused.Saved r) e = cc
+refused_no_fault (refused.Plan number) e = cc
+
+-- and none but that of a plan or a schedule refuses words
+pub is_plan : (r : Refused) → refused_status r ≡ statuses.WordsRefused → (number : ℕ) × (r ≡ refused.Plan number)
+is_plan (refused.Source r) e = cc
+is_plan (refused.Listing r) e = cc
+is_plan (refused.Conflict c) e = cc
+is_plan (refused.Input r) e = cc
+is_plan (refused.ConflictAt c read write) e = cc
+is_plan (refused.Untidy u) e = cc
+is_plan (refused.Saved r) e = cc
+is_plan (refused.Plan number) e = (number, refl)
 
 -- a replay that has no end has no text on out, its counts included
 no_counted : (c : Came) (counts : RunCounts) → came_status c ≢ statuses.Ended → came_status c ≢ statuses.Trapped → counted_out c counts ≡ []

@@ -4,6 +4,8 @@ use Rattle.ppm_answers.specs.declared.answer.Answer.{Answer}
 use Rattle.ppm_answers.specs.declared.answer.Answer.TheVariants as answers
 use Rattle.ppm_answers.specs.declared.sweep.Came.{Came}
 use Rattle.ppm_answers.specs.declared.sweep.Came.TheVariants as came
+use Rattle.ppm_answers.specs.declared.refused.Refused.{Refused}
+use Rattle.ppm_answers.specs.declared.refused.Refused.TheVariants as refused
 use Rattle.ppm_answers.specs.declared.status.Status.{Status}
 use Rattle.ppm_answers.specs.declared.status.Status.TheVariants as statuses
 
@@ -14,6 +16,17 @@ came_status (came.Trapped t line) = statuses.Trapped
 came_status (came.Unfinished acts) = statuses.OutOfTurns
 came_status (came.OutOfRoom place) = statuses.OutOfRoom
 came_status (came.Broken place) = statuses.Broken
+
+-- the status of a refusal, which is that of the command that reads the text
+abbrev pub refused_status : Refused → Status
+refused_status (refused.Source r) = statuses.SourceRefused
+refused_status (refused.Listing r) = statuses.CodeRefused
+refused_status (refused.Conflict c) = statuses.CodeRefused
+refused_status (refused.Input r) = statuses.CodeRefused
+refused_status (refused.ConflictAt c read write) = statuses.CodeRefused
+refused_status (refused.Untidy u) = statuses.CodeRefused
+refused_status (refused.Saved r) = statuses.SavedRefused
+refused_status (refused.Plan number) = statuses.WordsRefused
 
 -- the status of an answer whose texts are written
 abbrev pub status_of : Answer → Status
@@ -33,7 +46,7 @@ status_of (answers.Saved text) = statuses.Ended
 status_of (answers.Traced text) = statuses.Ended
 status_of (answers.Shown text) = statuses.Ended
 status_of (answers.SourceRefused r) = statuses.SourceRefused
-status_of (answers.SourceExplained r notes) = statuses.SourceRefused
+status_of (answers.Explained r notes) = refused_status r
 status_of answers.Accepted = statuses.Ended
 status_of (answers.Conflicting c) = statuses.CodeRefused
 status_of (answers.Gapped g) = statuses.CodeRefused

@@ -10,6 +10,8 @@ use Rattle.ppm_cells.specs.declared.shape.Takeover.TheVariants as takeover
 use Rattle.ppm_answers.specs.declared.refusal.Pass.{Pass}
 use Rattle.ppm_answers.specs.declared.refusal.Pass.TheVariants as pass
 use Rattle.ppm_answers.specs.declared.refusal.Refusal.{Refusal}
+use Rattle.ppm_answers.specs.declared.refused.Refused.{Refused}
+use Rattle.ppm_answers.specs.declared.refused.Refused.TheVariants as refused
 use Rattle.ppm_answers.specs.declared.saved.SavedRefusal.{SavedRefusal}
 use Rattle.ppm_answers.specs.declared.conflict.Class.{Class}
 use Rattle.ppm_answers.specs.declared.conflict.Class.TheVariants as class
@@ -311,6 +313,17 @@ takeover_line t = ended_line (codes "takeover " ++ takeover_name t)
 abbrev pub difference_text : Difference → List ℕ
 difference_text d = schedule_line d.schedule ++ takeover_line d.takeover ++ came_text d.came
 
+-- the line of a refusal that is explained
+abbrev pub refused_text : Refused → List ℕ
+refused_text (refused.Source r) = refusal_text r
+refused_text (refused.Listing r) = listing_text r
+refused_text (refused.Conflict c) = conflict_text c
+refused_text (refused.Input r) = input_text r
+refused_text (refused.ConflictAt c read write) = conflict_at_text c read write
+refused_text (refused.Untidy u) = untidy_text u
+refused_text (refused.Saved r) = saved_line r
+refused_text (refused.Plan number) = plan_text number
+
 -- what is written on out
 abbrev pub out_text : Answer → List ℕ
 out_text (answers.Ended arrays) = arrays_text arrays
@@ -335,7 +348,7 @@ out_text (answers.Unfinished acts) = []
 out_text (answers.Broken place) = []
 out_text (answers.PlanRefused number) = []
 out_text (answers.SourceRefused r) = []
-out_text (answers.SourceExplained r notes) = []
+out_text (answers.Explained r notes) = []
 out_text (answers.Conflicting c) = []
 out_text (answers.Gapped g) = []
 out_text (answers.ListingRefused r) = []
@@ -360,7 +373,7 @@ err_text (answers.ReplayedWith c counts) = counted_err c counts
 err_text (answers.Broken place) = broken_text place
 err_text (answers.PlanRefused number) = plan_text number
 err_text (answers.SourceRefused r) = refusal_text r
-err_text (answers.SourceExplained r notes) = refusal_text r ++ notes
+err_text (answers.Explained r notes) = refused_text r ++ notes
 err_text (answers.Conflicting c) = conflict_text c
 err_text (answers.Gapped g) = gap_text g
 err_text (answers.ListingRefused r) = listing_text r

@@ -5,6 +5,7 @@ use crate::counts::Counts;
 use crate::gap::Gap;
 use crate::race::Race;
 use crate::refusal::Refusal;
+use crate::refused::Refused;
 use crate::run_counts::RunCounts;
 use crate::saved::SavedRefusal;
 use crate::sums::Sums;
@@ -51,7 +52,7 @@ pub enum Answer {
     /// The text is refused for this reason.
     SourceRefused(Refusal),
     /// The text is refused for this reason, and these notes explain it.
-    SourceExplained(Refusal, Items<u8>),
+    Explained(Refused, Items<u8>),
     /// The text is the listing of a code without conflicts.
     Accepted,
     /// The text is the listing of a code with this conflict.

@@ -7,6 +7,7 @@ ghost use Rattle.ppm_answers.specs.Texts.{IsFixed, out_text, err_text};
 ghost use Rattle.ppm_answers.specs.declared.answer.Answer.TheVariants as answers;
 
 use crate::answer::Answer;
+use crate::refused::refused_status;
 use crate::replayed::came_status;
 use crate::status::Status;
 use crate::texts::{OUT_OF_MEMORY, WRITE_FAULT, texts_of};
@@ -65,7 +66,8 @@ fn own_status(answer: &Answer) -> Status
         Answer::OutOfTurns(_) | Answer::Unfinished(_) => Status::OutOfTurns,
         Answer::OutOfRoom(_) => Status::OutOfRoom,
         Answer::Broken(_) => Status::Broken,
-        Answer::SourceRefused(_) | Answer::SourceExplained(_, _) => Status::SourceRefused,
+        Answer::SourceRefused(_) => Status::SourceRefused,
+        Answer::Explained(refused, _) => refused_status(*refused),
         Answer::Summed(_) | Answer::Listed(_) | Answer::Saved(_) => Status::Ended,
         Answer::Shown(_) => Status::Ended,
         Answer::Accepted | Answer::Sound(_) | Answer::Swept(_) | Answer::Traced(_) => Status::Ended,

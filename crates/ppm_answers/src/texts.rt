@@ -1,5 +1,5 @@
 //! The texts of answers.
-ghost use Rattle.std.specs.Prelude.{◌≡◌, ◌++◌, IfOk, IsOk};
+ghost use Rattle.std.specs.Prelude.{◌≡◌, IfOk, IsOk};
 ghost use Rattle.std.specs.Cow.{cow_slice_items};
 ghost use Rattle.ppm_answers.specs.Texts.{IsFixed, out_text, err_text, refusal_text, fault_text};
 ghost use Rattle.ppm_answers.specs.Texts.{pass_name as name_of_pass, place_name as name_of_place};
@@ -13,6 +13,7 @@ use crate::ends::{arrays_text_of, broken_text_of, room_text_of, trap_text_of, un
 use crate::gap::gap_text_of;
 use crate::race::race_text_of;
 use crate::refusal::{Pass, Refusal};
+use crate::refused::explained_text_of;
 use crate::replayed::{counted_err_of, counted_out_of};
 use crate::saved::saved_line_of;
 use crate::sums::sums_text_of;
@@ -103,9 +104,9 @@ pub fn texts_of(alloc: Global, answer: &Answer) -> Result<(Text, Text), AllocErr
             CowSlice::Borrowed(none),
             CowSlice::Owned(refusal_text_of(alloc, *refusal)?),
         )),
-        Answer::SourceExplained(refusal, notes) => Ok((
+        Answer::Explained(refused, notes) => Ok((
             CowSlice::Borrowed(none),
-            CowSlice::Owned(explained_text_of(alloc, *refusal, notes.as_slice())?),
+            CowSlice::Owned(explained_text_of(alloc, *refused, notes.as_slice())?),
         )),
         Answer::NotWithin(turns) => Ok((
             CowSlice::Borrowed(none),
@@ -199,7 +200,7 @@ fn turns_text_of(alloc: Global, processor: u32) -> Result<Vec<u8>, AllocError>
 }
 
 /// The line of a plan or schedule that is refused.
-fn plan_text_of(alloc: Global, number: u32) -> Result<Vec<u8>, AllocError>
+pub(crate) fn plan_text_of(alloc: Global, number: u32) -> Result<Vec<u8>, AllocError>
     ensures { IfOk result (λ text. text.items ≡ plan_text number) }
 {
     let text = format!(in alloc; "plan refused: {number}\n")?;
@@ -215,21 +216,12 @@ fn not_within_text_of(alloc: Global, turns: u64) -> Result<Vec<u8>, AllocError>
 }
 
 /// The line of a refusal.
-fn refusal_text_of(alloc: Global, refusal: Refusal) -> Result<Vec<u8>, AllocError>
+pub(crate) fn refusal_text_of(alloc: Global, refusal: Refusal) -> Result<Vec<u8>, AllocError>
     ensures { IfOk result (λ text. text.items ≡ refusal_text refusal) }
 {
     let pass = pass_name(refusal.pass);
     let at = place_name(refusal.pass);
     fault_text_of(alloc, pass, refusal.number, at, refusal.place)
-}
-
-/// The line of a refusal, with the notes that explain it.
-fn explained_text_of(alloc: Global, refusal: Refusal, notes: &[u8]) -> Result<Vec<u8>, AllocError>
-    ensures { IfOk result (λ text. text.items ≡ refusal_text refusal ++ notes.now) }
-{
-    let mut text = refusal_text_of(alloc, refusal)?;
-    text.extend_from_slice(notes)?;
-    Ok(text)
 }
 
 /// The line of a fault: the pass and the number, and where it is.

@@ -13,7 +13,7 @@ use Rattle.ppm_cli.specs.Application.{ppm_application}
 use Rattle.ppm_cli.specs.CommandLine.{Number, OptionRule, processors, turns, room, slots, looks, seed, faults, schedule}
 use Rattle.ppm_cli.specs.CommandLine.{few_processors, after, saved_room, few_slots, size, count, capsules, arrays, racy}
 use Rattle.ppm_cli.specs.CommandLine.{copied_room, copied_slots, met, from, acts, runs}
-use Rattle.ppm_cli.specs.CommandLine.{traced_from, traced_acts}
+use Rattle.ppm_cli.specs.CommandLine.{traced_from, traced_acts, stated_plan, stated_schedule}
 use Rattle.ppm_cli.specs.Words.{run_options, serial_in, replay_options, resume_options, self_in, self_options, stop_options}
 use Rattle.ppm_cli.specs.Values.{number_in, number_given, value_of_digits, text_given}
 use Rattle.ppm_cli.specs.Words.{command_named, command_in, without_fault, command_of}
@@ -22,13 +22,14 @@ use Rattle.ppm_cli.specs.Words.{with_text, AreReplayed, AreResumed, AreRun, AreS
 use Rattle.ppm_cli.specs.Values.{fitting_room, fitting_saved_room, room_given, saved_room_given}
 use Rattle.ppm_cli.specs.Words.{sweep_options, AreSwept, trace_options, AreTraced}
 use Rattle.ppm_cli.specs.Values.{swept_takeovers_given, traced_form_given, traced_lines_given}
-use Rattle.ppm_cli.specs.Words.{by_input, replay_by, replay_with, check_in, code_in, capsule_limit, with_input}
+use Rattle.ppm_cli.specs.Words.{by_input, explain_by, explain_in, replay_by, replay_with, check_in, code_in, capsule_limit, with_input}
 use Rattle.ppm_cli.specs.Words.{by_any_input, command_for, replay_saved, stop_saved, trace_saved, with_any_input}
-use Rattle.ppm_cli.specs.Values.{are_counts_given, choice_given, input_given, is_case_given}
+use Rattle.ppm_cli.specs.Values.{are_counts_given, choice_given, explained_given, input_given, is_case_given, stated_given}
 use Rattle.ppm_cli.specs.declared.capsules.CapsuleLimit.{CapsuleLimit}
 use Rattle.ppm_cli.specs.declared.command.Command.{Command}
 use Rattle.ppm_cli.specs.declared.command.Command.TheVariants as commands
 use Rattle.ppm_cli.specs.declared.example.SelfOptions.{SelfOptions}
+use Rattle.ppm_cli.specs.declared.explain.ExplainedText.{ExplainedText}
 use Rattle.ppm_cli.specs.declared.input.InputKind.{InputKind}
 use Rattle.ppm_cli.specs.declared.input.InputKind.TheVariants as kinds
 use Rattle.ppm_cli.specs.declared.replay.ReplayOptions.{ReplayOptions}
@@ -287,6 +288,22 @@ check_are rows = go (choice_given racy (false ∷ true ∷ []) rows) where
   go (Some true) = tt
   go (Some false) = tt
 
+-- a plan or a schedule that is explained is for processors in their range
+explained_are : (text : ExplainedText) (p : ℕ) (plan schedule : Option Text) → IsOfForm processors.form p
+    → IfSome (explain_by text p plan schedule) IsInRange
+explained_are text p None None h = tt
+explained_are text p (Some plan) None h = h
+explained_are text p None (Some schedule) h = h
+explained_are text p (Some plan) (Some schedule) h = tt
+
+explain_are : (rows : List Row) → IfSome (explain_in rows) IsInRange
+explain_are rows =
+    bound IsInRange (explained_given rows) _ (λ text a.
+    bound IsInRange (number_given processors rows) _ (λ p b.
+    bound IsInRange (stated_given stated_plan rows) _ (λ plan c.
+    bound IsInRange (stated_given stated_schedule rows) _ (λ schedule d.
+    explained_are text p plan schedule (given processors _ _ p rows refl b)))))
+
 limit_are : (rows : List Row) → IfSome (capsule_limit rows) IsLimit
 limit_are rows = go (number_given capsules rows) (λ n e. given capsules _ _ n rows refl e) where
   go : (n : Option ℕ) → ((m : ℕ) → n ≡ Some m → IsOfForm capsules.form m) → IfSome (option_map (λ n. record { capsules = n }) n) IsLimit
@@ -328,7 +345,7 @@ named_are name rows =
     (with_any_input_are AreTraced commands.Trace commands.TraceCase trace_saved schedule (trace_options rows) rows (λ o t h. h) (λ o t h. h)
     (λ o t h. (h.1, h.2)) (trace_are rows))
     (either IsInRange (bytes_eq name (codes "show")) _ _ tt
-    (either IsInRange (bytes_eq name (codes "explain")) _ _ tt
+    (either IsInRange (bytes_eq name (codes "explain")) _ _ (explain_are rows)
     tt))))))))))))))
 
 -- the options of a command that words give

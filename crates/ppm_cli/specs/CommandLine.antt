@@ -1,4 +1,4 @@
--- The command line as a table of rules: the thirteen commands, and their options with ranges and defaults.
+-- The command line as a table of rules: the commands, and their options with ranges and defaults.
 use Prim.Native.String.{String}
 use Rattle.std.specs.Prelude.{ℕ, Bool, true, false, List, [], ◌∷◌, codes, decimal, map, not, nat_eq}
 use Rattle.clap.specs.Words.{Text}
@@ -183,6 +183,17 @@ counts = choice "counts" ("no" ∷ "yes" ∷ []) "no"
 abbrev pub any_input : OptionRule
 any_input = choice "input" ("source" ∷ "case" ∷ "saved" ∷ []) "source"
 
+-- which text is explained
+abbrev pub explained : OptionRule
+explained = choice "input" ("source" ∷ "listing" ∷ "case" ∷ "saved" ∷ []) "source"
+
+-- the plan that is explained, and the schedule: `-` says that it is not stated
+abbrev pub stated_plan : OptionRule
+stated_plan = text "plan" "-"
+
+abbrev pub stated_schedule : OptionRule
+stated_schedule = text "schedule" "-"
+
 -- ---- the commands
 
 -- the whole command line
@@ -205,5 +216,5 @@ command_line =
     ∷ command "trace"
     (processors ∷ traced_from ∷ traced_acts ∷ room ∷ slots ∷ takeover ∷ schedule ∷ traced_form ∷ only ∷ any_input ∷ [])
     ∷ command "show" []
-    ∷ command "explain" []
+    ∷ command "explain" (explained ∷ stated_plan ∷ stated_schedule ∷ processors ∷ [])
     ∷ []

@@ -1,5 +1,5 @@
 -- The values of options in the matches of a command.
-use Rattle.std.specs.Prelude.{◌*◌, ℕ, Bool, true, false, List, [], ◌∷◌, Option, Some, None, if◌then◌else◌, nat_le, ◌&&◌, option_and_then}
+use Rattle.std.specs.Prelude.{◌*◌, ℕ, Bool, true, false, List, [], ◌∷◌, Option, Some, None, if◌then◌else◌, nat_le, ◌&&◌, codes, option_and_then, option_map}
 use Rattle.std.specs.Str.{bytes_eq}
 use Rattle.std.specs.Str.Parse.{digits_value, without_leading_plus}
 use Rattle.clap.specs.Words.{Row, Text, first_of, one_of}
@@ -9,7 +9,9 @@ use Rattle.ppm_words.specs.declared.idle.Idle.TheVariants.{Leave, Park}
 use Rattle.ppm_cells.specs.Limits.{most_pool_words, most_saved_pool_words}
 use Rattle.ppm_cells.specs.declared.shape.Takeover.{Takeover}
 use Rattle.ppm_cells.specs.declared.shape.Takeover.TheVariants.{ByPlaces, ByEntries}
-use Rattle.ppm_cli.specs.CommandLine.{Form, Number, Choice, AnyText, OptionRule, is_free_text, takeover, swept_takeovers, counts, idle, input, any_input, traced_form, only}
+use Rattle.ppm_cli.specs.CommandLine.{Form, Number, Choice, AnyText, OptionRule, is_free_text, takeover, swept_takeovers, counts, idle, input, any_input, explained, traced_form, only}
+use Rattle.ppm_cli.specs.declared.explain.ExplainedText.{ExplainedText}
+use Rattle.ppm_cli.specs.declared.explain.ExplainedText.TheVariants as texts
 use Rattle.ppm_cli.specs.declared.input.InputKind.{InputKind}
 use Rattle.ppm_cli.specs.declared.input.InputKind.TheVariants as kinds
 use Rattle.ppm_cli.specs.declared.takeover.SweptTakeovers.{SweptTakeovers}
@@ -44,6 +46,14 @@ text_in _ text = None
 -- the text of an option in the matches of its command, with the default there, too
 abbrev pub text_given : OptionRule → List Row → Option Text
 text_given o rows = option_and_then (text_in o.form) (first_of o.name rows)
+
+-- the text, if the form takes it; `-` says that none is stated
+abbrev pub stated_in : Form → Text → Option (Option Text)
+stated_in form text = if bytes_eq text (codes "-") then Some None else option_map (λ t. Some t) (text_in form text)
+
+-- the text of an option in the matches of its command, if it is stated there
+abbrev pub stated_given : OptionRule → List Row → Option (Option Text)
+stated_given o rows = option_and_then (stated_in o.form) (first_of o.name rows)
 
 -- the value that a word stands for among these words, which stand in the order of the values
 abbrev pub value_among : {T : Type 0} → List Text → List T → Text → Option T
@@ -106,6 +116,10 @@ are_counts_given rows = choice_given counts (false ∷ true ∷ []) rows
 -- whether the text that is read is a case, and not a source
 abbrev pub is_case_given : List Row → Option Bool
 is_case_given rows = choice_given input (false ∷ true ∷ []) rows
+
+-- which text is explained
+abbrev pub explained_given : List Row → Option ExplainedText
+explained_given rows = choice_given explained (texts.Source ∷ texts.Listing ∷ texts.Case ∷ texts.Saved ∷ []) rows
 
 -- which text is read, where it may be a saved one
 abbrev pub input_given : List Row → Option InputKind

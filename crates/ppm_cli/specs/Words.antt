@@ -8,13 +8,16 @@ use Rattle.ppm_cli.specs.CommandLine.{Form, Number, OptionRule}
 use Rattle.ppm_cli.specs.CommandLine.{processors, turns, room, slots, looks, seed, faults, schedule}
 use Rattle.ppm_cli.specs.CommandLine.{few_processors, after, saved_room, few_slots, size, count, capsules, arrays, racy}
 use Rattle.ppm_cli.specs.CommandLine.{copied_room, copied_slots, met, from, acts, runs}
-use Rattle.ppm_cli.specs.CommandLine.{traced_from, traced_acts}
+use Rattle.ppm_cli.specs.CommandLine.{traced_from, traced_acts, stated_plan, stated_schedule}
 use Rattle.ppm_cli.specs.Values.{and_then, are_counts_given, choice_given, idle_given, is_case_given, number_given, room_given, swept_takeovers_given, takeover_given, text_given}
-use Rattle.ppm_cli.specs.Values.{input_given, saved_room_given, traced_form_given, traced_lines_given}
+use Rattle.ppm_cli.specs.Values.{explained_given, stated_given, input_given, saved_room_given, traced_form_given, traced_lines_given}
 use Rattle.ppm_cli.specs.declared.capsules.CapsuleLimit.{CapsuleLimit}
 use Rattle.ppm_cli.specs.declared.command.Command.{Command}
 use Rattle.ppm_cli.specs.declared.command.Command.TheVariants as commands
 use Rattle.ppm_cli.specs.declared.example.SelfOptions.{SelfOptions}
+use Rattle.ppm_cli.specs.declared.explain.ExplainedText.{ExplainedText}
+use Rattle.ppm_cli.specs.declared.explain.ExplainedOrders.TheVariants as orders
+use Rattle.ppm_cli.specs.declared.explain.ExplainOptions.{ExplainOptions}
 use Rattle.ppm_cli.specs.declared.input.InputKind.{InputKind}
 use Rattle.ppm_cli.specs.declared.input.InputKind.TheVariants as kinds
 use Rattle.ppm_cli.specs.declared.replay.ReplayOptions.{ReplayOptions}
@@ -220,6 +223,21 @@ depth_in rows = option_map (λ l. commands.Depth l) (capsule_limit rows)
 abbrev pub races_in : List Row → Option Command
 races_in rows = option_map (λ l. commands.Races l) (capsule_limit rows)
 
+-- the command `explain`: of a plan or of a schedule for so many processors, if one is stated, else of this text; of both there is none
+abbrev pub explain_by : ExplainedText → (processors : ℕ) → (plan schedule : Option Text) → Option Command
+explain_by text p None None = Some (commands.Explain text)
+explain_by text p (Some plan) None = Some (commands.ExplainOrders (record { orders = orders.Plan; processors = p }) plan)
+explain_by text p None (Some schedule) = Some (commands.ExplainOrders (record { orders = orders.Schedule; processors = p }) schedule)
+explain_by text p (Some plan) (Some schedule) = None
+
+abbrev pub explain_in : List Row → Option Command
+explain_in rows =
+    and_then (explained_given rows) (λ text.
+    and_then (number_given processors rows) (λ p.
+    and_then (stated_given stated_plan rows) (λ plan.
+    and_then (stated_given stated_schedule rows) (λ schedule.
+    explain_by text p plan schedule))))
+
 -- the command of this name, with the options in its matches
 abbrev pub command_named : Text → List Row → Option Command
 command_named name rows =
@@ -237,7 +255,7 @@ command_named name rows =
     else if bytes_eq name (codes "ram") then ram_in rows
     else if bytes_eq name (codes "trace") then trace_in rows
     else if bytes_eq name (codes "show") then Some commands.Show
-    else if bytes_eq name (codes "explain") then Some commands.Explain
+    else if bytes_eq name (codes "explain") then explain_in rows
     else None
 
 -- the command of the subcommand that was met, with its options
@@ -322,6 +340,10 @@ AreTraced options =
 abbrev pub AreSavedTraced : TraceSavedOptions → Type 0
 AreSavedTraced options = IsOfForm traced_from.form options.from × IsOfForm traced_acts.form options.acts
 
+-- the processors for which a plan or a schedule is explained are in their range
+abbrev pub AreExplained : ExplainOptions → Type 0
+AreExplained options = IsOfForm processors.form options.processors
+
 -- the limit of a depth-first run is in its range
 abbrev pub IsLimit : CapsuleLimit → Type 0
 IsLimit limit = IsOfForm capsules.form limit.capsules
@@ -354,4 +376,5 @@ IsInRange commands.Show = ⊤
 IsInRange (commands.StopSaved options _) = AreSavedStopped options
 IsInRange (commands.ReplaySaved options _) = AreSavedReplayed options
 IsInRange (commands.TraceSaved options _) = AreSavedTraced options
-IsInRange commands.Explain = ⊤
+IsInRange (commands.Explain text) = ⊤
+IsInRange (commands.ExplainOrders options _) = AreExplained options

@@ -7,6 +7,7 @@ use crate::capsules::{CapsuleLimit, depth_from, races_from};
 use crate::check::check_from;
 use crate::code::code_from;
 use crate::example::{SelfOptions, self_from};
+use crate::explain::{ExplainOptions, ExplainedText, explain_from};
 use crate::ram::ram_from;
 use crate::replay::{ReplayOptions, ReplaySavedOptions, replay_from};
 use crate::resume::{ResumeOptions, resume_from};
@@ -82,8 +83,10 @@ pub enum Command {
     /// To go on from the words of the saved text that is read, by a schedule, of which these are the
     /// bytes.
     ReplaySaved(ReplaySavedOptions, Items<u8>),
-    /// To judge the source that is read, and to explain why it is refused.
-    Explain,
+    /// To judge the text that is read, and to explain why it is refused.
+    Explain(ExplainedText),
+    /// To judge a plan or a schedule, of which these are the bytes, and to explain why it is refused.
+    ExplainOrders(ExplainOptions, Items<u8>),
     /// To go on from the words of the saved text that is read, by a schedule, of which these are the
     /// bytes, and to tell the acts.
     TraceSaved(TraceSavedOptions, Items<u8>),
@@ -127,7 +130,7 @@ fn command_named(
         "ram" => ram_from(alloc, matches),
         "trace" => trace_from(alloc, matches),
         "show" => Ok(Some(Command::Show)),
-        "explain" => Ok(Some(Command::Explain)),
+        "explain" => explain_from(alloc, matches),
         _ => Ok(None),
     }
 }

@@ -1,10 +1,11 @@
 //! What the matches of a command hold of its options, by the form of the value.
-ghost use Rattle.std.specs.Prelude.{◌≡◌, ◌≤◌, IfOk, IfSome, map, option_map};
+ghost use Rattle.std.specs.Prelude.{◌≡◌, ◌≤◌, IfOk, IfSome, codes, map, option_map};
+ghost use Rattle.std.specs.Str.{bytes_eq};
 ghost use Rattle.clap.specs.Words.{first_of, found_of, rows_of};
 ghost use Rattle.ppm_cli.specs.Application.{choice_rule, number_rule, text_rule};
 ghost use Rattle.ppm_cli.specs.CommandLine.{AnyText};
 ghost use Rattle.ppm_cli.specs.Values.{choice_given, kept_in as kept, number_given, text_given};
-ghost use Rattle.ppm_cli.specs.Values.{text_in, value_among as value_by};
+ghost use Rattle.ppm_cli.specs.Values.{stated_given, stated_in, text_in, value_among as value_by};
 
 use crate::table::{ChoiceOption, NumberOption, TextOption};
 use clap::ArgMatches;
@@ -85,6 +86,42 @@ fn free_text(alloc: Global, bytes: &[u8]) -> Result<Option<Items<u8>>, AllocErro
     match bytes {
         [b'-', ..] => Ok(None),
         _ => Ok(Some(Items::from_vec(bytes.to_vec(alloc)?))),
+    }
+}
+
+/// The bytes of an option whose value is any text that does not begin with a hyphen, if it is
+/// stated: `-` says that it is not.
+pub(crate) fn stated_of(
+    alloc: Global,
+    matches: &ArgMatches<'_>,
+    option: TextOption,
+) -> Result<Option<Option<Items<u8>>>, AllocError>
+    ensures { IfOk result (λ bytes. bytes
+        ≡ stated_given (text_rule option) (rows_of (found_of matches.now))) }
+{
+    match text_of(matches, option.name) {
+        Some(text) => stated(alloc, text.as_bytes()),
+        None => Ok(None),
+    }
+}
+
+/// Whether bytes say that nothing is stated.
+fn is_unstated(bytes: &[u8]) -> bool
+    ensures { result ≡ bytes_eq bytes.now (codes "-") }
+{
+    bytes == b"-".as_slice()
+}
+
+/// The text of these bytes, if it is stated.
+fn stated(alloc: Global, bytes: &[u8]) -> Result<Option<Option<Items<u8>>>, AllocError>
+    ensures { IfOk result (λ text. text ≡ stated_in AnyText bytes.now) }
+{
+    if is_unstated(bytes) {
+        return Ok(Some(None));
+    }
+    match free_text(alloc, bytes)? {
+        Some(text) => Ok(Some(Some(text))),
+        None => Ok(None),
     }
 }
 

@@ -321,6 +321,25 @@ pub(crate) const ANY_INPUT: ChoiceOption = ChoiceOption {
     default: "source",
 };
 
+/// Which text is explained.
+pub(crate) const EXPLAINED: ChoiceOption = ChoiceOption {
+    name: "input",
+    words: &["source", "listing", "case", "saved"],
+    default: "source",
+};
+
+/// The plan that is explained.
+pub(crate) const PLAN: TextOption = TextOption {
+    name: "plan",
+    default: "-",
+};
+
+/// The schedule that is explained.
+pub(crate) const STATED_SCHEDULE: TextOption = TextOption {
+    name: "schedule",
+    default: "-",
+};
+
 /// The schedule of acts.
 pub(crate) const SCHEDULE: TextOption = TextOption {
     name: "schedule",
@@ -459,6 +478,11 @@ pub const COMMANDS: [CommandRow; 15] = [
     },
     CommandRow {
         name: "explain",
-        options: &[],
+        options: &[
+            OptionRow::Choice(EXPLAINED),
+            OptionRow::Text(PLAN),
+            OptionRow::Text(STATED_SCHEDULE),
+            OptionRow::Number(PROCESSORS),
+        ],
     },
 ];

@@ -89,7 +89,7 @@ pub(crate) fn error_answer(error: ListingError) -> Answer
 }
 
 /// A conflict as an answer tells it.
-pub(crate) fn conflict_told(conflict: Conflict) -> ppm_answers::Conflict
+pub fn conflict_told(conflict: Conflict) -> ppm_answers::Conflict
     ensures { result ≡ told_conflict conflict }
 {
     ppm_answers::Conflict {

@@ -12,7 +12,7 @@
 //! `RacingCheckSays`, `CodeSays`, `CaseSays`, `SerialSays`, `DepthSays`, `RacesSays`, `ShowSays`).
 //! Stands on `ppm_listing_reader`, `ppm_war` and `ppm_gaps`, on `ppm_program`, `ppm_cut` and `ppm_serial`, on
 //! `ppm_case`, `ppm_depth` and `ppm_races`, on `ppm_saved_reader` and `ppm_show`, on `ppm_loading`
-//! for the refusals of cases, and on `ppm_answers`; `ppm_top` calls it.
+//! for the refusals of cases, and on `ppm_answers`; `ppm_explained` and `ppm_top` call it.
 //! After the write-after-read conflicts of Blelloch et al., SPAA 2018; the commands and their
 //! answers are this project's.
 #![tactic(auto)]
@@ -29,7 +29,7 @@ mod serial;
 mod show;
 
 pub use case::case_command;
-pub use check::check_command;
+pub use check::{check_command, conflict_told};
 pub use code::code_command;
 pub use depth::depth_command;
 pub use laws::{

@@ -5,6 +5,7 @@ use Rattle.ppm_ports.specs.Outside.{KeepFronts, Outside, ToldLists}
 use Rattle.ppm_cli.specs.declared.example.SelfOptions.{SelfOptions}
 use Rattle.ppm_cli.specs.Words.{AreSelf}
 use Rattle.ppm_answers.specs.declared.answer.Answer.{Answer}
+use Rattle.ppm_answers.specs.declared.refused.Refused.{Refused}
 use Rattle.ppm_answers.specs.declared.answer.Answer.TheVariants as answers
 use Rattle.ppm_answers.specs.declared.sums.Sums.{Sums}
 use Rattle.ppm_answers.specs.declared.status.Status.{Status}
@@ -81,6 +82,9 @@ module _ (options : SelfOptions) (before now : ToldLists) where
 
   pub no_words_refused : ExampleMay options before now answers.WordsRefused → ⊥
   no_words_refused h = kind options before now h.0 answers.WordsRefused h.2
+
+  pub none_explained : (r : Refused) (notes : List ℕ) → ExampleMay options before now (answers.Explained r notes) → ⊥
+  none_explained r notes h = kind options before now h.0 (answers.Explained r notes) h.2
 
   pub no_plan_refused : (number : ℕ) → ExampleMay options before now (answers.PlanRefused number) → ⊥
   no_plan_refused number h = kind options before now h.0 (answers.PlanRefused number) h.2

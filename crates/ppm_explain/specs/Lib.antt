@@ -4,4 +4,3 @@ pub mod Meanings
 pub mod Hints
 pub mod Names
 pub mod Sources
-pub mod Explaining

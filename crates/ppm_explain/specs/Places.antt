@@ -1,5 +1,5 @@
 -- Places of a text: lines and columns, both from 1; columns count bytes.
-use Rattle.std.specs.Prelude.{ℕ, zero, suc, ◌+◌, ◌-◌, ◌==◌, if◌then◌else◌, List, [], ◌∷◌, ◌++◌, length, take, map, codes, decimal}
+use Rattle.std.specs.Prelude.{ℕ, zero, suc, ◌+◌, ◌-◌, ◌==◌, Bool, if◌then◌else◌, List, [], ◌∷◌, ◌++◌, length, take, map, codes, decimal}
 use Rattle.std.specs.List.{filter}
 use Rattle.ppm_pieces.specs.Pieces.{split}
 
@@ -47,8 +47,18 @@ under b = if b == 9 then 9 else 32
 abbrev pub mark_text : List ℕ → ℕ → List ℕ
 mark_text bytes column = codes "  " ++ map under (take (column - 1) bytes) ++ codes "^\n"
 
--- the place, its line and the mark under it
+-- a column of a line, the line, and the mark under the column
+abbrev pub marked_text : ℕ → List ℕ → ℕ → List ℕ
+marked_text line bytes column = place_text line column ++ shown_text bytes ++ mark_text bytes column
+
+-- a place of a text, its line and the mark under it
 abbrev pub spot_text : List ℕ → ℕ → List ℕ
-spot_text text place =
-    place_text (line_of text place) (column_of text place) ++ shown_text (line_bytes text (line_of text place))
-    ++ mark_text (line_bytes text (line_of text place)) (column_of text place)
+spot_text text place = marked_text (line_of text place) (line_bytes text (line_of text place)) (column_of text place)
+
+-- how many lines a text has, where what stands behind the last line feed is one
+abbrev pub line_count : List ℕ → ℕ
+line_count text = length (filter (λ b. b == 10) text) + 1
+
+-- whether a line is the last one, behind which no line feed stands
+abbrev pub is_last_line : List ℕ → ℕ → Bool
+is_last_line text line = line_count text == line

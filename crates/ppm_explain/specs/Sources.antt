@@ -1,12 +1,12 @@
 -- What is said of a source that is refused, behind the line of the refusal.
-use Rattle.std.specs.Prelude.{◌≡◌, ◌≤◌, ◌<◌, ◌==◌, ℕ, if◌then◌else◌, List, [], ◌++◌, map, None}
+use Rattle.std.specs.Prelude.{◌≡◌, ◌≤◌, ◌<◌, ◌==◌, ℕ, if◌then◌else◌, Bool, List, [], ◌∷◌, ◌++◌, None}
+use Rattle.std.specs.List.{AllPairs}
 use Rattle.ppm_grammar.specs.Faults.{IsFirstUnexpected, IsEnded}
 use Rattle.ppm_text.specs.declared.token.Token.{Token}
+use Rattle.ppm_rows.specs.Kinds.{Terminal, terminal_number}
 use Rattle.ppm_rows.specs.Language.{language}
 use Rattle.ppm_rows.specs.Limits.{limits}
-use Rattle.ppm_expected.specs.declared.expected.Expected.{Expected}
-use Rattle.ppm_expected.specs.Language.{terminal_of}
-use Rattle.ppm_expected.specs.Correct.{CanFollow, CanGoOn}
+use Rattle.ppm_expected.specs.Next.{AreExpected, BeginsText}
 use Rattle.ppm_answers.specs.declared.refusal.Pass.{Pass}
 use Rattle.ppm_answers.specs.declared.refusal.Pass.TheVariants as pass
 use Rattle.ppm_answers.specs.declared.refusal.Refusal.{Refusal}
@@ -27,10 +27,10 @@ abbrev pub bytes_notes : List ℕ → Refusal → List ℕ
 bytes_notes text r = bytes_spot text r ++ meaning_text r
 
 -- of a token that cannot come, or of the end: what stands there, what could, and a hint
-abbrev pub stop_notes : List ℕ → List Token → Expected → Refusal → List ℕ
-stop_notes text tokens e r =
-    spot_text text r.place ++ found_text (token_in r.place tokens) ++ expected_text (map terminal_of e.terminals.items) e.end
-    ++ hint_text (map terminal_of e.terminals.items) (token_in r.place tokens) ++ meaning_text r
+abbrev pub stop_notes : List ℕ → List Token → (kinds : List Terminal) → (end : Bool) → Refusal → List ℕ
+stop_notes text tokens kinds end r =
+    spot_text text r.place ++ found_text (token_in r.place tokens) ++ expected_text kinds end ++ hint_text kinds (token_in r.place tokens)
+    ++ meaning_text r
 
 -- of a token that passes a limit: what stands there
 abbrev pub limit_notes : List ℕ → List Token → Refusal → List ℕ
@@ -58,16 +58,31 @@ pub record ByTokens (text : List ℕ) (notes_of : List Token → List ℕ) (note
   pub lexed : HasTokens text tokens
   pub is : notes ≡ notes_of tokens
 
+-- the tokens begin a text of the grammar up to some place and no further
+pub record GoTo (tokens front rest : List Token) : Type 0 where
+  pub shape : tokens ≡ front ++ rest
+  pub begins : BeginsText language front
+  pub ends : (t : Token) (more : List Token) → rest ≡ t ∷ more → BeginsText language (front ++ t ∷ []) → ⊥
+
+-- just the tokens of these kinds can stand after them, in the order of the grammar's kinds and each once, and it is told whether a text may end there
+pub record Follow (front : List Token) (kinds : List Terminal) (end : Bool) : Type 0 where
+  pub exactly : AreExpected language front kinds end
+  pub order : AllPairs (λ x y. terminal_number x < terminal_number y) kinds
+
 -- The notes by the tokens, and by what could stand where these go no further: just the tokens with which some text of the grammar goes on
 -- from those in front. At a token that cannot come that is its place, and so it is at the end.
 pub record ByStop (text : List ℕ) (r : Refusal) (notes : List ℕ) : Type 0 where
   pub tokens : List Token
   pub lexed : HasTokens text tokens
-  pub expected : Expected
-  pub goes_on : CanGoOn tokens expected
-  pub unexpected : (place : ℕ) (fault : IsFirstUnexpected language limits tokens place) → CanFollow fault.front expected
-  pub ended : IsEnded language limits tokens → CanFollow tokens expected
-  pub is : notes ≡ stop_notes text tokens expected r
+  pub front : List Token
+  pub rest : List Token
+  pub goes : GoTo tokens front rest
+  pub kinds : List Terminal
+  pub end : Bool
+  pub follows : Follow front kinds end
+  pub unexpected : (place : ℕ) (fault : IsFirstUnexpected language limits tokens place) → Follow fault.front kinds end
+  pub ended : IsEnded language limits tokens → Follow tokens kinds end
+  pub is : notes ≡ stop_notes text tokens kinds end r
 
 -- the notes of a fault of tokens: of the numbers 1 and 2 with what could stand there
 pub record BySyntax (text : List ℕ) (r : Refusal) (notes : List ℕ) : Type 0 where

@@ -2,8 +2,9 @@
 ghost use Rattle.std.specs.Prelude.{◌≡◌, ◌≤◌, ◌==◌, ◌++◌, OnOk, take, length};
 ghost use Rattle.std.specs.List.{filter};
 ghost use Rattle.ppm_pieces.specs.Pieces.{split};
-ghost use Rattle.ppm_explain.specs.Places.{line_of, column_of, line_bytes, place_text, line_text};
-ghost use Rattle.ppm_explain.specs.Places.{shown_text, mark_text, spot_text};
+ghost use Rattle.ppm_explain.specs.Places.{line_of, column_of, line_bytes as bytes_of_line};
+ghost use Rattle.ppm_explain.specs.Places.{is_last_line as is_last, line_text, mark_text};
+ghost use Rattle.ppm_explain.specs.Places.{marked_text, place_text, shown_text, spot_text};
 ghost use Rattle.ppm_explain.specs.Places.{under as byte_under, last_of};
 
 use crate::words::push_word;
@@ -60,8 +61,8 @@ fn column_at(text: &[u8], place: u32) -> usize
 
 /// The bytes of a line, which counts from 1; none where the text has no such line.
 #[tactic(auto, using(crate::proofs::PlaceLemmas::line_next, crate::proofs::PlaceLemmas::line_here, crate::proofs::PlaceLemmas::line_none))]
-fn bytes_of_line(text: &[u8], line: usize) -> &[u8]
-    ensures { result.now ≡ line_bytes text.now line }
+pub fn line_bytes(text: &[u8], line: usize) -> &[u8]
+    ensures { result.now ≡ bytes_of_line text.now line }
 {
     let mut left = text;
     let mut ahead = line.saturating_sub(1);
@@ -75,6 +76,13 @@ fn bytes_of_line(text: &[u8], line: usize) -> &[u8]
     if ahead == 0 { left } else { front(left, 0) }
 }
 
+/// Whether a line of a text is the last one, behind which no line feed stands.
+pub fn is_last_line(text: &[u8], line: usize) -> bool
+    ensures { result ≡ is_last text.now line }
+{
+    line_feeds(text) + 1 == line
+}
+
 /// What stands under a byte in front of a mark.
 fn under(byte: u8) -> u8
     ensures { result ≡ byte_under byte }
@@ -82,8 +90,8 @@ fn under(byte: u8) -> u8
     if byte == b'\t' { b'\t' } else { b' ' }
 }
 
-/// Appends a mark under a column.
-fn push_mark(text: &mut Vec<u8>, line: &[u8], column: usize) -> Result<(), NoMemory>
+/// Appends a mark under a column of a line, from 1.
+pub fn push_mark(text: &mut Vec<u8>, line: &[u8], column: usize) -> Result<(), NoMemory>
     ensures { OnOk result (text.new.items ≡ text.old.items ++ mark_text line.now column) }
 {
     push_word(text, "  ")?;
@@ -95,7 +103,7 @@ fn push_mark(text: &mut Vec<u8>, line: &[u8], column: usize) -> Result<(), NoMem
 }
 
 /// Appends the bytes of a line.
-fn push_shown(text: &mut Vec<u8>, line: &[u8]) -> Result<(), NoMemory>
+pub fn push_shown(text: &mut Vec<u8>, line: &[u8]) -> Result<(), NoMemory>
     ensures { OnOk result (text.new.items ≡ text.old.items ++ shown_text line.now) }
 {
     push_word(text, "  ")?;
@@ -114,8 +122,23 @@ fn push_place(alloc: Global, text: &mut Vec<u8>, line: usize, column: usize) -> 
     push_word(text, "\n")
 }
 
+/// Appends a column of a line, which both count from 1, that line, and a mark under the column.
+pub fn push_marked(
+    alloc: Global,
+    text: &mut Vec<u8>,
+    line: usize,
+    bytes: &[u8],
+    column: usize,
+) -> Result<(), NoMemory>
+    ensures { OnOk result (text.new.items ≡ text.old.items ++ marked_text line bytes.now column) }
+{
+    push_place(alloc, text, line, column)?;
+    push_shown(text, bytes)?;
+    push_mark(text, bytes, column)
+}
+
 /// Appends a place of a text: its line and column, that line, and a mark under the place.
-pub(crate) fn push_spot(
+pub fn push_spot(
     alloc: Global,
     text: &mut Vec<u8>,
     source: &[u8],
@@ -124,25 +147,22 @@ pub(crate) fn push_spot(
     ensures { OnOk result (text.new.items ≡ text.old.items ++ spot_text source.now place) }
 {
     let line = line_at(source, place);
-    let column = column_at(source, place);
-    let bytes = bytes_of_line(source, line);
-    push_place(alloc, text, line, column)?;
-    push_shown(text, bytes)?;
-    push_mark(text, bytes, column)
+    let bytes = line_bytes(source, line);
+    push_marked(alloc, text, line, bytes, column_at(source, place))
 }
 
 /// Appends a line of a text, with its number from 1.
-pub(crate) fn push_line(
+pub fn push_line(
     alloc: Global,
     text: &mut Vec<u8>,
     source: &[u8],
     line: u32,
 ) -> Result<(), NoMemory>
     ensures { OnOk result (text.new.items
-        ≡ text.old.items ++ line_text line ++ shown_text (line_bytes source.now line)) }
+        ≡ text.old.items ++ line_text line ++ shown_text (bytes_of_line source.now line)) }
 {
     push_word(text, "line ")?;
     push_number(alloc, text, u64::from(line))?;
     push_word(text, "\n")?;
-    push_shown(text, bytes_of_line(source, line as usize))
+    push_shown(text, line_bytes(source, line as usize))
 }

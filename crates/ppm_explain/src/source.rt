@@ -1,6 +1,6 @@
 //! What is said of a source that is refused.
-ghost use Rattle.std.specs.Prelude.{◌≡◌, ◌++◌, OnOk, IfOk, length};
-ghost use Rattle.ppm_text.specs.Lexing.{IsTextOf};
+ghost use Rattle.std.specs.Prelude.{◌≡◌, ◌++◌, OnOk, IfOk, map};
+ghost use Rattle.ppm_expected.specs.Language.{terminal_of};
 ghost use Rattle.ppm_program.specs.Programs.{HasTokens};
 ghost use Rattle.ppm_explain.specs.Sources.{bytes_notes as notes_of_bytes, stop_notes as notes_of_stop};
 ghost use Rattle.ppm_explain.specs.Sources.{limit_notes as notes_of_limit, line_notes as notes_of_line};
@@ -53,7 +53,7 @@ fn stop_notes(
     refusal: Refusal,
 ) -> Result<Vec<u8>, NoMemory>
     ensures { IfOk result (λ text. text.items
-        ≡ notes_of_stop source.now tokens.now expected.now refusal) }
+        ≡ notes_of_stop source.now tokens.now (map terminal_of expected.now.terminals.items) expected.now.end refusal) }
 {
     let mut text = Vec::new(alloc);
     push_spot(alloc, &mut text, source, refusal.place)?;

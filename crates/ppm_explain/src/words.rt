@@ -15,7 +15,7 @@ use ppm_words::NoMemory;
 use std::alloc::Global;
 
 /// Appends a word.
-pub(crate) fn push_word(text: &mut Vec<u8>, word: &str) -> Result<(), NoMemory>
+pub fn push_word(text: &mut Vec<u8>, word: &str) -> Result<(), NoMemory>
     ensures { OnOk result (text.new.items ≡ text.old.items ++ word.now) }
 {
     text.extend_from_slice(word.as_bytes())?;
@@ -112,7 +112,7 @@ fn push_kind(alloc: Global, text: &mut Vec<u8>, kind: &Kind) -> Result<(), NoMem
 }
 
 /// Appends a word in backticks.
-fn push_quoted(text: &mut Vec<u8>, word: &str) -> Result<(), NoMemory>
+pub fn push_quoted(text: &mut Vec<u8>, word: &str) -> Result<(), NoMemory>
     ensures { OnOk result (text.new.items ≡ text.old.items ++ quoted word.now) }
 {
     push_word(text, "`")?;

@@ -35,7 +35,7 @@ pub(crate) fn purpose_of(command: &str) -> &'static str {
         "ram" => "compiles a RAM, and threads run its capsules under a plan of faults",
         "trace" => "compiles a source, and tells what processors do along a schedule, act by act",
         "show" => "tells in words the state of a saved text: what runs, what waits, and the arrays",
-        "explain" => "judges a source, and says of a refusal what stands there and what could",
+        "explain" => "judges a text, and says of a refusal what stands there and what could",
         _ => NO_WORDS,
     }
 }
@@ -80,7 +80,8 @@ pub(crate) fn meaning_of(command: &str, option: &str) -> &'static str {
         "from" => from_of(command),
         "acts" => acts_of(command),
         "runs" => "acts of these that are drawn; with 0 all are taken",
-        "schedule" => "as 0*9,1>0,1!h: acts, a victim, a hard fault",
+        "schedule" => schedule_of(command),
+        "plan" => "to be explained, as 0@5s,1@9h; - is none",
         "takeover" => takeover_of(command),
         "idle" => "one that rests makes no more acts, or sleeps",
         "form" => "lines, events for a viewer of traces, or a picture",
@@ -92,10 +93,19 @@ pub(crate) fn meaning_of(command: &str, option: &str) -> &'static str {
     }
 }
 
+/// What the schedule of a command is.
+fn schedule_of(command: &str) -> &'static str {
+    match command {
+        "explain" => "to be explained, as 0*9,1>0,1!h; - is none",
+        _ => "as 0*9,1>0,1!h: acts, a victim, a hard fault",
+    }
+}
+
 /// What the input of a command is.
 fn input_of(command: &str) -> &'static str {
     match command {
         "replay" | "stop" | "trace" => "what is read; a saved text says its sizes",
+        "explain" => "what is read, and judged as the command does that reads it",
         _ => "what is read; the code of a case runs, sound or not",
     }
 }

@@ -2,7 +2,7 @@
 use crate::said::Said;
 use ppm_cells::Takeover;
 use ppm_cli::{
-    Command, ReplayOptions, RunOptions, StopOptions, SweepOptions, SweptTakeovers, TraceOptions,
+    Command, ExplainedOrders, ExplainedText, ReplayOptions, RunOptions, StopOptions, SweepOptions, SweptTakeovers, TraceOptions,
     TracedForm, TracedLines, read_words,
 };
 use ppm_sheets::Fault;
@@ -41,6 +41,24 @@ fn lines_word(lines: TracedLines) -> &'static str {
         TracedLines::Turns => "turns",
         TracedLines::Rows => "rows",
         TracedLines::Marks => "marks",
+    }
+}
+
+/// The word of a text that is explained.
+fn explained_word(text: ExplainedText) -> &'static str {
+    match text {
+        ExplainedText::Source => "source",
+        ExplainedText::Listing => "listing",
+        ExplainedText::Case => "case",
+        ExplainedText::Saved => "saved",
+    }
+}
+
+/// What stands ahead of a plan or a schedule that is explained.
+fn orders_front(orders: ExplainedOrders) -> &'static str {
+    match orders {
+        ExplainedOrders::Plan => " plan=",
+        ExplainedOrders::Schedule => " schedule=",
     }
 }
 
@@ -146,7 +164,12 @@ fn line_of(alloc: Global, command: &Command) -> Result<Vec<u8>, Fault> {
         Command::Check => String::from_str(alloc, "check")?,
         Command::CheckRacing => String::from_str(alloc, "check of strands that may race")?,
         Command::Show => String::from_str(alloc, "show")?,
-        Command::Explain => String::from_str(alloc, "explain")?,
+        Command::Explain(it) => format!(in alloc; "explain {}", explained_word(*it))?,
+        Command::ExplainOrders(it, orders) => {
+            front = orders_front(it.orders);
+            plan = orders.as_slice();
+            format!(in alloc; "explain processors {}", it.processors)?
+        }
         Command::Depth(it) => format!(in alloc; "depth capsules {}", it.capsules)?,
         Command::Races(it) => format!(in alloc; "races capsules {}", it.capsules)?,
         Command::Replay(it, schedule) => {

@@ -5,6 +5,7 @@ ghost use Rattle.ppm_listing.specs.declared.keyword.Keyword.TheVariants as keywo
 ghost use Rattle.ppm_listing_reader.specs.Forms.{is_of as is_of_sort, are_of as are_of_sorts};
 ghost use Rattle.ppm_listing_reader.specs.Forms.{has_form as is_form, is_number as is_number_token};
 ghost use Rattle.ppm_listing_reader.specs.Forms.{is_absent as is_absent_token, token_at as at};
+ghost use Rattle.ppm_listing_reader.specs.Forms.{sorts as sorts_of};
 
 use crate::token::Token;
 use ppm_listing::Keyword;
@@ -31,7 +32,7 @@ pub enum Sort {
 }
 
 /// Whether a token is of a sort.
-fn is_of(sort: Sort, token: Token) -> bool
+pub fn is_of(sort: Sort, token: Token) -> bool
     ensures { result ≡ is_of_sort sort token }
 {
     match (sort, token) {
@@ -107,27 +108,24 @@ fn are_numbers(tokens: &[Token]) -> bool
     true
 }
 
-/// Whether tokens may stand behind a keyword at the front of a line.
-pub(crate) fn has_form(keyword: Keyword, tokens: &[Token]) -> bool
-    ensures { result ≡ is_form keyword tokens.now }
+/// What stands behind a keyword at the front of a line, a sort for each token. The line of the root
+/// has more numbers, and that of `forkto` names one slot at least.
+pub fn sorts(keyword: Keyword) -> &'static [Sort]
+    ensures { result.now ≡ sorts_of keyword }
 {
     match keyword {
-        Keyword::Ppm => are_of(&[Sort::Version], tokens),
-        Keyword::Root => !tokens.is_empty() && are_numbers(tokens),
-        Keyword::Proc => are_of(
-            &[
-                Sort::Number,
-                Sort::Slots,
-                Sort::Number,
-                Sort::Entry,
-                Sort::Number,
-            ],
-            tokens,
-        ),
-        Keyword::Slots | Keyword::Entry => false,
-        Keyword::Capsule => are_of(&[Sort::Number, Sort::Proc, Sort::Number], tokens),
-        Keyword::Const => are_of(&[Sort::Register, Sort::Constant], tokens),
-        Keyword::Move | Keyword::Len => are_of(&[Sort::Register, Sort::Register], tokens),
+        Keyword::Ppm => &[Sort::Version],
+        Keyword::Proc => &[
+            Sort::Number,
+            Sort::Slots,
+            Sort::Number,
+            Sort::Entry,
+            Sort::Number,
+        ],
+        Keyword::Slots | Keyword::Entry | Keyword::End => &[],
+        Keyword::Capsule => &[Sort::Number, Sort::Proc, Sort::Number],
+        Keyword::Const => &[Sort::Register, Sort::Constant],
+        Keyword::Move | Keyword::Len => &[Sort::Register, Sort::Register],
         Keyword::Add
         | Keyword::Sub
         | Keyword::Mul
@@ -136,25 +134,71 @@ pub(crate) fn has_form(keyword: Keyword, tokens: &[Token]) -> bool
         | Keyword::CutLeft
         | Keyword::CutRight
         | Keyword::Get
-        | Keyword::Put => are_of(
-            &[Sort::Register, Sort::Register, Sort::Register, Sort::Number],
-            tokens,
-        ),
-        Keyword::Equal | Keyword::NotEqual | Keyword::Less | Keyword::AtMost => {
-            are_of(&[Sort::Register, Sort::Register, Sort::Register], tokens)
-        }
-        Keyword::LoadSlot | Keyword::BranchZero | Keyword::BranchNonZero => {
-            are_of(&[Sort::Register, Sort::Number], tokens)
-        }
-        Keyword::StoreCur | Keyword::StoreNew => are_of(&[Sort::Number, Sort::Register], tokens),
-        Keyword::Give => are_of(&[Sort::Register], tokens),
-        Keyword::Room | Keyword::Next => are_of(&[Sort::Number], tokens),
-        Keyword::End => are_of(&[], tokens),
-        Keyword::Trap | Keyword::Call => are_of(&[Sort::Number, Sort::Number], tokens),
-        Keyword::CallTo | Keyword::Fork => {
-            are_of(&[Sort::Number, Sort::Number, Sort::Number], tokens)
-        }
+        | Keyword::Put => &[Sort::Register, Sort::Register, Sort::Register, Sort::Number],
+        Keyword::Equal | Keyword::NotEqual | Keyword::Less | Keyword::AtMost => &[
+            Sort::Register,
+            Sort::Register,
+            Sort::Register,
+        ],
+        Keyword::LoadSlot | Keyword::BranchZero | Keyword::BranchNonZero => &[
+            Sort::Register,
+            Sort::Number,
+        ],
+        Keyword::StoreCur | Keyword::StoreNew => &[Sort::Number, Sort::Register],
+        Keyword::Give => &[Sort::Register],
+        Keyword::Root | Keyword::Room | Keyword::Next => &[Sort::Number],
+        Keyword::Trap | Keyword::Call => &[Sort::Number, Sort::Number],
+        Keyword::CallTo | Keyword::Fork => &[Sort::Number, Sort::Number, Sort::Number],
+        Keyword::ForkTo => &[
+            Sort::Number,
+            Sort::Number,
+            Sort::Number,
+            Sort::Slot,
+            Sort::Slot,
+        ],
+    }
+}
+
+/// Whether tokens may stand behind a keyword at the front of a line.
+pub(crate) fn has_form(keyword: Keyword, tokens: &[Token]) -> bool
+    ensures { result ≡ is_form keyword tokens.now }
+{
+    match keyword {
+        Keyword::Root => !tokens.is_empty() && are_numbers(tokens),
+        Keyword::Slots | Keyword::Entry => false,
         Keyword::ForkTo => is_forkto(tokens),
+        Keyword::Ppm
+        | Keyword::Proc
+        | Keyword::Capsule
+        | Keyword::Const
+        | Keyword::Move
+        | Keyword::Add
+        | Keyword::Sub
+        | Keyword::Mul
+        | Keyword::Div
+        | Keyword::Rem
+        | Keyword::Equal
+        | Keyword::NotEqual
+        | Keyword::Less
+        | Keyword::AtMost
+        | Keyword::Len
+        | Keyword::CutLeft
+        | Keyword::CutRight
+        | Keyword::LoadSlot
+        | Keyword::StoreCur
+        | Keyword::Give
+        | Keyword::Get
+        | Keyword::Put
+        | Keyword::BranchZero
+        | Keyword::BranchNonZero
+        | Keyword::Room
+        | Keyword::StoreNew
+        | Keyword::Next
+        | Keyword::End
+        | Keyword::Trap
+        | Keyword::Call
+        | Keyword::CallTo
+        | Keyword::Fork => are_of(sorts(keyword), tokens),
     }
 }
 
@@ -162,12 +206,6 @@ pub(crate) fn has_form(keyword: Keyword, tokens: &[Token]) -> bool
 fn is_forkto(tokens: &[Token]) -> bool
     ensures { result ≡ is_form keyword.ForkTo tokens.now }
 {
-    let sorts = [
-        Sort::Number,
-        Sort::Number,
-        Sort::Number,
-        Sort::Slot,
-        Sort::Slot,
-    ];
-    are_of(&sorts, tokens) && !(is_absent(token_at(tokens, 3)) && is_absent(token_at(tokens, 4)))
+    are_of(sorts(Keyword::ForkTo), tokens)
+        && !(is_absent(token_at(tokens, 3)) && is_absent(token_at(tokens, 4)))
 }

@@ -24,10 +24,10 @@ mod reading;
 mod rules;
 mod token;
 
-pub use form::Sort;
+pub use form::{Sort, is_of, sorts};
 pub use laws::faults_tell_listings;
 pub use listing_error::{Fault, ListingError};
 pub use part::Part;
 pub use place::Place;
 pub use reading::{LISTING_LIMIT, read_listing};
-pub use token::Token;
+pub use token::{Token, first_spelled, token_in};

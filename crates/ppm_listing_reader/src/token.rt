@@ -28,7 +28,7 @@ pub enum Token {
 }
 
 /// The first of some keywords that has this spelling.
-fn first_spelled(mut table: &[Keyword], bytes: &[u8]) -> Option<Keyword>
+pub fn first_spelled(mut table: &[Keyword], bytes: &[u8]) -> Option<Keyword>
     ensures { result ≡ spelled table.entry.now bytes.now }
 {
     while let [keyword, rest @ ..] = table {
@@ -116,8 +116,8 @@ fn minus(bytes: &[u8]) -> Token
     }
 }
 
-/// The token of a word.
-fn token_in(word: &[u8]) -> Token
+/// The token of a word: of what stands between two spaces of a line.
+pub fn token_in(word: &[u8]) -> Token
     ensures { result ≡ token_of word.now }
 {
     match word {

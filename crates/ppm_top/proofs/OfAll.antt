@@ -16,6 +16,7 @@ use Rattle.ppm_answers.specs.Delivery.{IsWritten}
 use Rattle.ppm_cli.specs.declared.command.Command.{Command}
 use Rattle.ppm_cli.specs.declared.command.Command.TheVariants as commands
 use Rattle.ppm_cli.specs.declared.example.SelfOptions.{SelfOptions}
+use Rattle.ppm_cli.specs.declared.explain.ExplainOptions.{ExplainOptions}
 use Rattle.ppm_cli.specs.declared.replay.ReplayOptions.{ReplayOptions}
 use Rattle.ppm_cli.specs.declared.resume.ResumeOptions.{ResumeOptions}
 use Rattle.ppm_cli.specs.declared.run.RunOptions.{RunOptions}
@@ -24,8 +25,10 @@ use Rattle.ppm_cli.specs.Words.{command_of}
 use Rattle.ppm_cli.proofs.RangeLemmas.{is_in_range}
 use Rattle.ppm_commands.specs.Case.{CaseReads}
 use Rattle.ppm_commands.specs.Check.{CheckHas}
-use Rattle.ppm_explain.specs.Explaining.{ExplainHas}
-use Rattle.ppm_explain.proofs.ExplainRows.{explain_rows}
+use Rattle.ppm_explained.specs.Explaining.{ExplainHas}
+use Rattle.ppm_explained.specs.Texts.{limit_of}
+use Rattle.ppm_explained.proofs.ExplainRows.{explain_rows}
+use Rattle.ppm_explained.proofs.OrdersRows.{orders_rows, unread as orders_unread}
 use Rattle.ppm_commands.specs.Code.{CodeReads}
 use Rattle.ppm_commands.specs.Depth.{DepthHas}
 use Rattle.ppm_commands.specs.Races.{RacesHas}
@@ -114,6 +117,12 @@ none_reports o = record { failed = λ h. absurd h; fails = fails } where
   fails answers.NoMemory h f = absurd (f h.holds)
   fails answer h f = absurd h
 
+orders_reports : (options : ExplainOptions) (text : List ℕ) (o : Outside) → ReportsReads o (CommandMay (Some (commands.ExplainOrders options text)) o)
+orders_reports options text o = record {
+  failed = λ h. absurd h.1;
+  fails = λ answer h f. absurd (f (orders_unread options text o.source answer h).holds);
+}
+
 command_reports : (o : Outside) (command : Option Command) → ReportsReads o (CommandMay command o)
 command_reports o None = none_reports o
 command_reports o (Some (commands.Run options plan)) =
@@ -144,7 +153,8 @@ command_reports o (Some commands.CodeCase) = judging_reports text_limit CaseRead
 command_reports o (Some commands.Check) = judging_reports listing_limit CheckHas o
 command_reports o (Some commands.CheckRacing) = judging_reports listing_limit RacingHas o
 command_reports o (Some commands.Show) = judging_reports saved_limit ShowHas o
-command_reports o (Some commands.Explain) = judging_reports text_limit ExplainHas o
+command_reports o (Some (commands.Explain text)) = judging_reports (limit_of text) (ExplainHas text) o
+command_reports o (Some (commands.ExplainOrders options text)) = orders_reports options text o
 command_reports o (Some (commands.Depth limit)) = judging_reports case_limit (DepthHas limit.capsules) o
 command_reports o (Some (commands.Races limit)) = judging_reports case_limit (RacesHas limit.capsules) o
 command_reports o (Some (commands.Replay options schedule)) =
@@ -161,6 +171,7 @@ command_reports o (Some (commands.Example options)) = example_reports options o
 read_answer : (may : Answer → Type 0) (answer : Answer) → may answer → status_of answer ≡ statuses.ReadFault → may answers.ReadFault
 read_answer may answers.ReadFault h e = h
 read_answer may (answers.ReplayedWith c counts) h e = absurd (delivered.came_no_fault c e)
+read_answer may (answers.Explained r notes) h e = absurd (delivered.refused_no_fault r e)
 read_answer may answer h e = cc
 
 -- faults are reported exactly, whatever the command is
@@ -207,7 +218,11 @@ program_rows laws words o status a = record {
   check = λ e. check_rows (ports_of o) laws.listings status (by_words (Some commands.Check) e);
   racing_check = λ e. racing_check_rows (ports_of o) laws.racing_listings status (by_words (Some commands.CheckRacing) e);
   show = λ e. show_rows (ports_of o) laws.states status (by_words (Some commands.Show) e);
-  explain = λ e. explain_rows (ports_of o) laws.explained status (by_words (Some commands.Explain) e);
+  explain = λ text e. explain_rows text (ports_of o) (laws.explained text) status (by_words (Some (commands.Explain text)) e);
+  explain_orders = λ options text e. (
+    is_in_range words (commands.ExplainOrders options text) e,
+    orders_rows options text (ports_of o) (laws.explained_orders options text) status (by_words (Some (commands.ExplainOrders options text)) e),
+  );
   depth = λ limit e. (
     is_in_range words (commands.Depth limit) e,
     depth_rows limit.capsules (ports_of o) (laws.depths limit.capsules) status (by_words (Some (commands.Depth limit)) e),

@@ -28,7 +28,12 @@ use Rattle.ppm_legs.specs.SavedTexts.{RefusesSchedule}
 use Rattle.ppm_top.specs.Causes.{NoCommandMay, CommandMay, CommandTells, IsAnswered}
 use Rattle.ppm_top.specs.Laws.{ProgramLaws}
 use Rattle.ppm_top.specs.Orders.{Orders, plan_of, saved_schedule_of, schedule_of}
-use Rattle.ppm_top.specs.Rows.{HasRefusedPlan, OfPlan, OfSchedule, OfResume, OfSaved, RefusesWords}
+use Rattle.ppm_cli.specs.declared.explain.ExplainOptions.{ExplainOptions}
+use Rattle.ppm_explained.specs.Orders.{OrdersSay, WritesNotes}
+use Rattle.ppm_explained.specs.Texts.{IsRefused}
+use Rattle.ppm_explained.proofs.ExplainRows.{no_plan}
+use Rattle.ppm_explained.proofs.OrdersRows.{orders_rows}
+use Rattle.ppm_top.specs.Rows.{HasRefusedPlan, OfPlan, OfSchedule, OfResume, OfSaved, OfExplained, RefusesWords}
 use Rattle.ppm_top.proofs.OfCases as of_cases
 use Rattle.ppm_top.proofs.OfCounts as of_counts
 use Rattle.ppm_top.proofs.OfLegs as of_legs
@@ -41,6 +46,7 @@ data IsPlanned (command : Option Command) : Type 0 where
   ByPlan : (c : Command) (orders : Orders) → command ≡ Some c → plan_of c ≡ Some orders → IsPlanned command
   BySchedule : (c : Command) (orders : Orders) → command ≡ Some c → schedule_of c ≡ Some orders → IsPlanned command
   IsResume : (options : ResumeOptions) (plan : List ℕ) → command ≡ Some (commands.Resume options plan) → IsPlanned command
+  ByExplained : (options : ExplainOptions) (text : List ℕ) → command ≡ Some (commands.ExplainOrders options text) → IsPlanned command
   BySaved : (c : Command) (schedule : List ℕ) → command ≡ Some c → saved_schedule_of c ≡ Some schedule → IsPlanned command
 
 no_command : (command : Option Command) (o : Outside) (answer : Answer) → CommandMay command o answer →
@@ -64,13 +70,14 @@ no_command (Some (commands.CountedReplay options schedule)) o answer h e = inr (
 no_command (Some (commands.CountedReplayCase options schedule)) o answer h e =
     inr (BySchedule (commands.CountedReplayCase options schedule) _ refl refl)
 no_command (Some (commands.Ram options plan)) o answer h e = inr (ByPlan (commands.Ram options plan) _ refl refl)
+no_command (Some (commands.ExplainOrders options text)) o answer h e = inr (ByExplained options text refl)
 no_command (Some (commands.Serial options)) o answers.WordsRefused h e = absurd h.2
 no_command (Some commands.Code) o answers.WordsRefused h e = absurd h.2
 no_command (Some commands.CodeCase) o answers.WordsRefused h e = absurd h.2
 no_command (Some commands.Check) o answers.WordsRefused h e = absurd h.2
 no_command (Some commands.CheckRacing) o answers.WordsRefused h e = absurd h.2
 no_command (Some commands.Show) o answers.WordsRefused h e = absurd h.2
-no_command (Some commands.Explain) o answers.WordsRefused h e = absurd h.2
+no_command (Some (commands.Explain text)) o answers.WordsRefused h e = absurd h.2
 no_command (Some (commands.Depth limit)) o answers.WordsRefused h e = absurd h.2.1
 no_command (Some (commands.Races limit)) o answers.WordsRefused h e = absurd h.2.1
 no_command (Some (commands.Example options)) o answers.WordsRefused h e =
@@ -81,12 +88,24 @@ no_command (Some commands.CodeCase) o (answers.PlanRefused number) h e = absurd 
 no_command (Some commands.Check) o (answers.PlanRefused number) h e = absurd h.2
 no_command (Some commands.CheckRacing) o (answers.PlanRefused number) h e = absurd h.2
 no_command (Some commands.Show) o (answers.PlanRefused number) h e = absurd h.2
-no_command (Some commands.Explain) o (answers.PlanRefused number) h e = absurd h.2
+no_command (Some (commands.Explain text)) o (answers.PlanRefused number) h e = absurd h.2
 no_command (Some (commands.Depth limit)) o (answers.PlanRefused number) h e = absurd h.2.1
 no_command (Some (commands.Races limit)) o (answers.PlanRefused number) h e = absurd h.2.1
 no_command (Some (commands.Example options)) o (answers.PlanRefused number) h e =
     absurd (of_example.no_plan_refused options o.told_before o.told_now number h.1)
 no_command command o (answers.ReplayedWith c counts) h e = absurd (delivered.came_no_refusal c e)
+no_command (Some (commands.Serial options)) o (answers.Explained r notes) h e = absurd h.2
+no_command (Some commands.Code) o (answers.Explained r notes) h e = absurd h.2
+no_command (Some commands.CodeCase) o (answers.Explained r notes) h e = absurd h.2
+no_command (Some commands.Check) o (answers.Explained r notes) h e = absurd h.2
+no_command (Some commands.Show) o (answers.Explained r notes) h e = absurd h.2
+no_command (Some (commands.Explain text)) o (answers.Explained r notes) h e =
+    let p = delivered.is_plan r e in
+    absurd (no_plan text h.0 p.0 (subst (λ x. IsRefused text h.0 x) p.1 h.2.refusal))
+no_command (Some (commands.Depth limit)) o (answers.Explained r notes) h e = absurd h.2.1
+no_command (Some (commands.Races limit)) o (answers.Explained r notes) h e = absurd h.2.1
+no_command (Some (commands.Example options)) o (answers.Explained r notes) h e =
+    absurd (of_example.none_explained options o.told_before o.told_now r notes h.1)
 no_command command o answer h e = cc
 
 -- without a command nothing is read, and the words are refused or memory is
@@ -175,6 +194,14 @@ module _ (laws : ProgramLaws) (words : List (List ℕ)) (o : Outside) (status : 
         subst (λ (x : List ℕ). RefusesSchedule x (ports_of o)) (same_bytes is) (of_legs.trace_refused laws words o status a options given c refused)
     saved_refused command schedule c is = cc
 
+    -- a plan or a schedule that is explained is refused
+    orders_refused : (options : ExplainOptions) (text : List ℕ) → command_of words ≡ Some (commands.ExplainOrders options text)
+        → WritesNotes options text (ports_of o)
+    orders_refused options text c =
+        let d = delivers (Some (commands.ExplainOrders options text)) c in
+        let r = orders_rows options text (ports_of o) (laws.explained_orders options text) status d in
+        subst (OrdersSay options text (ports_of o)) refused r.rows.says
+
     -- whichever plan or schedule the words name
     by_words : (command_of words ≡ None) ⊎ IsPlanned (command_of words) → (command_of words ≡ None) ⊎ HasRefusedPlan words o
     by_words (inl n) = inl n
@@ -183,6 +210,7 @@ module _ (laws : ProgramLaws) (words : List (List ℕ)) (o : Outside) (status : 
     by_words (inr (IsResume options plan c)) =
         inr (OfResume options plan c
         (of_resume.plan_refused laws.resumes options plan o status (answered (Some (commands.Resume options plan)) c) refused))
+    by_words (inr (ByExplained options text c)) = inr (OfExplained options text c (orders_refused options text c))
     by_words (inr (BySaved command schedule c is)) = inr (OfSaved command schedule c is (saved_refused command schedule c is))
 
   -- status 3 comes only of words without a command, or of a plan or a schedule

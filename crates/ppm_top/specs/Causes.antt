@@ -10,7 +10,8 @@ use Rattle.ppm_cli.specs.declared.command.Command.TheVariants as commands
 use Rattle.ppm_cli.specs.Words.{command_of}
 use Rattle.ppm_commands.specs.Case.{CaseMay}
 use Rattle.ppm_commands.specs.Check.{CheckMay}
-use Rattle.ppm_explain.specs.Explaining.{ExplainMay}
+use Rattle.ppm_explained.specs.Explaining.{ExplainMay}
+use Rattle.ppm_explained.specs.Orders.{OrdersMay}
 use Rattle.ppm_commands.specs.Code.{CodeMay}
 use Rattle.ppm_commands.specs.Depth.{DepthMay}
 use Rattle.ppm_commands.specs.Races.{RacesMay}
@@ -52,7 +53,8 @@ CommandMay (Some commands.CodeCase) o answer = CaseMay o.source answer
 CommandMay (Some commands.Check) o answer = CheckMay o.source answer
 CommandMay (Some commands.CheckRacing) o answer = RacingCheckMay o.source answer
 CommandMay (Some commands.Show) o answer = ShowMay o.source answer
-CommandMay (Some commands.Explain) o answer = ExplainMay o.source answer
+CommandMay (Some (commands.Explain text)) o answer = ExplainMay text o.source answer
+CommandMay (Some (commands.ExplainOrders options text)) o answer = OrdersMay options text o.source answer
 CommandMay (Some (commands.Depth limit)) o answer = DepthMay limit.capsules o.source answer
 CommandMay (Some (commands.Races limit)) o answer = RacesMay limit.capsules o.source answer
 CommandMay (Some (commands.Replay options schedule)) o answer = ReplayMay options schedule o.source answer
@@ -84,7 +86,8 @@ CommandTells (Some commands.CodeCase) o = TellsNothing
 CommandTells (Some commands.Check) o = TellsNothing
 CommandTells (Some commands.CheckRacing) o = TellsNothing
 CommandTells (Some commands.Show) o = TellsNothing
-CommandTells (Some commands.Explain) o = TellsNothing
+CommandTells (Some (commands.Explain text)) o = TellsNothing
+CommandTells (Some (commands.ExplainOrders options text)) o = TellsNothing
 CommandTells (Some (commands.Depth limit)) o = TellsNothing
 CommandTells (Some (commands.Races limit)) o = TellsNothing
 CommandTells (Some (commands.Replay options schedule)) o = TellsNothing

@@ -5,7 +5,8 @@ use Rattle.ppm_ram.specs.Correct.{TextsAreOfRams}
 use Rattle.ppm_commands.specs.Case.{AreCases, HaveOneAnswer as CaseTextsHaveOneAnswer}
 use Rattle.ppm_commands.specs.Check.{HaveOneAnswer as ListingsHaveOneAnswer}
 use Rattle.ppm_commands.specs.RacingCheck.{HaveOneAnswer as RacingListingsHaveOneAnswer}
-use Rattle.ppm_explain.specs.Explaining.{FrontsAreExplained}
+use Rattle.ppm_explained.specs.Explaining.{HaveOneAnswer as ExplainedTextsHaveOneAnswer}
+use Rattle.ppm_explained.specs.Orders.{AllHaveOneAnswer as ExplainedOrdersHaveOneAnswer}
 use Rattle.ppm_commands.specs.Code.{CodesAreFaithful, HaveOneAnswer as CodesHaveOneAnswer}
 use Rattle.ppm_commands.specs.Depth.{HaveOneAnswer as DepthRunsHaveOneAnswer}
 use Rattle.ppm_commands.specs.Races.{HaveOneAnswer as CasesHaveOneAnswer}
@@ -61,7 +62,8 @@ pub record ProgramLaws : Type 0 where
   pub listings : ListingsHaveOneAnswer
   pub racing_listings : RacingListingsHaveOneAnswer
   pub states : SavedTextsHaveOneAnswer
-  pub explained : FrontsAreExplained
+  pub explained : ExplainedTextsHaveOneAnswer
+  pub explained_orders : ExplainedOrdersHaveOneAnswer
   pub depths : DepthRunsHaveOneAnswer
   pub races : CasesHaveOneAnswer
   pub texts : CaseTextsHaveOneAnswer

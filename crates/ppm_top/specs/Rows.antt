@@ -12,6 +12,8 @@ use Rattle.ppm_cli.specs.declared.capsules.CapsuleLimit.{CapsuleLimit}
 use Rattle.ppm_cli.specs.declared.command.Command.{Command}
 use Rattle.ppm_cli.specs.declared.command.Command.TheVariants as commands
 use Rattle.ppm_cli.specs.declared.example.SelfOptions.{SelfOptions}
+use Rattle.ppm_cli.specs.declared.explain.ExplainedText.{ExplainedText}
+use Rattle.ppm_cli.specs.declared.explain.ExplainOptions.{ExplainOptions}
 use Rattle.ppm_cli.specs.declared.serial.SerialOptions.{SerialOptions}
 use Rattle.ppm_cli.specs.declared.replay.ReplayOptions.{ReplayOptions}
 use Rattle.ppm_cli.specs.declared.replay.ReplaySavedOptions.{ReplaySavedOptions}
@@ -22,11 +24,12 @@ use Rattle.ppm_cli.specs.declared.stop.StopSavedOptions.{StopSavedOptions}
 use Rattle.ppm_cli.specs.declared.sweep.SweepOptions.{SweepOptions}
 use Rattle.ppm_cli.specs.declared.trace.TraceOptions.{TraceOptions}
 use Rattle.ppm_cli.specs.declared.trace.TraceSavedOptions.{TraceSavedOptions}
-use Rattle.ppm_cli.specs.Words.{command_of, AreReplayed, AreResumed, AreRun, AreSavedReplayed, AreSavedStopped, AreSavedTraced, AreSelf, AreStopped, AreSwept, AreTraced, IsLimit}
+use Rattle.ppm_cli.specs.Words.{command_of, AreExplained, AreReplayed, AreResumed, AreRun, AreSavedReplayed, AreSavedStopped, AreSavedTraced, AreSelf, AreStopped, AreSwept, AreTraced, IsLimit}
 use Rattle.ppm_commands.specs.Case.{CaseRows}
 use Rattle.ppm_commands.specs.Check.{CheckRows}
 use Rattle.ppm_commands.specs.Show.{ShowRows}
-use Rattle.ppm_explain.specs.Explaining.{ExplainRows}
+use Rattle.ppm_explained.specs.Explaining.{ExplainRows}
+use Rattle.ppm_explained.specs.Orders.{OrdersRows, WritesNotes}
 use Rattle.ppm_commands.specs.Code.{CodeRows}
 use Rattle.ppm_commands.specs.Depth.{DepthRows}
 use Rattle.ppm_commands.specs.Races.{RacesRows}
@@ -105,9 +108,14 @@ ChecksRacingByWords words o status = command_of words ≡ Some commands.CheckRac
 abbrev pub ShowsByWords : List (List ℕ) → Outside → Status → Type 0
 ShowsByWords words o status = command_of words ≡ Some commands.Show → ShowRows (ports_of o) status
 
--- and those of `explain` where they ask for that
+-- and those of `explain` where they ask for that, of this text
 abbrev pub ExplainsByWords : List (List ℕ) → Outside → Status → Type 0
-ExplainsByWords words o status = command_of words ≡ Some commands.Explain → ExplainRows (ports_of o) status
+ExplainsByWords words o status = (text : ExplainedText) → command_of words ≡ Some (commands.Explain text) → ExplainRows text (ports_of o) status
+
+-- those of `explain` of a plan or a schedule where they ask for that, with these options, which are in their ranges
+abbrev pub ExplainsOrdersByWords : List (List ℕ) → Outside → Status → Type 0
+ExplainsOrdersByWords words o status = (options : ExplainOptions) (text : List ℕ) → command_of words ≡ Some (commands.ExplainOrders options text)
+    → AreExplained options × OrdersRows options text (ports_of o) status
 
 -- those of `replay` where they ask for that, with these options, which are in their ranges, and this schedule
 abbrev pub ReplaysByWords : List (List ℕ) → Outside → Status → Type 0
@@ -222,6 +230,8 @@ pub data HasRefusedPlan (words : List (List ℕ)) (o : Outside) : Type 0 where
       → RefusesResumed options plan o → HasRefusedPlan words o
   OfSaved : (command : Command) (schedule : List ℕ) → command_of words ≡ Some command → saved_schedule_of command ≡ Some schedule
       → RefusesSchedule schedule (ports_of o) → HasRefusedPlan words o
+  OfExplained : (options : ExplainOptions) (text : List ℕ) → command_of words ≡ Some (commands.ExplainOrders options text)
+      → WritesNotes options text (ports_of o) → HasRefusedPlan words o
 
 -- Status 3 comes only where the words give no command, or name a plan or a schedule that is refused. Where they give no command,
 -- nothing is read, and the status is 3, or 8 or 9.
@@ -255,6 +265,7 @@ pub record ProgramRows (words : List (List ℕ)) (o : Outside) (status : Status)
   pub racing_check : ChecksRacingByWords words o status
   pub show : ShowsByWords words o status
   pub explain : ExplainsByWords words o status
+  pub explain_orders : ExplainsOrdersByWords words o status
   pub depth : RunsDepthFirstByWords words o status
   pub races : SeeksRacesByWords words o status
   pub replay : ReplaysByWords words o status

@@ -12,7 +12,9 @@ use ppm_driver::{
     answers_are_as_code, answers_are_as_rams, answers_are_one as runs_have_one_answer,
     case_answers_are_one, examples_sum_up, ram_answers_are_one, runs_complete,
 };
-use ppm_explain::fronts_are_explained;
+use ppm_explained::{
+    orders_have_one_answer, texts_have_one_answer as explained_texts_have_one_answer,
+};
 use ppm_legs::{
     saved_replays_have_one_answer, saved_stops_have_one_answer, saved_traces_have_one_answer,
     stops_go_on_chains,
@@ -48,7 +50,8 @@ pub fn program_laws()
     listings_have_one_answer();
     racing_listings_have_one_answer();
     saved_texts_have_one_answer();
-    fronts_are_explained();
+    explained_texts_have_one_answer();
+    orders_have_one_answer();
     depth_runs_have_one_answer();
     cases_have_one_answer();
     case_texts_have_one_answer();

@@ -15,7 +15,7 @@ use ppm_commands::{
     serial_command, show_command,
 };
 use ppm_driver::{ram_command, run_case_command, run_command, self_command};
-use ppm_explain::explain_command;
+use ppm_explained::{explain_command, explain_orders_command};
 use ppm_legs::{replay_saved_command, stop_saved_command, trace_saved_command};
 use ppm_ports::{Sink, Source, Watch};
 use ppm_replay_command::{
@@ -110,7 +110,14 @@ fn answer_words<R: Threads + Wait + Sync, S: Source, K: Sink, E: Sink, W: Watch>
         Ok(Some(Command::Check)) => check_command(alloc, source, out, err),
         Ok(Some(Command::CheckRacing)) => racing_check_command(alloc, source, out, err),
         Ok(Some(Command::Show)) => show_command(alloc, source, out, err),
-        Ok(Some(Command::Explain)) => explain_command(alloc, source, out, err),
+        Ok(Some(Command::Explain(text))) => explain_command(alloc, text, source, out, err),
+        Ok(Some(Command::ExplainOrders(options, stated))) => explain_orders_command(
+            alloc,
+            options,
+            stated.as_slice(),
+            out,
+            err,
+        ),
         Ok(Some(Command::Depth(limit))) => depth_command(alloc, limit.capsules, source, out, err),
         Ok(Some(Command::Races(limit))) => races_command(alloc, limit.capsules, source, out, err),
         Ok(Some(Command::Replay(options, schedule))) => replay_command(

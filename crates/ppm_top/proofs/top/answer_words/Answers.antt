@@ -55,11 +55,17 @@ returns-in-Ok-Some-Show-clause-answers g c = by_ports (map string_bytes c.args.w
     (cc (c.in-Ok-Some-Show.ensures.value, c.in-Ok-Some-Show.field-0-is, c.in-Ok-Some-Show.field-0-0-is)) refl refl
     c.show_command.ensures.delivers
 
--- the words ask to explain a source, which was explained
+-- the words ask to explain a text, which was explained
 pub returns-in-Ok-Some-Explain-clause-answers : goal.returns-in-Ok-Some-Explain-clause-answers
-returns-in-Ok-Some-Explain-clause-answers g c = by_ports (map string_bytes c.args.words.now) _ _ (Some commands.Explain)
+returns-in-Ok-Some-Explain-clause-answers g c = by_ports (map string_bytes c.args.words.now) _ _ (Some (commands.Explain _))
     (cc (c.in-Ok-Some-Explain.ensures.value, c.in-Ok-Some-Explain.field-0-is, c.in-Ok-Some-Explain.field-0-0-is)) refl refl
     c.explain_command.ensures.delivers
+
+-- the words ask to explain a plan or a schedule, which was explained, and nothing was read
+pub returns-in-Ok-Some-ExplainOrders-clause-answers : goal.returns-in-Ok-Some-ExplainOrders-clause-answers
+returns-in-Ok-Some-ExplainOrders-clause-answers g c = by_ports (map string_bytes c.args.words.now) _ _ (Some (commands.ExplainOrders _ _))
+    (cc (c.in-Ok-Some-ExplainOrders.ensures.value, c.in-Ok-Some-ExplainOrders.field-0-is, c.in-Ok-Some-ExplainOrders.field-0-0-is)) refl refl
+    (c.explain_orders_command.ensures _ (left_alone g.S.Source.left g.S.Source.fault_count c.args.source.now)).delivers
 
 -- the words ask for a run, which was answered
 pub returns-in-Ok-Some-Run-clause-answers : goal.returns-in-Ok-Some-Run-clause-answers

@@ -1,0 +1,32 @@
+//! What is true of every text that is explained, shown by a call that does nothing.
+ghost use Rattle.ppm_explained.specs.Explaining.{HaveOneAnswer};
+ghost use Rattle.ppm_explained.specs.Orders.{AllHaveOneAnswer};
+
+use ppm_case::faults_tell_cases;
+use ppm_commands::{cases_have_one_answer, listings_have_one_answer, saved_texts_have_one_answer};
+use ppm_listing_reader::faults_tell_listings;
+use ppm_plan::have_one_answer as plans_have_one_answer;
+use ppm_program::have_one_answer;
+
+/// Where it is explained, a text has one answer: that it is accepted, or its refusal with its notes;
+/// and a text that is too long is explained as its front is.
+pub fn texts_have_one_answer()
+    ensures law { HaveOneAnswer }
+{
+    // The law rests on these; the calls do nothing.
+    have_one_answer();
+    listings_have_one_answer();
+    faults_tell_listings();
+    cases_have_one_answer();
+    faults_tell_cases();
+    saved_texts_have_one_answer();
+}
+
+/// Where it is explained, a plan or a schedule has one answer: that it may be obeyed, or its refusal
+/// with its notes.
+pub fn orders_have_one_answer()
+    ensures law { AllHaveOneAnswer }
+{
+    // The law rests on this; the call does nothing.
+    plans_have_one_answer();
+}

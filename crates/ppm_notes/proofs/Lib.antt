@@ -1,0 +1,3 @@
+-- Loops keep what is written and what is left together; what is left of a line goes by its halves.
+pub mod WordLemmas
+pub mod LineLemmas

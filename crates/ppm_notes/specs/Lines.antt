@@ -1,0 +1,77 @@
+-- What is said of a case or a saved text that is refused, after the line of the refusal.
+use Rattle.std.specs.Prelude.{ℕ, ◌==◌, if◌then◌else◌, nat_lt, Bool, true, false, List, [], ◌∷◌, ◌++◌, length, codes}
+use Rattle.std.specs.Str.{bytes_eq}
+use Rattle.ppm_pieces.specs.Pieces.{split}
+use Rattle.ppm_case.specs.Rules.{case_limit}
+use Rattle.ppm_saved_reader.specs.Rules.{saved_limit}
+use Rattle.ppm_answers.specs.declared.case.InputRefusal.{InputRefusal}
+use Rattle.ppm_answers.specs.declared.case.UntidyStore.{UntidyStore}
+use Rattle.ppm_answers.specs.declared.conflict.ListingRefusal.{ListingRefusal}
+use Rattle.ppm_answers.specs.declared.saved.SavedRefusal.{SavedRefusal}
+use Rattle.ppm_explain.specs.Meanings.{note_text}
+use Rattle.ppm_explain.specs.Places.{line_bytes, line_text, shown_text}
+use Rattle.ppm_notes.specs.Listings.{fault_notes}
+use Rattle.ppm_notes.specs.Words.{first_word}
+
+-- a line, and what is said of it
+abbrev pub line_notes : List ℕ → ℕ → List ℕ → List ℕ
+line_notes text line words = line_text line ++ shown_text (line_bytes text line) ++ note_text words
+
+-- that alone, of a text that is too long
+abbrev pub short_notes : ℕ → List ℕ → (long words : List ℕ) → List ℕ
+short_notes limit text long words = if nat_lt limit (length text) then note_text long else words
+
+-- whether a line is that of an array
+abbrev pub is_array : List ℕ → Bool
+is_array bytes = bytes_eq (first_word bytes) (codes "array")
+
+-- how many lines of arrays stand in front
+abbrev pub arrays_in : List (List ℕ) → ℕ
+arrays_in [] = 0
+arrays_in (l ∷ ls) = if is_array l then 1 + arrays_in ls else 0
+
+abbrev pub long_case : List ℕ
+long_case = codes "a case has 536870912 bytes at most"
+
+-- faults of a case's arrays and root, by their numbers
+abbrev pub input_meaning : ℕ → List ℕ
+input_meaning n =
+    if n == 1 then codes "the line of an array is `array NAME LENGTH`, and its first values behind it, as `7` or `7*3`, with one blank between two words and numbers without zeros in front; the name is none of the language's words"
+    else if n == 2 then codes "a length is 4194304 at most, a count 1 to 4194304, a value fits 64 bits, and there are no more values than the length says"
+    else if n == 3 then codes "an array above has this name"
+    else if n == 4 then codes "there are 64 arrays at most, with 4194304 words together"
+    else if n == 5 then codes "the root names an array that is not there; arrays count from 0"
+    else []
+
+-- what is said of such a fault
+abbrev pub input_notes : List ℕ → InputRefusal → List ℕ
+input_notes text r = short_notes case_limit text long_case (line_notes text r.line (input_meaning r.number))
+
+-- what is said of a fault of a case's listing
+abbrev pub case_notes : List ℕ → ListingRefusal → List ℕ
+case_notes text r = short_notes case_limit text long_case (fault_notes (arrays_in (split 10 text)) text r)
+
+abbrev pub untidy_meaning : List ℕ
+untidy_meaning =
+    codes "a `storenew` fills a slot of a frame that the end of its path builds, and no instruction after it on that path can trap"
+
+-- what is said of a store that is not tidy
+abbrev pub untidy_notes : List ℕ → UntidyStore → List ℕ
+untidy_notes text u = line_notes text u.line untidy_meaning
+
+abbrev pub long_saved : List ℕ
+long_saved = codes "a saved text has 671088640 bytes at most"
+
+-- faults of a saved text, by their numbers
+abbrev pub saved_meaning : ℕ → List ℕ
+saved_meaning n =
+    if n == 1 then codes "a line has the form of its place, as `stop` writes it, with a line feed at its end; the name of an array comes once, a word that comes again is counted, and as many bytes as it says follow `code`"
+    else if n == 2 then codes "a number of this line is out of its range: there are 1 to 64 processors, 64 to 4194304 words of room in all places together, 2 to 4096 slots, 64 arrays at most with 4194304 words together; a word has 64 bits"
+    else if n == 3 then codes "the bytes after this line are no listing, or its root names an array that is not there; `explain --input listing` says more of it"
+    else if n == 4 then codes "the code after this line has a conflict, or is not tidy; `explain --input case` says more of it"
+    else if n == 5 then codes "the words are not as many as the sizes of the text say"
+    else []
+
+-- what is said of such a fault
+abbrev pub saved_notes : List ℕ → SavedRefusal → List ℕ
+saved_notes text r = short_notes saved_limit text long_saved (line_notes text r.line (saved_meaning r.number))

@@ -1,0 +1,102 @@
+-- What is said of the text of a listing that is refused, after the line of the refusal.
+use Rattle.std.specs.Prelude.{ℕ, suc, ◌+◌, ◌-◌, ◌==◌, if◌then◌else◌, nat_lt, List, [], ◌++◌, length, codes, decimal, Option, Some, None}
+use Rattle.ppm_pieces.specs.Pieces.{split}
+use Rattle.ppm_listing.specs.declared.keyword.Keyword.{Keyword}
+use Rattle.ppm_listing.specs.Tokens.{keyword_text}
+use Rattle.ppm_listing_reader.specs.declared.form.Sort.{Sort}
+use Rattle.ppm_listing_reader.specs.declared.token.Token.{Token}
+use Rattle.ppm_listing_reader.specs.Limits.{listing_limit}
+use Rattle.ppm_listing_reader.specs.Forms.{sorts}
+use Rattle.ppm_answers.specs.declared.conflict.ListingRefusal.{ListingRefusal}
+use Rattle.ppm_explain.specs.Places.{line_text, line_bytes, shown_text, marked_text, is_last_line}
+use Rattle.ppm_explain.specs.Meanings.{note_text}
+use Rattle.ppm_explain.specs.Words.{quoted}
+use Rattle.ppm_notes.specs.Words.{after_words, capsules_in, column_in, keywords_text, sort_text, thing_text, tokens_in}
+use Rattle.ppm_notes.specs.Operands.{fitting, lead_of, leads, operand_text, operands}
+use Rattle.ppm_notes.specs.Meanings.{listing_meaning, long_listing, conflict_meaning}
+
+-- a line of words
+abbrev pub worded : List ℕ → List ℕ → List ℕ
+worded words text = words ++ text ++ codes "\n"
+
+-- what stands in a line behind some words, with a mark under it
+abbrev pub spot_of : List ℕ → ℕ → Option (List ℕ) → List ℕ
+spot_of text line rest =
+    marked_text line (line_bytes text line) (column_in (line_bytes text line) rest)
+    ++ worded (codes "found: ") (thing_text (is_last_line text line) rest)
+
+-- the words that could stand there
+abbrev pub stop_text : List ℕ → ℕ → Option (List ℕ) → List ℕ → List ℕ
+stop_text text line rest expected = spot_of text line rest ++ worded (codes "expected: ") expected
+
+-- how many words behind its keyword stand where they may, in a line with this number in its listing
+abbrev pub count_in : (at capsules : ℕ) → Keyword → List ℕ → ℕ
+count_in at capsules k bytes = let ts = tokens_in (after_words 1 bytes) in fitting (operands at capsules k ts) ts
+
+-- and what could stand behind these
+abbrev pub wanted_in : (at capsules : ℕ) → Keyword → List ℕ → List ℕ
+wanted_in at capsules k bytes =
+    operand_text k (operands at capsules k (tokens_in (after_words 1 bytes))) (count_in at capsules k bytes)
+
+-- how many words of a line stand where they may: none, where it begins with no keyword that may
+abbrev pub stop_count : (at capsules : ℕ) → Option Keyword → List ℕ → ℕ
+stop_count at capsules None bytes = 0
+stop_count at capsules (Some k) bytes = count_in at capsules k bytes + 1
+
+-- and what could stand behind these
+abbrev pub stop_words : (at capsules : ℕ) → Option Keyword → List ℕ → List ℕ
+stop_words at capsules None bytes = keywords_text (leads at capsules)
+stop_words at capsules (Some k) bytes = wanted_in at capsules k bytes
+
+-- how many capsules begin above a line
+abbrev pub capsules_above : List ℕ → ℕ → ℕ
+capsules_above text line = capsules_in (line - 1) (split 10 text)
+
+-- the keyword with which a line begins, if it may, where so many lines stand above the listing
+abbrev pub lead_at : (above : ℕ) → List ℕ → ℕ → Option Keyword
+lead_at above text line = lead_of (line - above) (capsules_above text line) (line_bytes text line)
+
+-- by the keyword with which a line begins: the first word that may not stand there, and what could in its place
+abbrev pub stop_by : List ℕ → ℕ → (at capsules : ℕ) → Option Keyword → List ℕ
+stop_by text line at capsules k =
+    stop_text text line (after_words (stop_count at capsules k (line_bytes text line)) (line_bytes text line))
+    (stop_words at capsules k (line_bytes text line))
+
+-- a line of no form that may stand there
+abbrev pub stop_notes : (above : ℕ) → List ℕ → ℕ → List ℕ
+stop_notes above text line = stop_by text line (line - above) (capsules_above text line) (lead_at above text line)
+
+-- the sorts of the words behind a keyword
+abbrev pub sorts_text : List Sort → List ℕ
+sorts_text [] = []
+sorts_text (s ∷ ss) = codes ", " ++ sort_text s ++ sorts_text ss
+
+-- the form of a line by its keyword
+abbrev pub form_text : Option Keyword → List ℕ
+form_text None = []
+form_text (Some k) = worded (codes "form: ") (quoted (keyword_text k) ++ sorts_text (sorts k))
+
+-- a line that breaks another rule, and its form
+abbrev pub rule_notes : (above : ℕ) → List ℕ → ℕ → List ℕ
+rule_notes above text line = line_text line ++ shown_text (line_bytes text line) ++ form_text (lead_at above text line)
+
+-- the line of a fault
+abbrev pub fault_line : (above : ℕ) → List ℕ → ListingRefusal → List ℕ
+fault_line above text r = if r.number == 1 then stop_notes above text r.line else rule_notes above text r.line
+
+-- what is said of a fault of a listing that stands below so many lines: its line, and what the refusal means
+abbrev pub fault_notes : (above : ℕ) → List ℕ → ListingRefusal → List ℕ
+fault_notes above text r = fault_line above text r ++ note_text (listing_meaning r.number)
+
+-- what is said of a text that is no listing; of one that is too long that alone
+abbrev pub listing_notes : List ℕ → ListingRefusal → List ℕ
+listing_notes text r = if nat_lt listing_limit (length text) then note_text long_listing else fault_notes 0 text r
+
+-- a line of a listing, behind words
+abbrev pub row_text : List ℕ → List ℕ → ℕ → List ℕ
+row_text words text line = worded words (decimal line) ++ shown_text (line_bytes text line)
+
+-- what is said of a conflict: the line that reads, the line that writes, and what it means
+abbrev pub conflict_notes : List ℕ → (read write : ℕ) → List ℕ
+conflict_notes text read write =
+    row_text (codes "read in line ") text read ++ row_text (codes "written in line ") text write ++ note_text conflict_meaning

@@ -1,0 +1,155 @@
+//! What is said of a case or a saved text that is refused.
+ghost use Rattle.std.specs.Prelude.{◌≡◌, ◌++◌, IfOk, OnOk};
+ghost use Rattle.ppm_pieces.specs.Pieces.{split};
+ghost use Rattle.ppm_notes.specs.Lines.{arrays_in, case_notes as notes_of_case};
+ghost use Rattle.ppm_notes.specs.Lines.{input_meaning as input_words, input_notes as notes_of_input};
+ghost use Rattle.ppm_notes.specs.Lines.{is_array as is_array_line, line_notes as notes_of_line};
+ghost use Rattle.ppm_notes.specs.Lines.{long_case, long_saved, saved_meaning as saved_words};
+ghost use Rattle.ppm_notes.specs.Lines.{saved_notes as notes_of_saved, untidy_meaning};
+ghost use Rattle.ppm_notes.specs.Lines.{untidy_notes as notes_of_untidy};
+
+use crate::listing::{fault_notes, push_row};
+use crate::meaning::{note_of, push_note};
+use crate::words::first_word;
+use ppm_answers::{InputRefusal, ListingRefusal, SavedRefusal, UntidyStore};
+use ppm_case::CASE_LIMIT;
+use ppm_explain::push_line;
+use ppm_pieces::{same_bytes, split_once};
+use ppm_saved_reader::SAVED_LIMIT;
+use ppm_words::NoMemory;
+use std::alloc::Global;
+
+/// Whether a line is that of an array.
+fn is_array(line: &[u8]) -> bool
+    ensures { result ≡ is_array_line line.now }
+{
+    same_bytes(first_word(line), b"array")
+}
+
+/// How many lines of arrays stand in front of a text.
+#[tactic(auto, using(crate::proofs::LineLemmas::one_more, crate::proofs::LineLemmas::no_more, crate::proofs::LineLemmas::last_one, crate::proofs::LineLemmas::few))]
+fn arrays_above(text: &[u8]) -> usize
+    ensures { result ≡ arrays_in (split 10 text.now) }
+{
+    let mut left = text;
+    let mut count = 0;
+    'lines: while let Some((line, rest)) = split_once(left, b'\n') {
+        if !is_array(line) {
+            return count;
+        }
+        count += 1;
+        left = rest;
+    }
+    if is_array(left) { count + 1 } else { count }
+}
+
+/// What a fault of the arrays or of the root of a case means, by its number.
+#[tactic(auto, unfolding(crate::specs::Lines::input_meaning))]
+fn input_meaning(number: u32) -> &'static str
+    ensures { result.now ≡ input_words number }
+{
+    match number {
+        1 =>
+            "the line of an array is `array NAME LENGTH`, and its first values behind it, as `7` or `7*3`, with one blank between two words and numbers without zeros in front; the name is none of the language's words",
+        2 =>
+            "a length is 4194304 at most, a count 1 to 4194304, a value fits 64 bits, and there are no more values than the length says",
+        3 => "an array above has this name",
+        4 => "there are 64 arrays at most, with 4194304 words together",
+        5 => "the root names an array that is not there; arrays count from 0",
+        _ => "",
+    }
+}
+
+/// What is said of a case that is too long.
+fn long_case_words() -> &'static str
+    ensures { result.now ≡ long_case }
+{
+    "a case has 536870912 bytes at most"
+}
+
+/// What a store that is not tidy means.
+fn untidy_words() -> &'static str
+    ensures { result.now ≡ untidy_meaning }
+{
+    "a `storenew` fills a slot of a frame that the end of its path builds, and no instruction after it on that path can trap"
+}
+
+/// What is said of a saved text that is too long.
+fn long_saved_words() -> &'static str
+    ensures { result.now ≡ long_saved }
+{
+    "a saved text has 671088640 bytes at most"
+}
+
+/// What a fault of a saved text means, by its number.
+#[tactic(auto, unfolding(crate::specs::Lines::saved_meaning))]
+fn saved_meaning(number: u32) -> &'static str
+    ensures { result.now ≡ saved_words number }
+{
+    match number {
+        1 =>
+            "a line has the form of its place, as `stop` writes it, with a line feed at its end; the name of an array comes once, a word that comes again is counted, and as many bytes as it says follow `code`",
+        2 =>
+            "a number of this line is out of its range: there are 1 to 64 processors, 64 to 4194304 words of room in all places together, 2 to 4096 slots, 64 arrays at most with 4194304 words together; a word has 64 bits",
+        3 =>
+            "the bytes after this line are no listing, or its root names an array that is not there; `explain --input listing` says more of it",
+        4 =>
+            "the code after this line has a conflict, or is not tidy; `explain --input case` says more of it",
+        5 => "the words are not as many as the sizes of the text say",
+        _ => "",
+    }
+}
+
+/// A line, and what is said of it.
+fn line_notes(alloc: Global, text: &[u8], line: u32, words: &str) -> Result<Vec<u8>, NoMemory>
+    ensures { IfOk result (λ notes. notes.items ≡ notes_of_line text.now line words.now) }
+{
+    let mut notes = Vec::new(alloc);
+    push_line(alloc, &mut notes, text, line)?;
+    push_note(&mut notes, words)?;
+    Ok(notes)
+}
+
+/// What is said, after the line of its refusal, of a case whose arrays or whose root have this
+/// fault: the line, and what the refusal means. `Err` only where memory is refused.
+pub fn input_notes(alloc: Global, text: &[u8], refusal: InputRefusal) -> Result<Vec<u8>, NoMemory>
+    ensures { IfOk result (λ notes. notes.items ≡ notes_of_input text.now refusal) }
+{
+    if text.len() > CASE_LIMIT {
+        return note_of(alloc, long_case_words());
+    }
+    line_notes(alloc, text, refusal.line, input_meaning(refusal.number))
+}
+
+/// What is said, after the line of its refusal, of a case whose listing has this fault. `Err` only
+/// where memory is refused.
+pub fn case_notes(alloc: Global, text: &[u8], refusal: ListingRefusal) -> Result<Vec<u8>, NoMemory>
+    ensures { IfOk result (λ notes. notes.items ≡ notes_of_case text.now refusal) }
+{
+    if text.len() > CASE_LIMIT {
+        return note_of(alloc, long_case_words());
+    }
+    fault_notes(alloc, text, arrays_above(text), refusal)
+}
+
+/// What is said, after its line, of a case with a store that is not tidy: the store, and what it
+/// means. `Err` only where memory is refused.
+pub fn untidy_notes(alloc: Global, text: &[u8], store: UntidyStore) -> Result<Vec<u8>, NoMemory>
+    ensures { IfOk result (λ notes. notes.items ≡ notes_of_untidy text.now store) }
+{
+    let mut notes = Vec::new(alloc);
+    push_row(alloc, &mut notes, "line ", text, store.line)?;
+    push_note(&mut notes, untidy_words())?;
+    Ok(notes)
+}
+
+/// What is said, after the line of its refusal, of a text that is that of no saved state: the line,
+/// and what the refusal means. `Err` only where memory is refused.
+pub fn saved_notes(alloc: Global, text: &[u8], refusal: SavedRefusal) -> Result<Vec<u8>, NoMemory>
+    ensures { IfOk result (λ notes. notes.items ≡ notes_of_saved text.now refusal) }
+{
+    if text.len() > SAVED_LIMIT {
+        return note_of(alloc, long_saved_words());
+    }
+    line_notes(alloc, text, refusal.line, saved_meaning(refusal.number))
+}

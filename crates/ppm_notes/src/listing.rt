@@ -1,0 +1,203 @@
+//! What is said of the text of a listing that is refused.
+ghost use Rattle.std.specs.Prelude.{◌≡◌, ◌++◌, ◌+◌, IfOk, OnOk, option_map};
+ghost use Rattle.ppm_notes.specs.Listings.{conflict_notes as notes_of_conflict, count_in, fault_line};
+ghost use Rattle.ppm_notes.specs.Listings.{fault_notes as notes_of_fault, stop_count};
+ghost use Rattle.ppm_notes.specs.Listings.{listing_notes as notes_of_listing, row_text, rule_notes};
+ghost use Rattle.ppm_notes.specs.Listings.{spot_of, stop_notes, stop_words, wanted_in};
+
+use crate::form::push_form;
+use crate::meaning::{conflict_words, listing_meaning, long_words, push_note};
+use crate::operands::{fitting, lead, leads, operands, push_operand};
+use crate::wanted::push_keywords;
+use crate::words::{after_words, capsules_above, column, operand_tokens, push_thing};
+use ppm_answers::ListingRefusal;
+use ppm_explain::{is_last_line, line_bytes, push_line, push_marked, push_shown, push_word};
+use ppm_listing::Keyword;
+use ppm_listing_reader::LISTING_LIMIT;
+use ppm_pieces::push_number;
+use ppm_words::NoMemory;
+use std::alloc::Global;
+
+/// Appends what stands in a line after some words, with a mark under it.
+fn push_spot(
+    alloc: Global,
+    text: &mut Vec<u8>,
+    listing: &[u8],
+    line: u32,
+    rest: Option<&[u8]>,
+) -> Result<(), NoMemory>
+    ensures { OnOk result (text.new.items
+        ≡ text.old.items ++ spot_of listing.now line (option_map (λ r. r.now) rest)) }
+{
+    let bytes = line_bytes(listing, line as usize);
+    push_marked(alloc, text, line as usize, bytes, column(bytes, rest))?;
+    push_word(text, "found: ")?;
+    push_thing(text, is_last_line(listing, line as usize), rest)?;
+    push_word(text, "\n")
+}
+
+/// What could stand in a line after its keyword and the words that may stand there, by the line's
+/// number in the listing and by how many capsules begin above it; and how many words these are,
+/// with the keyword.
+fn expected_in(
+    alloc: Global,
+    at: usize,
+    capsules: u32,
+    keyword: Keyword,
+    bytes: &[u8],
+) -> Result<(usize, Vec<u8>), NoMemory>
+    ensures count { IfOk result (λ e. e.0 ≡ count_in at capsules keyword bytes.now + 1) }
+    ensures words { IfOk result (λ e. e.1.items ≡ wanted_in at capsules keyword bytes.now) }
+{
+    let tokens = operand_tokens(alloc, bytes)?;
+    let wanted = operands(alloc, at, capsules, keyword, &tokens)?;
+    let count = fitting(&wanted, &tokens);
+    let mut words = Vec::new(alloc);
+    push_operand(alloc, &mut words, keyword, &wanted, count)?;
+    Ok((count + 1, words))
+}
+
+/// What could stand at the place of a line at which it departs from every form, and after how many
+/// words this place is.
+fn stop_in(
+    alloc: Global,
+    at: usize,
+    capsules: u32,
+    keyword: Option<Keyword>,
+    bytes: &[u8],
+) -> Result<(usize, Vec<u8>), NoMemory>
+    ensures count { IfOk result (λ e. e.0 ≡ stop_count at capsules keyword bytes.now) }
+    ensures words { IfOk result (λ e. e.1.items ≡ stop_words at capsules keyword bytes.now) }
+{
+    match keyword {
+        None => {
+            let mut words = Vec::new(alloc);
+            push_keywords(&mut words, leads(at, capsules))?;
+            Ok((0, words))
+        }
+        Some(keyword) => expected_in(alloc, at, capsules, keyword, bytes),
+    }
+}
+
+/// Appends the first word of a line that may not stand there, and what could in its place.
+fn push_stop(
+    alloc: Global,
+    text: &mut Vec<u8>,
+    listing: &[u8],
+    above: usize,
+    line: u32,
+) -> Result<(), NoMemory>
+    ensures { OnOk result (text.new.items ≡ text.old.items ++ stop_notes above listing.now line) }
+{
+    let bytes = line_bytes(listing, line as usize);
+    let at = (line as usize).saturating_sub(above);
+    let capsules = capsules_above(listing, line.saturating_sub(1));
+    let (count, words) = stop_in(alloc, at, capsules, lead(at, capsules, bytes), bytes)?;
+    push_spot(alloc, text, listing, line, after_words(bytes, count))?;
+    push_word(text, "expected: ")?;
+    text.extend_from_slice(&words)?;
+    push_word(text, "\n")
+}
+
+/// Appends a line that breaks another rule, and its form.
+fn push_rule(
+    alloc: Global,
+    text: &mut Vec<u8>,
+    listing: &[u8],
+    above: usize,
+    line: u32,
+) -> Result<(), NoMemory>
+    ensures { OnOk result (text.new.items ≡ text.old.items ++ rule_notes above listing.now line) }
+{
+    push_line(alloc, text, listing, line)?;
+    let capsules = capsules_above(listing, line.saturating_sub(1));
+    let bytes = line_bytes(listing, line as usize);
+    push_form(
+        text,
+        lead((line as usize).saturating_sub(above), capsules, bytes),
+    )
+}
+
+/// Appends the line of a fault.
+fn push_fault(
+    alloc: Global,
+    text: &mut Vec<u8>,
+    listing: &[u8],
+    above: usize,
+    refusal: ListingRefusal,
+) -> Result<(), NoMemory>
+    ensures { OnOk result (text.new.items ≡ text.old.items ++ fault_line above listing.now refusal) }
+{
+    if refusal.number == 1 {
+        return push_stop(alloc, text, listing, above, refusal.line);
+    }
+    push_rule(alloc, text, listing, above, refusal.line)
+}
+
+/// What is said of a fault of a listing that stands below so many lines of a text: its line, and
+/// what the refusal means.
+pub(crate) fn fault_notes(
+    alloc: Global,
+    text: &[u8],
+    above: usize,
+    refusal: ListingRefusal,
+) -> Result<Vec<u8>, NoMemory>
+    ensures { IfOk result (λ notes. notes.items ≡ notes_of_fault above text.now refusal) }
+{
+    let mut notes = Vec::new(alloc);
+    push_fault(alloc, &mut notes, text, above, refusal)?;
+    push_note(&mut notes, listing_meaning(refusal.number))?;
+    Ok(notes)
+}
+
+/// What is said, after the line of its refusal, of a text that is no listing, for this fault: where
+/// the fault is, what stands there, what could, and what the refusal means. `Err` only where memory
+/// is refused.
+pub fn listing_notes(
+    alloc: Global,
+    text: &[u8],
+    refusal: ListingRefusal,
+) -> Result<Vec<u8>, NoMemory>
+    ensures { IfOk result (λ notes. notes.items ≡ notes_of_listing text.now refusal) }
+{
+    if text.len() > LISTING_LIMIT {
+        let mut notes = Vec::new(alloc);
+        push_note(&mut notes, long_words())?;
+        return Ok(notes);
+    }
+    fault_notes(alloc, text, 0, refusal)
+}
+
+/// Appends a line of a listing, with its number, from 1, after words.
+pub(crate) fn push_row(
+    alloc: Global,
+    text: &mut Vec<u8>,
+    words: &str,
+    listing: &[u8],
+    line: u64,
+) -> Result<(), NoMemory>
+    ensures { OnOk result (text.new.items ≡ text.old.items ++ row_text words.now listing.now line) }
+{
+    push_word(text, words)?;
+    push_number(alloc, text, line)?;
+    push_word(text, "\n")?;
+    push_shown(text, line_bytes(listing, line as usize))
+}
+
+/// What is said, after the line of its refusal, of a listing with a conflict, by the lines in which
+/// it reads and writes, which count from 1: both lines, and what the conflict means. `Err` only
+/// where memory is refused.
+pub fn conflict_notes(
+    alloc: Global,
+    text: &[u8],
+    read: u64,
+    write: u64,
+) -> Result<Vec<u8>, NoMemory>
+    ensures { IfOk result (λ notes. notes.items ≡ notes_of_conflict text.now read write) }
+{
+    let mut notes = Vec::new(alloc);
+    push_row(alloc, &mut notes, "read in line ", text, read)?;
+    push_row(alloc, &mut notes, "written in line ", text, write)?;
+    push_note(&mut notes, conflict_words())?;
+    Ok(notes)
+}
