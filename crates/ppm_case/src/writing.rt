@@ -22,7 +22,7 @@ fn push_row(alloc: Global, text: &mut Vec<u8>, row: Row) -> Result<(), NoMemory>
         return Ok(());
     }
     text.push(b'*')?;
-    push_number(alloc, text, row.times)?;
+    push_number(text, row.times)?;
     Ok(())
 }
 
@@ -49,7 +49,7 @@ fn push_array(alloc: Global, text: &mut Vec<u8>, array: &NamedArray) -> Result<(
     text.extend_from_slice("array ".as_bytes())?;
     text.extend_from_slice(array.name.as_bytes())?;
     text.push(b' ')?;
-    push_number(alloc, text, values.len() as u64)?;
+    push_number(text, values.len() as u64)?;
     push_rows(alloc, text, values)?;
     text.push(b'\n')?;
     Ok(())

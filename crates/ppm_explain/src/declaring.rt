@@ -12,7 +12,6 @@ use ppm_pieces::push_number;
 use ppm_printer::keyword_spelling;
 use ppm_text::{Keyword, Kind, Sign};
 use ppm_words::NoMemory;
-use std::alloc::Global;
 
 /// What stands in front of a token.
 #[derive(Clone, Copy, Debug, PartialEq, Eq)]
@@ -180,7 +179,6 @@ pub(crate) fn heads(before: Before) -> bool
 
 /// Appends the word that declares a name in this line, if one does.
 pub(crate) fn push_declaration(
-    alloc: Global,
     text: &mut Vec<u8>,
     before: Before,
     line: u32,
@@ -192,7 +190,7 @@ pub(crate) fn push_declaration(
             push_word(text, ", ")?;
             push_word(text, keyword_spelling(keyword))?;
             push_word(text, " in line ")?;
-            push_number(alloc, text, u64::from(line))?;
+            push_number(text, u64::from(line))?;
             Ok(())
         }
         Before::Other => Ok(()),

@@ -29,7 +29,6 @@ fn is_name(kind: &Kind, name: &[u8]) -> bool
 
 /// Appends what declares a token, if it is the name.
 fn push_declared_by(
-    alloc: Global,
     text: &mut Vec<u8>,
     before: Before,
     token: &Token,
@@ -41,23 +40,18 @@ fn push_declared_by(
     if !is_name(&token.kind, name) {
         return Ok(());
     }
-    push_declaration(alloc, text, before, token.line)
+    push_declaration(text, before, token.line)
 }
 
 /// Appends the declarations of a name.
-fn push_declared(
-    alloc: Global,
-    text: &mut Vec<u8>,
-    tokens: &[Token],
-    name: &[u8],
-) -> Result<(), NoMemory>
+fn push_declared(text: &mut Vec<u8>, tokens: &[Token], name: &[u8]) -> Result<(), NoMemory>
     ensures { OnOk result (text.new.items
         ≡ text.old.items ++ declared_from before.Other name.now tokens.now) }
 {
     let mut before = Before::Other;
     let mut left = tokens;
     'tokens: while let Some((token, rest)) = left.split_first() {
-        push_declared_by(alloc, text, before, token, name)?;
+        push_declared_by(text, before, token, name)?;
         before = after(before, &token.kind);
         left = rest;
     }
@@ -75,7 +69,7 @@ fn push_declared_or_nowhere(
         ++ or_nowhere (declared_from before.Other name.now tokens.now)) }
 {
     let mut declared = Vec::new(alloc);
-    push_declared(alloc, &mut declared, tokens, name)?;
+    push_declared(&mut declared, tokens, name)?;
     if declared.is_empty() {
         return push_word(text, ", declared nowhere");
     }
@@ -108,20 +102,20 @@ fn later(token: &Token, name: &[u8], line: u32, last: u32) -> u32
 }
 
 /// Appends that a name stood in this line.
-fn push_before(alloc: Global, text: &mut Vec<u8>, line: u32) -> Result<(), NoMemory>
+fn push_before(text: &mut Vec<u8>, line: u32) -> Result<(), NoMemory>
     ensures { OnOk result (text.new.items ≡ text.old.items ++ before_text line) }
 {
-    push_counted(alloc, text, "; before in line ", line)
+    push_counted(text, "; before in line ", line)
 }
 
 /// Appends that a name stood in this line, if it did in one.
-fn push_stood(alloc: Global, text: &mut Vec<u8>, line: u32) -> Result<(), NoMemory>
+fn push_stood(text: &mut Vec<u8>, line: u32) -> Result<(), NoMemory>
     ensures { OnOk result (text.new.items ≡ text.old.items ++ stood_text line) }
 {
     if line == 0 {
         return Ok(());
     }
-    push_before(alloc, text, line)
+    push_before(text, line)
 }
 
 /// Appends how a name of a line is declared, and where it stood before.
@@ -139,7 +133,7 @@ fn push_name(
     text.extend_from_slice(name)?;
     push_word(text, "`")?;
     push_declared_or_nowhere(alloc, text, tokens, name)?;
-    push_stood(alloc, text, stood(tokens, name, line))?;
+    push_stood(text, stood(tokens, name, line))?;
     push_word(text, "\n")
 }
 
@@ -304,31 +298,25 @@ pub(crate) fn heading_at(tokens: &[Token], number: u32) -> Option<&Token>
 }
 
 /// Appends a procedure, by the token of its name.
-fn push_procedure(alloc: Global, text: &mut Vec<u8>, token: &Token) -> Result<(), NoMemory>
+fn push_procedure(text: &mut Vec<u8>, token: &Token) -> Result<(), NoMemory>
     ensures { OnOk result (text.new.items ≡ text.old.items ++ procedure_text (Some token.now)) }
 {
-    push_located(alloc, text, "procedure: `", token, "` in line ")
+    push_located(text, "procedure: `", token, "` in line ")
 }
 
 /// Appends the procedure around a line, if there is one.
-pub(crate) fn push_around(
-    alloc: Global,
-    text: &mut Vec<u8>,
-    tokens: &[Token],
-    line: u32,
-) -> Result<(), NoMemory>
+pub(crate) fn push_around(text: &mut Vec<u8>, tokens: &[Token], line: u32) -> Result<(), NoMemory>
     ensures { OnOk result (text.new.items ≡ text.old.items
         ++ procedure_text (heading_above_line None before.Other line tokens.now)) }
 {
     match heading_above(tokens, line) {
         None => Ok(()),
-        Some(token) => push_procedure(alloc, text, token),
+        Some(token) => push_procedure(text, token),
     }
 }
 
 /// Appends the procedure with this number, from 0, if there is one.
 pub(crate) fn push_numbered(
-    alloc: Global,
     text: &mut Vec<u8>,
     tokens: &[Token],
     number: u32,
@@ -338,6 +326,6 @@ pub(crate) fn push_numbered(
 {
     match heading_at(tokens, number) {
         None => Ok(()),
-        Some(token) => push_procedure(alloc, text, token),
+        Some(token) => push_procedure(text, token),
     }
 }

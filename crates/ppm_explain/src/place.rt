@@ -10,7 +10,6 @@ ghost use Rattle.ppm_explain.specs.Places.{under as byte_under, last_of};
 use crate::words::push_word;
 use ppm_pieces::{push_number, split_once};
 use ppm_words::NoMemory;
-use std::alloc::Global;
 
 /// The first so many items, or all where there are no more.
 #[tactic(auto, using(std::proofs::lemmas::List::take_all))]
@@ -112,19 +111,18 @@ pub fn push_shown(text: &mut Vec<u8>, line: &[u8]) -> Result<(), NoMemory>
 }
 
 /// Appends the line and the column of a place.
-fn push_place(alloc: Global, text: &mut Vec<u8>, line: usize, column: usize) -> Result<(), NoMemory>
+fn push_place(text: &mut Vec<u8>, line: usize, column: usize) -> Result<(), NoMemory>
     ensures { OnOk result (text.new.items ≡ text.old.items ++ place_text line column) }
 {
     push_word(text, "line ")?;
-    push_number(alloc, text, line as u64)?;
+    push_number(text, line as u64)?;
     push_word(text, " column ")?;
-    push_number(alloc, text, column as u64)?;
+    push_number(text, column as u64)?;
     push_word(text, "\n")
 }
 
 /// Appends a column of a line, which both count from 1, that line, and a mark under the column.
 pub fn push_marked(
-    alloc: Global,
     text: &mut Vec<u8>,
     line: usize,
     bytes: &[u8],
@@ -132,37 +130,27 @@ pub fn push_marked(
 ) -> Result<(), NoMemory>
     ensures { OnOk result (text.new.items ≡ text.old.items ++ marked_text line bytes.now column) }
 {
-    push_place(alloc, text, line, column)?;
+    push_place(text, line, column)?;
     push_shown(text, bytes)?;
     push_mark(text, bytes, column)
 }
 
 /// Appends a place of a text: its line and column, that line, and a mark under the place.
-pub fn push_spot(
-    alloc: Global,
-    text: &mut Vec<u8>,
-    source: &[u8],
-    place: u32,
-) -> Result<(), NoMemory>
+pub fn push_spot(text: &mut Vec<u8>, source: &[u8], place: u32) -> Result<(), NoMemory>
     ensures { OnOk result (text.new.items ≡ text.old.items ++ spot_text source.now place) }
 {
     let line = line_at(source, place);
     let bytes = line_bytes(source, line);
-    push_marked(alloc, text, line, bytes, column_at(source, place))
+    push_marked(text, line, bytes, column_at(source, place))
 }
 
 /// Appends a line of a text, with its number from 1.
-pub fn push_line(
-    alloc: Global,
-    text: &mut Vec<u8>,
-    source: &[u8],
-    line: u32,
-) -> Result<(), NoMemory>
+pub fn push_line(text: &mut Vec<u8>, source: &[u8], line: u32) -> Result<(), NoMemory>
     ensures { OnOk result (text.new.items
         ≡ text.old.items ++ line_text line ++ shown_text (bytes_of_line source.now line)) }
 {
     push_word(text, "line ")?;
-    push_number(alloc, text, u64::from(line))?;
+    push_number(text, u64::from(line))?;
     push_word(text, "\n")?;
     push_shown(text, line_bytes(source, line as usize))
 }

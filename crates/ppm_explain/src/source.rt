@@ -20,18 +20,13 @@ use ppm_words::NoMemory;
 use std::alloc::Global;
 
 /// Appends the place of a fault of bytes; where the text is too long nothing.
-fn push_bytes_spot(
-    alloc: Global,
-    text: &mut Vec<u8>,
-    source: &[u8],
-    refusal: Refusal,
-) -> Result<(), NoMemory>
+fn push_bytes_spot(text: &mut Vec<u8>, source: &[u8], refusal: Refusal) -> Result<(), NoMemory>
     ensures { OnOk result (text.new.items ≡ text.old.items ++ bytes_spot source.now refusal) }
 {
     if refusal.number == 5 {
         return Ok(());
     }
-    push_spot(alloc, text, source, refusal.place)
+    push_spot(text, source, refusal.place)
 }
 
 /// What is said of a fault of bytes.
@@ -39,7 +34,7 @@ fn bytes_notes(alloc: Global, source: &[u8], refusal: Refusal) -> Result<Vec<u8>
     ensures { IfOk result (λ text. text.items ≡ notes_of_bytes source.now refusal) }
 {
     let mut text = Vec::new(alloc);
-    push_bytes_spot(alloc, &mut text, source, refusal)?;
+    push_bytes_spot(&mut text, source, refusal)?;
     push_meaning(&mut text, refusal)?;
     Ok(text)
 }
@@ -56,8 +51,8 @@ fn stop_notes(
         ≡ notes_of_stop source.now tokens.now (map terminal_of expected.now.terminals.items) expected.now.end refusal) }
 {
     let mut text = Vec::new(alloc);
-    push_spot(alloc, &mut text, source, refusal.place)?;
-    push_found(alloc, &mut text, tokens, refusal.place)?;
+    push_spot(&mut text, source, refusal.place)?;
+    push_found(&mut text, tokens, refusal.place)?;
     push_expected(&mut text, expected)?;
     push_hint(&mut text, &expected.terminals, tokens, refusal.place)?;
     push_meaning(&mut text, refusal)?;
@@ -74,8 +69,8 @@ fn limit_notes(
     ensures { IfOk result (λ text. text.items ≡ notes_of_limit source.now tokens.now refusal) }
 {
     let mut text = Vec::new(alloc);
-    push_spot(alloc, &mut text, source, refusal.place)?;
-    push_found(alloc, &mut text, tokens, refusal.place)?;
+    push_spot(&mut text, source, refusal.place)?;
+    push_found(&mut text, tokens, refusal.place)?;
     push_meaning(&mut text, refusal)?;
     Ok(text)
 }
@@ -94,16 +89,15 @@ fn line_notes(
         push_meaning(&mut text, refusal)?;
         return Ok(text);
     }
-    push_line(alloc, &mut text, source, refusal.place)?;
+    push_line(&mut text, source, refusal.place)?;
     push_names(alloc, &mut text, tokens, refusal.place)?;
-    push_around(alloc, &mut text, tokens, refusal.place)?;
+    push_around(&mut text, tokens, refusal.place)?;
     push_meaning(&mut text, refusal)?;
     Ok(text)
 }
 
 /// Appends the procedure that passes a bound; of the bound on capsules nothing.
 fn push_bound_procedure(
-    alloc: Global,
     text: &mut Vec<u8>,
     tokens: &[Token],
     refusal: Refusal,
@@ -113,7 +107,7 @@ fn push_bound_procedure(
     if refusal.number == 2 {
         return Ok(());
     }
-    push_numbered(alloc, text, tokens, refusal.place)
+    push_numbered(text, tokens, refusal.place)
 }
 
 /// What is said of a bound that is passed.
@@ -121,7 +115,7 @@ fn bound_notes(alloc: Global, tokens: &[Token], refusal: Refusal) -> Result<Vec<
     ensures { IfOk result (λ text. text.items ≡ notes_of_bound tokens.now refusal) }
 {
     let mut text = Vec::new(alloc);
-    push_bound_procedure(alloc, &mut text, tokens, refusal)?;
+    push_bound_procedure(&mut text, tokens, refusal)?;
     push_meaning(&mut text, refusal)?;
     Ok(text)
 }

@@ -12,7 +12,6 @@ use ppm_pieces::push_number;
 use ppm_printer::{keyword_spelling, sign_spelling};
 use ppm_text::{Kind, Token};
 use ppm_words::NoMemory;
-use std::alloc::Global;
 
 /// Appends a word.
 pub fn push_word(text: &mut Vec<u8>, word: &str) -> Result<(), NoMemory>
@@ -23,22 +22,16 @@ pub fn push_word(text: &mut Vec<u8>, word: &str) -> Result<(), NoMemory>
 }
 
 /// Appends a number after words.
-pub(crate) fn push_counted(
-    alloc: Global,
-    text: &mut Vec<u8>,
-    words: &str,
-    number: u32,
-) -> Result<(), NoMemory>
+pub(crate) fn push_counted(text: &mut Vec<u8>, words: &str, number: u32) -> Result<(), NoMemory>
     ensures { OnOk result (text.new.items ≡ text.old.items ++ counted_text words.now number) }
 {
     push_word(text, words)?;
-    push_number(alloc, text, u64::from(number))?;
+    push_number(text, u64::from(number))?;
     Ok(())
 }
 
 /// Appends a token after words, and its line after others.
 pub(crate) fn push_located(
-    alloc: Global,
     text: &mut Vec<u8>,
     words: &str,
     token: &Token,
@@ -48,9 +41,9 @@ pub(crate) fn push_located(
         ++ located_text words.now token.now.kind others.now token.now.line) }
 {
     push_word(text, words)?;
-    push_spelling(alloc, text, &token.kind)?;
+    push_spelling(text, &token.kind)?;
     push_word(text, others)?;
-    push_number(alloc, text, u64::from(token.line))?;
+    push_number(text, u64::from(token.line))?;
     push_word(text, "\n")
 }
 
@@ -72,7 +65,7 @@ pub(crate) fn push_four(
 }
 
 /// Appends the spelling of a token.
-pub(crate) fn push_spelling(alloc: Global, text: &mut Vec<u8>, kind: &Kind) -> Result<(), NoMemory>
+pub(crate) fn push_spelling(text: &mut Vec<u8>, kind: &Kind) -> Result<(), NoMemory>
     ensures { OnOk result (text.new.items ≡ text.old.items ++ token_text kind.now) }
 {
     match kind {
@@ -81,7 +74,7 @@ pub(crate) fn push_spelling(alloc: Global, text: &mut Vec<u8>, kind: &Kind) -> R
             Ok(())
         }
         Kind::Number(literal) => {
-            push_number(alloc, text, literal.to_u64())?;
+            push_number(text, literal.to_u64())?;
             Ok(())
         }
         Kind::Keyword(keyword) => push_word(text, keyword_spelling(*keyword)),
@@ -102,12 +95,12 @@ fn kind_name(kind: &Kind) -> &'static str
 }
 
 /// Appends a token: what it is called, and its spelling.
-fn push_kind(alloc: Global, text: &mut Vec<u8>, kind: &Kind) -> Result<(), NoMemory>
+fn push_kind(text: &mut Vec<u8>, kind: &Kind) -> Result<(), NoMemory>
     ensures { OnOk result (text.new.items ≡ text.old.items ++ kind_text kind.now) }
 {
     push_word(text, kind_name(kind))?;
     push_word(text, "`")?;
-    push_spelling(alloc, text, kind)?;
+    push_spelling(text, kind)?;
     push_word(text, "`")
 }
 
@@ -211,32 +204,22 @@ pub(crate) fn token_at(tokens: &[Token], place: u32) -> Option<&Token>
 }
 
 /// Appends what stands at a place: a token, or the end of the text.
-fn push_thing(
-    alloc: Global,
-    text: &mut Vec<u8>,
-    tokens: &[Token],
-    place: u32,
-) -> Result<(), NoMemory>
+fn push_thing(text: &mut Vec<u8>, tokens: &[Token], place: u32) -> Result<(), NoMemory>
     ensures { OnOk result (text.new.items
         ≡ text.old.items ++ thing_text (token_in place tokens.now)) }
 {
     match token_at(tokens, place) {
         None => push_word(text, "the end of the text"),
-        Some(token) => push_kind(alloc, text, &token.kind),
+        Some(token) => push_kind(text, &token.kind),
     }
 }
 
 /// Appends the line of what stands at a place.
-pub(crate) fn push_found(
-    alloc: Global,
-    text: &mut Vec<u8>,
-    tokens: &[Token],
-    place: u32,
-) -> Result<(), NoMemory>
+pub(crate) fn push_found(text: &mut Vec<u8>, tokens: &[Token], place: u32) -> Result<(), NoMemory>
     ensures { OnOk result (text.new.items
         ≡ text.old.items ++ found_text (token_in place tokens.now)) }
 {
     push_word(text, "found: ")?;
-    push_thing(alloc, text, tokens, place)?;
+    push_thing(text, tokens, place)?;
     push_word(text, "\n")
 }

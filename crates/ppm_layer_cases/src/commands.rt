@@ -2,8 +2,8 @@
 use crate::said::Said;
 use ppm_cells::Takeover;
 use ppm_cli::{
-    Command, ExplainedOrders, ExplainedText, ReplayOptions, RunOptions, StopOptions, SweepOptions, SweptTakeovers, TraceOptions,
-    TracedForm, TracedLines, read_words,
+    Command, ExplainedOrders, ExplainedText, ReplayOptions, RunOptions, StopOptions, SweepOptions,
+    SweptTakeovers, TraceOptions, TracedForm, TracedLines, read_words,
 };
 use ppm_sheets::Fault;
 use ppm_words::Idle;

@@ -14,7 +14,6 @@ use ppm_cells::{Cell, Restart, RestartKind};
 use ppm_naming::{push_cell, restart_name};
 use ppm_step::{Local, Stand};
 use ppm_words::NoMemory;
-use std::alloc::Global;
 
 /// What a processor is at before a turn.
 #[derive(Clone, Copy, Debug, PartialEq, Eq)]
@@ -70,22 +69,17 @@ pub(crate) fn row_text(doing: Doing) -> &'static str
 }
 
 /// Appends what a row is of.
-pub fn push_of_row(
-    alloc: Global,
-    text: &mut Vec<u8>,
-    scene: &Scene,
-    kind: RestartKind,
-) -> Result<(), NoMemory>
+pub fn push_of_row(text: &mut Vec<u8>, scene: &Scene, kind: RestartKind) -> Result<(), NoMemory>
     ensures { OnOk result (text.new.items ≡ text.old.items ++ text_of scene.now kind) }
 {
     match kind {
-        RestartKind::Run { frame, copy } => push_run(alloc, text, scene, frame, copy),
-        RestartKind::Bump { block } => push_block(alloc, text, scene, block),
+        RestartKind::Run { frame, copy } => push_run(text, scene, frame, copy),
+        RestartKind::Bump { block } => push_block(text, scene, block),
         RestartKind::Push1 { block } | RestartKind::Push2 { block } | RestartKind::Pop2 { block } =>
-            push_fork(alloc, text, block),
-        RestartKind::Unwind { frame } => push_frame(alloc, text, scene, frame),
+            push_fork(text, block),
+        RestartKind::Unwind { frame } => push_frame(text, scene, frame),
         RestartKind::Arrive { block, side } | RestartKind::Join { block, side } => {
-            push_branch(alloc, text, block, side)
+            push_branch(text, block, side)
         }
         RestartKind::Pop1 | RestartKind::Seek => push_word(text, "-"),
         RestartKind::Steal { victim, slot } | RestartKind::Check { victim, slot } => {
@@ -93,26 +87,21 @@ pub fn push_of_row(
                 place: victim,
                 slot,
             };
-            push_cell(alloc, text, scene.names(), scene.lengths(), entry)
+            push_cell(text, scene.names(), scene.lengths(), entry)
         }
         RestartKind::Take { victim, .. } | RestartKind::Take2 { victim } => {
-            push_place(alloc, text, victim)
+            push_place(text, victim)
         }
     }
 }
 
 /// Appends what the row of a processor is of; `-` where it is in no row, or its row has no
 /// subject.
-pub(crate) fn push_of(
-    alloc: Global,
-    text: &mut Vec<u8>,
-    scene: &Scene,
-    doing: Doing,
-) -> Result<(), NoMemory>
+pub(crate) fn push_of(text: &mut Vec<u8>, scene: &Scene, doing: Doing) -> Result<(), NoMemory>
     ensures { OnOk result (text.new.items ≡ text.old.items ++ of_text scene.now doing) }
 {
     match doing {
-        Doing::InRow(kind) => push_of_row(alloc, text, scene, kind),
+        Doing::InRow(kind) => push_of_row(text, scene, kind),
         Doing::Lost | Doing::Placed | Doing::Broken | Doing::Done => push_word(text, "-"),
     }
 }

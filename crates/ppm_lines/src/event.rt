@@ -22,7 +22,6 @@ use ppm_naming::restart_name;
 use ppm_pieces::push_number;
 use ppm_step::{Local, Turn};
 use ppm_words::NoMemory;
-use std::alloc::Global;
 
 /// When an act happens: how many acts came before it, who acts, and the place that it carries.
 #[derive(Clone, Copy, Debug, PartialEq, Eq)]
@@ -33,28 +32,23 @@ pub struct Moment {
 }
 
 /// Appends of which thread an event is, and at what time.
-fn push_time(alloc: Global, text: &mut Vec<u8>, processor: u32, time: u64) -> Result<(), NoMemory>
+fn push_time(text: &mut Vec<u8>, processor: u32, time: u64) -> Result<(), NoMemory>
     ensures { OnOk result (text.new.items ≡ text.old.items ++ time_text processor time) }
 {
     push_word(text, ",\"pid\":0,\"tid\":")?;
-    push_number(alloc, text, u64::from(processor))?;
+    push_number(text, u64::from(processor))?;
     push_word(text, ",\"ts\":")?;
-    push_number(alloc, text, time)?;
+    push_number(text, time)?;
     Ok(())
 }
 
 /// Appends the name of a row.
-fn push_slice_name(
-    alloc: Global,
-    text: &mut Vec<u8>,
-    scene: &Scene,
-    kind: RestartKind,
-) -> Result<(), NoMemory>
+fn push_slice_name(text: &mut Vec<u8>, scene: &Scene, kind: RestartKind) -> Result<(), NoMemory>
     ensures { OnOk result (text.new.items ≡ text.old.items ++ slice_name scene.now kind) }
 {
     match kind {
         RestartKind::Run { frame, .. } => {
-            push_named(alloc, text, scene.names(), scene.procedure_of(frame))
+            push_named(text, scene.names(), scene.procedure_of(frame))
         },
         RestartKind::Bump { .. }
         | RestartKind::Push1 { .. }
@@ -74,7 +68,6 @@ fn push_slice_name(
 
 /// Appends the beginning of a row.
 fn push_begin(
-    alloc: Global,
     text: &mut Vec<u8>,
     scene: &Scene,
     moment: Moment,
@@ -86,30 +79,30 @@ fn push_begin(
     push_word(text, ",\n{\"ph\":\"B\",\"cat\":\"")?;
     push_word(text, restart_name(kind))?;
     push_word(text, "\",\"name\":\"")?;
-    push_slice_name(alloc, text, scene, kind)?;
+    push_slice_name(text, scene, kind)?;
     push_word(text, "\"")?;
-    push_time(alloc, text, moment.processor, moment.number)?;
+    push_time(text, moment.processor, moment.number)?;
     push_word(text, ",\"args\":{\"of\":\"")?;
-    push_of_row(alloc, text, scene, kind)?;
+    push_of_row(text, scene, kind)?;
     push_word(text, "\",\"place\":")?;
-    push_number(alloc, text, u64::from(moment.place))?;
+    push_number(text, u64::from(moment.place))?;
     push_word(text, "}}")?;
     Ok(())
 }
 
 /// Appends its end.
-fn push_end(alloc: Global, text: &mut Vec<u8>, moment: Moment) -> Result<(), NoMemory>
+fn push_end(text: &mut Vec<u8>, moment: Moment) -> Result<(), NoMemory>
     requires { moment.number < 2 ^ 63 }
     ensures { OnOk result (text.new.items ≡ text.old.items ++ end_text moment) }
 {
     push_word(text, ",\n{\"ph\":\"E\"")?;
-    push_time(alloc, text, moment.processor, moment.number + 1)?;
+    push_time(text, moment.processor, moment.number + 1)?;
     push_word(text, "}")?;
     Ok(())
 }
 
 /// Appends an end of an arrow.
-fn push_flow(alloc: Global, text: &mut Vec<u8>, moment: Moment, flow: Flow) -> Result<(), NoMemory>
+fn push_flow(text: &mut Vec<u8>, moment: Moment, flow: Flow) -> Result<(), NoMemory>
     ensures { OnOk result (text.new.items ≡ text.old.items ++ flow_text moment flow) }
 {
     push_word(text, ",\n{\"ph\":\"")?;
@@ -119,34 +112,24 @@ fn push_flow(alloc: Global, text: &mut Vec<u8>, moment: Moment, flow: Flow) -> R
     push_word(text, "\",\"name\":\"")?;
     push_word(text, flow.name())?;
     push_word(text, "\",\"id\":")?;
-    push_number(alloc, text, flow.id())?;
-    push_time(alloc, text, moment.processor, moment.number)?;
+    push_number(text, flow.id())?;
+    push_time(text, moment.processor, moment.number)?;
     push_word(text, "}")?;
     Ok(())
 }
 
 /// Appends an end of an arrow, if there is one.
-fn push_flow_event(
-    alloc: Global,
-    text: &mut Vec<u8>,
-    moment: Moment,
-    flow: Option<Flow>,
-) -> Result<(), NoMemory>
+fn push_flow_event(text: &mut Vec<u8>, moment: Moment, flow: Option<Flow>) -> Result<(), NoMemory>
     ensures { OnOk result (text.new.items ≡ text.old.items ++ flow_event moment flow) }
 {
     match flow {
         None => Ok(()),
-        Some(flow) => push_flow(alloc, text, moment, flow),
+        Some(flow) => push_flow(text, moment, flow),
     }
 }
 
 /// Appends a point in time.
-fn push_instant(
-    alloc: Global,
-    text: &mut Vec<u8>,
-    moment: Moment,
-    name: &str,
-) -> Result<(), NoMemory>
+fn push_instant(text: &mut Vec<u8>, moment: Moment, name: &str) -> Result<(), NoMemory>
     ensures { OnOk result (text.new.items ≡ text.old.items ++ instant_text moment name.now) }
 {
     push_word(
@@ -155,30 +138,25 @@ fn push_instant(
     )?;
     push_word(text, name)?;
     push_word(text, "\"")?;
-    push_time(alloc, text, moment.processor, moment.number)?;
+    push_time(text, moment.processor, moment.number)?;
     push_word(text, ",\"args\":{\"place\":")?;
-    push_number(alloc, text, u64::from(moment.place))?;
+    push_number(text, u64::from(moment.place))?;
     push_word(text, "}}")?;
     Ok(())
 }
 
 /// Appends a mark that is a point in time.
-fn push_mark_event(
-    alloc: Global,
-    text: &mut Vec<u8>,
-    moment: Moment,
-    mark: Mark,
-) -> Result<(), NoMemory>
+fn push_mark_event(text: &mut Vec<u8>, moment: Moment, mark: Mark) -> Result<(), NoMemory>
     ensures { OnOk result (text.new.items ≡ text.old.items ++ mark_event moment mark) }
 {
     match mark {
-        Mark::Soft => push_instant(alloc, text, moment, "soft fault"),
-        Mark::Hard => push_instant(alloc, text, moment, "hard fault"),
-        Mark::Won => push_instant(alloc, text, moment, "theft won"),
-        Mark::Lost => push_instant(alloc, text, moment, "theft lost"),
-        Mark::Carries => push_instant(alloc, text, moment, "takeover"),
-        Mark::Heir => push_instant(alloc, text, moment, "heir"),
-        Mark::End => push_instant(alloc, text, moment, "end"),
+        Mark::Soft => push_instant(text, moment, "soft fault"),
+        Mark::Hard => push_instant(text, moment, "hard fault"),
+        Mark::Won => push_instant(text, moment, "theft won"),
+        Mark::Lost => push_instant(text, moment, "theft lost"),
+        Mark::Carries => push_instant(text, moment, "takeover"),
+        Mark::Heir => push_instant(text, moment, "heir"),
+        Mark::End => push_instant(text, moment, "end"),
         Mark::Fork
         | Mark::Push
         | Mark::Pop
@@ -195,38 +173,27 @@ fn push_mark_event(
 }
 
 /// The same, if there is a mark.
-fn push_marked_one(
-    alloc: Global,
-    text: &mut Vec<u8>,
-    moment: Moment,
-    mark: Option<Mark>,
-) -> Result<(), NoMemory>
+fn push_marked_one(text: &mut Vec<u8>, moment: Moment, mark: Option<Mark>) -> Result<(), NoMemory>
     ensures { OnOk result (text.new.items
         ≡ text.old.items ++ flat_map (mark_event moment) (listed_one mark)) }
 {
     match mark {
         None => Ok(()),
-        Some(mark) => push_mark_event(alloc, text, moment, mark),
+        Some(mark) => push_mark_event(text, moment, mark),
     }
 }
 
 /// Appends the marks that are points in time.
-fn push_mark_events(
-    alloc: Global,
-    text: &mut Vec<u8>,
-    moment: Moment,
-    marks: Marks,
-) -> Result<(), NoMemory>
+fn push_mark_events(text: &mut Vec<u8>, moment: Moment, marks: Marks) -> Result<(), NoMemory>
     ensures { OnOk result (text.new.items
         ≡ text.old.items ++ flat_map (mark_event moment) (listed marks)) }
 {
-    push_marked_one(alloc, text, moment, marks.first)?;
-    push_marked_one(alloc, text, moment, marks.second)
+    push_marked_one(text, moment, marks.first)?;
+    push_marked_one(text, moment, marks.second)
 }
 
 /// Appends the beginning of the row that a processor is at.
 fn push_opened(
-    alloc: Global,
     text: &mut Vec<u8>,
     scene: &Scene,
     moment: Moment,
@@ -235,14 +202,13 @@ fn push_opened(
     ensures { OnOk result (text.new.items ≡ text.old.items ++ opened scene.now moment doing) }
 {
     match doing {
-        Doing::InRow(kind) => push_begin(alloc, text, scene, moment, kind),
+        Doing::InRow(kind) => push_begin(text, scene, moment, kind),
         Doing::Lost | Doing::Placed | Doing::Broken | Doing::Done => Ok(()),
     }
 }
 
 /// The same, where a row begins.
 fn push_opened_by(
-    alloc: Global,
     text: &mut Vec<u8>,
     scene: &Scene,
     moment: Moment,
@@ -253,23 +219,18 @@ fn push_opened_by(
         ≡ text.old.items ++ opened_by scene.now moment doing edge) }
 {
     match edge {
-        Edge::Begins => push_opened(alloc, text, scene, moment, doing),
+        Edge::Begins => push_opened(text, scene, moment, doing),
         Edge::Ends | Edge::Stays => Ok(()),
     }
 }
 
 /// Appends the end of a row, where one ends.
-fn push_closed_by(
-    alloc: Global,
-    text: &mut Vec<u8>,
-    moment: Moment,
-    edge: Edge,
-) -> Result<(), NoMemory>
+fn push_closed_by(text: &mut Vec<u8>, moment: Moment, edge: Edge) -> Result<(), NoMemory>
     requires { moment.number < 2 ^ 63 }
     ensures { OnOk result (text.new.items ≡ text.old.items ++ closed_by moment edge) }
 {
     match edge {
-        Edge::Ends => push_end(alloc, text, moment),
+        Edge::Ends => push_end(text, moment),
         Edge::Begins | Edge::Stays => Ok(()),
     }
 }
@@ -289,7 +250,6 @@ fn moment_of(number: u64, local: &Local) -> Moment
 /// Appends the events of a turn that comes after so many, where `local` is its processor before it.
 /// `Err` only where memory is refused.
 pub fn push_events(
-    alloc: Global,
     text: &mut Vec<u8>,
     scene: &Scene,
     number: u64,
@@ -305,17 +265,16 @@ pub fn push_events(
 {
     let moment = moment_of(number, local);
     let edge = edge_of(scene, local, turn);
-    push_opened_by(alloc, text, scene, moment, doing_of(local), edge)?;
-    push_flow_event(alloc, text, moment, flow_at(local, turn.act))?;
+    push_opened_by(text, scene, moment, doing_of(local), edge)?;
+    push_flow_event(text, moment, flow_at(local, turn.act))?;
     let marks = marks_at(scene.words(), scene.shape(), scene.code(), local, turn.act);
-    push_mark_events(alloc, text, moment, marks)?;
-    push_closed_by(alloc, text, moment, edge)
+    push_mark_events(text, moment, marks)?;
+    push_closed_by(text, moment, edge)
 }
 
 /// Appends the beginning of the row within which a processor stands after so many acts, for what is
 /// told from there on. `Err` only where memory is refused.
 pub fn push_begun(
-    alloc: Global,
     text: &mut Vec<u8>,
     scene: &Scene,
     number: u64,
@@ -327,11 +286,5 @@ pub fn push_begun(
     if !is_in_row(local) {
         return Ok(());
     }
-    push_opened(
-        alloc,
-        text,
-        scene,
-        moment_of(number, local),
-        doing_of(local),
-    )
+    push_opened(text, scene, moment_of(number, local), doing_of(local))
 }

@@ -24,27 +24,22 @@ use ppm_words::NoMemory;
 use std::alloc::Global;
 
 /// Appends a field with a number.
-fn push_number_field(
-    alloc: Global,
-    text: &mut Vec<u8>,
-    width: usize,
-    number: u64,
-) -> Result<(), NoMemory>
+fn push_number_field(text: &mut Vec<u8>, width: usize, number: u64) -> Result<(), NoMemory>
     ensures { OnOk result (text.new.items ≡ text.old.items ++ field width (decimal number)) }
 {
     let start = text.len();
-    push_number(alloc, text, number)?;
+    push_number(text, number)?;
     fill(text, start, width)
 }
 
 /// Appends the field of a processor.
-fn push_processor(alloc: Global, text: &mut Vec<u8>, processor: u32) -> Result<(), NoMemory>
+fn push_processor(text: &mut Vec<u8>, processor: u32) -> Result<(), NoMemory>
     ensures { OnOk result (text.new.items
         ≡ text.old.items ++ field 3 (112 ∷ decimal processor)) }
 {
     let start = text.len();
     text.push(b'p')?;
-    push_number(alloc, text, u64::from(processor))?;
+    push_number(text, u64::from(processor))?;
     fill(text, start, 3)
 }
 
@@ -58,13 +53,13 @@ fn push_word_field(text: &mut Vec<u8>, width: usize, word: &str) -> Result<(), N
 }
 
 /// Appends the field of the place that a processor carries.
-fn push_carried(alloc: Global, text: &mut Vec<u8>, place: u32) -> Result<(), NoMemory>
+fn push_carried(text: &mut Vec<u8>, place: u32) -> Result<(), NoMemory>
     ensures { OnOk result (text.new.items ≡ text.old.items ++ field 2 (carried_text place)) }
 {
     if place == UNKNOWN_PLACE {
         return push_word_field(text, 2, "-");
     }
-    push_number_field(alloc, text, 2, u64::from(place))
+    push_number_field(text, 2, u64::from(place))
 }
 
 /// The place that a processor carries.
@@ -77,62 +72,40 @@ fn carried(scene: &Scene, local: &Local) -> u32
 }
 
 /// Appends the fields of how many turns came before, of the processor and of its place.
-fn push_who(
-    alloc: Global,
-    text: &mut Vec<u8>,
-    number: u64,
-    processor: u32,
-    place: u32,
-) -> Result<(), NoMemory>
+fn push_who(text: &mut Vec<u8>, number: u64, processor: u32, place: u32) -> Result<(), NoMemory>
     ensures { OnOk result (text.new.items ≡ text.old.items ++ who_fields number processor place) }
 {
-    push_number_field(alloc, text, 6, number)?;
-    push_processor(alloc, text, processor)?;
-    push_carried(alloc, text, place)
+    push_number_field(text, 6, number)?;
+    push_processor(text, processor)?;
+    push_carried(text, place)
 }
 
 /// Appends the field of what a row is of.
-fn push_of_field(
-    alloc: Global,
-    text: &mut Vec<u8>,
-    scene: &Scene,
-    doing: Doing,
-) -> Result<(), NoMemory>
+fn push_of_field(text: &mut Vec<u8>, scene: &Scene, doing: Doing) -> Result<(), NoMemory>
     ensures { OnOk result (text.new.items ≡ text.old.items ++ field 16 (of_text scene.now doing)) }
 {
     let start = text.len();
-    push_of(alloc, text, scene, doing)?;
+    push_of(text, scene, doing)?;
     fill(text, start, 16)
 }
 
 /// Appends the fields of where a processor stands.
-fn push_row(
-    alloc: Global,
-    text: &mut Vec<u8>,
-    scene: &Scene,
-    local: &Local,
-    turn: Turn,
-) -> Result<(), NoMemory>
+fn push_row(text: &mut Vec<u8>, scene: &Scene, local: &Local, turn: Turn) -> Result<(), NoMemory>
     ensures { OnOk result (text.new.items
         ≡ text.old.items ++ row_fields scene.now turn (standing_of scene.now.shape scene.now.code local.now)) }
 {
     let doing = doing_of(local);
     push_word_field(text, 6, row_text(doing))?;
-    push_of_field(alloc, text, scene, doing)
+    push_of_field(text, scene, doing)
 }
 
 /// Appends the field of the word of a turn.
-fn push_part_field(
-    alloc: Global,
-    text: &mut Vec<u8>,
-    scene: &Scene,
-    part: Part,
-) -> Result<(), NoMemory>
+fn push_part_field(text: &mut Vec<u8>, scene: &Scene, part: Part) -> Result<(), NoMemory>
     ensures { OnOk result (text.new.items
         ≡ text.old.items ++ field 18 (part_text scene.now part)) }
 {
     let start = text.len();
-    push_part(alloc, text, scene, part)?;
+    push_part(text, scene, part)?;
     fill(text, start, 18)
 }
 
@@ -154,7 +127,7 @@ fn push_step(
     let found = before(scene, want);
     push_word_field(text, 5, step_text(found, turn.act, want))?;
     let part = part_of(scene, local, turn);
-    push_part_field(alloc, text, scene, part)?;
+    push_part_field(text, scene, part)?;
     let kind = part_kind(stores_link(scene, local), part);
     push_worth(alloc, text, kind, found, turn.act, want)
 }
@@ -185,8 +158,8 @@ pub fn push_line(
     ensures { OnOk result (text.new.items
         ≡ text.old.items ++ line_at scene.now turn (standing_of scene.now.shape scene.now.code local.now) number) }
 {
-    push_who(alloc, text, number, turn.processor, carried(scene, local))?;
-    push_row(alloc, text, scene, local, turn)?;
+    push_who(text, number, turn.processor, carried(scene, local))?;
+    push_row(text, scene, local, turn)?;
     push_step(alloc, text, scene, local, turn)?;
     push_marked(text, scene, local, turn)?;
     text.push(b'\n')?;

@@ -10,7 +10,6 @@ use ppm_cells::{Cell, Side};
 use ppm_naming::{Names, push_cell, push_procedure, side_name};
 use ppm_pieces::push_number;
 use ppm_words::NoMemory;
-use std::alloc::Global;
 
 /// Appends a word of letters and signs.
 pub(crate) fn push_word(text: &mut Vec<u8>, word: &str) -> Result<(), NoMemory>
@@ -22,7 +21,6 @@ pub(crate) fn push_word(text: &mut Vec<u8>, word: &str) -> Result<(), NoMemory>
 
 /// Appends a procedure, if there is one.
 pub(crate) fn push_named(
-    alloc: Global,
     text: &mut Vec<u8>,
     names: &Names,
     procedure: Option<u32>,
@@ -31,100 +29,79 @@ pub(crate) fn push_named(
 {
     match procedure {
         None => push_word(text, "?"),
-        Some(procedure) => push_procedure(alloc, text, names, procedure),
+        Some(procedure) => push_procedure(text, names, procedure),
     }
 }
 
 /// Appends the name of a frame.
-pub fn push_frame(
-    alloc: Global,
-    text: &mut Vec<u8>,
-    scene: &Scene,
-    frame: u32,
-) -> Result<(), NoMemory>
+pub fn push_frame(text: &mut Vec<u8>, scene: &Scene, frame: u32) -> Result<(), NoMemory>
     ensures { OnOk result (text.new.items ≡ text.old.items ++ frame_text scene.now frame) }
 {
-    push_named(alloc, text, scene.names(), scene.procedure_of(frame))?;
+    push_named(text, scene.names(), scene.procedure_of(frame))?;
     text.push(b'@')?;
-    push_number(alloc, text, u64::from(frame))?;
+    push_number(text, u64::from(frame))?;
     Ok(())
 }
 
 /// Appends the name of a fork block.
-pub fn push_fork(alloc: Global, text: &mut Vec<u8>, block: u32) -> Result<(), NoMemory>
+pub fn push_fork(text: &mut Vec<u8>, block: u32) -> Result<(), NoMemory>
     ensures { OnOk result (text.new.items ≡ text.old.items ++ fork_text block) }
 {
     push_word(text, "fork@")?;
-    push_number(alloc, text, u64::from(block))?;
+    push_number(text, u64::from(block))?;
     Ok(())
 }
 
 /// Appends the name of the block of a call.
-fn push_call(alloc: Global, text: &mut Vec<u8>, block: u32) -> Result<(), NoMemory>
+fn push_call(text: &mut Vec<u8>, block: u32) -> Result<(), NoMemory>
     ensures { OnOk result (text.new.items ≡ text.old.items ++ call_text block) }
 {
     push_word(text, "call@")?;
-    push_number(alloc, text, u64::from(block))?;
+    push_number(text, u64::from(block))?;
     Ok(())
 }
 
 /// Appends a frame, and the capsule with which it goes on.
-pub fn push_run(
-    alloc: Global,
-    text: &mut Vec<u8>,
-    scene: &Scene,
-    frame: u32,
-    copy: u32,
-) -> Result<(), NoMemory>
+pub fn push_run(text: &mut Vec<u8>, scene: &Scene, frame: u32, copy: u32) -> Result<(), NoMemory>
     ensures { OnOk result (text.new.items ≡ text.old.items ++ run_text scene.now frame copy) }
 {
-    push_frame(alloc, text, scene, frame)?;
+    push_frame(text, scene, frame)?;
     text.push(b'.')?;
     let capsule = scene.word_at(u64::from(frame) + 2 + u64::from(copy));
-    push_number(alloc, text, capsule)?;
+    push_number(text, capsule)?;
     Ok(())
 }
 
 /// Appends a block that is built.
-pub(crate) fn push_block(
-    alloc: Global,
-    text: &mut Vec<u8>,
-    scene: &Scene,
-    block: u32,
-) -> Result<(), NoMemory>
+pub(crate) fn push_block(text: &mut Vec<u8>, scene: &Scene, block: u32) -> Result<(), NoMemory>
     ensures { OnOk result (text.new.items ≡ text.old.items ++ block_text scene.now block) }
 {
     if scene.is_fork_block(block) {
-        return push_fork(alloc, text, block);
+        return push_fork(text, block);
     }
-    push_call(alloc, text, block)
+    push_call(text, block)
 }
 
 /// Appends a branch of a fork block.
-pub fn push_branch(
-    alloc: Global,
-    text: &mut Vec<u8>,
-    block: u32,
-    side: Side,
-) -> Result<(), NoMemory>
+pub fn push_branch(text: &mut Vec<u8>, block: u32, side: Side) -> Result<(), NoMemory>
     ensures { OnOk result (text.new.items ≡ text.old.items ++ branch_text block side) }
 {
-    push_fork(alloc, text, block)?;
+    push_fork(text, block)?;
     text.push(b'.')?;
     push_word(text, side_name(side))
 }
 
 /// Appends the name of a place.
-pub fn push_place(alloc: Global, text: &mut Vec<u8>, place: u32) -> Result<(), NoMemory>
+pub fn push_place(text: &mut Vec<u8>, place: u32) -> Result<(), NoMemory>
     ensures { OnOk result (text.new.items ≡ text.old.items ++ place_text place) }
 {
     push_word(text, "place.")?;
-    push_number(alloc, text, u64::from(place))?;
+    push_number(text, u64::from(place))?;
     Ok(())
 }
 
 /// Appends the name of a word of a frame.
-fn push_frame_part(alloc: Global, text: &mut Vec<u8>, part: FramePart) -> Result<(), NoMemory>
+fn push_frame_part(text: &mut Vec<u8>, part: FramePart) -> Result<(), NoMemory>
     ensures { OnOk result (text.new.items ≡ text.old.items ++ frame_part_text part) }
 {
     match part {
@@ -136,7 +113,7 @@ fn push_frame_part(alloc: Global, text: &mut Vec<u8>, part: FramePart) -> Result
         FramePart::Target => push_word(text, "target"),
         FramePart::Slot(slot) => {
             push_word(text, "slot")?;
-            push_number(alloc, text, u64::from(slot))?;
+            push_number(text, u64::from(slot))?;
             Ok(())
         }
     }
@@ -156,42 +133,37 @@ fn fork_part_name(part: ForkPart) -> &'static str
 }
 
 /// Appends the name of the word of a turn.
-pub(crate) fn push_part(
-    alloc: Global,
-    text: &mut Vec<u8>,
-    scene: &Scene,
-    part: Part,
-) -> Result<(), NoMemory>
+pub(crate) fn push_part(text: &mut Vec<u8>, scene: &Scene, part: Part) -> Result<(), NoMemory>
     ensures { OnOk result (text.new.items ≡ text.old.items ++ part_text scene.now part) }
 {
     match part {
         Part::NoWord => push_word(text, "-"),
         Part::SomeHolder => push_word(text, "holder"),
-        Part::OfMachine(cell) => push_cell(alloc, text, scene.names(), scene.lengths(), cell),
+        Part::OfMachine(cell) => push_cell(text, scene.names(), scene.lengths(), cell),
         Part::InFrame { frame, part } => {
-            push_frame(alloc, text, scene, frame)?;
+            push_frame(text, scene, frame)?;
             text.push(b'.')?;
-            push_frame_part(alloc, text, part)
+            push_frame_part(text, part)
         }
         Part::InFork { block, part } => {
-            push_fork(alloc, text, block)?;
+            push_fork(text, block)?;
             text.push(b'.')?;
             push_word(text, fork_part_name(part))
         }
         Part::InCall { block } => {
-            push_call(alloc, text, block)?;
+            push_call(text, block)?;
             push_word(text, ".link")
         }
         Part::New { block, offset } => {
             push_word(text, "new@")?;
-            push_number(alloc, text, u64::from(block))?;
+            push_number(text, u64::from(block))?;
             text.push(b'+')?;
-            push_number(alloc, text, u64::from(offset))?;
+            push_number(text, u64::from(offset))?;
             Ok(())
         }
         Part::LinkAt { at } | Part::Elsewhere { at } => {
             let word = Cell::BlockWord { address: at };
-            push_cell(alloc, text, scene.names(), scene.lengths(), word)
+            push_cell(text, scene.names(), scene.lengths(), word)
         }
     }
 }

@@ -144,6 +144,6 @@ pub(crate) fn read_line(
 ) -> Result<Option<Part>, NoMemory>
     ensures { IfOk result (λ p. p ≡ line_of bytes.now) }
 {
-    read_tokens(alloc, bytes, tokens)?;
+    read_tokens(bytes, tokens)?;
     part_in(alloc, tokens)
 }

@@ -7,7 +7,6 @@ ghost use Rattle.ppm_listing_reader.specs.Forms.{part_in, line_of, may_go_on as 
 use ppm_listing::Keyword;
 use ppm_pieces::{is_digit, is_numeral, same_bytes, split_once, value};
 use ppm_words::NoMemory;
-use std::alloc::Global;
 
 /// What stands between two spaces of a line. A number past 2^64 - 1 stands as that one: no range
 /// goes so far.
@@ -151,11 +150,7 @@ fn may_go_on(tokens: &[Token], token: Token) -> bool
 }
 
 /// Puts the tokens of a line in place of others; none where it has so many that it has no form.
-pub(crate) fn read_tokens(
-    alloc: Global,
-    line: &[u8],
-    tokens: &mut Vec<Token>,
-) -> Result<(), NoMemory>
+pub(crate) fn read_tokens(line: &[u8], tokens: &mut Vec<Token>) -> Result<(), NoMemory>
     ensures { OnOk result (part_in tokens.new.items ≡ line_of line.now) }
 {
     tokens.clear();

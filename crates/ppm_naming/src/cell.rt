@@ -7,11 +7,9 @@ use crate::numbers::{push_index, push_numbered, push_word};
 use ppm_cells::Cell;
 use ppm_pieces::push_number;
 use ppm_words::{Name, NoMemory};
-use std::alloc::Global;
 
 /// Appends the name of an array word, by the array in which it lies.
 fn push_element(
-    alloc: Global,
     text: &mut Vec<u8>,
     arrays: &[Name],
     lengths: &[u32],
@@ -29,31 +27,30 @@ fn push_element(
         };
         if left < *len {
             text.extend_from_slice(name.as_bytes())?;
-            return push_index(alloc, text, left);
+            return push_index(text, left);
         }
         names = other_names;
         sizes = other_sizes;
         left -= *len;
     }
     push_word(text, "array")?;
-    push_index(alloc, text, index)
+    push_index(text, index)
 }
 
 /// Appends the name of an entry.
-fn push_slot(alloc: Global, text: &mut Vec<u8>, place: u32, slot: u32) -> Result<(), NoMemory>
+fn push_slot(text: &mut Vec<u8>, place: u32, slot: u32) -> Result<(), NoMemory>
     ensures { OnOk result (text.new.items
         ≡ text.old.items ++ numbered (numbered (codes "entry") place) slot) }
 {
-    push_numbered(alloc, text, "entry", place)?;
+    push_numbered(text, "entry", place)?;
     text.push(b'.')?;
-    push_number(alloc, text, u64::from(slot))?;
+    push_number(text, u64::from(slot))?;
     Ok(())
 }
 
 /// Appends the name of a cell. `lengths` are those of the arrays, in their order; an array word
 /// that lies in none of them is called `array`, with its index among all array words.
 pub fn push_cell(
-    alloc: Global,
     text: &mut Vec<u8>,
     names: &Names,
     lengths: &[u32],
@@ -64,17 +61,15 @@ pub fn push_cell(
 {
     match cell {
         Cell::FinishWord => push_word(text, "finish"),
-        Cell::CarryWord { processor } => push_numbered(alloc, text, "carry", processor),
-        Cell::DeadWord { processor } => push_numbered(alloc, text, "dead", processor),
-        Cell::RestartWord { place } => push_numbered(alloc, text, "restart", place),
-        Cell::MessageWord { place } => push_numbered(alloc, text, "message", place),
-        Cell::HolderWord { place } => push_numbered(alloc, text, "holder", place),
-        Cell::Top { place } => push_numbered(alloc, text, "top", place),
-        Cell::RoomCounter { place } => push_numbered(alloc, text, "room", place),
-        Cell::EntryWord { place, slot } => push_slot(alloc, text, place, slot),
-        Cell::BlockWord { address } => push_numbered(alloc, text, "word", address),
-        Cell::ArrayWord { index } => {
-            push_element(alloc, text, names.arrays.as_slice(), lengths, index)
-        }
+        Cell::CarryWord { processor } => push_numbered(text, "carry", processor),
+        Cell::DeadWord { processor } => push_numbered(text, "dead", processor),
+        Cell::RestartWord { place } => push_numbered(text, "restart", place),
+        Cell::MessageWord { place } => push_numbered(text, "message", place),
+        Cell::HolderWord { place } => push_numbered(text, "holder", place),
+        Cell::Top { place } => push_numbered(text, "top", place),
+        Cell::RoomCounter { place } => push_numbered(text, "room", place),
+        Cell::EntryWord { place, slot } => push_slot(text, place, slot),
+        Cell::BlockWord { address } => push_numbered(text, "word", address),
+        Cell::ArrayWord { index } => { push_element(text, names.arrays.as_slice(), lengths, index) }
     }
 }

@@ -5,7 +5,6 @@ ghost use Rattle.ppm_naming.specs.Cells.{procedure_name_text, procedure_text};
 use crate::numbers::push_word;
 use ppm_pieces::push_number;
 use ppm_words::{Items, Name, NoMemory};
-use std::alloc::Global;
 
 /// How a procedure of a code is called.
 #[derive(Debug, Drop)]
@@ -28,38 +27,29 @@ pub struct Names {
 }
 
 /// Appends how a procedure is called.
-fn push_procedure_name(
-    alloc: Global,
-    text: &mut Vec<u8>,
-    name: &ProcedureName,
-) -> Result<(), NoMemory>
+fn push_procedure_name(text: &mut Vec<u8>, name: &ProcedureName) -> Result<(), NoMemory>
     ensures { OnOk result (text.new.items ≡ text.old.items ++ procedure_name_text name.now) }
 {
     match name {
         ProcedureName::Named(name) => text.extend_from_slice(name.as_bytes())?,
         ProcedureName::EachOf(line) => {
             push_word(text, "each:")?;
-            push_number(alloc, text, u64::from(*line))?;
+            push_number(text, u64::from(*line))?;
         }
         ProcedureName::Numbered(number) => {
             push_word(text, "proc:")?;
-            push_number(alloc, text, u64::from(*number))?;
+            push_number(text, u64::from(*number))?;
         }
     }
     Ok(())
 }
 
 /// Appends how the procedure with this number is called; `?` where there is none.
-pub fn push_procedure(
-    alloc: Global,
-    text: &mut Vec<u8>,
-    names: &Names,
-    number: u32,
-) -> Result<(), NoMemory>
+pub fn push_procedure(text: &mut Vec<u8>, names: &Names, number: u32) -> Result<(), NoMemory>
     ensures { OnOk result (text.new.items ≡ text.old.items ++ procedure_text names.now number) }
 {
     match names.procedures.as_slice().get(number as usize) {
-        Some(name) => push_procedure_name(alloc, text, name),
+        Some(name) => push_procedure_name(text, name),
         None => {
             text.push(b'?')?;
             Ok(())

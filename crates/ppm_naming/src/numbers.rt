@@ -5,7 +5,6 @@ ghost use Rattle.ppm_naming.specs.Values.{one_text, two_text, tag_text};
 
 use ppm_pieces::push_number;
 use ppm_words::NoMemory;
-use std::alloc::Global;
 
 /// Appends a word of letters and signs.
 pub(crate) fn push_word(text: &mut Vec<u8>, word: &str) -> Result<(), NoMemory>
@@ -16,18 +15,17 @@ pub(crate) fn push_word(text: &mut Vec<u8>, word: &str) -> Result<(), NoMemory>
 }
 
 /// Appends a number in brackets.
-pub(crate) fn push_one(alloc: Global, text: &mut Vec<u8>, number: u32) -> Result<(), NoMemory>
+pub(crate) fn push_one(text: &mut Vec<u8>, number: u32) -> Result<(), NoMemory>
     ensures { OnOk result (text.new.items ≡ text.old.items ++ one_text number) }
 {
     text.push(b'(')?;
-    push_number(alloc, text, u64::from(number))?;
+    push_number(text, u64::from(number))?;
     text.push(b')')?;
     Ok(())
 }
 
 /// Appends two numbers in brackets, with a separator between them.
 pub(crate) fn push_two(
-    alloc: Global,
     text: &mut Vec<u8>,
     first: u32,
     separator: &str,
@@ -37,43 +35,38 @@ pub(crate) fn push_two(
         ≡ text.old.items ++ two_text first separator.now second) }
 {
     text.push(b'(')?;
-    push_number(alloc, text, u64::from(first))?;
+    push_number(text, u64::from(first))?;
     text.extend_from_slice(separator.as_bytes())?;
-    push_number(alloc, text, u64::from(second))?;
+    push_number(text, u64::from(second))?;
     text.push(b')')?;
     Ok(())
 }
 
 /// Appends a tag.
-pub(crate) fn push_tag(alloc: Global, text: &mut Vec<u8>, tag: u64) -> Result<(), NoMemory>
+pub(crate) fn push_tag(text: &mut Vec<u8>, tag: u64) -> Result<(), NoMemory>
     ensures { OnOk result (text.new.items ≡ text.old.items ++ tag_text tag) }
 {
     text.push(b'#')?;
-    push_number(alloc, text, tag)?;
+    push_number(text, tag)?;
     Ok(())
 }
 
 /// Appends an index in square brackets.
-pub(crate) fn push_index(alloc: Global, text: &mut Vec<u8>, index: u32) -> Result<(), NoMemory>
+pub(crate) fn push_index(text: &mut Vec<u8>, index: u32) -> Result<(), NoMemory>
     ensures { OnOk result (text.new.items ≡ text.old.items ++ index_text index) }
 {
     text.push(b'[')?;
-    push_number(alloc, text, u64::from(index))?;
+    push_number(text, u64::from(index))?;
     text.push(b']')?;
     Ok(())
 }
 
 /// Appends a name with a number after a point.
-pub(crate) fn push_numbered(
-    alloc: Global,
-    text: &mut Vec<u8>,
-    name: &str,
-    number: u32,
-) -> Result<(), NoMemory>
+pub(crate) fn push_numbered(text: &mut Vec<u8>, name: &str, number: u32) -> Result<(), NoMemory>
     ensures { OnOk result (text.new.items ≡ text.old.items ++ numbered name.now number) }
 {
     text.extend_from_slice(name.as_bytes())?;
     text.push(b'.')?;
-    push_number(alloc, text, u64::from(number))?;
+    push_number(text, u64::from(number))?;
     Ok(())
 }

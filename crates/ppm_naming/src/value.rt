@@ -14,10 +14,10 @@ use ppm_words::{NoMemory, of_word};
 use std::alloc::Global;
 
 /// Appends a number in decimal.
-fn push_decimal(alloc: Global, text: &mut Vec<u8>, word: u64) -> Result<(), NoMemory>
+fn push_decimal(text: &mut Vec<u8>, word: u64) -> Result<(), NoMemory>
     ensures { OnOk result (text.new.items ≡ text.old.items ++ decimal word) }
 {
-    push_number(alloc, text, word)?;
+    push_number(text, word)?;
     Ok(())
 }
 
@@ -31,7 +31,7 @@ fn push_signed(alloc: Global, text: &mut Vec<u8>, word: u64) -> Result<(), NoMem
 }
 
 /// Appends which branch of a fork came first to its join.
-fn push_order(alloc: Global, text: &mut Vec<u8>, word: u64) -> Result<(), NoMemory>
+fn push_order(text: &mut Vec<u8>, word: u64) -> Result<(), NoMemory>
     ensures { OnOk result (text.new.items ≡ text.old.items ++ order_text word) }
 {
     match word {
@@ -39,41 +39,41 @@ fn push_order(alloc: Global, text: &mut Vec<u8>, word: u64) -> Result<(), NoMemo
         1 => push_word(text, "left"),
         2 => push_word(text, "right"),
         3 => push_word(text, "both"),
-        _ => push_decimal(alloc, text, word),
+        _ => push_decimal(text, word),
     }
 }
 
 /// Appends the entry that a word stands for.
-fn push_entry_word(alloc: Global, text: &mut Vec<u8>, word: u64) -> Result<(), NoMemory>
+fn push_entry_word(text: &mut Vec<u8>, word: u64) -> Result<(), NoMemory>
     ensures { OnOk result (text.new.items ≡ text.old.items ++ entry_word_text word) }
 {
     match Entry::unpack(word) {
-        Some(entry) => push_entry(alloc, text, entry),
-        None => push_decimal(alloc, text, word),
+        Some(entry) => push_entry(text, entry),
+        None => push_decimal(text, word),
     }
 }
 
 /// Appends who carries a place by a word.
-fn push_holder_word(alloc: Global, text: &mut Vec<u8>, word: u64) -> Result<(), NoMemory>
+fn push_holder_word(text: &mut Vec<u8>, word: u64) -> Result<(), NoMemory>
     ensures { OnOk result (text.new.items ≡ text.old.items ++ holder_word_text word) }
 {
     match Holder::unpack(word) {
-        Some(holder) => push_holder(alloc, text, holder),
-        None => push_decimal(alloc, text, word),
+        Some(holder) => push_holder(text, holder),
+        None => push_decimal(text, word),
     }
 }
 
 /// Appends a message: nothing, an entry, or who carries a place.
-fn push_message(alloc: Global, text: &mut Vec<u8>, word: u64) -> Result<(), NoMemory>
+fn push_message(text: &mut Vec<u8>, word: u64) -> Result<(), NoMemory>
     ensures { OnOk result (text.new.items ≡ text.old.items ++ message_text word) }
 {
     if word == 0 {
         return push_word(text, "-");
     }
     if word < 0x4000_0000_0000_0000 {
-        return push_holder_word(alloc, text, word);
+        return push_holder_word(text, word);
     }
-    push_entry_word(alloc, text, word)
+    push_entry_word(text, word)
 }
 
 /// Appends a word, as its kind is written. A word that stands for nothing of its kind is written in
@@ -87,23 +87,23 @@ pub fn push_value(
     ensures { OnOk result (text.new.items ≡ text.old.items ++ value_text kind word) }
 {
     match kind {
-        WordKind::Number => push_decimal(alloc, text, word),
+        WordKind::Number => push_decimal(text, word),
         WordKind::Signed => push_signed(alloc, text, word),
-        WordKind::Order => push_order(alloc, text, word),
+        WordKind::Order => push_order(text, word),
         WordKind::Restart => match Restart::unpack(word) {
-            Some(restart) => push_restart(alloc, text, restart),
-            None => push_decimal(alloc, text, word),
+            Some(restart) => push_restart(text, restart),
+            None => push_decimal(text, word),
         },
-        WordKind::Entry => push_entry_word(alloc, text, word),
-        WordKind::Holder => push_holder_word(alloc, text, word),
-        WordKind::Message => push_message(alloc, text, word),
+        WordKind::Entry => push_entry_word(text, word),
+        WordKind::Holder => push_holder_word(text, word),
+        WordKind::Message => push_message(text, word),
         WordKind::Link => match Link::unpack(word) {
-            Some(link) => push_lead(alloc, text, link.kind),
-            None => push_decimal(alloc, text, word),
+            Some(link) => push_lead(text, link.kind),
+            None => push_decimal(text, word),
         },
         WordKind::Finish => match Finish::unpack(word) {
-            Some(finish) => push_finish(alloc, text, finish),
-            None => push_decimal(alloc, text, word),
+            Some(finish) => push_finish(text, finish),
+            None => push_decimal(text, word),
         },
     }
 }

@@ -105,7 +105,7 @@ fn line_notes(alloc: Global, text: &[u8], line: u32, words: &str) -> Result<Vec<
     ensures { IfOk result (λ notes. notes.items ≡ notes_of_line text.now line words.now) }
 {
     let mut notes = Vec::new(alloc);
-    push_line(alloc, &mut notes, text, line)?;
+    push_line(&mut notes, text, line)?;
     push_note(&mut notes, words)?;
     Ok(notes)
 }
@@ -138,7 +138,7 @@ pub fn untidy_notes(alloc: Global, text: &[u8], store: UntidyStore) -> Result<Ve
     ensures { IfOk result (λ notes. notes.items ≡ notes_of_untidy text.now store) }
 {
     let mut notes = Vec::new(alloc);
-    push_row(alloc, &mut notes, "line ", text, store.line)?;
+    push_row(&mut notes, "line ", text, store.line)?;
     push_note(&mut notes, untidy_words())?;
     Ok(notes)
 }

@@ -20,7 +20,6 @@ use std::alloc::Global;
 
 /// Appends what stands in a line after some words, with a mark under it.
 fn push_spot(
-    alloc: Global,
     text: &mut Vec<u8>,
     listing: &[u8],
     line: u32,
@@ -30,7 +29,7 @@ fn push_spot(
         ≡ text.old.items ++ spot_of listing.now line (option_map (λ r. r.now) rest)) }
 {
     let bytes = line_bytes(listing, line as usize);
-    push_marked(alloc, text, line as usize, bytes, column(bytes, rest))?;
+    push_marked(text, line as usize, bytes, column(bytes, rest))?;
     push_word(text, "found: ")?;
     push_thing(text, is_last_line(listing, line as usize), rest)?;
     push_word(text, "\n")
@@ -53,7 +52,7 @@ fn expected_in(
     let wanted = operands(alloc, at, capsules, keyword, &tokens)?;
     let count = fitting(&wanted, &tokens);
     let mut words = Vec::new(alloc);
-    push_operand(alloc, &mut words, keyword, &wanted, count)?;
+    push_operand(&mut words, keyword, &wanted, count)?;
     Ok((count + 1, words))
 }
 
@@ -93,23 +92,17 @@ fn push_stop(
     let at = (line as usize).saturating_sub(above);
     let capsules = capsules_above(listing, line.saturating_sub(1));
     let (count, words) = stop_in(alloc, at, capsules, lead(at, capsules, bytes), bytes)?;
-    push_spot(alloc, text, listing, line, after_words(bytes, count))?;
+    push_spot(text, listing, line, after_words(bytes, count))?;
     push_word(text, "expected: ")?;
     text.extend_from_slice(&words)?;
     push_word(text, "\n")
 }
 
 /// Appends a line that breaks another rule, and its form.
-fn push_rule(
-    alloc: Global,
-    text: &mut Vec<u8>,
-    listing: &[u8],
-    above: usize,
-    line: u32,
-) -> Result<(), NoMemory>
+fn push_rule(text: &mut Vec<u8>, listing: &[u8], above: usize, line: u32) -> Result<(), NoMemory>
     ensures { OnOk result (text.new.items ≡ text.old.items ++ rule_notes above listing.now line) }
 {
-    push_line(alloc, text, listing, line)?;
+    push_line(text, listing, line)?;
     let capsules = capsules_above(listing, line.saturating_sub(1));
     let bytes = line_bytes(listing, line as usize);
     push_form(
@@ -131,7 +124,7 @@ fn push_fault(
     if refusal.number == 1 {
         return push_stop(alloc, text, listing, above, refusal.line);
     }
-    push_rule(alloc, text, listing, above, refusal.line)
+    push_rule(text, listing, above, refusal.line)
 }
 
 /// What is said of a fault of a listing that stands below so many lines of a text: its line, and
@@ -170,7 +163,6 @@ pub fn listing_notes(
 
 /// Appends a line of a listing, with its number, from 1, after words.
 pub(crate) fn push_row(
-    alloc: Global,
     text: &mut Vec<u8>,
     words: &str,
     listing: &[u8],
@@ -179,7 +171,7 @@ pub(crate) fn push_row(
     ensures { OnOk result (text.new.items ≡ text.old.items ++ row_text words.now listing.now line) }
 {
     push_word(text, words)?;
-    push_number(alloc, text, line)?;
+    push_number(text, line)?;
     push_word(text, "\n")?;
     push_shown(text, line_bytes(listing, line as usize))
 }
@@ -196,8 +188,8 @@ pub fn conflict_notes(
     ensures { IfOk result (λ notes. notes.items ≡ notes_of_conflict text.now read write) }
 {
     let mut notes = Vec::new(alloc);
-    push_row(alloc, &mut notes, "read in line ", text, read)?;
-    push_row(alloc, &mut notes, "written in line ", text, write)?;
+    push_row(&mut notes, "read in line ", text, read)?;
+    push_row(&mut notes, "written in line ", text, write)?;
     push_note(&mut notes, conflict_words())?;
     Ok(notes)
 }

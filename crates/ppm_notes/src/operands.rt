@@ -307,7 +307,6 @@ fn wanted_at(wanted: &[Wanted], count: usize) -> Wanted
 
 /// Appends what could stand after a keyword and so many fitting words.
 pub(crate) fn push_operand(
-    alloc: Global,
     text: &mut Vec<u8>,
     keyword: Keyword,
     wanted: &[Wanted],
@@ -316,6 +315,6 @@ pub(crate) fn push_operand(
     ensures { OnOk result (text.new.items
         ≡ text.old.items ++ operand_text keyword wanted.now count) }
 {
-    push_wanted(alloc, text, wanted_at(wanted, count))?;
+    push_wanted(text, wanted_at(wanted, count))?;
     push_word(text, end_word(keyword, count))
 }

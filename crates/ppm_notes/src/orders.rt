@@ -25,20 +25,15 @@ fn item(rest: Option<&[u8]>) -> &[u8]
 }
 
 /// Appends an item by its number, from 1: its column, the text with a mark under it, and the item.
-fn push_item_notes(
-    alloc: Global,
-    notes: &mut Vec<u8>,
-    text: &[u8],
-    number: u64,
-) -> Result<(), NoMemory>
+fn push_item_notes(notes: &mut Vec<u8>, text: &[u8], number: u64) -> Result<(), NoMemory>
     ensures { OnOk result (notes.new.items ≡ notes.old.items ++ item_notes text.now number) }
 {
     let rest = after_pieces(text, b',', number.saturating_sub(1) as usize);
     let column = column(text, rest);
     push_word(notes, "item ")?;
-    push_number(alloc, notes, number)?;
+    push_number(notes, number)?;
     push_word(notes, " column ")?;
-    push_number(alloc, notes, column as u64)?;
+    push_number(notes, column as u64)?;
     push_word(notes, "\n")?;
     push_shown(notes, text)?;
     push_mark(notes, text, column)?;
@@ -60,12 +55,12 @@ fn item_meaning(orders: ExplainedOrders) -> &'static str
 }
 
 /// Appends which processors there are.
-fn push_processors(alloc: Global, notes: &mut Vec<u8>, processors: u32) -> Result<(), NoMemory>
+fn push_processors(notes: &mut Vec<u8>, processors: u32) -> Result<(), NoMemory>
     ensures { OnOk result (notes.new.items
         ≡ notes.old.items ++ note_text (processors_meaning processors)) }
 {
     push_word(notes, "note: processors and victims are 0 to ")?;
-    push_number(alloc, notes, u64::from(processors.saturating_sub(1)))?;
+    push_number(notes, u64::from(processors.saturating_sub(1)))?;
     push_word(notes, "\n")
 }
 
@@ -94,7 +89,7 @@ fn bad_item_notes(
         ≡ item_notes text.now number ++ note_text (item_words orders)) }
 {
     let mut notes = Vec::new(alloc);
-    push_item_notes(alloc, &mut notes, text, number)?;
+    push_item_notes(&mut notes, text, number)?;
     push_note(&mut notes, item_meaning(orders))?;
     Ok(notes)
 }
@@ -110,8 +105,8 @@ fn no_processor_notes(
         ≡ item_notes text.now number ++ note_text (processors_meaning processors)) }
 {
     let mut notes = Vec::new(alloc);
-    push_item_notes(alloc, &mut notes, text, number)?;
-    push_processors(alloc, &mut notes, processors)?;
+    push_item_notes(&mut notes, text, number)?;
+    push_processors(&mut notes, processors)?;
     Ok(notes)
 }
 

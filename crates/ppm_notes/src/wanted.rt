@@ -7,7 +7,6 @@ use ppm_listing::Keyword;
 use ppm_listing_reader::Sort;
 use ppm_pieces::push_number;
 use ppm_words::NoMemory;
-use std::alloc::Global;
 
 /// What could stand at a place of a line behind its keyword.
 #[derive(Clone, Copy, Debug)]
@@ -44,14 +43,14 @@ pub(crate) fn push_sort(text: &mut Vec<u8>, sort: Sort) -> Result<(), NoMemory>
 }
 
 /// Appends what could stand at a place.
-pub(crate) fn push_wanted(alloc: Global, text: &mut Vec<u8>, wanted: Wanted) -> Result<(), NoMemory>
+pub(crate) fn push_wanted(text: &mut Vec<u8>, wanted: Wanted) -> Result<(), NoMemory>
     ensures { OnOk result (text.new.items ≡ text.old.items ++ wanted_text wanted) }
 {
     match wanted {
         Wanted::Word(sort) => push_sort(text, sort),
         Wanted::Number(number) => {
             push_word(text, "`")?;
-            push_number(alloc, text, number)?;
+            push_number(text, number)?;
             push_word(text, "`")
         }
         Wanted::End => push_word(text, "the end of the line"),

@@ -46,7 +46,7 @@ fn push_part(alloc: Global, text: &mut Vec<u8>, part: Markup) -> Result<(), NoMe
 {
     match part {
         Markup::Fixed(word) => text.extend_from_slice(word.as_bytes())?,
-        Markup::Number(number) => push_number(alloc, text, number)?,
+        Markup::Number(number) => push_number(text, number)?,
         Markup::Grouped(number) => push_grouped(alloc, text, number)?,
     }
     Ok(())

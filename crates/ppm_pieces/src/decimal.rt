@@ -4,7 +4,8 @@ ghost use Rattle.ppm_pieces.specs.Numbers.{is_digit as digit, is_numeral as nume
 ghost use Rattle.ppm_pieces.specs.Numbers.{value as value_of, number_of};
 ghost use Rattle.std.specs.List.{list_all};
 
-use std::alloc::{AllocError, Global};
+use itoa::Buffer;
+use std::alloc::AllocError;
 
 /// Whether a byte is a decimal digit.
 pub fn is_digit(byte: u8) -> bool
@@ -75,10 +76,10 @@ pub fn number(bytes: &[u8]) -> Option<u32>
 }
 
 /// Appends a number in decimal; without memory the text stays.
-pub fn push_number(alloc: Global, text: &mut Vec<u8>, number: u64) -> Result<(), AllocError>
+pub fn push_number(text: &mut Vec<u8>, number: u64) -> Result<(), AllocError>
     ensures ok { OnOk result (text.new.items ≡ text.old.items ++ decimal number) }
     ensures kept { OnErr result (text.new.items ≡ text.old.items) }
 {
-    let digits = number.to_string(alloc)?;
-    text.extend_from_slice(digits.as_bytes())
+    let mut buffer = Buffer::new();
+    text.extend_from_slice(buffer.format(number).as_bytes())
 }

@@ -15,13 +15,7 @@ fn value_at(seed: u32, index: u32) -> u64
 }
 
 /// Appends so many values from an element on, each behind a comma.
-fn push_values(
-    alloc: Global,
-    text: &mut Vec<u8>,
-    seed: u32,
-    first: u32,
-    count: u32,
-) -> Result<(), NoMemory>
+fn push_values(text: &mut Vec<u8>, seed: u32, first: u32, count: u32) -> Result<(), NoMemory>
     requires { first + count < 2 ^ 32 }
     ensures { OnOk result (text.new.items ≡ text.old.items ++ values_from seed first count) }
 {
@@ -29,7 +23,7 @@ fn push_values(
     let mut left = count;
     while left > 0 {
         text.extend_from_slice(", ".as_bytes())?;
-        push_number(alloc, text, value_at(seed, index))?;
+        push_number(text, value_at(seed, index))?;
         index += 1;
         left -= 1;
     }
@@ -48,10 +42,10 @@ pub fn make_source(alloc: Global, size: u32, seed: u32) -> Result<Vec<u8>, NoMem
 {
     let mut text = Vec::new(alloc);
     text.extend_from_slice("array a[".as_bytes())?;
-    push_number(alloc, &mut text, u64::from(size))?;
+    push_number(&mut text, u64::from(size))?;
     text.extend_from_slice("];\ninput a = ".as_bytes())?;
-    push_number(alloc, &mut text, value_at(seed, 0))?;
-    push_values(alloc, &mut text, seed, 1, size - 1)?;
+    push_number(&mut text, value_at(seed, 0))?;
+    push_values(&mut text, seed, 1, size - 1)?;
     text.extend_from_slice(";\n".as_bytes())?;
     text.extend_from_slice(PROCEDURES.as_bytes())?;
     Ok(text)

@@ -4,19 +4,14 @@ ghost use Rattle.ppm_saved.specs.Text.{numbers_text};
 
 use ppm_pieces::push_number;
 use ppm_words::NoMemory;
-use std::alloc::Global;
 
 /// Appends each of the numbers behind a space, and a line feed.
-pub(crate) fn push_numbers(
-    alloc: Global,
-    text: &mut Vec<u8>,
-    numbers: &[u64],
-) -> Result<(), NoMemory>
+pub(crate) fn push_numbers(text: &mut Vec<u8>, numbers: &[u64]) -> Result<(), NoMemory>
     ensures { OnOk result (text.new.items ≡ text.old.items ++ numbers_text numbers.now) }
 {
     for number in numbers {
         text.push(b' ')?;
-        push_number(alloc, text, *number)?;
+        push_number(text, *number)?;
     }
     text.push(b'\n')?;
     Ok(())

@@ -21,7 +21,7 @@ fn sizes_arrays_and_code_stand_in_front(rt: HostRuntime) -> Result<(), Fail> {
     };
     let arrays = vec![in alloc; first, second]?;
     let mut text = head(alloc, shape, &arrays)?;
-    push_code(alloc, &mut text, "ppm 1\n".as_bytes())?;
+    push_code(&mut text, "ppm 1\n".as_bytes())?;
     assert_eq!(rt;
         text.as_slice(),
         "saved 1\nshape 1 64 2\narray a 2\narray b 3\ncode 6\nppm 1\n".as_bytes()
@@ -32,7 +32,7 @@ fn sizes_arrays_and_code_stand_in_front(rt: HostRuntime) -> Result<(), Fail> {
 /// The text of words.
 fn written(alloc: Global, words: &[u64]) -> Result<Vec<u8>, Fail> {
     let mut text = Vec::new(alloc);
-    push_words(alloc, &mut text, words)?;
+    push_words(&mut text, words)?;
     Ok(text)
 }
 

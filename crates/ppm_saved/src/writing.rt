@@ -26,13 +26,12 @@ fn wide(number: u32) -> u64
 }
 
 /// Appends the line of the sizes.
-fn push_shape(alloc: Global, text: &mut Vec<u8>, shape: Shape) -> Result<(), NoMemory>
+fn push_shape(text: &mut Vec<u8>, shape: Shape) -> Result<(), NoMemory>
     ensures { OnOk result (text.new.items
         ≡ text.old.items ++ shape_line shape.processors shape.room shape.slots) }
 {
     text.extend_from_slice("shape".as_bytes())?;
     push_numbers(
-        alloc,
         text,
         &[wide(shape.processors), wide(shape.room), wide(shape.slots)],
     )?;
@@ -40,25 +39,25 @@ fn push_shape(alloc: Global, text: &mut Vec<u8>, shape: Shape) -> Result<(), NoM
 }
 
 /// Appends the line of an array.
-fn push_array(alloc: Global, text: &mut Vec<u8>, array: &NamedLength) -> Result<(), NoMemory>
+fn push_array(text: &mut Vec<u8>, array: &NamedLength) -> Result<(), NoMemory>
     ensures text { OnOk result (text.new.items ≡ text.old.items ++ line_of_array array.now) }
     ensures fits { OnOk result (LengthFits array.now) }
 {
     text.extend_from_slice("array ".as_bytes())?;
     text.extend_from_slice(array.name.as_bytes())?;
-    push_numbers(alloc, text, &[wide(array.len)])?;
+    push_numbers(text, &[wide(array.len)])?;
     Ok(())
 }
 
 /// Appends the lines of arrays.
-fn push_arrays(alloc: Global, text: &mut Vec<u8>, arrays: &[NamedLength]) -> Result<(), NoMemory>
+fn push_arrays(text: &mut Vec<u8>, arrays: &[NamedLength]) -> Result<(), NoMemory>
     ensures text { OnOk result (text.new.items
         ≡ text.old.items ++ flat_map line_of_array arrays.now) }
     ensures fits { OnOk result (AllByRecursion LengthFits arrays.now) }
 {
     let mut left = arrays;
     while let [array, rest @ ..] = left {
-        push_array(alloc, text, array)?;
+        push_array(text, array)?;
         left = rest;
     }
     Ok(())
@@ -71,68 +70,68 @@ pub(crate) fn head(alloc: Global, shape: Shape, arrays: &[NamedLength]) -> Resul
 {
     let mut text = Vec::new(alloc);
     text.extend_from_slice("saved 1\n".as_bytes())?;
-    push_shape(alloc, &mut text, shape)?;
-    push_arrays(alloc, &mut text, arrays)?;
+    push_shape(&mut text, shape)?;
+    push_arrays(&mut text, arrays)?;
     Ok(text)
 }
 
 /// Appends a listing behind its line.
-pub(crate) fn push_code(alloc: Global, text: &mut Vec<u8>, listing: &[u8]) -> Result<(), NoMemory>
+pub(crate) fn push_code(text: &mut Vec<u8>, listing: &[u8]) -> Result<(), NoMemory>
     ensures text { OnOk result (text.new.items ≡ text.old.items ++ code_text listing.now) }
     ensures fits { IsWord (length listing.now) }
 {
     text.extend_from_slice("code".as_bytes())?;
-    push_numbers(alloc, text, &[listing.len() as u64])?;
+    push_numbers(text, &[listing.len() as u64])?;
     text.extend_from_slice(listing)?;
     Ok(())
 }
 
 /// Appends how often a word stands in a row, if it is not once.
-fn push_times(alloc: Global, text: &mut Vec<u8>, times: u64) -> Result<(), NoMemory>
+fn push_times(text: &mut Vec<u8>, times: u64) -> Result<(), NoMemory>
     ensures { OnOk result (text.new.items ≡ text.old.items ++ times_text times) }
 {
     if times == 1 {
         return Ok(());
     }
     text.push(b'*')?;
-    push_number(alloc, text, times)?;
+    push_number(text, times)?;
     Ok(())
 }
 
 /// Appends the line of a run.
-fn push_run(alloc: Global, text: &mut Vec<u8>, run: Run) -> Result<(), NoMemory>
+fn push_run(text: &mut Vec<u8>, run: Run) -> Result<(), NoMemory>
     ensures text { OnOk result (text.new.items ≡ text.old.items ++ run_line run) }
     ensures fits { RunFits run }
 {
-    push_number(alloc, text, run.word)?;
-    push_times(alloc, text, run.times)?;
+    push_number(text, run.word)?;
+    push_times(text, run.times)?;
     text.push(b'\n')?;
     Ok(())
 }
 
 /// Appends the lines of words, one for each of their longest runs.
-fn push_runs(alloc: Global, text: &mut Vec<u8>, words: &[u64]) -> Result<(), NoMemory>
+fn push_runs(text: &mut Vec<u8>, words: &[u64]) -> Result<(), NoMemory>
     ensures text { OnOk result (text.new.items
         ≡ text.old.items ++ flat_map run_line (runs_of words.now)) }
     ensures fits { OnOk result (AllByRecursion RunFits (runs_of words.now)) }
 {
     let mut left = words;
     while let Some((run, rest)) = first_run(left) {
-        push_run(alloc, text, run)?;
+        push_run(text, run)?;
         left = rest;
     }
     Ok(())
 }
 
 /// Appends words behind their line.
-pub(crate) fn push_words(alloc: Global, text: &mut Vec<u8>, words: &[u64]) -> Result<(), NoMemory>
+pub(crate) fn push_words(text: &mut Vec<u8>, words: &[u64]) -> Result<(), NoMemory>
     ensures text { OnOk result (text.new.items ≡ text.old.items ++ words_text words.now) }
     ensures fits { OnOk result (AllByRecursion RunFits (runs_of words.now)) }
     ensures count { IsWord (length words.now) }
 {
     text.extend_from_slice("words".as_bytes())?;
-    push_numbers(alloc, text, &[words.len() as u64])?;
-    push_runs(alloc, text, words)?;
+    push_numbers(text, &[words.len() as u64])?;
+    push_runs(text, words)?;
     Ok(())
 }
 
@@ -156,7 +155,7 @@ pub fn write_saved(
     let listing = write_listing(alloc, code)?;
     let arrays = names.as_slice();
     let mut text = head(alloc, shape, arrays)?;
-    push_code(alloc, &mut text, &listing)?;
-    push_words(alloc, &mut text, words)?;
+    push_code(&mut text, &listing)?;
+    push_words(&mut text, words)?;
     Ok(text)
 }

@@ -92,7 +92,6 @@ fn push_inners(
 
 /// Appends its name.
 fn push_block_name(
-    alloc: Global,
     text: &mut Vec<u8>,
     scene: &Scene,
     at: u32,
@@ -101,9 +100,9 @@ fn push_block_name(
     ensures { OnOk result (text.new.items ≡ text.old.items ++ block_name scene.now at is_fork) }
 {
     if is_fork {
-        push_fork(alloc, text, at)
+        push_fork(text, at)
     } else {
-        push_frame(alloc, text, scene, at)
+        push_frame(text, scene, at)
     }
 }
 
@@ -119,7 +118,7 @@ fn push_block_head(
         ≡ text.old.items ++ named_value (block_name scene.now at is_fork) (value_text Link (word_at scene.now at))) }
 {
     let start = text.len();
-    push_block_name(alloc, text, scene, at, is_fork)?;
+    push_block_name(text, scene, at, is_fork)?;
     fill(text, start, 18)?;
     let start = text.len();
     push_value(alloc, text, WordKind::Link, scene.word_at(u64::from(at)))?;
@@ -137,7 +136,7 @@ pub(crate) fn push_block_line(
 {
     let is_fork = scene.is_fork_block(at);
     push_block_head(alloc, text, scene, at, is_fork)?;
-    push_link_subject(alloc, text, scene, scene.link_at(at))?;
+    push_link_subject(text, scene, scene.link_at(at))?;
     push_inners(alloc, text, scene, at, is_fork)?;
     text.push(b'\n')?;
     Ok(())

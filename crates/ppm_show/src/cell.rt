@@ -16,12 +16,12 @@ use ppm_words::NoMemory;
 use std::alloc::Global;
 
 /// Appends the name of a cell, filled up.
-fn push_name(alloc: Global, text: &mut Vec<u8>, scene: &Scene, cell: Cell) -> Result<(), NoMemory>
+fn push_name(text: &mut Vec<u8>, scene: &Scene, cell: Cell) -> Result<(), NoMemory>
     ensures { OnOk result (text.new.items
         ≡ text.old.items ++ field 18 (cell_text scene.now.names scene.now.lengths cell)) }
 {
     let start = text.len();
-    push_cell(alloc, text, scene.names(), scene.lengths(), cell)?;
+    push_cell(text, scene.names(), scene.lengths(), cell)?;
     fill(text, start, 18)
 }
 
@@ -46,9 +46,9 @@ pub(crate) fn push_cell_line(
     requires { IsCell scene.now.shape cell }
     ensures { OnOk result (text.new.items ≡ text.old.items ++ line_of_cell scene.now word cell) }
 {
-    push_name(alloc, text, scene, cell)?;
+    push_name(text, scene, cell)?;
     push_worth(alloc, text, word, cell)?;
-    push_subject(alloc, text, scene, word, cell)?;
+    push_subject(text, scene, word, cell)?;
     text.push(b'\n')?;
     Ok(())
 }
@@ -63,7 +63,7 @@ pub(crate) fn push_element_line(
 ) -> Result<(), NoMemory>
     ensures { OnOk result (text.new.items ≡ text.old.items ++ element_line scene.now word cell) }
 {
-    push_cell(alloc, text, scene.names(), scene.lengths(), cell)?;
+    push_cell(text, scene.names(), scene.lengths(), cell)?;
     text.push(b' ')?;
     push_value(alloc, text, WordKind::Signed, word)?;
     text.push(b'\n')?;

@@ -23,22 +23,22 @@ use ppm_words::NoMemory;
 use std::alloc::Global;
 
 /// Appends a size with its name.
-fn push_size(alloc: Global, text: &mut Vec<u8>, name: &str, size: u32) -> Result<(), NoMemory>
+fn push_size(text: &mut Vec<u8>, name: &str, size: u32) -> Result<(), NoMemory>
     ensures { OnOk result (text.new.items ≡ text.old.items ++ size_text name.now size) }
 {
     push_word(text, name)?;
-    push_number(alloc, text, u64::from(size))?;
+    push_number(text, u64::from(size))?;
     Ok(())
 }
 
 /// Appends the form's version and the machine's sizes.
-fn push_sizes(alloc: Global, text: &mut Vec<u8>, shape: &Shape) -> Result<(), NoMemory>
+fn push_sizes(text: &mut Vec<u8>, shape: &Shape) -> Result<(), NoMemory>
     ensures { OnOk result (text.new.items ≡ text.old.items ++ sizes_text shape.now) }
 {
     push_word(text, "ppm show 1\n")?;
-    push_size(alloc, text, "processors ", shape.processors)?;
-    push_size(alloc, text, " room ", shape.room)?;
-    push_size(alloc, text, " slots ", shape.slots)?;
+    push_size(text, "processors ", shape.processors)?;
+    push_size(text, " room ", shape.room)?;
+    push_size(text, " slots ", shape.slots)?;
     push_word(text, "\n")?;
     Ok(())
 }
@@ -131,7 +131,7 @@ fn scene_text(alloc: Global, scene: &Scene) -> Result<Vec<u8>, NoMemory>
 {
     let marks = shown_marks(alloc, scene)?;
     let mut text = Vec::new(alloc);
-    push_sizes(alloc, &mut text, scene.shape())?;
+    push_sizes(&mut text, scene.shape())?;
     push_fields(&mut text)?;
     for at in 0..scene.word_count() {
         push_line_at(alloc, &mut text, scene, &marks, at)?;

@@ -10,7 +10,6 @@ use ppm_cells::{Cell, Entry, Holder, Link, LinkKind, Restart, Side};
 use ppm_lines::{Scene, push_branch, push_of_row, push_place, push_run};
 use ppm_pieces::push_number;
 use ppm_words::NoMemory;
-use std::alloc::Global;
 
 /// Appends a word of letters and signs.
 pub(crate) fn push_word(text: &mut Vec<u8>, word: &str) -> Result<(), NoMemory>
@@ -45,7 +44,6 @@ fn push_life(text: &mut Vec<u8>, scene: &Scene, processor: u32) -> Result<(), No
 
 /// Appends the row of a place.
 fn push_restart_subject(
-    alloc: Global,
     text: &mut Vec<u8>,
     scene: &Scene,
     restart: Option<Restart>,
@@ -54,31 +52,25 @@ fn push_restart_subject(
 {
     match restart {
         None => push_word(text, "?"),
-        Some(restart) => push_of_row(alloc, text, scene, restart.kind),
+        Some(restart) => push_of_row(text, scene, restart.kind),
     }
 }
 
 /// Appends the right branch of a fork block, if it isn't over; 0 is no block.
-fn push_waiting(
-    alloc: Global,
-    text: &mut Vec<u8>,
-    scene: &Scene,
-    block: u32,
-) -> Result<(), NoMemory>
+fn push_waiting(text: &mut Vec<u8>, scene: &Scene, block: u32) -> Result<(), NoMemory>
     ensures { OnOk result (text.new.items ≡ text.old.items ++ waiting_text scene.now block) }
 {
     if block == 0 {
         return push_word(text, "-");
     }
     if right_lasts(scene, block) {
-        return push_branch(alloc, text, block, Side::Right);
+        return push_branch(text, block, Side::Right);
     }
     push_word(text, "-")
 }
 
 /// Appends the branch that an entry is of, or the place that took it.
 fn push_entry_subject(
-    alloc: Global,
     text: &mut Vec<u8>,
     scene: &Scene,
     entry: Option<Entry>,
@@ -91,9 +83,9 @@ fn push_entry_subject(
     match entry {
         Entry::Empty { .. } => push_word(text, "-"),
         Entry::Local { block, .. } | Entry::Job { block, .. } => {
-            push_waiting(alloc, text, scene, block)
+            push_waiting(text, scene, block)
         }
-        Entry::Taken { taker, .. } => push_place(alloc, text, taker % 64),
+        Entry::Taken { taker, .. } => push_place(text, taker % 64),
     }
 }
 
@@ -112,12 +104,7 @@ fn push_holder_subject(
 }
 
 /// Appends what a message is of.
-fn push_message_subject(
-    alloc: Global,
-    text: &mut Vec<u8>,
-    scene: &Scene,
-    word: u64,
-) -> Result<(), NoMemory>
+fn push_message_subject(text: &mut Vec<u8>, scene: &Scene, word: u64) -> Result<(), NoMemory>
     ensures { OnOk result (text.new.items ≡ text.old.items ++ message_subject scene.now word) }
 {
     if word == 0 {
@@ -126,32 +113,25 @@ fn push_message_subject(
     if word < 0x4000_0000_0000_0000 {
         return push_holder_subject(text, scene, Holder::unpack(word));
     }
-    push_entry_subject(alloc, text, scene, Entry::unpack(word))
+    push_entry_subject(text, scene, Entry::unpack(word))
 }
 
 /// Appends how many words of a pool are used.
-fn push_used(
-    alloc: Global,
-    text: &mut Vec<u8>,
-    begun: u64,
-    room: u64,
-    counter: u64,
-) -> Result<(), NoMemory>
+fn push_used(text: &mut Vec<u8>, begun: u64, room: u64, counter: u64) -> Result<(), NoMemory>
     requires { begun + room < 2 ^ 64 }
     ensures { OnOk result (text.new.items ≡ text.old.items ++ used_text begun room counter) }
 {
     if counter < begun || counter > begun + room {
         return push_word(text, "?");
     }
-    push_number(alloc, text, counter - begun)?;
+    push_number(text, counter - begun)?;
     text.push(b'/')?;
-    push_number(alloc, text, room)?;
+    push_number(text, room)?;
     Ok(())
 }
 
 /// Appends what the word of a cell is of.
 pub(crate) fn push_subject(
-    alloc: Global,
     text: &mut Vec<u8>,
     scene: &Scene,
     word: u64,
@@ -162,17 +142,15 @@ pub(crate) fn push_subject(
 {
     match cell {
         Cell::CarryWord { processor } => push_life(text, scene, processor),
-        Cell::RestartWord { .. } => {
-            push_restart_subject(alloc, text, scene, Restart::unpack(word))
-        }
-        Cell::MessageWord { .. } => push_message_subject(alloc, text, scene, word),
+        Cell::RestartWord { .. } => { push_restart_subject(text, scene, Restart::unpack(word)) }
+        Cell::MessageWord { .. } => push_message_subject(text, scene, word),
         Cell::HolderWord { .. } => push_holder_subject(text, scene, Holder::unpack(word)),
         Cell::RoomCounter { place } => {
             let shape = scene.shape();
             let begun = u64::from(shape.pool_at(place));
-            push_used(alloc, text, begun, u64::from(shape.room), word)
+            push_used(text, begun, u64::from(shape.room), word)
         }
-        Cell::EntryWord { .. } => push_entry_subject(alloc, text, scene, Entry::unpack(word)),
+        Cell::EntryWord { .. } => push_entry_subject(text, scene, Entry::unpack(word)),
         Cell::FinishWord
         | Cell::DeadWord { .. }
         | Cell::Top { .. }
@@ -183,7 +161,6 @@ pub(crate) fn push_subject(
 
 /// Appends where the end of a block leads.
 pub(crate) fn push_link_subject(
-    alloc: Global,
     text: &mut Vec<u8>,
     scene: &Scene,
     link: Option<Link>,
@@ -196,8 +173,8 @@ pub(crate) fn push_link_subject(
     match link.kind {
         LinkKind::Root => push_word(text, "-"),
         LinkKind::Call { frame, copy } | LinkKind::Fork { frame, copy } => {
-            push_run(alloc, text, scene, frame, copy)
+            push_run(text, scene, frame, copy)
         }
-        LinkKind::Branch { side, block } => push_branch(alloc, text, block, side),
+        LinkKind::Branch { side, block } => push_branch(text, block, side),
     }
 }

@@ -20,28 +20,28 @@ fn letter_of(fault: Fault) -> u8
 }
 
 /// Appends a victim after its sign, where one is stated.
-fn push_victim(alloc: Global, text: &mut Vec<u8>, victim: Option<u32>) -> Result<(), NoMemory>
+fn push_victim(text: &mut Vec<u8>, victim: Option<u32>) -> Result<(), NoMemory>
     ensures { OnOk result (text.new.items ≡ text.old.items ++ victim_text victim) }
 {
     if let Some(victim) = victim {
         text.push(62)?;
-        push_number(alloc, text, u64::from(victim))?;
+        push_number(text, u64::from(victim))?;
     }
     Ok(())
 }
 
 /// Appends an act.
-fn push_act(alloc: Global, text: &mut Vec<u8>, act: ScheduledAct) -> Result<(), NoMemory>
+fn push_act(text: &mut Vec<u8>, act: ScheduledAct) -> Result<(), NoMemory>
     ensures { OnOk result (text.new.items ≡ text.old.items ++ act_text act) }
 {
     match act {
         ScheduledAct::Step { processor, victim } => {
-            push_number(alloc, text, u64::from(processor))?;
-            push_victim(alloc, text, victim)?;
+            push_number(text, u64::from(processor))?;
+            push_victim(text, victim)?;
             Ok(())
         }
         ScheduledAct::Fails { processor, fault } => {
-            push_number(alloc, text, u64::from(processor))?;
+            push_number(text, u64::from(processor))?;
             text.push(33)?;
             text.push(letter_of(fault))?;
             Ok(())
@@ -50,15 +50,15 @@ fn push_act(alloc: Global, text: &mut Vec<u8>, act: ScheduledAct) -> Result<(), 
 }
 
 /// Appends an item.
-fn push_item(alloc: Global, text: &mut Vec<u8>, item: ScheduleItem) -> Result<(), NoMemory>
+fn push_item(text: &mut Vec<u8>, item: ScheduleItem) -> Result<(), NoMemory>
     ensures { OnOk result (text.new.items ≡ text.old.items ++ item_text item) }
 {
-    push_act(alloc, text, item.act)?;
+    push_act(text, item.act)?;
     if item.times == 1 {
         return Ok(());
     }
     text.push(42)?;
-    push_number(alloc, text, u64::from(item.times))?;
+    push_number(text, u64::from(item.times))?;
     Ok(())
 }
 
@@ -71,11 +71,11 @@ pub fn write_schedule(alloc: Global, items: &[ScheduleItem]) -> Result<Vec<u8>, 
         return Ok(none);
     };
     let mut text = Vec::new(alloc);
-    push_item(alloc, &mut text, *first)?;
+    push_item(&mut text, *first)?;
     let mut left = others;
     while let [item, rest @ ..] = left {
         text.push(44)?;
-        push_item(alloc, &mut text, *item)?;
+        push_item(&mut text, *item)?;
         left = rest;
     }
     Ok(text)

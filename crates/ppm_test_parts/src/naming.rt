@@ -216,7 +216,7 @@ fn cells_are_found_and_named(rt: HostRuntime) -> Result<(), Fail> {
     for (at, cell, want) in CELLS {
         assert_eq!(rt; addressed(&shape, at), cell, "{at}");
         let mut text = Vec::new(alloc);
-        push_cell(alloc, &mut text, &names, &[2, 3], cell).map_err(|_| "memory")?;
+        push_cell(&mut text, &names, &[2, 3], cell).map_err(|_| "memory")?;
         assert_eq!(rt; text.as_slice(), want.as_bytes(), "{at}");
     }
     addresses_name_cells();
@@ -230,7 +230,7 @@ fn procedures_are_named(rt: HostRuntime) -> Result<(), Fail> {
     let cases = [(0, "main"), (1, "each:17"), (2, "proc:2"), (3, "?")];
     for (number, want) in cases {
         let mut text = Vec::new(alloc);
-        push_procedure(alloc, &mut text, &names, number).map_err(|_| "memory")?;
+        push_procedure(&mut text, &names, number).map_err(|_| "memory")?;
         assert_eq!(rt; text.as_slice(), want.as_bytes(), "{number}");
     }
     Ok(())

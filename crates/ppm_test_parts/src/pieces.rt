@@ -67,7 +67,7 @@ fn numbers_are_appended(rt: HostRuntime) -> Result<(), Fail> {
     let alloc = rt.alloc();
     let mut text = Vec::new(alloc);
     for number in [0, 42, u64::MAX] {
-        push_number(alloc, &mut text, number)?;
+        push_number(&mut text, number)?;
         text.push(b';')?;
     }
     assert_eq!(rt; text.as_slice(), b"0;42;18446744073709551615;".as_slice());

@@ -19,19 +19,19 @@ fn push_word(text: &mut Vec<u8>, word: &str) -> Result<(), NoMemory>
 }
 
 /// Appends a number with its name.
-fn push_named(alloc: Global, text: &mut Vec<u8>, name: &str, number: u64) -> Result<(), NoMemory>
+fn push_named(text: &mut Vec<u8>, name: &str, number: u64) -> Result<(), NoMemory>
     ensures { OnOk result (text.new.items ≡ text.old.items ++ named name.now number) }
 {
     push_word(text, name)?;
-    push_number(alloc, text, number)?;
+    push_number(text, number)?;
     Ok(())
 }
 
 /// Appends a size with its name.
-fn push_size(alloc: Global, text: &mut Vec<u8>, name: &str, size: u32) -> Result<(), NoMemory>
+fn push_size(text: &mut Vec<u8>, name: &str, size: u32) -> Result<(), NoMemory>
     ensures { OnOk result (text.new.items ≡ text.old.items ++ named name.now size) }
 {
-    push_named(alloc, text, name, u64::from(size))
+    push_named(text, name, u64::from(size))
 }
 
 /// Appends what others take over of a processor that stopped.
@@ -45,12 +45,12 @@ fn push_takeover(text: &mut Vec<u8>, takeover: Takeover) -> Result<(), NoMemory>
 }
 
 /// Appends the sizes of a machine.
-fn push_sizes(alloc: Global, text: &mut Vec<u8>, shape: &Shape) -> Result<(), NoMemory>
+fn push_sizes(text: &mut Vec<u8>, shape: &Shape) -> Result<(), NoMemory>
     ensures { OnOk result (text.new.items ≡ text.old.items ++ sizes_text shape.now) }
 {
-    push_size(alloc, text, "processors ", shape.processors)?;
-    push_size(alloc, text, " room ", shape.room)?;
-    push_size(alloc, text, " slots ", shape.slots)?;
+    push_size(text, "processors ", shape.processors)?;
+    push_size(text, " room ", shape.room)?;
+    push_size(text, " slots ", shape.slots)?;
     push_takeover(text, shape.takeover)?;
     Ok(())
 }
@@ -64,18 +64,13 @@ fn push_columns(text: &mut Vec<u8>) -> Result<(), NoMemory>
 }
 
 /// Appends the head of a trace from an act on.
-pub(crate) fn push_head(
-    alloc: Global,
-    text: &mut Vec<u8>,
-    shape: &Shape,
-    from: u64,
-) -> Result<(), NoMemory>
+pub(crate) fn push_head(text: &mut Vec<u8>, shape: &Shape, from: u64) -> Result<(), NoMemory>
     ensures { OnOk result (text.new.items ≡ text.old.items ++ head_text shape.now from) }
 {
     push_word(text, "ppm trace 1")?;
     text.push(b'\n')?;
-    push_sizes(alloc, text, shape)?;
-    push_named(alloc, text, " from ", from)?;
+    push_sizes(text, shape)?;
+    push_named(text, " from ", from)?;
     text.push(b'\n')?;
     push_columns(text)?;
     text.push(b'\n')?;
@@ -91,14 +86,14 @@ pub(crate) fn push_tail(
 ) -> Result<(), NoMemory>
     ensures { OnOk result (text.new.items ≡ text.old.items ++ tail_text counts finish) }
 {
-    push_named(alloc, text, "acts ", counts.acts)?;
-    push_named(alloc, text, " forks ", counts.forks)?;
-    push_named(alloc, text, " takes ", counts.takes)?;
-    push_named(alloc, text, " tries ", counts.tries)?;
-    push_named(alloc, text, " won ", counts.won)?;
-    push_named(alloc, text, " soft ", counts.soft)?;
-    push_named(alloc, text, " hard ", counts.hard)?;
-    push_named(alloc, text, " takeovers ", counts.takeovers)?;
+    push_named(text, "acts ", counts.acts)?;
+    push_named(text, " forks ", counts.forks)?;
+    push_named(text, " takes ", counts.takes)?;
+    push_named(text, " tries ", counts.tries)?;
+    push_named(text, " won ", counts.won)?;
+    push_named(text, " soft ", counts.soft)?;
+    push_named(text, " hard ", counts.hard)?;
+    push_named(text, " takeovers ", counts.takeovers)?;
     push_word(text, " finish ")?;
     push_value(alloc, text, WordKind::Finish, finish)?;
     text.push(b'\n')?;

@@ -11,11 +11,9 @@ use ppm_lines::{Scene, push_begun, push_events};
 use ppm_naming::Names;
 use ppm_step::Turn;
 use ppm_words::NoMemory;
-use std::alloc::Global;
 
 /// Appends the events of a turn.
 fn push_turn(
-    alloc: Global,
     text: &mut Vec<u8>,
     machine: &Machine,
     names: &Names,
@@ -35,13 +33,12 @@ fn push_turn(
         machine.words(),
     );
     let local = machine.local(turn.processor);
-    push_events(alloc, text, &scene, machine.turns(), local, turn)?;
+    push_events(text, &scene, machine.turns(), local, turn)?;
     Ok(())
 }
 
 /// Appends the beginning of the row within which a processor stands.
 fn push_begun_of(
-    alloc: Global,
     text: &mut Vec<u8>,
     machine: &Machine,
     names: &Names,
@@ -60,29 +57,23 @@ fn push_begun_of(
         machine.words(),
     );
     let local = machine.local(processor);
-    push_begun(alloc, text, &scene, machine.turns(), local)
+    push_begun(text, &scene, machine.turns(), local)
 }
 
 /// Appends those of all processors.
-fn push_begun_all(
-    alloc: Global,
-    text: &mut Vec<u8>,
-    machine: &Machine,
-    names: &Names,
-) -> Result<(), NoMemory>
+fn push_begun_all(text: &mut Vec<u8>, machine: &Machine, names: &Names) -> Result<(), NoMemory>
     ensures { OnOk result (text.new.items
         ≡ text.old.items ++ flat_map (begun_of names.now (seen machine.now)) (range_with_len 0 (seen machine.now).shape.processors)) }
 {
     let processors = machine.processors();
     for processor in 0..processors {
-        push_begun_of(alloc, text, machine, names, processor)?;
+        push_begun_of(text, machine, names, processor)?;
     }
     Ok(())
 }
 
 /// Appends these before the first act that is told.
 fn push_begun_rows(
-    alloc: Global,
     text: &mut Vec<u8>,
     machine: &Machine,
     names: &Names,
@@ -94,12 +85,11 @@ fn push_begun_rows(
     if machine.turns() != from {
         return Ok(());
     }
-    push_begun_all(alloc, text, machine, names)
+    push_begun_all(text, machine, names)
 }
 
 /// Appends what is written of a turn that is told.
 pub(crate) fn push_written_events(
-    alloc: Global,
     text: &mut Vec<u8>,
     machine: &Machine,
     names: &Names,
@@ -111,6 +101,6 @@ pub(crate) fn push_written_events(
     ensures { OnOk result (text.new.items
         ≡ text.old.items ++ written_events names.now from (seen machine.now) turn) }
 {
-    push_begun_rows(alloc, text, machine, names, from)?;
-    push_turn(alloc, text, machine, names, turn)
+    push_begun_rows(text, machine, names, from)?;
+    push_turn(text, machine, names, turn)
 }

@@ -117,7 +117,7 @@ fn push_written(
 {
     match form {
         Form::Lines(only) => push_if_shown(alloc, text, machine, names, only, turn),
-        Form::Events => push_written_events(alloc, text, machine, names, from, turn),
+        Form::Events => push_written_events(text, machine, names, from, turn),
         Form::Picture => push_dead_lanes(alloc, text, machine, from),
     }
 }

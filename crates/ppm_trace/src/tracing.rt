@@ -45,7 +45,7 @@ fn trace_lines(
         strokes: Vec::new(alloc),
         counts: Counts::none(),
     };
-    push_head(alloc, &mut tale.text, &machine.shape(), from)?;
+    push_head(&mut tale.text, &machine.shape(), from)?;
     let mut way = Way::first(from + acts);
     let excerpt = Excerpt {
         form: Some(Form::Lines(only)),
@@ -87,7 +87,7 @@ fn trace_json(
         strokes: Vec::new(alloc),
         counts: Counts::none(),
     };
-    push_json_head(alloc, &mut tale.text, machine.processors())?;
+    push_json_head(&mut tale.text, machine.processors())?;
     let mut way = Way::first(from + acts);
     let excerpt = Excerpt {
         form: Some(Form::Events),
