@@ -30,21 +30,18 @@ use Rattle.ppm_step.specs.declared.row.Row.TheVariants.{Now, Store}
 use Rattle.ppm_step.specs.Rows.{with_kind, if_there, raised, bumped, left_begins, push_at, push_by_order, push_above, push_bottom, on_finish, unwound, back_to, trapped, target_found, value_found, after_value, right_begins, right_value, joins, join_by_order, is_inline, is_last, join_by, join_outcome, get_back, got_back, empty_above}
 use Rattle.ppm_engine.specs.Steps.{address_if}
 
--- an entry that is changed, whose tag is not the last
-pub tag_rises : (entry : Entry) (changed : Entry) → entry ≡ changed → CanRise entry → CanRise changed
-tag_rises entry changed is rises = subst CanRise is rises
+-- what becomes of an entry that is changed, whose tag is not the last
+pub job_fits : (tag old block : ℕ) → block < 2 ^ 28 → CanRise (Local tag old) → IsEntry (Job (tag + 1) block)
+job_fits tag old block fits rises = (fits, (rises, (omega arith, tt)))
 
-pub job_fits : (entry : Entry) (tag old block : ℕ) → entry ≡ Local tag old → block < 2 ^ 28 → CanRise entry → IsEntry (Job (tag + 1) block)
-job_fits entry tag old block is fits rises = (fits, (tag_rises entry (Local tag old) is rises, (omega arith, tt)))
+pub above_fits : (tag : ℕ) → CanRise (Empty tag) → IsEntry (Local (tag + 1) 0)
+above_fits tag rises = (omega arith, (rises, (omega arith, tt)))
 
-pub above_fits : (entry : Entry) (tag : ℕ) → entry ≡ Empty tag → CanRise entry → IsEntry (Local (tag + 1) 0)
-above_fits entry tag is rises = (omega arith, (tag_rises entry (Empty tag) is rises, (omega arith, tt)))
+pub back_fits : (tag block : ℕ) → IsEntry (Job tag block) → CanRise (Job tag block) → IsEntry (Local (tag + 1) block)
+back_fits tag block is rises = (is.0, (rises, (omega arith, tt)))
 
-pub back_fits : (entry : Entry) (tag block : ℕ) → entry ≡ Job tag block → IsEntry entry → CanRise entry → IsEntry (Local (tag + 1) block)
-back_fits entry tag block is fits rises = ((subst IsEntry is fits).0, (tag_rises entry (Job tag block) is rises, (omega arith, tt)))
-
-pub emptied_fits : (entry : Entry) (tag old : ℕ) → entry ≡ Local tag old → CanRise entry → IsEntry (Empty (tag + 1))
-emptied_fits entry tag old is rises = (omega arith, (tag_rises entry (Local tag old) is rises, (omega arith, tt)))
+pub emptied_fits : (tag old : ℕ) → CanRise (Local tag old) → IsEntry (Empty (tag + 1))
+emptied_fits tag old rises = (omega arith, (rises, (omega arith, tt)))
 
 module _ (s : Shape) (seat : Seat) (block : ℕ) where
   abbrev slot : ℕ → Cell
@@ -58,9 +55,8 @@ module _ (s : Shape) (seat : Seat) (block : ℕ) where
   above_stays (Taken tag taker) h = refl
 
   pub above_rises : (entry : Entry) (tag : ℕ) → entry ≡ Empty tag
-      → push_above seat block entry ≡ raised (slot (seat.restart.bottom + 1)) entry (Local (tag + 1) 0) (with_kind seat (Push2 block)) (nat_lt (tag_of entry + 1) (2 ^ 34))
-  above_rises entry tag is =
-      subst (λ (e : Entry). push_above seat block e ≡ raised (slot (seat.restart.bottom + 1)) e (Local (tag + 1) 0) (with_kind seat (Push2 block)) (nat_lt (tag_of e + 1) (2 ^ 34))) (sym is) refl
+      → push_above seat block entry ≡ raised (slot (seat.restart.bottom + 1)) (Empty tag) (Local (tag + 1) 0) (with_kind seat (Push2 block)) (nat_lt (tag_of (Empty tag) + 1) (2 ^ 34))
+  above_rises entry tag is = ap (λ (e : Entry). push_above seat block e) is
 
   pub bottom_stays : (entry : Entry) → ((tag old : ℕ) → entry ≡ Local tag old → ⊥) → push_bottom seat block entry ≡ Now (left_begins block (seat.restart.bottom + 1))
   bottom_stays (Empty tag) h = refl
@@ -69,15 +65,13 @@ module _ (s : Shape) (seat : Seat) (block : ℕ) where
   bottom_stays (Taken tag taker) h = refl
 
   pub bottom_rises : (entry : Entry) (tag old : ℕ) → entry ≡ Local tag old
-      → push_bottom seat block entry ≡ raised (slot seat.restart.bottom) entry (Job (tag + 1) block) (left_begins block (seat.restart.bottom + 1)) (nat_lt (tag_of entry + 1) (2 ^ 34))
-  bottom_rises entry tag old is =
-      subst (λ (e : Entry). push_bottom seat block e ≡ raised (slot seat.restart.bottom) e (Job (tag + 1) block) (left_begins block (seat.restart.bottom + 1)) (nat_lt (tag_of e + 1) (2 ^ 34))) (sym is) refl
+      → push_bottom seat block entry ≡ raised (slot seat.restart.bottom) (Local tag old) (Job (tag + 1) block) (left_begins block (seat.restart.bottom + 1)) (nat_lt (tag_of (Local tag old) + 1) (2 ^ 34))
+  bottom_rises entry tag old is = ap (λ (e : Entry). push_bottom seat block e) is
 
   -- Pop1 and Pop2
   pub back_rises : (entry : Entry) (tag : ℕ) → entry ≡ Job tag block
-      → get_back seat entry ≡ raised (slot (seat.restart.bottom - 1)) entry (Local (tag + 1) block) (with_kind seat (Pop2 block)) (nat_lt (tag_of entry + 1) (2 ^ 34))
-  back_rises entry tag is =
-      subst (λ (e : Entry). get_back seat e ≡ raised (slot (seat.restart.bottom - 1)) e (Local (tag + 1) block) (with_kind seat (Pop2 block)) (nat_lt (tag_of e + 1) (2 ^ 34))) (sym is) refl
+      → get_back seat entry ≡ raised (slot (seat.restart.bottom - 1)) (Job tag block) (Local (tag + 1) block) (with_kind seat (Pop2 block)) (nat_lt (tag_of (Job tag block) + 1) (2 ^ 34))
+  back_rises entry tag is = ap (λ (e : Entry). get_back seat e) is
 
   pub empties_none : (entry : Entry) → ((tag old : ℕ) → entry ≡ Local tag old → ⊥) → empty_above seat block entry ≡ Now (Load (Offset block (seat.restart.bottom - 1)))
   empties_none (Empty tag) h = refl
@@ -86,9 +80,9 @@ module _ (s : Shape) (seat : Seat) (block : ℕ) where
   empties_none (Taken tag taker) h = refl
 
   pub empties : (entry : Entry) (tag old : ℕ) → entry ≡ Local tag old
-      → empty_above seat block entry ≡ raised (slot seat.restart.bottom) entry (Empty (tag + 1)) (Load (Offset block (seat.restart.bottom - 1))) (nat_lt (tag_of entry + 1) (2 ^ 34))
-  empties entry tag old is =
-      subst (λ (e : Entry). empty_above seat block e ≡ raised (slot seat.restart.bottom) e (Empty (tag + 1)) (Load (Offset block (seat.restart.bottom - 1))) (nat_lt (tag_of e + 1) (2 ^ 34))) (sym is) refl
+      → empty_above seat block entry
+          ≡ raised (slot seat.restart.bottom) (Local tag old) (Empty (tag + 1)) (Load (Offset block (seat.restart.bottom - 1))) (nat_lt (tag_of (Local tag old) + 1) (2 ^ 34))
+  empties entry tag old is = ap (λ (e : Entry). empty_above seat block e) is
 
 -- an outcome goes on
 pub goes_by_outcome : (f : Finish) (go : Finish → Row) → IsOutcome f → on_finish f go ≡ go f

@@ -1,9 +1,10 @@
-use Rattle.std.proofs.Common.{Result, Some, ap, ◌-◌}
+use Rattle.std.proofs.Common.{Result, Some, ap, subst, ◌-◌}
 use Rattle.ppm_step.specs.declared.row.Row.{Row}
 use Rattle.ppm_step.specs.Standings.{stands}
 use Rattle.ppm_step.specs.declared.row.Then.TheVariants.{Load}
 use Rattle.ppm_step.specs.declared.row.Point.TheVariants.{Offset}
 use Rattle.ppm_engine.proofs.RowLemmas.{emptied_fits, empties, empties_none}
+use Rattle.ppm_cells.specs.Entry.{IsEntry}
 use Rattle.ppm_engine.specs.declared.memory.Stop.{Stop}
 use Rattle.ppm_engine.specs.Steps.{Came}
 use Rattle.ppm_cells.specs.Restart.{IsRestart}
@@ -29,20 +30,20 @@ begin_right-requires-clause-stands g c κs within =
     let code = g.M.Memory.code m in
     let place = c.args.seat.now in
     let led = g.M.Memory.led m place.own in
-    (c.requires.stands.0, moved led c.requires.stands.0 (ap (λ (r : Row). stands s code place r) (empties_none s place c.args.block c.in_ok-entry.entry c.in_default-entry.not-Local)) ((c.in_ok-entry.ensures.came c.requires.stands.0 c.requires.stands.1).1))
+    (c.requires.stands.0, moved led c.requires.stands.0 (ap (λ (r : Row). stands s code place r) (empties_none s place c.args.block c.in_ok-entry.entry c.in_default.not-Local)) ((c.in_ok-entry.ensures.came c.requires.stands.0 c.requires.stands.1).1))
 
-pub returns-in_default-entry-clause-came : goal.returns-in_default-entry-clause-came
-returns-in_default-entry-clause-came g c = λ first l.
+pub returns-in_default-clause-came : goal.returns-in_default-clause-came
+returns-in_default-clause-came g c = λ first l.
     let m = c.args.memory.now in
     let s = g.M.Memory.shape m in
     let code = g.M.Memory.code m in
     let place = c.args.seat.now in
     let led = g.M.Memory.led m place.own in
-    c.begin_right.ensures.came first (moved led first (ap (λ (r : Row). stands s code place r) (empties_none s place c.args.block c.in_ok-entry.entry c.in_default-entry.not-Local)) ((c.in_ok-entry.ensures.came first l).1))
+    c.begin_right.ensures.came first (moved led first (ap (λ (r : Row). stands s code place r) (empties_none s place c.args.block c.in_ok-entry.entry c.in_default.not-Local)) ((c.in_ok-entry.ensures.came first l).1))
 
 pub raise_entry-requires-clause-entries : goal.raise_entry-requires-clause-entries
 raise_entry-requires-clause-entries g c κs within =
-    ((c.in_ok-entry.ensures.came c.requires.stands.0 c.requires.stands.1).0, λ rises. emptied_fits c.in_ok-entry.entry c.in-Local.tag c.in-Local.block c.in-Local.is rises)
+    (subst IsEntry c.in-Local.is (c.in_ok-entry.ensures.came c.requires.stands.0 c.requires.stands.1).0, λ rises. emptied_fits c.in-Local.tag c.in-Local.block rises)
 
 pub raise_entry-requires-clause-stands : goal.raise_entry-requires-clause-stands
 raise_entry-requires-clause-stands g c κs within =

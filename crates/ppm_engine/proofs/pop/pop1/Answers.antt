@@ -1,9 +1,10 @@
-use Rattle.std.proofs.Common.{Result, Some, ap}
+use Rattle.std.proofs.Common.{Result, Some, ap, subst}
 use Rattle.ppm_step.specs.declared.row.Row.{Row}
 use Rattle.ppm_step.specs.Standings.{stands}
 use Rattle.ppm_cells.specs.declared.entry.Entry.{Entry}
 use Rattle.ppm_step.specs.Rows.{get_back}
 use Rattle.ppm_engine.proofs.RowLemmas.{back_fits, back_rises}
+use Rattle.ppm_cells.specs.Entry.{IsEntry}
 use Rattle.ppm_engine.specs.declared.memory.Stop.{Stop}
 use Rattle.ppm_engine.specs.Steps.{Came}
 use Rattle.ppm_cells.specs.Restart.{IsRestart}
@@ -24,7 +25,7 @@ returns-in_err-entry-clause-came g c = λ first l.
 
 pub raise_then-requires-clause-entries : goal.raise_then-requires-clause-entries
 raise_then-requires-clause-entries g c κs within =
-    ((c.in_ok-entry.ensures.came c.requires.stands.0 c.requires.stands.1).0, λ rises. back_fits c.in_ok-entry.entry c.in-Job.tag c.in-Job.block c.in-Job.is (c.in_ok-entry.ensures.came c.requires.stands.0 c.requires.stands.1).0 rises, tt)
+    (subst IsEntry c.in-Job.is (c.in_ok-entry.ensures.came c.requires.stands.0 c.requires.stands.1).0, λ rises. back_fits c.in-Job.tag c.in-Job.block (subst IsEntry c.in-Job.is (c.in_ok-entry.ensures.came c.requires.stands.0 c.requires.stands.1).0) rises, tt)
 
 pub raise_then-requires-clause-stands : goal.raise_then-requires-clause-stands
 raise_then-requires-clause-stands g c κs within =

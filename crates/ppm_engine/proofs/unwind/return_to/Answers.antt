@@ -33,17 +33,17 @@ take_over-requires-clause-stands g c κs within =
     let place = c.args.seat.now in
     let led = g.M.Memory.led m place.own in
     let back = c.args.back in
-    (c.requires.stands.0, moved led c.requires.stands.0 (ap (λ (r : Row). stands s code place r) (goes_by_outcome c.in_ok-outcome.outcome (unwound place c.args.frame (Call back.to back.copy)) (c.in_ok-outcome.ensures.came c.requires.stands.0 c.requires.stands.1).0.1 ∙ back_traps place c.args.frame back.to back.copy c.in_ok-outcome.outcome c.in_default-outcome.not-Ended)) ((c.in_ok-outcome.ensures.came c.requires.stands.0 c.requires.stands.1).1))
+    (c.requires.stands.0, moved led c.requires.stands.0 (ap (λ (r : Row). stands s code place r) (goes_by_outcome c.in_ok-outcome.outcome (unwound place c.args.frame (Call back.to back.copy)) (c.in_ok-outcome.ensures.came c.requires.stands.0 c.requires.stands.1).0.1 ∙ back_traps place c.args.frame back.to back.copy c.in_ok-outcome.outcome c.in_default.not-Ended)) ((c.in_ok-outcome.ensures.came c.requires.stands.0 c.requires.stands.1).1))
 
-pub returns-in_default-outcome-clause-came : goal.returns-in_default-outcome-clause-came
-returns-in_default-outcome-clause-came g c = λ first l.
+pub returns-in_default-clause-came : goal.returns-in_default-clause-came
+returns-in_default-clause-came g c = λ first l.
     let m = c.args.memory.now in
     let s = g.M.Memory.shape m in
     let code = g.M.Memory.code m in
     let place = c.args.seat.now in
     let led = g.M.Memory.led m place.own in
     let back = c.args.back in
-    c.take_over.ensures.came first (moved led first (ap (λ (r : Row). stands s code place r) (goes_by_outcome c.in_ok-outcome.outcome (unwound place c.args.frame (Call back.to back.copy)) (c.in_ok-outcome.ensures.came first l).0.1 ∙ back_traps place c.args.frame back.to back.copy c.in_ok-outcome.outcome c.in_default-outcome.not-Ended)) ((c.in_ok-outcome.ensures.came first l).1))
+    c.take_over.ensures.came first (moved led first (ap (λ (r : Row). stands s code place r) (goes_by_outcome c.in_ok-outcome.outcome (unwound place c.args.frame (Call back.to back.copy)) (c.in_ok-outcome.ensures.came first l).0.1 ∙ back_traps place c.args.frame back.to back.copy c.in_ok-outcome.outcome c.in_default.not-Ended)) ((c.in_ok-outcome.ensures.came first l).1))
 
 pub give-requires-clause-stands : goal.give-requires-clause-stands
 give-requires-clause-stands g c κs within =
