@@ -98,7 +98,7 @@ fn join_values<M: Memory, W: Watch>(
 ) -> Result<Restart, Stop>
     requires seat { IsWorking (M.shape memory.now) seat.now }
     requires block { IsAddress block × IsBack back }
-    requires few { tally.old.made < 16 }
+    requires few { tally.old.made < 24 }
     requires stands { (first : Spot M.Own) × Led (M.led memory.now seat.now.own) first own.old (W.told watch.old) tally.old
         (stands_then (M.shape memory.now) (M.code memory.now) seat.now (Load (Target (block + 5) back.to back.copy (Some block)))) }
     ensures few { tally.new.made ≤ tally.old.made + 8 }
@@ -145,7 +145,7 @@ fn join_last<M: Memory, W: Watch>(
 ) -> Result<Restart, Stop>
     requires seat { IsWorking (M.shape memory.now) seat.now }
     requires block { IsAddress block }
-    requires few { tally.old.made < 16 }
+    requires few { tally.old.made < 20 }
     requires stands { (first : Spot M.Own) × Led (M.led memory.now seat.now.own) first own.old (W.told watch.old) tally.old
         (stands_then (M.shape memory.now) (M.code memory.now) seat.now (Load (JoinLink block))) }
     ensures few { tally.new.made ≤ tally.old.made + 11 }

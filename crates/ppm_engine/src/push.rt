@@ -108,7 +108,7 @@ fn push_above<M: Memory, W: Watch>(
 ) -> Result<Restart, Stop>
     requires seat { IsWorking (M.shape memory.now) seat.now }
     requires block { IsAddress block }
-    requires few { tally.old.made < 16 }
+    requires few { tally.old.made < 24 }
     requires stands { (first : Spot M.Own) × Led (M.led memory.now seat.now.own) first own.old (W.told watch.old) tally.old
         (stands_then (M.shape memory.now) (M.code memory.now) seat.now (Load (PushAbove block))) }
     ensures few { tally.new.made ≤ tally.old.made + 3 }

@@ -179,7 +179,7 @@ fn return_to<M: Memory, W: Watch>(
 ) -> Result<Restart, Stop>
     requires seat { IsWorking (M.shape memory.now) seat.now }
     requires frame { IsAddress frame × IsBack back }
-    requires few { tally.old.made < 16 }
+    requires few { tally.old.made < 24 }
     requires stands { (first : Spot M.Own) × Led (M.led memory.now seat.now.own) first own.old (W.told watch.old) tally.old
         (stands_then (M.shape memory.now) (M.code memory.now) seat.now (Load (UnwindOutcome frame (Call back.to back.copy)))) }
     ensures few { tally.new.made ≤ tally.old.made + 5 }
@@ -222,7 +222,7 @@ fn come_to<M: Memory, W: Watch>(
 ) -> Result<Restart, Stop>
     requires seat { IsWorking (M.shape memory.now) seat.now }
     requires frame { IsAddress frame × IsAddress arm.block }
-    requires few { tally.old.made < 16 }
+    requires few { tally.old.made < 24 }
     requires stands { (first : Spot M.Own) × Led (M.led memory.now seat.now.own) first own.old (W.told watch.old) tally.old
         (stands_then (M.shape memory.now) (M.code memory.now) seat.now (Load (UnwindOutcome frame (Branch arm.side arm.block)))) }
     ensures few { tally.new.made ≤ tally.old.made + 3 }
