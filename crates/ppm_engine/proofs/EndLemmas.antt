@@ -1,5 +1,5 @@
 -- The stores of the rows, and the restart word at their ends.
-use Rattle.std.proofs.Common.{◌≡◌, ◌∙◌, ◌+◌, ◌<◌, ◌^◌, ◌||◌, ℕ, Bool, true, false, Some, sym, refl, ap}
+use Rattle.std.proofs.Common.{◌≡◌, ◌∙◌, ◌+◌, ◌^◌, ℕ, Bool, true, false, Some, sym, refl, ap}
 use Rattle.std.specs.Prelude.{nat_lt}
 use Rattle.std.proofs.lemmas.Bool.{lt-ltb, ltb-true}
 use Rattle.ppm_cells.specs.Cells.{address}
@@ -12,17 +12,14 @@ use Rattle.ppm_cells.specs.declared.shape.Shape.{Shape}
 use Rattle.ppm_code.specs.declared.code.CodeParts.{CodeParts}
 use Rattle.ppm_cells.specs.DequeChange.{CanRise, tag_of}
 use Rattle.ppm_step.specs.declared.content.Content.{Content}
-use Rattle.ppm_step.specs.declared.content.Content.TheVariants.{AnEntry}
-use Rattle.ppm_step.specs.declared.ask.Want.{Want}
 use Rattle.ppm_step.specs.declared.ask.Want.TheVariants.{Stores, Exchanges}
 use Rattle.ppm_step.specs.declared.row.Seat.{Seat}
 use Rattle.ppm_step.specs.declared.row.Then.{Then}
 use Rattle.ppm_step.specs.declared.row.Then.TheVariants.{Load, Install, Fork, Begin, Move, Enter, Again, Broken}
-use Rattle.ppm_step.specs.declared.row.Row.{Row}
 use Rattle.ppm_step.specs.declared.row.Row.TheVariants.{Now, Store, Exchange}
 use Rattle.ppm_step.specs.Contents.{word_of}
 use Rattle.ppm_step.specs.Rows.{raised}
-use Rattle.ppm_step.specs.Standings.{Standing, IsAt, IsWithin, IsBroken, stands, stands_then, wanted_then, went_then, within_if, installs}
+use Rattle.ppm_step.specs.Standings.{IsAt, IsWithin, stands, stands_then, wanted_then, went_then, within_if, installs}
 use Rattle.ppm_step.specs.State.{seeks_holder}
 use Rattle.ppm_step.specs.There.{is_there, restart_is_there}
 use Rattle.ppm_engine.specs.Steps.{IsEnd, IsNext, restart_of}

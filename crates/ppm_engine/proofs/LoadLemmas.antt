@@ -1,5 +1,5 @@
 -- The loads of the rows.
-use Rattle.std.proofs.Common.{◌≡◌, ◌∙◌, ◌+◌, ◌<◌, ◌≤◌, ◌^◌, ℕ, Bool, true, false, Option, Some, None, sym, refl, ap, arith}
+use Rattle.std.proofs.Common.{◌≡◌, ◌∙◌, ◌<◌, ◌≤◌, ℕ, Bool, true, false, Option, sym, refl, ap}
 use Rattle.std.specs.Prelude.{nat_lt, nat_le, ◌&&◌}
 use Rattle.std.proofs.lemmas.Bool.{ltb-true, leb-true}
 use Rattle.ppm_cells.specs.Cells.{address}
@@ -13,9 +13,9 @@ use Rattle.ppm_cells.specs.declared.link.Link.{Link}
 use Rattle.ppm_cells.specs.declared.shape.Shape.{Shape}
 use Rattle.ppm_code.specs.declared.code.CodeParts.{CodeParts}
 use Rattle.ppm_step.specs.declared.content.Content.{Content}
-use Rattle.ppm_step.specs.declared.content.Content.TheVariants.{ANumber, AnEntry, ALink, AFinish, Unreadable}
+use Rattle.ppm_step.specs.declared.content.Content.TheVariants.{AnEntry, ALink, AFinish, Unreadable}
 use Rattle.ppm_step.specs.declared.content.Reading.{Reading}
-use Rattle.ppm_step.specs.declared.content.Reading.TheVariants.{AsNumber, AsEntry, AsLink, AsFinish}
+use Rattle.ppm_step.specs.declared.content.Reading.TheVariants.{AsEntry, AsLink, AsFinish}
 use Rattle.ppm_step.specs.declared.row.Seat.{Seat}
 use Rattle.ppm_step.specs.declared.row.Point.{Point}
 use Rattle.ppm_step.specs.declared.row.Point.TheVariants.{Header, BumpLink, PushOrder, PushAbove, PushBottom, UnwindLink, UnwindOutcome, Target, GivenValue, JoinOrder, JoinLink, JoinLeft, JoinRight, RightFrame, Offset, PopBelow, PopAgain, PopAbove, SeekHolder, SeekDead, SeekTop, SeekEntry, SeekClosed, StealMessage, TakenMessage, TakenEntry, ClosedRestart, ClosedLink, ClosedBottom, BidMessage, BidAgain, BidHolder}
@@ -26,7 +26,7 @@ use Rattle.ppm_step.specs.Contents.{content_of, read_so}
 use Rattle.ppm_step.specs.Facts.{IsSeat}
 use Rattle.ppm_step.specs.Points.{cell_at, reading_at}
 use Rattle.ppm_step.specs.Rows.{found_at}
-use Rattle.ppm_step.specs.Standings.{Standing, IsWithin, IsBroken, point_is_there, stands, stands_then, within_if}
+use Rattle.ppm_step.specs.Standings.{IsWithin, IsBroken, point_is_there, stands, stands_then, within_if}
 use Rattle.ppm_step.specs.State.{seeks_holder}
 use Rattle.ppm_step.specs.There.{is_there, kind_is_there}
 use Rattle.ppm_step.specs.declared.ask.Want.TheVariants.{Loads}

@@ -1,5 +1,5 @@
 -- The next step within a row.
-use Rattle.std.proofs.Common.{◌≡◌, ◌≢◌, ◌∙◌, ◌+◌, ◌≤◌, ◌||◌, ℕ, Bool, if◌then◌else◌, true, false, Option, Some, None, List, Result, Ok, Err, slice_get, sym, refl, ap, subst, arith}
+use Rattle.std.proofs.Common.{◌≡◌, ◌≢◌, ◌∙◌, ◌+◌, ◌≤◌, ℕ, Bool, if◌then◌else◌, true, false, Option, Some, None, List, Result, Err, slice_get, sym, refl, ap, subst, arith}
 use Rattle.std.specs.Result.{IsErrAnd}
 use Rattle.std.proofs.lemmas.Result.{err_from_is_err_and}
 use Rattle.ppm_cells.specs.declared.restart.RestartKind.{RestartKind}
@@ -14,7 +14,6 @@ use Rattle.ppm_step.specs.declared.row.Then.{Then}
 use Rattle.ppm_step.specs.declared.row.Then.TheVariants.{Load, Install, Fork, Begin, Move, Enter, Again, Broken}
 use Rattle.ppm_step.specs.declared.row.Row.{Row}
 use Rattle.ppm_step.specs.declared.row.Row.TheVariants.{Now, Store, Exchange}
-use Rattle.ppm_step.specs.declared.turn.Next.{Next}
 use Rattle.ppm_step.specs.declared.turn.Next.TheVariants.{Work, Look, Seek}
 use Rattle.ppm_step.specs.Contents.{content_of}
 use Rattle.ppm_step.specs.Frames.{Rest}
@@ -25,7 +24,7 @@ use Rattle.ppm_step.specs.State.{is_work, is_work_next}
 use Rattle.ppm_engine.specs.declared.memory.Stop.{Stop}
 use Rattle.ppm_engine.specs.declared.memory.Stop.TheVariants as stops
 use Rattle.ppm_engine.specs.declared.tally.Tally.{Tally}
-use Rattle.ppm_engine.specs.Memory.{Counts, Spot, spot, IsToMake, CameOf, is_exchange, one, one_if, works, both}
+use Rattle.ppm_engine.specs.Memory.{Counts, Spot, spot, IsToMake, CameOf, is_exchange, one, one_if, works}
 use Rattle.ppm_engine.specs.Steps.{IsWorking, IsNext, IsStep, Led, StopsAt}
 
 no_seek : (b : Bool) → (if b then Work else Look) ≢ Seek

@@ -3,9 +3,7 @@ use Rattle.std.proofs.Common.{◌≡◌, ◌≢◌, ◌⊎◌, inl, inr, ◌∙�
 use Rattle.std.specs.Prelude.{nat_lt}
 use Rattle.ppm_cells.specs.Cells.{word_count}
 use Rattle.ppm_cells.specs.Entry.{IsEntry}
-use Rattle.ppm_cells.specs.Fields.{Fit}
 use Rattle.ppm_cells.specs.Finish.{IsOutcome}
-use Rattle.ppm_cells.specs.Link.{link_address}
 use Rattle.ppm_cells.specs.declared.cell.Cell.{Cell}
 use Rattle.ppm_cells.specs.declared.cell.Cell.TheVariants.{EntryWord, BlockWord}
 use Rattle.ppm_cells.specs.declared.entry.Entry.{Entry}
@@ -23,11 +21,10 @@ use Rattle.ppm_cells.specs.JoinOrder.{first}
 use Rattle.ppm_step.specs.declared.content.Content.TheVariants.{ANumber}
 use Rattle.ppm_step.specs.declared.row.Seat.{Seat}
 use Rattle.ppm_step.specs.declared.row.Point.TheVariants.{GivenValue, Offset, PushAbove, Target}
-use Rattle.ppm_step.specs.declared.row.Then.{Then}
 use Rattle.ppm_step.specs.declared.row.Then.TheVariants.{Load, Begin, Broken}
 use Rattle.ppm_step.specs.declared.row.Row.{Row}
 use Rattle.ppm_step.specs.declared.row.Row.TheVariants.{Now, Store}
-use Rattle.ppm_step.specs.Rows.{with_kind, if_there, raised, bumped, left_begins, push_at, push_by_order, push_above, push_bottom, on_finish, unwound, back_to, trapped, target_found, value_found, after_value, right_begins, right_value, joins, join_by_order, is_inline, is_last, join_by, join_outcome, get_back, got_back, empty_above}
+use Rattle.ppm_step.specs.Rows.{with_kind, if_there, raised, bumped, left_begins, push_at, push_by_order, push_above, push_bottom, on_finish, back_to, trapped, target_found, value_found, after_value, right_begins, right_value, joins, join_by_order, is_inline, is_last, join_by, join_outcome, get_back, got_back, empty_above}
 use Rattle.ppm_engine.specs.Steps.{address_if}
 
 -- what becomes of an entry that is changed, whose tag is not the last

@@ -1,14 +1,12 @@
 -- What comes of steps of a row.
-use Rattle.std.specs.Prelude.{◌≡◌, ◌≢◌, ℕ, ◌+◌, ◌<◌, Bool, true, false, nat_lt, if◌then◌else◌, List, Option, Some, None, Result, Ok, Err, IfSome}
+use Rattle.std.specs.Prelude.{◌≡◌, ◌≢◌, ℕ, ◌+◌, ◌<◌, true, false, nat_lt, if◌then◌else◌, List, Option, Some, None, Result, Ok, Err, IfSome}
 use Rattle.ppm_cells.specs.Cells.{word_count}
 use Rattle.ppm_cells.specs.Finish.{IsFinish, IsOutcome}
-use Rattle.ppm_cells.specs.Restart.{IsRestart}
 use Rattle.ppm_cells.specs.declared.finish.Finish.{Finish}
 use Rattle.ppm_cells.specs.declared.restart.Restart.{Restart}
 use Rattle.ppm_cells.specs.declared.restart.RestartKind.{RestartKind}
 use Rattle.ppm_cells.specs.declared.restart.RestartKind.TheVariants.{Bump, Push1, Push2, Unwind, Arrive, Join, Pop1, Pop2}
 use Rattle.ppm_cells.specs.declared.shape.Shape.{Shape}
-use Rattle.ppm_code.specs.declared.code.CodeParts.{CodeParts}
 use Rattle.ppm_words.specs.declared.event.Event.{Event}
 use Rattle.ppm_step.specs.declared.ask.Want.{Want}
 use Rattle.ppm_step.specs.declared.content.Reading.{Reading}
@@ -19,12 +17,10 @@ use Rattle.ppm_step.specs.declared.row.Point.TheVariants.{JoinOrder, JoinLink, J
 use Rattle.ppm_step.specs.declared.row.Then.{Then}
 use Rattle.ppm_step.specs.declared.row.Then.TheVariants.{Install, Fork, Begin}
 use Rattle.ppm_step.specs.declared.row.Row.{Row}
-use Rattle.ppm_step.specs.declared.row.Row.TheVariants.{Now}
 use Rattle.ppm_step.specs.Facts.{IsSeat, IsPoint, IsAddress, IsFrame}
 use Rattle.ppm_step.specs.Points.{reading_at}
-use Rattle.ppm_step.specs.Standings.{Standing, IsAt, IsWithin, IsBroken, IsDone, WantIsWithin, wanted_row, wanted_then, installs, stands_then, went_then, within_if, begun, forked}
+use Rattle.ppm_step.specs.Standings.{Standing, IsWithin, IsBroken, IsDone, WantIsWithin, wanted_row, begun, forked}
 use Rattle.ppm_step.specs.State.{seeks_holder, is_work}
-use Rattle.ppm_step.specs.There.{restart_is_there}
 use Rattle.ppm_engine.specs.declared.memory.Stop.{Stop}
 use Rattle.ppm_engine.specs.declared.memory.Stop.TheVariants.{Over, Refused, Broken}
 use Rattle.ppm_engine.specs.declared.tally.Tally.{Tally}

@@ -1,4 +1,4 @@
-use Rattle.std.proofs.Common.{Result, ap, false, subst, true, ◌<◌, ◌∙◌, ◌≡◌}
+use Rattle.std.proofs.Common.{Result, ap, false, subst, true, ◌<◌, ◌∙◌}
 use Rattle.ppm_cells.specs.Cells.{address, word_count}
 use Rattle.ppm_cells.specs.declared.shape.Shape.{Shape}
 use Rattle.ppm_step.specs.declared.row.Row.TheVariants.{Exchange}

@@ -1,4 +1,4 @@
-use Rattle.std.proofs.Common.{ap, arith, false, subst, true, ◌<◌, ◌∙◌, ◌≡◌}
+use Rattle.std.proofs.Common.{ap, arith, false, subst, true, ◌<◌, ◌∙◌}
 use Rattle.ppm_cells.specs.Cells.{address, word_count}
 use Rattle.ppm_cells.specs.declared.shape.Shape.{Shape}
 use Rattle.ppm_cells.specs.declared.cell.Cell.{Cell}

@@ -1,4 +1,4 @@
-use Rattle.std.proofs.Common.{subst, ℕ}
+use Rattle.std.proofs.Common.{subst}
 use Rattle.ppm_step.specs.declared.content.Reading.{Reading}
 use Rattle.ppm_step.specs.Contents.{content_of}
 use Rattle.ppm_step.specs.Rows.{found_at}

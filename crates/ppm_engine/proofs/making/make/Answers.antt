@@ -1,4 +1,4 @@
-use Rattle.std.proofs.Common.{◌≡◌, ◌+◌, ◌||◌, ℕ, Result, sym, subst}
+use Rattle.std.proofs.Common.{ℕ, Result, sym, subst}
 use Rattle.ppm_step.specs.Standings.{IsWithin, went_row}
 use Rattle.ppm_engine.specs.declared.memory.Stop.{Stop}
 use Rattle.ppm_engine.specs.declared.tally.Tally.{Tally}

@@ -1,4 +1,4 @@
-use Rattle.std.proofs.Common.{ap, false, refl, sym, true, ◌+◌, ◌==◌, ◌∙◌, ◌≡◌}
+use Rattle.std.proofs.Common.{ap, false, refl, sym, true, ◌+◌, ◌==◌, ◌∙◌}
 use Rattle.ppm_step.specs.declared.row.Row.{Row}
 use Rattle.ppm_step.specs.Standings.{stands}
 use Rattle.ppm_cells.specs.declared.shape.Shape.{Shape}
