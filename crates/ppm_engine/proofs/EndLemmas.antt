@@ -26,7 +26,8 @@ use Rattle.ppm_engine.specs.Steps.{IsEnd, IsNext, restart_of}
 
 module _ (s : Shape) (code : CodeParts) (seat : Seat) where
   -- at the end of a row, by whether what its restart names is there
-  pub ends_if : (next : Then) (b : Bool) → IsEnd next → b ≡ restart_is_there s (restart_of seat next) → stands_then s code seat next ≡ within_if seat (Now next) b
+  pub ends_if : (next : Then) (b : Bool) → IsEnd next → b ≡ restart_is_there s (restart_of seat next) → stands_then s code seat next
+      ≡ within_if seat (Now next) b
   ends_if (Install restart) b is e = ap (λ (x : Bool). within_if seat (Now (Install restart)) x) (sym e)
   ends_if (Fork block) b is e = ap (λ (x : Bool). within_if seat (Now (Fork block)) x) (sym e)
   ends_if (Begin block frame bottom) b is e = ap (λ (x : Bool). within_if seat (Now (Begin block frame bottom)) x) (sym e)
@@ -36,7 +37,8 @@ module _ (s : Shape) (code : CodeParts) (seat : Seat) where
   ends_if Again b is e = absurd is
   ends_if Broken b is e = absurd is
 
-  wants_end : (next : Then) → IsEnd next → (wanted_then s seat 0 next ≡ installs s seat (restart_of seat next)) × (seeks_holder (IsWithin seat (Now next)) ≡ false)
+  wants_end : (next : Then) → IsEnd next → (wanted_then s seat 0 next ≡ installs s seat (restart_of seat next))
+      × (seeks_holder (IsWithin seat (Now next)) ≡ false)
   wants_end (Install restart) is = (refl, refl)
   wants_end (Fork block) is = (refl, refl)
   wants_end (Begin block frame bottom) is = (refl, refl)
@@ -47,7 +49,8 @@ module _ (s : Shape) (code : CodeParts) (seat : Seat) where
   wants_end Broken is = absurd is
 
   -- the restart word is stored
-  pub end_next : (next : Then) (at word : ℕ) (restart : Restart) → IsEnd next → restart ≡ restart_of seat next → at ≡ address s (RestartWord seat.place) → word ≡ restart_word restart
+  pub end_next : (next : Then) (at word : ℕ) (restart : Restart) → IsEnd next → restart ≡ restart_of seat next → at ≡ address s (RestartWord seat.place)
+      → word ≡ restart_word restart
       → IsNext s seat (Now next) (Stores at word)
   end_next next at word restart is r a w =
       let h = wants_end next is in (
@@ -56,7 +59,8 @@ module _ (s : Shape) (code : CodeParts) (seat : Seat) where
         h.1,
       )
 
-  pub ended : (next : Then) (found : ℕ) (restart : Restart) → IsEnd next → restart ≡ restart_of seat next → went_then s code seat 0 found next ≡ IsAt seat.place (Some restart)
+  pub ended : (next : Then) (found : ℕ) (restart : Restart) → IsEnd next → restart ≡ restart_of seat next → went_then s code seat 0 found next
+      ≡ IsAt seat.place (Some restart)
   ended (Install it) found restart is r = ap (λ (x : Restart). IsAt seat.place (Some x)) (sym r)
   ended (Fork block) found restart is r = ap (λ (x : Restart). IsAt seat.place (Some x)) (sym r)
   ended (Begin block frame bottom) found restart is r = ap (λ (x : Restart). IsAt seat.place (Some x)) (sym r)
@@ -67,20 +71,23 @@ module _ (s : Shape) (code : CodeParts) (seat : Seat) where
   ended Broken found restart is r = absurd is
 
   -- a store, and a compare-and-modify, by whether the cell is there
-  pub stores_if : (cell : Cell) (content : Content) (next : Then) (b : Bool) → b ≡ is_there s cell → stands s code seat (Store cell content next) ≡ within_if seat (Store cell content next) b
+  pub stores_if : (cell : Cell) (content : Content) (next : Then) (b : Bool) → b ≡ is_there s cell → stands s code seat (Store cell content next)
+      ≡ within_if seat (Store cell content next) b
   stores_if cell content next b e = ap (λ (x : Bool). within_if seat (Store cell content next) x) (sym e)
 
   pub exchanges_if : (cell : Cell) (old new : Content) (next : Then) (b : Bool) → b ≡ is_there s cell
       → stands s code seat (Exchange cell old new next) ≡ within_if seat (Exchange cell old new next) b
   exchanges_if cell old new next b e = ap (λ (x : Bool). within_if seat (Exchange cell old new next) x) (sym e)
 
-  pub store_next : (cell : Cell) (content : Content) (next : Then) (at word : ℕ) → at ≡ address s cell → word ≡ word_of content → IsNext s seat (Store cell content next) (Stores at word)
+  pub store_next : (cell : Cell) (content : Content) (next : Then) (at word : ℕ) → at ≡ address s cell → word ≡ word_of content
+      → IsNext s seat (Store cell content next) (Stores at word)
   store_next cell content next at word a w = (ap (λ (x : ℕ). Stores x (word_of content)) (sym a) ∙ ap (λ (x : ℕ). Stores at x) (sym w), refl)
 
   pub exchange_next : (cell : Cell) (old new : Content) (next : Then) (at was becomes : ℕ) → at ≡ address s cell → was ≡ word_of old → becomes ≡ word_of new
       → IsNext s seat (Exchange cell old new next) (Exchanges at was becomes)
   exchange_next cell old new next at was becomes a o n = (
-    ap (λ (x : ℕ). Exchanges x (word_of old) (word_of new)) (sym a) ∙ ap (λ (x : ℕ). Exchanges at x (word_of new)) (sym o) ∙ ap (λ (x : ℕ). Exchanges at was x) (sym n),
+    ap (λ (x : ℕ). Exchanges x (word_of old) (word_of new)) (sym a) ∙ ap (λ (x : ℕ). Exchanges at x (word_of new)) (sym o)
+        ∙ ap (λ (x : ℕ). Exchanges at was x) (sym n),
     refl,
   )
 

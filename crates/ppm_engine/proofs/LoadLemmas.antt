@@ -142,7 +142,8 @@ unreadable s seat (BidHolder a b) = refl
 
 -- a finish that is no outcome is broken where an outcome is looked for
 
-pub no_outcome : (s : Shape) (seat : Seat) (p : Point) (f : Finish) → IsOfWork p → reading_at p ≡ AsFinish → (IsOutcome f → ⊥) → found_at s seat 0 p (AFinish f) ≡ Now Broken
+pub no_outcome : (s : Shape) (seat : Seat) (p : Point) (f : Finish) → IsOfWork p → reading_at p ≡ AsFinish → (IsOutcome f → ⊥)
+    → found_at s seat 0 p (AFinish f) ≡ Now Broken
 no_outcome s seat (UnwindOutcome a b) Unset w e h = refl
 no_outcome s seat (UnwindOutcome a b) Ended w e h = absurd (h tt)
 no_outcome s seat (UnwindOutcome a b) (Trapped t l) w e h = absurd (h tt)
@@ -202,7 +203,8 @@ module _ (s : Shape) (code : CodeParts) (seat : Seat) (p : Point) where
   -- with what was read
   pub with_content : (word : ℕ) (reading : Reading) (content : Content) → reading_at p ≡ reading → content_of reading word ≡ content
       → stands s code seat (found_at s seat 0 p (content_of (reading_at p) word)) ≡ stands s code seat (found_at s seat 0 p content)
-  with_content word reading content r e = ap (λ (x : Reading). stands s code seat (found_at s seat 0 p (content_of x word))) r ∙ ap (λ (x : Content). stands s code seat (found_at s seat 0 p x)) e
+  with_content word reading content r e = ap (λ (x : Reading). stands s code seat (found_at s seat 0 p (content_of x word))) r
+      ∙ ap (λ (x : Content). stands s code seat (found_at s seat 0 p x)) e
 
   pub unread : (word : ℕ) (reading : Reading) → reading_at p ≡ reading → content_of reading word ≡ Unreadable
       → stands s code seat (found_at s seat 0 p (content_of (reading_at p) word)) ≡ IsBroken seat.place

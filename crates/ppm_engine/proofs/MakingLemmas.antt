@@ -106,14 +106,25 @@ row_lives s code seat (Exchange cell old new next) found = then_lives s code sea
 
 module _ {Own : Type 0} (led : Spot Own → Spot Own → Counts → Type 0) (refused : Spot Own → Spot Own → ℕ → Type 0) (over : Type 0) (first : Spot Own) where
   -- a step that was not made, or was refused, after others
-  pub stops_after : (s : Shape) (code : CodeParts) (seat : Seat) (row : Row) (own own' : Own) (told told' : Option (List Event)) (tally : Tally) (d : Counts) (stop : Stop)
+  pub stops_after : (s : Shape) (code : CodeParts) (seat : Seat) (row : Row) (own own' : Own) (told told' : Option (List Event)) (tally : Tally)
+      (d : Counts) (stop : Stop)
       → ((y z : Spot Own) (c : Counts) (n most : ℕ) → led first y c → refused y z n → c.made + n ≤ most → refused first z most)
-      → Led led first own told tally (IsWithin seat row) → CameOf led refused over (spot own (IsWithin seat row) told) own' told' (λ word. went_row s code seat 0 word row) d (Err stop)
+      → Led led first own told tally (IsWithin seat row)
+      → CameOf led refused over (spot own (IsWithin seat row) told) own' told' (λ word. went_row s code seat 0 word row) d (Err stop)
       → StopsAt led first refused over seat.place own' told' tally stop
   stops_after s code seat row own own' told told' tally d stops.Refused stopped l came =
-      (went_row s code seat 0 came.0 row, row_lives s code seat row came.0, stopped (spot own (IsWithin seat row) told) (spot own' (went_row s code seat 0 came.0 row) told') (works tally.made tally.exchanged) 1 (tally.made + 1) l came.1 (omega arith))
+      let z = spot own' (went_row s code seat 0 came.0 row) told' in (
+        z.stands,
+        row_lives s code seat row came.0,
+        stopped (spot own (IsWithin seat row) told) z (works tally.made tally.exchanged) 1 (tally.made + 1) l came.1 (omega arith),
+      )
   stops_after s code seat row own own' told told' tally d stops.Over stopped l came =
-      (IsWithin seat row, came.0, subst (λ (o : Own). led first (spot o (IsWithin seat row) told') (works tally.made tally.exchanged)) (sym came.1) (subst (λ (t : Option (List Event)). led first (spot own (IsWithin seat row) t) (works tally.made tally.exchanged)) (sym came.2) l))
+      let so = works tally.made tally.exchanged in (
+        IsWithin seat row,
+        came.0,
+        subst (λ (o : Own). led first (spot o (IsWithin seat row) told') so) (sym came.1)
+            (subst (λ (t : Option (List Event)). led first (spot own (IsWithin seat row) t) so) (sym came.2) l),
+      )
   stops_after s code seat row own own' told told' tally d stops.Broken stopped l came = absurd came
 
 -- the exit of a `?`
@@ -121,6 +132,6 @@ pub exit_by : {T E : Type 0} (Q : Result T E → Type 0) (e : E) (r : Result T E
 exit_by {E = E} Q e r is h = let p = err_from_is_err_and r is in subst Q (sym (p.1 ∙ ap (λ (x : E). Err x) p.2)) h
 
 -- the same steps, to where that is
-pub moved : {Own : Type 0} (led : Spot Own → Spot Own → Counts → Type 0) (first : Spot Own) {own : Own} {told : Option (List Event)} {c : Counts} {x y : Standing} → x ≡ y
-    → led first (spot own x told) c → led first (spot own y told) c
+pub moved : {Own : Type 0} (led : Spot Own → Spot Own → Counts → Type 0) (first : Spot Own) {own : Own} {told : Option (List Event)} {c : Counts}
+    {x y : Standing} → x ≡ y → led first (spot own x told) c → led first (spot own y told) c
 moved led first {own = own} {told = told} {c = c} e l = subst (λ (z : Standing). led first (spot own z told) c) e l

@@ -16,7 +16,7 @@ use Rattle.ppm_cells.specs.declared.restart.RestartKind.TheVariants.{Push2, Pop2
 use Rattle.ppm_cells.specs.declared.shape.Shape.{Shape}
 use Rattle.ppm_cells.specs.declared.shape.Takeover.{Takeover}
 use Rattle.ppm_cells.specs.declared.side.Side.{Side}
-use Rattle.ppm_cells.specs.DequeChange.{CanRise, tag_of}
+use Rattle.ppm_cells.specs.DequeChange.{CanRise}
 use Rattle.ppm_cells.specs.JoinOrder.{first}
 use Rattle.ppm_step.specs.declared.content.Content.TheVariants.{ANumber}
 use Rattle.ppm_step.specs.declared.row.Seat.{Seat}
@@ -52,25 +52,30 @@ module _ (s : Shape) (seat : Seat) (block : ℕ) where
   above_stays (Taken tag taker) h = refl
 
   pub above_rises : (entry : Entry) (tag : ℕ) → entry ≡ Empty tag
-      → push_above seat block entry ≡ raised (slot (seat.restart.bottom + 1)) (Empty tag) (Local (tag + 1) 0) (with_kind seat (Push2 block)) (nat_lt (tag_of (Empty tag) + 1) (2 ^ 34))
+      → push_above seat block entry
+      ≡ raised (slot (seat.restart.bottom + 1)) (Empty tag) (Local (tag + 1) 0) (with_kind seat (Push2 block)) (nat_lt (tag + 1) (2 ^ 34))
   above_rises entry tag is = ap (λ (e : Entry). push_above seat block e) is
 
-  pub bottom_stays : (entry : Entry) → ((tag old : ℕ) → entry ≡ Local tag old → ⊥) → push_bottom seat block entry ≡ Now (left_begins block (seat.restart.bottom + 1))
+  pub bottom_stays : (entry : Entry) → ((tag old : ℕ) → entry ≡ Local tag old → ⊥) → push_bottom seat block entry
+      ≡ Now (left_begins block (seat.restart.bottom + 1))
   bottom_stays (Empty tag) h = refl
   bottom_stays (Local tag old) h = absurd (h tag old refl)
   bottom_stays (Job tag old) h = refl
   bottom_stays (Taken tag taker) h = refl
 
   pub bottom_rises : (entry : Entry) (tag old : ℕ) → entry ≡ Local tag old
-      → push_bottom seat block entry ≡ raised (slot seat.restart.bottom) (Local tag old) (Job (tag + 1) block) (left_begins block (seat.restart.bottom + 1)) (nat_lt (tag_of (Local tag old) + 1) (2 ^ 34))
+      → push_bottom seat block entry
+      ≡ raised (slot seat.restart.bottom) (Local tag old) (Job (tag + 1) block) (left_begins block (seat.restart.bottom + 1)) (nat_lt (tag + 1) (2 ^ 34))
   bottom_rises entry tag old is = ap (λ (e : Entry). push_bottom seat block e) is
 
   -- Pop1 and Pop2
   pub back_rises : (entry : Entry) (tag : ℕ) → entry ≡ Job tag block
-      → get_back seat entry ≡ raised (slot (seat.restart.bottom - 1)) (Job tag block) (Local (tag + 1) block) (with_kind seat (Pop2 block)) (nat_lt (tag_of (Job tag block) + 1) (2 ^ 34))
+      → get_back seat entry
+      ≡ raised (slot (seat.restart.bottom - 1)) (Job tag block) (Local (tag + 1) block) (with_kind seat (Pop2 block)) (nat_lt (tag + 1) (2 ^ 34))
   back_rises entry tag is = ap (λ (e : Entry). get_back seat e) is
 
-  pub empties_none : (entry : Entry) → ((tag old : ℕ) → entry ≡ Local tag old → ⊥) → empty_above seat block entry ≡ Now (Load (Offset block (seat.restart.bottom - 1)))
+  pub empties_none : (entry : Entry) → ((tag old : ℕ) → entry ≡ Local tag old → ⊥) → empty_above seat block entry
+      ≡ Now (Load (Offset block (seat.restart.bottom - 1)))
   empties_none (Empty tag) h = refl
   empties_none (Local tag old) h = absurd (h tag old refl)
   empties_none (Job tag old) h = refl
@@ -78,7 +83,7 @@ module _ (s : Shape) (seat : Seat) (block : ℕ) where
 
   pub empties : (entry : Entry) (tag old : ℕ) → entry ≡ Local tag old
       → empty_above seat block entry
-          ≡ raised (slot seat.restart.bottom) (Local tag old) (Empty (tag + 1)) (Load (Offset block (seat.restart.bottom - 1))) (nat_lt (tag_of (Local tag old) + 1) (2 ^ 34))
+      ≡ raised (slot seat.restart.bottom) (Local tag old) (Empty (tag + 1)) (Load (Offset block (seat.restart.bottom - 1))) (nat_lt (tag + 1) (2 ^ 34))
   empties entry tag old is = ap (λ (e : Entry). empty_above seat block e) is
 
 -- an outcome goes on
@@ -112,7 +117,8 @@ module _ (seat : Seat) (frame to copy : ℕ) where
   join_traps (BrokenAt n) h = refl
 
   -- a value is given where a slot is named
-  pub gives : (right_of : Option ℕ) (target : ℕ) → target ≢ 0 → target_found seat frame to copy right_of target ≡ Now (Load (GivenValue frame to copy target right_of))
+  pub gives : (right_of : Option ℕ) (target : ℕ) → target ≢ 0 → target_found seat frame to copy right_of target
+      ≡ Now (Load (GivenValue frame to copy target right_of))
   gives right_of zero h = absurd (h refl)
   gives right_of (suc slot) h = refl
 
@@ -151,21 +157,26 @@ pub there_breaks : (s : Shape) (word : ℕ) (row : Row) → None ≡ address_if 
 there_breaks s word row e = ap (λ (b : Bool). if b then row else Now Broken) (no_word s word e)
 
 -- the right branch, and its value
-pub right_begins_at : (s : Shape) (block bottom offset at : ℕ) → Some at ≡ address_if s (block + offset) → right_begins s block bottom offset ≡ Now (Begin block at bottom)
+pub right_begins_at : (s : Shape) (block bottom offset at : ℕ) → Some at ≡ address_if s (block + offset) → right_begins s block bottom offset
+    ≡ Now (Begin block at bottom)
 right_begins_at s block bottom offset at e = there_goes s at (block + offset) (λ n. Now (Begin block n bottom)) e
 
-pub right_value_at : (s : Shape) (block to copy offset at : ℕ) → Some at ≡ address_if s (block + offset) → right_value s block to copy offset ≡ Now (Load (Target at to copy None))
+pub right_value_at : (s : Shape) (block to copy offset at : ℕ) → Some at ≡ address_if s (block + offset) → right_value s block to copy offset
+    ≡ Now (Load (Target at to copy None))
 right_value_at s block to copy offset at e = there_goes s at (block + offset) (λ n. Now (Load (Target n to copy None))) e
 
 pub value_goes : (s : Shape) (seat : Seat) (to copy target : ℕ) (right_of : Option ℕ) (value at : ℕ) → Some at ≡ address_if s (to + 5 + target)
     → value_found s seat to copy target right_of value ≡ Store (BlockWord at) (ANumber value) (after_value seat to copy right_of)
-value_goes s seat to copy target right_of value at e = there_goes s at (to + 5 + target) (λ n. Store (BlockWord n) (ANumber value) (after_value seat to copy right_of)) e
+value_goes s seat to copy target right_of value at e =
+    there_goes s at (to + 5 + target) (λ n. Store (BlockWord n) (ANumber value) (after_value seat to copy right_of)) e
 
 -- Join, by the order word
 module _ (seat : Seat) (block : ℕ) (side : Side) (order : ℕ) where
-  pub joins_as : (a b d : Bool) → a ≡ (order == first side) → b ≡ is_inline order side → d ≡ is_last order side → join_by_order seat block side order ≡ joins seat block a b d
+  pub joins_as : (a b d : Bool) → a ≡ (order == first side) → b ≡ is_inline order side → d ≡ is_last order side → join_by_order seat block side order
+      ≡ joins seat block a b d
   joins_as a b d e f g =
-      ap (λ (x : Bool). joins seat block x (is_inline order side) (is_last order side)) (sym e) ∙ ap (λ (x : Bool). joins seat block a x (is_last order side)) (sym f) ∙ ap (λ (x : Bool). joins seat block a b x) (sym g)
+      ap (λ (x : Bool). joins seat block x (is_inline order side) (is_last order side)) (sym e)
+      ∙ ap (λ (x : Bool). joins seat block a x (is_last order side)) (sym f) ∙ ap (λ (x : Bool). joins seat block a b x) (sym g)
 
 -- Push1, by the order word
 pub order_inline : (seat : Seat) (block order : ℕ) → order ≡ 3 → push_by_order seat block order ≡ Now (left_begins block seat.restart.bottom)
@@ -175,15 +186,18 @@ pub order_above : (seat : Seat) (block order : ℕ) → order ≢ 3 → push_by_
 order_above seat block order h = ap (λ (b : Bool). if b then Now (left_begins block seat.restart.bottom) else Now (Load (PushAbove block))) (ne_eqb order 3 h)
 
 -- and by whether the slot is the last one
-pub push_as : (seat : Seat) (how takeover : Takeover) (block : ℕ) (last b : Bool) → takeover ≡ how → last ≡ b → push_at seat takeover block last ≡ push_at seat how block b
+pub push_as : (seat : Seat) (how takeover : Takeover) (block : ℕ) (last b : Bool) → takeover ≡ how → last ≡ b → push_at seat takeover block last
+    ≡ push_at seat how block b
 push_as seat how takeover block last b e f = ap (λ (x : Takeover). push_at seat x block last) e ∙ ap (λ (x : Bool). push_at seat how block x) f
 
 -- a link of the root or of a branch does not rise
-pub bump_breaks : (seat : Seat) (block size : ℕ) (kind : LinkKind) → (kind ≡ Root) ⊎ ((side : Side) × (other : ℕ) × (kind ≡ Branch side other)) → bumped seat block size kind ≡ Now Broken
+pub bump_breaks : (seat : Seat) (block size : ℕ) (kind : LinkKind) → (kind ≡ Root) ⊎ ((side : Side) × (other : ℕ) × (kind ≡ Branch side other))
+    → bumped seat block size kind ≡ Now Broken
 bump_breaks seat block size kind (inl e) = ap (λ (k : LinkKind). bumped seat block size k) e
 bump_breaks seat block size kind (inr h) = ap (λ (k : LinkKind). bumped seat block size k) h.2
 
 -- an entry that is neither local nor taken was not got back
-pub not_got_back : (seat : Seat) (block : ℕ) (entry : Entry) → ((tag : ℕ) × (entry ≡ Empty tag)) ⊎ ((tag : ℕ) × (old : ℕ) × (entry ≡ Job tag old)) → got_back seat block entry ≡ Now Broken
+pub not_got_back : (seat : Seat) (block : ℕ) (entry : Entry) → ((tag : ℕ) × (entry ≡ Empty tag)) ⊎ ((tag : ℕ) × (old : ℕ) × (entry ≡ Job tag old))
+    → got_back seat block entry ≡ Now Broken
 not_got_back seat block entry (inl h) = ap (λ (e : Entry). got_back seat block e) h.1
 not_got_back seat block entry (inr h) = ap (λ (e : Entry). got_back seat block e) h.2

@@ -91,7 +91,8 @@ module _ {Own : Type 0} (led : Spot Own → Spot Own → Counts → Type 0) (fir
   StopsAt refused over place own told tally Over = (standing : Standing) × over × Led own told tally standing
 
   -- what came of steps: they led to where the answer says, or stopped
-  abbrev pub Came : {T : Type 0} → (refused : Spot Own → Spot Own → ℕ → Type 0) → (over : Type 0) → (place : ℕ) → Own → Option (List Event) → Tally → (Fits : T → Type 0) → (goes : T → Standing)
+  abbrev pub Came : {T : Type 0} → (refused : Spot Own → Spot Own → ℕ → Type 0) → (over : Type 0) → (place : ℕ) → Own → Option (List Event) → Tally
+      → (Fits : T → Type 0) → (goes : T → Standing)
       → Result T Stop → Type 0
   Came refused over place own told tally Fits goes (Ok value) = Fits value × Led own told tally (goes value)
   Came refused over place own told tally Fits goes (Err stop) = StopsAt refused over place own told tally stop

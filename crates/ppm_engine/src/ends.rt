@@ -16,8 +16,7 @@ ghost use Rattle.ppm_step.specs.declared.row.Then.{Then};
 use crate::making::make;
 use crate::memory::{Memory, Stop};
 use crate::tally::Tally;
-use ppm_cells::{Cell, Entry, Restart, RestartKind};
-use ppm_cells::entry_can_rise;
+use ppm_cells::{Cell, Entry, Restart, RestartKind, entry_can_rise};
 use ppm_ports::Watch;
 use ppm_step::{Content, Put, Seat, Then, Want, address, cell_is_there, restart_there};
 
@@ -75,7 +74,8 @@ pub(crate) fn install<M: Memory, W: Watch>(
     ensures few { tally.new.made ≤ tally.old.made + 1 }
     ensures came { (first : Spot M.Own) → Led (M.led memory.now seat.now.own) first own.old (W.told watch.old) tally.old
         (stands_then (M.shape memory.now) (M.code memory.now) seat.now next)
-        → Came (M.led memory.now seat.now.own) first (M.refused memory.now seat.now.own) (M.over memory.now) seat.now.place own.new (W.told watch.new) tally.new
+        → Came (M.led memory.now seat.now.own) first (M.refused memory.now seat.now.own) (M.over memory.now)
+        seat.now.place own.new (W.told watch.new) tally.new
         IsRestart (λ restart. IsAt seat.now.place (Some restart)) result }
 {
     let shape = memory.shape();
@@ -85,7 +85,14 @@ pub(crate) fn install<M: Memory, W: Watch>(
         return Err(Stop::Broken);
     }
     let at = shape.address(Cell::RestartWord { place: seat.place });
-    make(memory, own, watch, tally, seat, Want::Stores(at, restart.pack()))?;
+    make(
+        memory,
+        own,
+        watch,
+        tally,
+        seat,
+        Want::Stores(at, restart.pack()),
+    )?;
     Ok(restart)
 }
 
@@ -106,8 +113,10 @@ pub(crate) fn store<M: Memory, W: Watch>(
         (stands (M.shape memory.now) (M.code memory.now) seat.now (Store put.cell put.content next)) }
     ensures few { tally.new.made ≤ tally.old.made + 1 }
     ensures came { (first : Spot M.Own) (next : Then)
-        → Led (M.led memory.now seat.now.own) first own.old (W.told watch.old) tally.old (stands (M.shape memory.now) (M.code memory.now) seat.now (Store put.cell put.content next))
-        → Came (M.led memory.now seat.now.own) first (M.refused memory.now seat.now.own) (M.over memory.now) seat.now.place own.new (W.told watch.new) tally.new
+        → Led (M.led memory.now seat.now.own) first own.old (W.told watch.old) tally.old
+        (stands (M.shape memory.now) (M.code memory.now) seat.now (Store put.cell put.content next))
+        → Came (M.led memory.now seat.now.own) first (M.refused memory.now seat.now.own) (M.over memory.now)
+        seat.now.place own.new (W.told watch.new) tally.new
         Any (λ done. stands_then (M.shape memory.now) (M.code memory.now) seat.now next) result }
 {
     let shape = memory.shape();
@@ -115,7 +124,14 @@ pub(crate) fn store<M: Memory, W: Watch>(
         return Err(Stop::Broken);
     }
     let at = address(&shape, put.cell);
-    make(memory, own, watch, tally, seat, Want::Stores(at, put.content.word()))?;
+    make(
+        memory,
+        own,
+        watch,
+        tally,
+        seat,
+        Want::Stores(at, put.content.word()),
+    )?;
     Ok(())
 }
 
@@ -138,7 +154,8 @@ pub(crate) fn store_then<M: Memory, W: Watch>(
     ensures few { tally.new.made ≤ tally.old.made + 2 }
     ensures came { (first : Spot M.Own) → Led (M.led memory.now seat.now.own) first own.old (W.told watch.old) tally.old
         (stands (M.shape memory.now) (M.code memory.now) seat.now (Store put.cell put.content next))
-        → Came (M.led memory.now seat.now.own) first (M.refused memory.now seat.now.own) (M.over memory.now) seat.now.place own.new (W.told watch.new) tally.new
+        → Came (M.led memory.now seat.now.own) first (M.refused memory.now seat.now.own) (M.over memory.now)
+        seat.now.place own.new (W.told watch.new) tally.new
         IsRestart (λ restart. IsAt seat.now.place (Some restart)) result }
 {
     store(memory, own, watch, tally, seat, put)?;
@@ -164,7 +181,8 @@ pub(crate) fn exchange<M: Memory, W: Watch>(
     ensures came { (first : Spot M.Own) (next : Then)
         → Led (M.led memory.now seat.now.own) first own.old (W.told watch.old) tally.old
         (stands (M.shape memory.now) (M.code memory.now) seat.now (Exchange change.cell change.old change.new next))
-        → Came (M.led memory.now seat.now.own) first (M.refused memory.now seat.now.own) (M.over memory.now) seat.now.place own.new (W.told watch.new) tally.new
+        → Came (M.led memory.now seat.now.own) first (M.refused memory.now seat.now.own) (M.over memory.now)
+        seat.now.place own.new (W.told watch.new) tally.new
         Any (λ done. stands_then (M.shape memory.now) (M.code memory.now) seat.now next) result }
 {
     let shape = memory.shape();
@@ -196,7 +214,8 @@ pub(crate) fn exchange_then<M: Memory, W: Watch>(
     ensures few { tally.new.made ≤ tally.old.made + 2 }
     ensures came { (first : Spot M.Own) → Led (M.led memory.now seat.now.own) first own.old (W.told watch.old) tally.old
         (stands (M.shape memory.now) (M.code memory.now) seat.now (Exchange change.cell change.old change.new next))
-        → Came (M.led memory.now seat.now.own) first (M.refused memory.now seat.now.own) (M.over memory.now) seat.now.place own.new (W.told watch.new) tally.new
+        → Came (M.led memory.now seat.now.own) first (M.refused memory.now seat.now.own) (M.over memory.now)
+        seat.now.place own.new (W.told watch.new) tally.new
         IsRestart (λ restart. IsAt seat.now.place (Some restart)) result }
 {
     exchange(memory, own, watch, tally, seat, change)?;
@@ -224,7 +243,8 @@ pub(crate) fn raise_entry<M: Memory, W: Watch>(
         → Led (M.led memory.now seat.now.own) first own.old (W.told watch.old) tally.old
         (stands (M.shape memory.now) (M.code memory.now) seat.now
         (raised (EntryWord seat.now.place change.slot) change.old change.new next (nat_lt (tag_of change.old + 1) (2 ^ 34))))
-        → Came (M.led memory.now seat.now.own) first (M.refused memory.now seat.now.own) (M.over memory.now) seat.now.place own.new (W.told watch.new) tally.new
+        → Came (M.led memory.now seat.now.own) first (M.refused memory.now seat.now.own) (M.over memory.now)
+        seat.now.place own.new (W.told watch.new) tally.new
         Any (λ done. stands_then (M.shape memory.now) (M.code memory.now) seat.now next) result }
 {
     if !entry_can_rise(change.old) {
@@ -262,7 +282,8 @@ pub(crate) fn raise_then<M: Memory, W: Watch>(
     ensures came { (first : Spot M.Own) → Led (M.led memory.now seat.now.own) first own.old (W.told watch.old) tally.old
         (stands (M.shape memory.now) (M.code memory.now) seat.now
         (raised (EntryWord seat.now.place change.slot) change.old change.new next (nat_lt (tag_of change.old + 1) (2 ^ 34))))
-        → Came (M.led memory.now seat.now.own) first (M.refused memory.now seat.now.own) (M.over memory.now) seat.now.place own.new (W.told watch.new) tally.new
+        → Came (M.led memory.now seat.now.own) first (M.refused memory.now seat.now.own) (M.over memory.now)
+        seat.now.place own.new (W.told watch.new) tally.new
         IsRestart (λ restart. IsAt seat.now.place (Some restart)) result }
 {
     raise_entry(memory, own, watch, tally, seat, change)?;

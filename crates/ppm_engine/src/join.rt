@@ -18,8 +18,7 @@ use crate::memory::{Memory, Stop};
 use crate::pop::begin_right;
 use crate::tally::Tally;
 use crate::unwind::{Back, Gift, give, take_over};
-use ppm_cells::{Cell, Finish, LinkKind, Restart, RestartKind, Side};
-use ppm_cells::joined;
+use ppm_cells::{Cell, Finish, LinkKind, Restart, RestartKind, Side, joined};
 use ppm_ports::Watch;
 use ppm_step::{Content, Point, Seat, Then};
 
@@ -42,7 +41,8 @@ pub(crate) fn arrive<M: Memory, W: Watch>(
     ensures few { tally.new.made ≤ tally.old.made + 2 }
     ensures came { (first : Spot M.Own) → Led (M.led memory.now seat.now.own) first own.old (W.told watch.old) tally.old
         (stands (M.shape memory.now) (M.code memory.now) seat.now (row_of (M.shape memory.now) seat.now (Arrive block side)))
-        → Came (M.led memory.now seat.now.own) first (M.refused memory.now seat.now.own) (M.over memory.now) seat.now.place own.new (W.told watch.new) tally.new
+        → Came (M.led memory.now seat.now.own) first (M.refused memory.now seat.now.own) (M.over memory.now)
+        seat.now.place own.new (W.told watch.new) tally.new
         IsRestart (λ restart. IsAt seat.now.place (Some restart)) result }
 {
     let change = Change {
@@ -52,7 +52,15 @@ pub(crate) fn arrive<M: Memory, W: Watch>(
     };
     let kind = RestartKind::Join { block, side };
     let bottom = seat.restart.bottom;
-    exchange_then(memory, own, watch, tally, seat, change, Then::Install(Restart { kind, bottom }))
+    exchange_then(
+        memory,
+        own,
+        watch,
+        tally,
+        seat,
+        change,
+        Then::Install(Restart { kind, bottom }),
+    )
 }
 
 /// Whether the branch is the first one.
@@ -104,7 +112,8 @@ fn join_values<M: Memory, W: Watch>(
     ensures few { tally.new.made ≤ tally.old.made + 8 }
     ensures came { (first : Spot M.Own) → Led (M.led memory.now seat.now.own) first own.old (W.told watch.old) tally.old
         (stands_then (M.shape memory.now) (M.code memory.now) seat.now (Load (Target (block + 5) back.to back.copy (Some block))))
-        → Came (M.led memory.now seat.now.own) first (M.refused memory.now seat.now.own) (M.over memory.now) seat.now.place own.new (W.told watch.new) tally.new
+        → Came (M.led memory.now seat.now.own) first (M.refused memory.now seat.now.own) (M.over memory.now)
+        seat.now.place own.new (W.told watch.new) tally.new
         IsRestart (λ restart. IsAt seat.now.place (Some restart)) result }
 {
     let Back { to, copy } = back;
@@ -130,7 +139,14 @@ fn join_values<M: Memory, W: Watch>(
     give(memory, own, watch, tally, seat, right)?;
     let kind = RestartKind::Run { frame: to, copy };
     let bottom = seat.restart.bottom;
-    install(memory, own, watch, tally, seat, Then::Install(Restart { kind, bottom }))
+    install(
+        memory,
+        own,
+        watch,
+        tally,
+        seat,
+        Then::Install(Restart { kind, bottom }),
+    )
 }
 
 /// The last branch goes on after the join.
@@ -151,7 +167,8 @@ fn join_last<M: Memory, W: Watch>(
     ensures few { tally.new.made ≤ tally.old.made + 11 }
     ensures came { (first : Spot M.Own) → Led (M.led memory.now seat.now.own) first own.old (W.told watch.old) tally.old
         (stands_then (M.shape memory.now) (M.code memory.now) seat.now (Load (JoinLink block)))
-        → Came (M.led memory.now seat.now.own) first (M.refused memory.now seat.now.own) (M.over memory.now) seat.now.place own.new (W.told watch.new) tally.new
+        → Came (M.led memory.now seat.now.own) first (M.refused memory.now seat.now.own) (M.over memory.now)
+        seat.now.place own.new (W.told watch.new) tally.new
         IsRestart (λ restart. IsAt seat.now.place (Some restart)) result }
 {
     let link = load_link(memory, own, watch, tally, seat, Point::JoinLink { block })?;
@@ -193,7 +210,8 @@ pub(crate) fn join<M: Memory, W: Watch>(
     ensures few { tally.new.made ≤ tally.old.made + 12 }
     ensures came { (first : Spot M.Own) → Led (M.led memory.now seat.now.own) first own.old (W.told watch.old) tally.old
         (stands (M.shape memory.now) (M.code memory.now) seat.now (row_of (M.shape memory.now) seat.now (Join block side)))
-        → Came (M.led memory.now seat.now.own) first (M.refused memory.now seat.now.own) (M.over memory.now) seat.now.place own.new (W.told watch.new) tally.new
+        → Came (M.led memory.now seat.now.own) first (M.refused memory.now seat.now.own) (M.over memory.now)
+        seat.now.place own.new (W.told watch.new) tally.new
         IsRestart (λ restart. IsAt seat.now.place (Some restart)) result }
 {
     let bottom = seat.restart.bottom;
@@ -201,7 +219,14 @@ pub(crate) fn join<M: Memory, W: Watch>(
     let order = load_number(memory, own, watch, tally, seat, looked)?;
     if comes_first(order, side) {
         let kind = RestartKind::Pop1;
-        return install(memory, own, watch, tally, seat, Then::Install(Restart { kind, bottom }));
+        return install(
+            memory,
+            own,
+            watch,
+            tally,
+            seat,
+            Then::Install(Restart { kind, bottom }),
+        );
     }
     if runs_other(order, side) {
         return begin_right(memory, own, watch, tally, seat, block, bottom);

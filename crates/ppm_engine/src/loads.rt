@@ -95,8 +95,10 @@ fn load<M: Memory, W: Watch>(
     ensures few { tally.new.made ≤ tally.old.made + 1 }
     ensures came { (first : Spot M.Own) → Led (M.led memory.now seat.now.own) first own.old (W.told watch.old) tally.old
         (stands_then (M.shape memory.now) (M.code memory.now) seat.now (Load point))
-        → Came (M.led memory.now seat.now.own) first (M.refused memory.now seat.now.own) (M.over memory.now) seat.now.place own.new (W.told watch.new) tally.new
-        Any (λ word. stands (M.shape memory.now) (M.code memory.now) seat.now (found_at (M.shape memory.now) seat.now 0 point (content_of (reading_at point) word))) result }
+        → Came (M.led memory.now seat.now.own) first (M.refused memory.now seat.now.own) (M.over memory.now)
+        seat.now.place own.new (W.told watch.new) tally.new
+        Any (λ word. stands (M.shape memory.now) (M.code memory.now) seat.now
+        (found_at (M.shape memory.now) seat.now 0 point (content_of (reading_at point) word))) result }
 {
     let shape = memory.shape();
     let cell = cell_of(seat, point);
@@ -125,8 +127,10 @@ pub(crate) fn load_number<M: Memory, W: Watch>(
     ensures few { tally.new.made ≤ tally.old.made + 1 }
     ensures came { (first : Spot M.Own) → Led (M.led memory.now seat.now.own) first own.old (W.told watch.old) tally.old
         (stands_then (M.shape memory.now) (M.code memory.now) seat.now (Load point))
-        → Came (M.led memory.now seat.now.own) first (M.refused memory.now seat.now.own) (M.over memory.now) seat.now.place own.new (W.told watch.new) tally.new
-        Any (λ number. stands (M.shape memory.now) (M.code memory.now) seat.now (found_at (M.shape memory.now) seat.now 0 point (ANumber number))) result }
+        → Came (M.led memory.now seat.now.own) first (M.refused memory.now seat.now.own) (M.over memory.now)
+        seat.now.place own.new (W.told watch.new) tally.new
+        Any (λ number. stands (M.shape memory.now) (M.code memory.now) seat.now
+        (found_at (M.shape memory.now) seat.now 0 point (ANumber number))) result }
 {
     load(memory, own, watch, tally, seat, point)
 }
@@ -149,8 +153,10 @@ pub(crate) fn load_entry<M: Memory, W: Watch>(
     ensures few { tally.new.made ≤ tally.old.made + 1 }
     ensures came { (first : Spot M.Own) → Led (M.led memory.now seat.now.own) first own.old (W.told watch.old) tally.old
         (stands_then (M.shape memory.now) (M.code memory.now) seat.now (Load point))
-        → Came (M.led memory.now seat.now.own) first (M.refused memory.now seat.now.own) (M.over memory.now) seat.now.place own.new (W.told watch.new) tally.new
-        IsEntry (λ entry. stands (M.shape memory.now) (M.code memory.now) seat.now (found_at (M.shape memory.now) seat.now 0 point (AnEntry entry))) result }
+        → Came (M.led memory.now seat.now.own) first (M.refused memory.now seat.now.own) (M.over memory.now)
+        seat.now.place own.new (W.told watch.new) tally.new
+        IsEntry (λ entry. stands (M.shape memory.now) (M.code memory.now) seat.now
+        (found_at (M.shape memory.now) seat.now 0 point (AnEntry entry))) result }
 {
     let word = load(memory, own, watch, tally, seat, point)?;
     match Entry::unpack(word) {
@@ -177,8 +183,10 @@ pub(crate) fn load_link<M: Memory, W: Watch>(
     ensures few { tally.new.made ≤ tally.old.made + 1 }
     ensures came { (first : Spot M.Own) → Led (M.led memory.now seat.now.own) first own.old (W.told watch.old) tally.old
         (stands_then (M.shape memory.now) (M.code memory.now) seat.now (Load point))
-        → Came (M.led memory.now seat.now.own) first (M.refused memory.now seat.now.own) (M.over memory.now) seat.now.place own.new (W.told watch.new) tally.new
-        IsLink (λ link. stands (M.shape memory.now) (M.code memory.now) seat.now (found_at (M.shape memory.now) seat.now 0 point (ALink link))) result }
+        → Came (M.led memory.now seat.now.own) first (M.refused memory.now seat.now.own) (M.over memory.now)
+        seat.now.place own.new (W.told watch.new) tally.new
+        IsLink (λ link. stands (M.shape memory.now) (M.code memory.now) seat.now
+        (found_at (M.shape memory.now) seat.now 0 point (ALink link))) result }
 {
     let word = load(memory, own, watch, tally, seat, point)?;
     match Link::unpack(word) {
@@ -205,8 +213,10 @@ pub(crate) fn load_outcome<M: Memory, W: Watch>(
     ensures few { tally.new.made ≤ tally.old.made + 1 }
     ensures came { (first : Spot M.Own) → Led (M.led memory.now seat.now.own) first own.old (W.told watch.old) tally.old
         (stands_then (M.shape memory.now) (M.code memory.now) seat.now (Load point))
-        → Came (M.led memory.now seat.now.own) first (M.refused memory.now seat.now.own) (M.over memory.now) seat.now.place own.new (W.told watch.new) tally.new
-        IsOutcomeWord (λ outcome. stands (M.shape memory.now) (M.code memory.now) seat.now (found_at (M.shape memory.now) seat.now 0 point (AFinish outcome))) result }
+        → Came (M.led memory.now seat.now.own) first (M.refused memory.now seat.now.own) (M.over memory.now)
+        seat.now.place own.new (W.told watch.new) tally.new
+        IsOutcomeWord (λ outcome. stands (M.shape memory.now) (M.code memory.now) seat.now
+        (found_at (M.shape memory.now) seat.now 0 point (AFinish outcome))) result }
 {
     let word = load(memory, own, watch, tally, seat, point)?;
     let Some(outcome) = Finish::unpack(word) else {

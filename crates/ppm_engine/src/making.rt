@@ -28,7 +28,8 @@ pub(crate) fn make<M: Memory, W: Watch>(
     ensures few { tally.new.made ≤ tally.old.made + 1 }
     ensures came { (first : Spot M.Own) (row : Row) → IsNext (M.shape memory.now) seat.now row want
         → Led (M.led memory.now seat.now.own) first own.old (W.told watch.old) tally.old (IsWithin seat.now row)
-        → Came (M.led memory.now seat.now.own) first (M.refused memory.now seat.now.own) (M.over memory.now) seat.now.place own.new (W.told watch.new) tally.new
+        → Came (M.led memory.now seat.now.own) first (M.refused memory.now seat.now.own) (M.over memory.now)
+        seat.now.place own.new (W.told watch.new) tally.new
         Any (λ word. went_row (M.shape memory.now) (M.code memory.now) seat.now 0 word row) result }
 {
     let word = memory.step(own, watch, seat.own, seat.place, want)?;

@@ -72,5 +72,6 @@ pub trait Memory {
     ghost on: { (m : Self) (own : ℕ) (x y z : Spot Self.Own) (c d : Counts) → led m own x y c → led m own y z d → led m own x z (both c d) };
 
     /// After steps, at most so many more, of which the last was refused.
-    ghost stopped: { (m : Self) (own : ℕ) (x y z : Spot Self.Own) (c : Counts) (n most : ℕ) → led m own x y c → refused m own y z n → c.made + n ≤ most → refused m own x z most };
+    ghost stopped: { (m : Self) (own : ℕ) (x y z : Spot Self.Own) (c : Counts) (n most : ℕ) → led m own x y c → refused m own y z n
+        → c.made + n ≤ most → refused m own x z most };
 }

@@ -38,10 +38,18 @@ pub(crate) fn begin_right<M: Memory, W: Watch>(
     ensures few { tally.new.made ≤ tally.old.made + 2 }
     ensures came { (first : Spot M.Own) → Led (M.led memory.now seat.now.own) first own.old (W.told watch.old) tally.old
         (stands_then (M.shape memory.now) (M.code memory.now) seat.now (Load (Offset block bottom)))
-        → Came (M.led memory.now seat.now.own) first (M.refused memory.now seat.now.own) (M.over memory.now) seat.now.place own.new (W.told watch.new) tally.new
+        → Came (M.led memory.now seat.now.own) first (M.refused memory.now seat.now.own) (M.over memory.now)
+        seat.now.place own.new (W.told watch.new) tally.new
         IsRestart (λ restart. IsAt seat.now.place (Some restart)) result }
 {
-    let offset = load_number(memory, own, watch, tally, seat, Point::Offset { block, bottom })?;
+    let offset = load_number(
+        memory,
+        own,
+        watch,
+        tally,
+        seat,
+        Point::Offset { block, bottom },
+    )?;
     let shape = memory.shape();
     let Some(frame) = address_after(&shape, block, offset) else {
         return Err(Stop::Broken);
@@ -70,7 +78,8 @@ pub(crate) fn pop1<M: Memory, W: Watch>(
     ensures few { tally.new.made ≤ tally.old.made + 3 }
     ensures came { (first : Spot M.Own) → Led (M.led memory.now seat.now.own) first own.old (W.told watch.old) tally.old
         (stands (M.shape memory.now) (M.code memory.now) seat.now (row_of (M.shape memory.now) seat.now (Pop1)))
-        → Came (M.led memory.now seat.now.own) first (M.refused memory.now seat.now.own) (M.over memory.now) seat.now.place own.new (W.told watch.new) tally.new
+        → Came (M.led memory.now seat.now.own) first (M.refused memory.now seat.now.own) (M.over memory.now)
+        seat.now.place own.new (W.told watch.new) tally.new
         IsRestart (λ restart. IsAt seat.now.place (Some restart)) result }
 {
     let bottom = seat.restart.bottom;
@@ -91,11 +100,25 @@ pub(crate) fn pop1<M: Memory, W: Watch>(
         }
         Entry::Local { block, .. } => {
             let kind = RestartKind::Pop2 { block };
-            install(memory, own, watch, tally, seat, Then::Install(Restart { kind, bottom }))
+            install(
+                memory,
+                own,
+                watch,
+                tally,
+                seat,
+                Then::Install(Restart { kind, bottom }),
+            )
         }
         Entry::Taken { .. } => {
             let kind = RestartKind::Seek;
-            install(memory, own, watch, tally, seat, Then::Install(Restart { kind, bottom }))
+            install(
+                memory,
+                own,
+                watch,
+                tally,
+                seat,
+                Then::Install(Restart { kind, bottom }),
+            )
         }
         Entry::Empty { .. } => Err(Stop::Broken),
     }
@@ -119,7 +142,8 @@ fn empty_above<M: Memory, W: Watch>(
     ensures few { tally.new.made ≤ tally.old.made + 4 }
     ensures came { (first : Spot M.Own) → Led (M.led memory.now seat.now.own) first own.old (W.told watch.old) tally.old
         (stands_then (M.shape memory.now) (M.code memory.now) seat.now (Load (PopAbove block)))
-        → Came (M.led memory.now seat.now.own) first (M.refused memory.now seat.now.own) (M.over memory.now) seat.now.place own.new (W.told watch.new) tally.new
+        → Came (M.led memory.now seat.now.own) first (M.refused memory.now seat.now.own) (M.over memory.now)
+        seat.now.place own.new (W.told watch.new) tally.new
         IsRestart (λ restart. IsAt seat.now.place (Some restart)) result }
 {
     let bottom = seat.restart.bottom;
@@ -154,7 +178,8 @@ pub(crate) fn pop2<M: Memory, W: Watch>(
     ensures few { tally.new.made ≤ tally.old.made + 5 }
     ensures came { (first : Spot M.Own) → Led (M.led memory.now seat.now.own) first own.old (W.told watch.old) tally.old
         (stands (M.shape memory.now) (M.code memory.now) seat.now (row_of (M.shape memory.now) seat.now (Pop2 block)))
-        → Came (M.led memory.now seat.now.own) first (M.refused memory.now seat.now.own) (M.over memory.now) seat.now.place own.new (W.told watch.new) tally.new
+        → Came (M.led memory.now seat.now.own) first (M.refused memory.now seat.now.own) (M.over memory.now)
+        seat.now.place own.new (W.told watch.new) tally.new
         IsRestart (λ restart. IsAt seat.now.place (Some restart)) result }
 {
     let bottom = seat.restart.bottom;
@@ -163,7 +188,14 @@ pub(crate) fn pop2<M: Memory, W: Watch>(
         Entry::Local { .. } => empty_above(memory, own, watch, tally, seat, block),
         Entry::Taken { .. } => {
             let kind = RestartKind::Seek;
-            install(memory, own, watch, tally, seat, Then::Install(Restart { kind, bottom }))
+            install(
+                memory,
+                own,
+                watch,
+                tally,
+                seat,
+                Then::Install(Restart { kind, bottom }),
+            )
         }
         Entry::Empty { .. } | Entry::Job { .. } => Err(Stop::Broken),
     }

@@ -62,7 +62,8 @@ pub(crate) fn give<M: Memory, W: Watch>(
     ensures few { tally.new.made ≤ tally.old.made + 3 }
     ensures came { (first : Spot M.Own) → Led (M.led memory.now seat.now.own) first own.old (W.told watch.old) tally.old
         (stands_then (M.shape memory.now) (M.code memory.now) seat.now (Load (Target gift.frame gift.to gift.copy gift.right_of)))
-        → Came (M.led memory.now seat.now.own) first (M.refused memory.now seat.now.own) (M.over memory.now) seat.now.place own.new (W.told watch.new) tally.new
+        → Came (M.led memory.now seat.now.own) first (M.refused memory.now seat.now.own) (M.over memory.now)
+        seat.now.place own.new (W.told watch.new) tally.new
         Any (λ done. stands_then (M.shape memory.now) (M.code memory.now) seat.now (after_value seat.now gift.to gift.copy gift.right_of)) result }
 {
     let Gift {
@@ -119,7 +120,8 @@ pub(crate) fn take_over<M: Memory, W: Watch>(
     ensures few { tally.new.made ≤ tally.old.made + 2 }
     ensures came { (first : Spot M.Own) → Led (M.led memory.now seat.now.own) first own.old (W.told watch.old) tally.old
         (stands (M.shape memory.now) (M.code memory.now) seat.now (trapped seat.now to outcome))
-        → Came (M.led memory.now seat.now.own) first (M.refused memory.now seat.now.own) (M.over memory.now) seat.now.place own.new (W.told watch.new) tally.new
+        → Came (M.led memory.now seat.now.own) first (M.refused memory.now seat.now.own) (M.over memory.now)
+        seat.now.place own.new (W.told watch.new) tally.new
         IsRestart (λ restart. IsAt seat.now.place (Some restart)) result }
 {
     let put = Put {
@@ -128,7 +130,15 @@ pub(crate) fn take_over<M: Memory, W: Watch>(
     };
     let kind = RestartKind::Unwind { frame: to };
     let bottom = seat.restart.bottom;
-    store_then(memory, own, watch, tally, seat, put, Then::Install(Restart { kind, bottom }))
+    store_then(
+        memory,
+        own,
+        watch,
+        tally,
+        seat,
+        put,
+        Then::Install(Restart { kind, bottom }),
+    )
 }
 
 /// The root's frame is over: the run ends so, if it hasn't yet.
@@ -149,7 +159,8 @@ fn end_root<M: Memory, W: Watch>(
     ensures few { tally.new.made ≤ tally.old.made + 2 }
     ensures came { (first : Spot M.Own) → Led (M.led memory.now seat.now.own) first own.old (W.told watch.old) tally.old
         (stands_then (M.shape memory.now) (M.code memory.now) seat.now (Load (UnwindOutcome frame Root)))
-        → Came (M.led memory.now seat.now.own) first (M.refused memory.now seat.now.own) (M.over memory.now) seat.now.place own.new (W.told watch.new) tally.new
+        → Came (M.led memory.now seat.now.own) first (M.refused memory.now seat.now.own) (M.over memory.now)
+        seat.now.place own.new (W.told watch.new) tally.new
         IsRestart (λ restart. IsAt seat.now.place (Some restart)) result }
 {
     let looked = Point::UnwindOutcome {
@@ -185,7 +196,8 @@ fn return_to<M: Memory, W: Watch>(
     ensures few { tally.new.made ≤ tally.old.made + 5 }
     ensures came { (first : Spot M.Own) → Led (M.led memory.now seat.now.own) first own.old (W.told watch.old) tally.old
         (stands_then (M.shape memory.now) (M.code memory.now) seat.now (Load (UnwindOutcome frame (Call back.to back.copy))))
-        → Came (M.led memory.now seat.now.own) first (M.refused memory.now seat.now.own) (M.over memory.now) seat.now.place own.new (W.told watch.new) tally.new
+        → Came (M.led memory.now seat.now.own) first (M.refused memory.now seat.now.own) (M.over memory.now)
+        seat.now.place own.new (W.told watch.new) tally.new
         IsRestart (λ restart. IsAt seat.now.place (Some restart)) result }
 {
     let Back { to, copy } = back;
@@ -206,7 +218,14 @@ fn return_to<M: Memory, W: Watch>(
     give(memory, own, watch, tally, seat, gift)?;
     let kind = RestartKind::Run { frame: to, copy };
     let bottom = seat.restart.bottom;
-    install(memory, own, watch, tally, seat, Then::Install(Restart { kind, bottom }))
+    install(
+        memory,
+        own,
+        watch,
+        tally,
+        seat,
+        Then::Install(Restart { kind, bottom }),
+    )
 }
 
 /// A branch is over: its outcome goes into its block, and it comes to the join.
@@ -228,7 +247,8 @@ fn come_to<M: Memory, W: Watch>(
     ensures few { tally.new.made ≤ tally.old.made + 3 }
     ensures came { (first : Spot M.Own) → Led (M.led memory.now seat.now.own) first own.old (W.told watch.old) tally.old
         (stands_then (M.shape memory.now) (M.code memory.now) seat.now (Load (UnwindOutcome frame (Branch arm.side arm.block))))
-        → Came (M.led memory.now seat.now.own) first (M.refused memory.now seat.now.own) (M.over memory.now) seat.now.place own.new (W.told watch.new) tally.new
+        → Came (M.led memory.now seat.now.own) first (M.refused memory.now seat.now.own) (M.over memory.now)
+        seat.now.place own.new (W.told watch.new) tally.new
         IsRestart (λ restart. IsAt seat.now.place (Some restart)) result }
 {
     let Arm { side, block } = arm;
@@ -243,7 +263,15 @@ fn come_to<M: Memory, W: Watch>(
     };
     let kind = RestartKind::Arrive { block, side };
     let bottom = seat.restart.bottom;
-    store_then(memory, own, watch, tally, seat, put, Then::Install(Restart { kind, bottom }))
+    store_then(
+        memory,
+        own,
+        watch,
+        tally,
+        seat,
+        put,
+        Then::Install(Restart { kind, bottom }),
+    )
 }
 
 /// The outcome word of a branch.
@@ -276,7 +304,8 @@ pub(crate) fn unwind<M: Memory, W: Watch>(
     ensures few { tally.new.made ≤ tally.old.made + 6 }
     ensures came { (first : Spot M.Own) → Led (M.led memory.now seat.now.own) first own.old (W.told watch.old) tally.old
         (stands (M.shape memory.now) (M.code memory.now) seat.now (row_of (M.shape memory.now) seat.now (Unwind frame)))
-        → Came (M.led memory.now seat.now.own) first (M.refused memory.now seat.now.own) (M.over memory.now) seat.now.place own.new (W.told watch.new) tally.new
+        → Came (M.led memory.now seat.now.own) first (M.refused memory.now seat.now.own) (M.over memory.now)
+        seat.now.place own.new (W.told watch.new) tally.new
         IsRestart (λ restart. IsAt seat.now.place (Some restart)) result }
 {
     let link = load_link(memory, own, watch, tally, seat, Point::UnwindLink { frame })?;

@@ -23,8 +23,14 @@ make-requires-clause-stands g c κs within =
     let led = g.M.Memory.led m place.own in
     let change = c.args.change in
     let there = c.if-not-cell_is_there.ensures ∙ ap (λ (x : Shape). is_there x change.cell) c.shape-shape.ensures in
-    let at = c.address-at.ensures.value ∙ ap (λ (x : Shape). address x change.cell) c.shape-shape.ensures in
-    (c.requires.stands.0, Exchange change.cell change.old change.new c.requires.stands.1, exchange_next s code place change.cell change.old change.new c.requires.stands.1 c.address-at.result c.word.result c.word-2.result at c.word.ensures c.word-2.ensures, moved led c.requires.stands.0 (exchanges_if s code place change.cell change.old change.new c.requires.stands.1 true there) (c.requires.stands.2))
+    let at = c.address-at.ensures.value ∙ ap (λ (x : Shape). address x change.cell) c.shape-shape.ensures in (
+      c.requires.stands.0,
+      Exchange change.cell change.old change.new c.requires.stands.1,
+      exchange_next s code place change.cell change.old change.new
+          c.requires.stands.1 c.address-at.result c.word.result c.word-2.result at c.word.ensures c.word-2.ensures,
+      moved led c.requires.stands.0
+          (exchanges_if s code place change.cell change.old change.new c.requires.stands.1 true there) (c.requires.stands.2),
+    )
 
 pub returns-then-not-cell_is_there-clause-came : goal.returns-then-not-cell_is_there-clause-came
 returns-then-not-cell_is_there-clause-came g c = λ first next l.
@@ -47,8 +53,11 @@ returns-in_err-make-clause-came g c = λ first next l.
     let change = c.args.change in
     let there = c.if-not-cell_is_there.ensures ∙ ap (λ (x : Shape). is_there x change.cell) c.shape-shape.ensures in
     let at = c.address-at.ensures.value ∙ ap (λ (x : Shape). address x change.cell) c.shape-shape.ensures in
-    exit_by (λ (r : Result (Unit {0}) Stop). Came led first (g.M.Memory.refused m place.own) (g.M.Memory.over m) place.place c.make.new.own (g.W.Watch.told c.make.new.watch) c.make.new.tally Any (λ done. stands_then s code place next) r) _ _ c.from_residual.ensures.1
-    (c.in_err-make.ensures.came first (Exchange change.cell change.old change.new next) (exchange_next s code place change.cell change.old change.new next c.address-at.result c.word.result c.word-2.result at c.word.ensures c.word-2.ensures) (moved led first (exchanges_if s code place change.cell change.old change.new next true there) (l)))
+    exit_by (λ (r : Result (Unit {0}) Stop). Came led first (g.M.Memory.refused m place.own) (g.M.Memory.over m) place.place c.make.new.own
+    (g.W.Watch.told c.make.new.watch) c.make.new.tally Any (λ done. stands_then s code place next) r) _ _ c.from_residual.ensures.1
+    (c.in_err-make.ensures.came first (Exchange change.cell change.old change.new next) (exchange_next s code place change.cell change.old change.new next
+    c.address-at.result c.word.result c.word-2.result at c.word.ensures c.word-2.ensures)
+    (moved led first (exchanges_if s code place change.cell change.old change.new next true there) (l)))
 
 pub returns-clause-came : goal.returns-clause-came
 returns-clause-came g c = λ first next l.
@@ -59,5 +68,9 @@ returns-clause-came g c = λ first next l.
     let led = g.M.Memory.led m place.own in
     let change = c.args.change in
     let there = c.if-not-cell_is_there.ensures ∙ ap (λ (x : Shape). is_there x change.cell) c.shape-shape.ensures in
-    let at = c.address-at.ensures.value ∙ ap (λ (x : Shape). address x change.cell) c.shape-shape.ensures in
-    (tt, (c.in_ok-make.ensures.came first (Exchange change.cell change.old change.new next) (exchange_next s code place change.cell change.old change.new next c.address-at.result c.word.result c.word-2.result at c.word.ensures c.word-2.ensures) (moved led first (exchanges_if s code place change.cell change.old change.new next true there) (l))).1)
+    let at = c.address-at.ensures.value ∙ ap (λ (x : Shape). address x change.cell) c.shape-shape.ensures in (
+      tt,
+      (c.in_ok-make.ensures.came first (Exchange change.cell change.old change.new next) (exchange_next s code place change.cell change.old
+          change.new next c.address-at.result c.word.result c.word-2.result at c.word.ensures c.word-2.ensures)
+          (moved led first (exchanges_if s code place change.cell change.old change.new next true there) (l))).1,
+    )

@@ -15,8 +15,12 @@ exchange-requires-clause-stands g c κs within =
     let code = g.M.Memory.code m in
     let place = c.args.seat.now in
     let led = g.M.Memory.led m place.own in
-    let change = c.args.change in
-    (c.requires.stands.0, c.requires.stands.1, moved led c.requires.stands.0 (raised_if s code place (EntryWord place.place change.slot) change.old change.new c.requires.stands.1 true (rises change.old (c.if-not-entry_can_rise.ensures.0 refl))) (c.requires.stands.2))
+    let change = c.args.change in (
+      c.requires.stands.0,
+      c.requires.stands.1,
+      moved led c.requires.stands.0 (raised_if s code place (EntryWord place.place change.slot) change.old
+          change.new c.requires.stands.1 true (rises change.old (c.if-not-entry_can_rise.ensures.0 refl))) (c.requires.stands.2),
+    )
 
 pub returns-then-not-entry_can_rise-clause-came : goal.returns-then-not-entry_can_rise-clause-came
 returns-then-not-entry_can_rise-clause-came g c = λ first next l.
@@ -26,7 +30,8 @@ returns-then-not-entry_can_rise-clause-came g c = λ first next l.
     let place = c.args.seat.now in
     let led = g.M.Memory.led m place.own in
     let change = c.args.change in
-    moved led first (raised_if s code place (EntryWord place.place change.slot) change.old change.new next false (stuck change.old (λ h. let e = c.if-not-entry_can_rise.ensures.1 h in cc))) (l)
+    moved led first (raised_if s code place (EntryWord place.place change.slot) change.old change.new next false
+    (stuck change.old (λ h. let e = c.if-not-entry_can_rise.ensures.1 h in cc))) (l)
 
 pub returns-clause-came : goal.returns-clause-came
 returns-clause-came g c = λ first next l.
@@ -36,4 +41,5 @@ returns-clause-came g c = λ first next l.
     let place = c.args.seat.now in
     let led = g.M.Memory.led m place.own in
     let change = c.args.change in
-    c.exchange.ensures.came first next (moved led first (raised_if s code place (EntryWord place.place change.slot) change.old change.new next true (rises change.old (c.if-not-entry_can_rise.ensures.0 refl))) (l))
+    c.exchange.ensures.came first next (moved led first (raised_if s code place (EntryWord place.place change.slot) change.old change.new next true
+    (rises change.old (c.if-not-entry_can_rise.ensures.0 refl))) (l))

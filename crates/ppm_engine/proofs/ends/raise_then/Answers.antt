@@ -22,7 +22,8 @@ returns-in_err-raise_entry-clause-came g c = λ first l.
     let code = g.M.Memory.code m in
     let place = c.args.seat.now in
     let led = g.M.Memory.led m place.own in
-    exit_by (λ (r : Result Restart Stop). Came led first (g.M.Memory.refused m place.own) (g.M.Memory.over m) place.place c.raise_entry.new.own (g.W.Watch.told c.raise_entry.new.watch) c.raise_entry.new.tally IsRestart (λ restart. IsAt place.place (Some restart)) r) _ _ c.from_residual.ensures.1
+    exit_by (λ (r : Result Restart Stop). Came led first (g.M.Memory.refused m place.own) (g.M.Memory.over m) place.place c.raise_entry.new.own
+    (g.W.Watch.told c.raise_entry.new.watch) c.raise_entry.new.tally IsRestart (λ restart. IsAt place.place (Some restart)) r) _ _ c.from_residual.ensures.1
     (c.in_err-raise_entry.ensures.came first c.args.next l)
 
 pub returns-clause-came : goal.returns-clause-came

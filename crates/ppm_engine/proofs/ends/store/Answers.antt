@@ -23,8 +23,14 @@ make-requires-clause-stands g c κs within =
     let led = g.M.Memory.led m place.own in
     let put = c.args.put in
     let there = c.if-not-cell_is_there.ensures ∙ ap (λ (x : Shape). is_there x put.cell) c.shape-shape.ensures in
-    let at = c.address-at.ensures.value ∙ ap (λ (x : Shape). address x put.cell) c.shape-shape.ensures in
-    (c.requires.stands.0, Store put.cell put.content c.requires.stands.1, store_next s code place put.cell put.content c.requires.stands.1 c.address-at.result c.word.result at c.word.ensures, moved led c.requires.stands.0 (stores_if s code place put.cell put.content c.requires.stands.1 true there) (c.requires.stands.2))
+    let at = c.address-at.ensures.value ∙ ap (λ (x : Shape). address x put.cell) c.shape-shape.ensures in (
+      c.requires.stands.0,
+      Store put.cell put.content c.requires.stands.1,
+      store_next s code place put.cell put.content c.requires.stands.1
+          c.address-at.result c.word.result at c.word.ensures,
+      moved led c.requires.stands.0
+          (stores_if s code place put.cell put.content c.requires.stands.1 true there) (c.requires.stands.2),
+    )
 
 pub returns-then-not-cell_is_there-clause-came : goal.returns-then-not-cell_is_there-clause-came
 returns-then-not-cell_is_there-clause-came g c = λ first next l.
@@ -47,8 +53,10 @@ returns-in_err-make-clause-came g c = λ first next l.
     let put = c.args.put in
     let there = c.if-not-cell_is_there.ensures ∙ ap (λ (x : Shape). is_there x put.cell) c.shape-shape.ensures in
     let at = c.address-at.ensures.value ∙ ap (λ (x : Shape). address x put.cell) c.shape-shape.ensures in
-    exit_by (λ (r : Result (Unit {0}) Stop). Came led first (g.M.Memory.refused m place.own) (g.M.Memory.over m) place.place c.make.new.own (g.W.Watch.told c.make.new.watch) c.make.new.tally Any (λ done. stands_then s code place next) r) _ _ c.from_residual.ensures.1
-    (c.in_err-make.ensures.came first (Store put.cell put.content next) (store_next s code place put.cell put.content next c.address-at.result c.word.result at c.word.ensures) (moved led first (stores_if s code place put.cell put.content next true there) (l)))
+    exit_by (λ (r : Result (Unit {0}) Stop). Came led first (g.M.Memory.refused m place.own) (g.M.Memory.over m) place.place c.make.new.own
+    (g.W.Watch.told c.make.new.watch) c.make.new.tally Any (λ done. stands_then s code place next) r) _ _ c.from_residual.ensures.1
+    (c.in_err-make.ensures.came first (Store put.cell put.content next) (store_next s code place put.cell put.content next c.address-at.result
+    c.word.result at c.word.ensures) (moved led first (stores_if s code place put.cell put.content next true there) (l)))
 
 pub returns-clause-came : goal.returns-clause-came
 returns-clause-came g c = λ first next l.
@@ -59,5 +67,8 @@ returns-clause-came g c = λ first next l.
     let led = g.M.Memory.led m place.own in
     let put = c.args.put in
     let there = c.if-not-cell_is_there.ensures ∙ ap (λ (x : Shape). is_there x put.cell) c.shape-shape.ensures in
-    let at = c.address-at.ensures.value ∙ ap (λ (x : Shape). address x put.cell) c.shape-shape.ensures in
-    (tt, (c.in_ok-make.ensures.came first (Store put.cell put.content next) (store_next s code place put.cell put.content next c.address-at.result c.word.result at c.word.ensures) (moved led first (stores_if s code place put.cell put.content next true there) (l))).1)
+    let at = c.address-at.ensures.value ∙ ap (λ (x : Shape). address x put.cell) c.shape-shape.ensures in (
+      tt,
+      (c.in_ok-make.ensures.came first (Store put.cell put.content next) (store_next s code place put.cell put.content next c.address-at.result
+          c.word.result at c.word.ensures) (moved led first (stores_if s code place put.cell put.content next true there) (l))).1,
+    )

@@ -15,8 +15,13 @@ exchange_then-requires-clause-stands g c κs within =
     let s = g.M.Memory.shape m in
     let code = g.M.Memory.code m in
     let place = c.args.seat.now in
-    let led = g.M.Memory.led m place.own in
-    (c.requires.stands.0, moved led c.requires.stands.0 (ap (λ (r : Row). stands s code place r) (ap (λ (n : ℕ). Exchange (order_word c.args.block) (ANumber 0) (ANumber n) (with_kind place (Join c.args.block c.args.side))) (sym (c.from.ensures ∙ ap (λ (n : ℕ). 1 + n) c.number.ensures)))) (c.requires.stands.1))
+    let led = g.M.Memory.led m place.own in (
+      c.requires.stands.0,
+      moved led c.requires.stands.0
+          (ap (λ (r : Row). stands s code place r)
+          (ap (λ (n : ℕ). Exchange (order_word c.args.block) (ANumber 0) (ANumber n) (with_kind place (Join c.args.block c.args.side)))
+          (sym (c.from.ensures ∙ ap (λ (n : ℕ). 1 + n) c.number.ensures)))) (c.requires.stands.1),
+    )
 
 pub returns-clause-came : goal.returns-clause-came
 returns-clause-came g c = λ first l.
@@ -25,4 +30,7 @@ returns-clause-came g c = λ first l.
     let code = g.M.Memory.code m in
     let place = c.args.seat.now in
     let led = g.M.Memory.led m place.own in
-    c.exchange_then.ensures.came first (moved led first (ap (λ (r : Row). stands s code place r) (ap (λ (n : ℕ). Exchange (order_word c.args.block) (ANumber 0) (ANumber n) (with_kind place (Join c.args.block c.args.side))) (sym (c.from.ensures ∙ ap (λ (n : ℕ). 1 + n) c.number.ensures)))) (l))
+    c.exchange_then.ensures.came first
+    (moved led first (ap (λ (r : Row). stands s code place r)
+    (ap (λ (n : ℕ). Exchange (order_word c.args.block) (ANumber 0) (ANumber n) (with_kind place (Join c.args.block c.args.side)))
+    (sym (c.from.ensures ∙ ap (λ (n : ℕ). 1 + n) c.number.ensures)))) (l))

@@ -18,7 +18,8 @@ returns-in_err-order-clause-came g c = λ first l.
     let code = g.M.Memory.code m in
     let place = c.args.seat.now in
     let led = g.M.Memory.led m place.own in
-    exit_by (λ (r : Result Restart Stop). Came led first (g.M.Memory.refused m place.own) (g.M.Memory.over m) place.place c.load_number.new.own (g.W.Watch.told c.load_number.new.watch) c.load_number.new.tally IsRestart (λ restart. IsAt place.place (Some restart)) r) _ _ c.from_residual.ensures.1
+    exit_by (λ (r : Result Restart Stop). Came led first (g.M.Memory.refused m place.own) (g.M.Memory.over m) place.place c.load_number.new.own
+    (g.W.Watch.told c.load_number.new.watch) c.load_number.new.tally IsRestart (λ restart. IsAt place.place (Some restart)) r) _ _ c.from_residual.ensures.1
     (c.in_err-order.ensures.came first l)
 
 pub install-requires-clause-stands : goal.install-requires-clause-stands
@@ -27,8 +28,13 @@ install-requires-clause-stands g c κs within =
     let s = g.M.Memory.shape m in
     let code = g.M.Memory.code m in
     let place = c.args.seat.now in
-    let led = g.M.Memory.led m place.own in
-    (c.requires.stands.0, moved led c.requires.stands.0 (ap (λ (r : Row). stands s code place r) (joins_as place c.args.block c.args.side c.in_ok-order.order true (is_inline c.in_ok-order.order c.args.side) (is_last c.in_ok-order.order c.args.side) c.if-comes_first.ensures refl refl)) ((c.in_ok-order.ensures.came c.requires.stands.0 c.requires.stands.1).1))
+    let led = g.M.Memory.led m place.own in (
+      c.requires.stands.0,
+      moved led c.requires.stands.0
+          (ap (λ (r : Row). stands s code place r) (joins_as place c.args.block c.args.side c.in_ok-order.order true (is_inline c.in_ok-order.order c.args.side)
+          (is_last c.in_ok-order.order c.args.side) c.if-comes_first.ensures refl refl))
+          ((c.in_ok-order.ensures.came c.requires.stands.0 c.requires.stands.1).1),
+    )
 
 pub returns-then-comes_first-clause-came : goal.returns-then-comes_first-clause-came
 returns-then-comes_first-clause-came g c = λ first l.
@@ -37,7 +43,9 @@ returns-then-comes_first-clause-came g c = λ first l.
     let code = g.M.Memory.code m in
     let place = c.args.seat.now in
     let led = g.M.Memory.led m place.own in
-    c.install.ensures.came first (moved led first (ap (λ (r : Row). stands s code place r) (joins_as place c.args.block c.args.side c.in_ok-order.order true (is_inline c.in_ok-order.order c.args.side) (is_last c.in_ok-order.order c.args.side) c.if-comes_first.ensures refl refl)) ((c.in_ok-order.ensures.came first l).1))
+    c.install.ensures.came first (moved led first (ap (λ (r : Row). stands s code place r) (joins_as place c.args.block c.args.side c.in_ok-order.order true
+    (is_inline c.in_ok-order.order c.args.side) (is_last c.in_ok-order.order c.args.side) c.if-comes_first.ensures refl refl))
+    ((c.in_ok-order.ensures.came first l).1))
 
 pub begin_right-requires-clause-stands : goal.begin_right-requires-clause-stands
 begin_right-requires-clause-stands g c κs within =
@@ -45,8 +53,13 @@ begin_right-requires-clause-stands g c κs within =
     let s = g.M.Memory.shape m in
     let code = g.M.Memory.code m in
     let place = c.args.seat.now in
-    let led = g.M.Memory.led m place.own in
-    (c.requires.stands.0, moved led c.requires.stands.0 (ap (λ (r : Row). stands s code place r) (joins_as place c.args.block c.args.side c.in_ok-order.order false true (is_last c.in_ok-order.order c.args.side) c.if-comes_first.ensures c.if-runs_other.ensures refl)) ((c.in_ok-order.ensures.came c.requires.stands.0 c.requires.stands.1).1))
+    let led = g.M.Memory.led m place.own in (
+      c.requires.stands.0,
+      moved led c.requires.stands.0
+          (ap (λ (r : Row). stands s code place r) (joins_as place c.args.block c.args.side c.in_ok-order.order false true
+          (is_last c.in_ok-order.order c.args.side) c.if-comes_first.ensures c.if-runs_other.ensures refl))
+          ((c.in_ok-order.ensures.came c.requires.stands.0 c.requires.stands.1).1),
+    )
 
 pub returns-then-runs_other-clause-came : goal.returns-then-runs_other-clause-came
 returns-then-runs_other-clause-came g c = λ first l.
@@ -55,7 +68,9 @@ returns-then-runs_other-clause-came g c = λ first l.
     let code = g.M.Memory.code m in
     let place = c.args.seat.now in
     let led = g.M.Memory.led m place.own in
-    c.begin_right.ensures.came first (moved led first (ap (λ (r : Row). stands s code place r) (joins_as place c.args.block c.args.side c.in_ok-order.order false true (is_last c.in_ok-order.order c.args.side) c.if-comes_first.ensures c.if-runs_other.ensures refl)) ((c.in_ok-order.ensures.came first l).1))
+    c.begin_right.ensures.came first
+    (moved led first (ap (λ (r : Row). stands s code place r) (joins_as place c.args.block c.args.side c.in_ok-order.order false true
+    (is_last c.in_ok-order.order c.args.side) c.if-comes_first.ensures c.if-runs_other.ensures refl)) ((c.in_ok-order.ensures.came first l).1))
 
 pub join_last-requires-clause-stands : goal.join_last-requires-clause-stands
 join_last-requires-clause-stands g c κs within =
@@ -63,8 +78,12 @@ join_last-requires-clause-stands g c κs within =
     let s = g.M.Memory.shape m in
     let code = g.M.Memory.code m in
     let place = c.args.seat.now in
-    let led = g.M.Memory.led m place.own in
-    (c.requires.stands.0, moved led c.requires.stands.0 (ap (λ (r : Row). stands s code place r) (joins_as place c.args.block c.args.side c.in_ok-order.order false false true c.if-comes_first.ensures c.if-runs_other.ensures c.if-comes_last.ensures)) ((c.in_ok-order.ensures.came c.requires.stands.0 c.requires.stands.1).1))
+    let led = g.M.Memory.led m place.own in (
+      c.requires.stands.0,
+      moved led c.requires.stands.0
+          (ap (λ (r : Row). stands s code place r) (joins_as place c.args.block c.args.side c.in_ok-order.order false false true c.if-comes_first.ensures
+          c.if-runs_other.ensures c.if-comes_last.ensures)) ((c.in_ok-order.ensures.came c.requires.stands.0 c.requires.stands.1).1),
+    )
 
 pub returns-then-comes_last-clause-came : goal.returns-then-comes_last-clause-came
 returns-then-comes_last-clause-came g c = λ first l.
@@ -73,7 +92,9 @@ returns-then-comes_last-clause-came g c = λ first l.
     let code = g.M.Memory.code m in
     let place = c.args.seat.now in
     let led = g.M.Memory.led m place.own in
-    c.join_last.ensures.came first (moved led first (ap (λ (r : Row). stands s code place r) (joins_as place c.args.block c.args.side c.in_ok-order.order false false true c.if-comes_first.ensures c.if-runs_other.ensures c.if-comes_last.ensures)) ((c.in_ok-order.ensures.came first l).1))
+    c.join_last.ensures.came first (moved led first
+    (ap (λ (r : Row). stands s code place r) (joins_as place c.args.block c.args.side c.in_ok-order.order false false true c.if-comes_first.ensures
+    c.if-runs_other.ensures c.if-comes_last.ensures)) ((c.in_ok-order.ensures.came first l).1))
 
 pub returns-clause-came : goal.returns-clause-came
 returns-clause-came g c = λ first l.
@@ -82,4 +103,5 @@ returns-clause-came g c = λ first l.
     let code = g.M.Memory.code m in
     let place = c.args.seat.now in
     let led = g.M.Memory.led m place.own in
-    moved led first (ap (λ (r : Row). stands s code place r) (joins_as place c.args.block c.args.side c.in_ok-order.order false false false c.if-comes_first.ensures c.if-runs_other.ensures c.if-comes_last.ensures)) ((c.in_ok-order.ensures.came first l).1)
+    moved led first (ap (λ (r : Row). stands s code place r) (joins_as place c.args.block c.args.side c.in_ok-order.order false false false
+    c.if-comes_first.ensures c.if-runs_other.ensures c.if-comes_last.ensures)) ((c.in_ok-order.ensures.came first l).1)

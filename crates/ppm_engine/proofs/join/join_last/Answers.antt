@@ -24,7 +24,8 @@ returns-in_err-link-clause-came g c = λ first l.
     let code = g.M.Memory.code m in
     let place = c.args.seat.now in
     let led = g.M.Memory.led m place.own in
-    exit_by (λ (r : Result Restart Stop). Came led first (g.M.Memory.refused m place.own) (g.M.Memory.over m) place.place c.load_link.new.own (g.W.Watch.told c.load_link.new.watch) c.load_link.new.tally IsRestart (λ restart. IsAt place.place (Some restart)) r) _ _ c.from_residual.ensures.1
+    exit_by (λ (r : Result Restart Stop). Came led first (g.M.Memory.refused m place.own) (g.M.Memory.over m) place.place c.load_link.new.own
+    (g.W.Watch.told c.load_link.new.watch) c.load_link.new.tally IsRestart (λ restart. IsAt place.place (Some restart)) r) _ _ c.from_residual.ensures.1
     (c.in_err-link.ensures.came first l)
 
 pub returns-in_default-clause-came : goal.returns-in_default-clause-came
@@ -34,7 +35,8 @@ returns-in_default-clause-came g c = λ first l.
     let code = g.M.Memory.code m in
     let place = c.args.seat.now in
     let led = g.M.Memory.led m place.own in
-    moved led first (ap (λ (r : Row). stands s code place r) (join_breaks c.args.block c.in_ok-link.link.kind c.in_default.not-Fork)) ((c.in_ok-link.ensures.came first l).1)
+    moved led first (ap (λ (r : Row). stands s code place r) (join_breaks c.args.block c.in_ok-link.link.kind c.in_default.not-Fork))
+    ((c.in_ok-link.ensures.came first l).1)
 
 pub load_outcome-requires-clause-stands : goal.load_outcome-requires-clause-stands
 load_outcome-requires-clause-stands g c κs within =
@@ -42,8 +44,12 @@ load_outcome-requires-clause-stands g c κs within =
     let s = g.M.Memory.shape m in
     let code = g.M.Memory.code m in
     let place = c.args.seat.now in
-    let led = g.M.Memory.led m place.own in
-    (c.requires.stands.0, moved led c.requires.stands.0 (ap (λ (r : Row). stands s code place r) (ap (λ (k : LinkKind). join_by c.args.block k) c.in-Fork.is)) ((c.in_ok-link.ensures.came c.requires.stands.0 c.requires.stands.1).1))
+    let led = g.M.Memory.led m place.own in (
+      c.requires.stands.0,
+      moved led c.requires.stands.0
+          (ap (λ (r : Row). stands s code place r) (ap (λ (k : LinkKind). join_by c.args.block k) c.in-Fork.is))
+          ((c.in_ok-link.ensures.came c.requires.stands.0 c.requires.stands.1).1),
+    )
 
 pub returns-in_err-left-clause-came : goal.returns-in_err-left-clause-came
 returns-in_err-left-clause-came g c = λ first l.
@@ -52,8 +58,12 @@ returns-in_err-left-clause-came g c = λ first l.
     let code = g.M.Memory.code m in
     let place = c.args.seat.now in
     let led = g.M.Memory.led m place.own in
-    exit_by (λ (r : Result Restart Stop). Came led first (g.M.Memory.refused m place.own) (g.M.Memory.over m) place.place c.load_outcome.new.own (g.W.Watch.told c.load_outcome.new.watch) c.load_outcome.new.tally IsRestart (λ restart. IsAt place.place (Some restart)) r) _ _ c.from_residual-in_err-left.ensures.1
-    (c.in_err-left.ensures.came first (moved led first (ap (λ (r : Row). stands s code place r) (ap (λ (k : LinkKind). join_by c.args.block k) c.in-Fork.is)) ((c.in_ok-link.ensures.came first l).1)))
+    exit_by (λ (r : Result Restart Stop). Came led first (g.M.Memory.refused m place.own) (g.M.Memory.over m) place.place c.load_outcome.new.own
+    (g.W.Watch.told c.load_outcome.new.watch) c.load_outcome.new.tally IsRestart (λ restart. IsAt place.place (Some restart)) r) _ _
+    c.from_residual-in_err-left.ensures.1
+    (c.in_err-left.ensures.came first
+    (moved led first (ap (λ (r : Row). stands s code place r) (ap (λ (k : LinkKind). join_by c.args.block k) c.in-Fork.is))
+    ((c.in_ok-link.ensures.came first l).1)))
 
 pub load_outcome-requires-2-clause-stands : goal.load_outcome-requires-2-clause-stands
 load_outcome-requires-2-clause-stands g c κs within =
@@ -61,8 +71,18 @@ load_outcome-requires-2-clause-stands g c κs within =
     let s = g.M.Memory.shape m in
     let code = g.M.Memory.code m in
     let place = c.args.seat.now in
-    let led = g.M.Memory.led m place.own in
-    (c.requires.stands.0, moved led c.requires.stands.0 (ap (λ (r : Row). stands s code place r) (goes_by_outcome c.in_ok-left.left (λ left. Now (Load (JoinRight c.args.block c.in-Fork.to c.in-Fork.copy left))) (c.in_ok-left.ensures.came c.requires.stands.0 (moved led c.requires.stands.0 (ap (λ (r : Row). stands s code place r) (ap (λ (k : LinkKind). join_by c.args.block k) c.in-Fork.is)) ((c.in_ok-link.ensures.came c.requires.stands.0 c.requires.stands.1).1))).0.1)) ((c.in_ok-left.ensures.came c.requires.stands.0 (moved led c.requires.stands.0 (ap (λ (r : Row). stands s code place r) (ap (λ (k : LinkKind). join_by c.args.block k) c.in-Fork.is)) ((c.in_ok-link.ensures.came c.requires.stands.0 c.requires.stands.1).1))).1))
+    let led = g.M.Memory.led m place.own in (
+      c.requires.stands.0,
+      moved led c.requires.stands.0
+          (ap (λ (r : Row). stands s code place r)
+          (goes_by_outcome c.in_ok-left.left (λ left. Now (Load (JoinRight c.args.block c.in-Fork.to c.in-Fork.copy left)))
+          (c.in_ok-left.ensures.came c.requires.stands.0
+          (moved led c.requires.stands.0 (ap (λ (r : Row). stands s code place r) (ap (λ (k : LinkKind). join_by c.args.block k) c.in-Fork.is))
+          ((c.in_ok-link.ensures.came c.requires.stands.0 c.requires.stands.1).1))).0.1))
+          ((c.in_ok-left.ensures.came c.requires.stands.0
+          (moved led c.requires.stands.0 (ap (λ (r : Row). stands s code place r) (ap (λ (k : LinkKind). join_by c.args.block k) c.in-Fork.is))
+          ((c.in_ok-link.ensures.came c.requires.stands.0 c.requires.stands.1).1))).1),
+    )
 
 pub returns-in_err-right-clause-came : goal.returns-in_err-right-clause-came
 returns-in_err-right-clause-came g c = λ first l.
@@ -71,8 +91,17 @@ returns-in_err-right-clause-came g c = λ first l.
     let code = g.M.Memory.code m in
     let place = c.args.seat.now in
     let led = g.M.Memory.led m place.own in
-    exit_by (λ (r : Result Restart Stop). Came led first (g.M.Memory.refused m place.own) (g.M.Memory.over m) place.place c.load_outcome-2.new.own (g.W.Watch.told c.load_outcome-2.new.watch) c.load_outcome-2.new.tally IsRestart (λ restart. IsAt place.place (Some restart)) r) _ _ c.from_residual-in_err-right.ensures.1
-    (c.in_err-right.ensures.came first (moved led first (ap (λ (r : Row). stands s code place r) (goes_by_outcome c.in_ok-left.left (λ left. Now (Load (JoinRight c.args.block c.in-Fork.to c.in-Fork.copy left))) (c.in_ok-left.ensures.came first (moved led first (ap (λ (r : Row). stands s code place r) (ap (λ (k : LinkKind). join_by c.args.block k) c.in-Fork.is)) ((c.in_ok-link.ensures.came first l).1))).0.1)) ((c.in_ok-left.ensures.came first (moved led first (ap (λ (r : Row). stands s code place r) (ap (λ (k : LinkKind). join_by c.args.block k) c.in-Fork.is)) ((c.in_ok-link.ensures.came first l).1))).1)))
+    exit_by (λ (r : Result Restart Stop). Came led first (g.M.Memory.refused m place.own) (g.M.Memory.over m) place.place c.load_outcome-2.new.own
+    (g.W.Watch.told c.load_outcome-2.new.watch) c.load_outcome-2.new.tally IsRestart (λ restart. IsAt place.place (Some restart)) r) _ _
+    c.from_residual-in_err-right.ensures.1
+    (c.in_err-right.ensures.came first
+    (moved led first (ap (λ (r : Row). stands s code place r)
+    (goes_by_outcome c.in_ok-left.left (λ left. Now (Load (JoinRight c.args.block c.in-Fork.to c.in-Fork.copy left)))
+    (c.in_ok-left.ensures.came first (moved led first (ap (λ (r : Row). stands s code place r) (ap (λ (k : LinkKind). join_by c.args.block k) c.in-Fork.is))
+    ((c.in_ok-link.ensures.came first l).1))).0.1))
+    ((c.in_ok-left.ensures.came first
+    (moved led first (ap (λ (r : Row). stands s code place r) (ap (λ (k : LinkKind). join_by c.args.block k) c.in-Fork.is))
+    ((c.in_ok-link.ensures.came first l).1))).1)))
 
 pub take_over-requires-clause-stands : goal.take_over-requires-clause-stands
 take_over-requires-clause-stands g c κs within =
@@ -81,8 +110,31 @@ take_over-requires-clause-stands g c κs within =
     let code = g.M.Memory.code m in
     let place = c.args.seat.now in
     let led = g.M.Memory.led m place.own in
-    let go : Finish → Row = λ right. join_outcome place c.args.block c.in-Fork.to c.in-Fork.copy (outcome_of_both c.in_ok-left.left right) in
-    (c.requires.stands.0, moved led c.requires.stands.0 (ap (λ (r : Row). stands s code place r) (goes_by_outcome c.in_ok-right.right go (c.in_ok-right.ensures.came c.requires.stands.0 (moved led c.requires.stands.0 (ap (λ (r : Row). stands s code place r) (goes_by_outcome c.in_ok-left.left (λ left. Now (Load (JoinRight c.args.block c.in-Fork.to c.in-Fork.copy left))) (c.in_ok-left.ensures.came c.requires.stands.0 (moved led c.requires.stands.0 (ap (λ (r : Row). stands s code place r) (ap (λ (k : LinkKind). join_by c.args.block k) c.in-Fork.is)) ((c.in_ok-link.ensures.came c.requires.stands.0 c.requires.stands.1).1))).0.1)) ((c.in_ok-left.ensures.came c.requires.stands.0 (moved led c.requires.stands.0 (ap (λ (r : Row). stands s code place r) (ap (λ (k : LinkKind). join_by c.args.block k) c.in-Fork.is)) ((c.in_ok-link.ensures.came c.requires.stands.0 c.requires.stands.1).1))).1))).0.1 ∙ ap (λ (f : Finish). join_outcome place c.args.block c.in-Fork.to c.in-Fork.copy f) (sym c.joined-outcome.ensures.value) ∙ join_traps place c.args.block c.in-Fork.to c.in-Fork.copy c.joined-outcome.result c.in_default-outcome.not-Ended)) ((c.in_ok-right.ensures.came c.requires.stands.0 (moved led c.requires.stands.0 (ap (λ (r : Row). stands s code place r) (goes_by_outcome c.in_ok-left.left (λ left. Now (Load (JoinRight c.args.block c.in-Fork.to c.in-Fork.copy left))) (c.in_ok-left.ensures.came c.requires.stands.0 (moved led c.requires.stands.0 (ap (λ (r : Row). stands s code place r) (ap (λ (k : LinkKind). join_by c.args.block k) c.in-Fork.is)) ((c.in_ok-link.ensures.came c.requires.stands.0 c.requires.stands.1).1))).0.1)) ((c.in_ok-left.ensures.came c.requires.stands.0 (moved led c.requires.stands.0 (ap (λ (r : Row). stands s code place r) (ap (λ (k : LinkKind). join_by c.args.block k) c.in-Fork.is)) ((c.in_ok-link.ensures.came c.requires.stands.0 c.requires.stands.1).1))).1))).1))
+    let go : Finish → Row = λ right. join_outcome place c.args.block c.in-Fork.to c.in-Fork.copy (outcome_of_both c.in_ok-left.left right) in (
+      c.requires.stands.0,
+      moved led c.requires.stands.0
+          (ap (λ (r : Row). stands s code place r)
+          (goes_by_outcome c.in_ok-right.right go (c.in_ok-right.ensures.came c.requires.stands.0
+          (moved led c.requires.stands.0 (ap (λ (r : Row). stands s code place r)
+          (goes_by_outcome c.in_ok-left.left (λ left. Now (Load (JoinRight c.args.block c.in-Fork.to c.in-Fork.copy left)))
+          (c.in_ok-left.ensures.came c.requires.stands.0
+          (moved led c.requires.stands.0 (ap (λ (r : Row). stands s code place r) (ap (λ (k : LinkKind). join_by c.args.block k) c.in-Fork.is))
+          ((c.in_ok-link.ensures.came c.requires.stands.0 c.requires.stands.1).1))).0.1))
+          ((c.in_ok-left.ensures.came c.requires.stands.0
+          (moved led c.requires.stands.0 (ap (λ (r : Row). stands s code place r) (ap (λ (k : LinkKind). join_by c.args.block k) c.in-Fork.is))
+          ((c.in_ok-link.ensures.came c.requires.stands.0 c.requires.stands.1).1))).1))).0.1 ∙ ap (λ (f : Finish). join_outcome place c.args.block c.in-Fork.to
+          c.in-Fork.copy f) (sym c.joined-outcome.ensures.value) ∙ join_traps place c.args.block c.in-Fork.to c.in-Fork.copy c.joined-outcome.result
+          c.in_default-outcome.not-Ended))
+          ((c.in_ok-right.ensures.came c.requires.stands.0
+          (moved led c.requires.stands.0 (ap (λ (r : Row). stands s code place r)
+          (goes_by_outcome c.in_ok-left.left (λ left. Now (Load (JoinRight c.args.block c.in-Fork.to c.in-Fork.copy left)))
+          (c.in_ok-left.ensures.came c.requires.stands.0
+          (moved led c.requires.stands.0 (ap (λ (r : Row). stands s code place r) (ap (λ (k : LinkKind). join_by c.args.block k) c.in-Fork.is))
+          ((c.in_ok-link.ensures.came c.requires.stands.0 c.requires.stands.1).1))).0.1))
+          ((c.in_ok-left.ensures.came c.requires.stands.0
+          (moved led c.requires.stands.0 (ap (λ (r : Row). stands s code place r) (ap (λ (k : LinkKind). join_by c.args.block k) c.in-Fork.is))
+          ((c.in_ok-link.ensures.came c.requires.stands.0 c.requires.stands.1).1))).1))).1),
+    )
 
 pub returns-in_default-outcome-clause-came : goal.returns-in_default-outcome-clause-came
 returns-in_default-outcome-clause-came g c = λ first l.
@@ -92,7 +144,27 @@ returns-in_default-outcome-clause-came g c = λ first l.
     let place = c.args.seat.now in
     let led = g.M.Memory.led m place.own in
     let go : Finish → Row = λ right. join_outcome place c.args.block c.in-Fork.to c.in-Fork.copy (outcome_of_both c.in_ok-left.left right) in
-    c.take_over.ensures.came first (moved led first (ap (λ (r : Row). stands s code place r) (goes_by_outcome c.in_ok-right.right go (c.in_ok-right.ensures.came first (moved led first (ap (λ (r : Row). stands s code place r) (goes_by_outcome c.in_ok-left.left (λ left. Now (Load (JoinRight c.args.block c.in-Fork.to c.in-Fork.copy left))) (c.in_ok-left.ensures.came first (moved led first (ap (λ (r : Row). stands s code place r) (ap (λ (k : LinkKind). join_by c.args.block k) c.in-Fork.is)) ((c.in_ok-link.ensures.came first l).1))).0.1)) ((c.in_ok-left.ensures.came first (moved led first (ap (λ (r : Row). stands s code place r) (ap (λ (k : LinkKind). join_by c.args.block k) c.in-Fork.is)) ((c.in_ok-link.ensures.came first l).1))).1))).0.1 ∙ ap (λ (f : Finish). join_outcome place c.args.block c.in-Fork.to c.in-Fork.copy f) (sym c.joined-outcome.ensures.value) ∙ join_traps place c.args.block c.in-Fork.to c.in-Fork.copy c.joined-outcome.result c.in_default-outcome.not-Ended)) ((c.in_ok-right.ensures.came first (moved led first (ap (λ (r : Row). stands s code place r) (goes_by_outcome c.in_ok-left.left (λ left. Now (Load (JoinRight c.args.block c.in-Fork.to c.in-Fork.copy left))) (c.in_ok-left.ensures.came first (moved led first (ap (λ (r : Row). stands s code place r) (ap (λ (k : LinkKind). join_by c.args.block k) c.in-Fork.is)) ((c.in_ok-link.ensures.came first l).1))).0.1)) ((c.in_ok-left.ensures.came first (moved led first (ap (λ (r : Row). stands s code place r) (ap (λ (k : LinkKind). join_by c.args.block k) c.in-Fork.is)) ((c.in_ok-link.ensures.came first l).1))).1))).1))
+    c.take_over.ensures.came first (moved led first
+    (ap (λ (r : Row). stands s code place r)
+    (goes_by_outcome c.in_ok-right.right go
+    (c.in_ok-right.ensures.came first
+    (moved led first (ap (λ (r : Row). stands s code place r)
+    (goes_by_outcome c.in_ok-left.left (λ left. Now (Load (JoinRight c.args.block c.in-Fork.to c.in-Fork.copy left)))
+    (c.in_ok-left.ensures.came first (moved led first (ap (λ (r : Row). stands s code place r) (ap (λ (k : LinkKind). join_by c.args.block k) c.in-Fork.is))
+    ((c.in_ok-link.ensures.came first l).1))).0.1))
+    ((c.in_ok-left.ensures.came first
+    (moved led first (ap (λ (r : Row). stands s code place r) (ap (λ (k : LinkKind). join_by c.args.block k) c.in-Fork.is))
+    ((c.in_ok-link.ensures.came first l).1))).1))).0.1 ∙ ap (λ (f : Finish). join_outcome place c.args.block c.in-Fork.to c.in-Fork.copy f)
+    (sym c.joined-outcome.ensures.value) ∙ join_traps place c.args.block c.in-Fork.to c.in-Fork.copy c.joined-outcome.result
+    c.in_default-outcome.not-Ended))
+    ((c.in_ok-right.ensures.came first
+    (moved led first (ap (λ (r : Row). stands s code place r)
+    (goes_by_outcome c.in_ok-left.left (λ left. Now (Load (JoinRight c.args.block c.in-Fork.to c.in-Fork.copy left)))
+    (c.in_ok-left.ensures.came first (moved led first (ap (λ (r : Row). stands s code place r) (ap (λ (k : LinkKind). join_by c.args.block k) c.in-Fork.is))
+    ((c.in_ok-link.ensures.came first l).1))).0.1))
+    ((c.in_ok-left.ensures.came first
+    (moved led first (ap (λ (r : Row). stands s code place r) (ap (λ (k : LinkKind). join_by c.args.block k) c.in-Fork.is))
+    ((c.in_ok-link.ensures.came first l).1))).1))).1))
 
 pub join_values-requires-clause-stands : goal.join_values-requires-clause-stands
 join_values-requires-clause-stands g c κs within =
@@ -101,8 +173,30 @@ join_values-requires-clause-stands g c κs within =
     let code = g.M.Memory.code m in
     let place = c.args.seat.now in
     let led = g.M.Memory.led m place.own in
-    let go : Finish → Row = λ right. join_outcome place c.args.block c.in-Fork.to c.in-Fork.copy (outcome_of_both c.in_ok-left.left right) in
-    (c.requires.stands.0, moved led c.requires.stands.0 (ap (λ (r : Row). stands s code place r) (goes_by_outcome c.in_ok-right.right go (c.in_ok-right.ensures.came c.requires.stands.0 (moved led c.requires.stands.0 (ap (λ (r : Row). stands s code place r) (goes_by_outcome c.in_ok-left.left (λ left. Now (Load (JoinRight c.args.block c.in-Fork.to c.in-Fork.copy left))) (c.in_ok-left.ensures.came c.requires.stands.0 (moved led c.requires.stands.0 (ap (λ (r : Row). stands s code place r) (ap (λ (k : LinkKind). join_by c.args.block k) c.in-Fork.is)) ((c.in_ok-link.ensures.came c.requires.stands.0 c.requires.stands.1).1))).0.1)) ((c.in_ok-left.ensures.came c.requires.stands.0 (moved led c.requires.stands.0 (ap (λ (r : Row). stands s code place r) (ap (λ (k : LinkKind). join_by c.args.block k) c.in-Fork.is)) ((c.in_ok-link.ensures.came c.requires.stands.0 c.requires.stands.1).1))).1))).0.1 ∙ ap (λ (f : Finish). join_outcome place c.args.block c.in-Fork.to c.in-Fork.copy f) (sym c.joined-outcome.ensures.value ∙ c.in-Ended.is))) ((c.in_ok-right.ensures.came c.requires.stands.0 (moved led c.requires.stands.0 (ap (λ (r : Row). stands s code place r) (goes_by_outcome c.in_ok-left.left (λ left. Now (Load (JoinRight c.args.block c.in-Fork.to c.in-Fork.copy left))) (c.in_ok-left.ensures.came c.requires.stands.0 (moved led c.requires.stands.0 (ap (λ (r : Row). stands s code place r) (ap (λ (k : LinkKind). join_by c.args.block k) c.in-Fork.is)) ((c.in_ok-link.ensures.came c.requires.stands.0 c.requires.stands.1).1))).0.1)) ((c.in_ok-left.ensures.came c.requires.stands.0 (moved led c.requires.stands.0 (ap (λ (r : Row). stands s code place r) (ap (λ (k : LinkKind). join_by c.args.block k) c.in-Fork.is)) ((c.in_ok-link.ensures.came c.requires.stands.0 c.requires.stands.1).1))).1))).1))
+    let go : Finish → Row = λ right. join_outcome place c.args.block c.in-Fork.to c.in-Fork.copy (outcome_of_both c.in_ok-left.left right) in (
+      c.requires.stands.0,
+      moved led c.requires.stands.0
+          (ap (λ (r : Row). stands s code place r)
+          (goes_by_outcome c.in_ok-right.right go (c.in_ok-right.ensures.came c.requires.stands.0
+          (moved led c.requires.stands.0 (ap (λ (r : Row). stands s code place r)
+          (goes_by_outcome c.in_ok-left.left (λ left. Now (Load (JoinRight c.args.block c.in-Fork.to c.in-Fork.copy left)))
+          (c.in_ok-left.ensures.came c.requires.stands.0
+          (moved led c.requires.stands.0 (ap (λ (r : Row). stands s code place r) (ap (λ (k : LinkKind). join_by c.args.block k) c.in-Fork.is))
+          ((c.in_ok-link.ensures.came c.requires.stands.0 c.requires.stands.1).1))).0.1))
+          ((c.in_ok-left.ensures.came c.requires.stands.0
+          (moved led c.requires.stands.0 (ap (λ (r : Row). stands s code place r) (ap (λ (k : LinkKind). join_by c.args.block k) c.in-Fork.is))
+          ((c.in_ok-link.ensures.came c.requires.stands.0 c.requires.stands.1).1))).1))).0.1 ∙ ap (λ (f : Finish). join_outcome place c.args.block c.in-Fork.to
+          c.in-Fork.copy f) (sym c.joined-outcome.ensures.value ∙ c.in-Ended.is)))
+          ((c.in_ok-right.ensures.came c.requires.stands.0
+          (moved led c.requires.stands.0 (ap (λ (r : Row). stands s code place r)
+          (goes_by_outcome c.in_ok-left.left (λ left. Now (Load (JoinRight c.args.block c.in-Fork.to c.in-Fork.copy left)))
+          (c.in_ok-left.ensures.came c.requires.stands.0
+          (moved led c.requires.stands.0 (ap (λ (r : Row). stands s code place r) (ap (λ (k : LinkKind). join_by c.args.block k) c.in-Fork.is))
+          ((c.in_ok-link.ensures.came c.requires.stands.0 c.requires.stands.1).1))).0.1))
+          ((c.in_ok-left.ensures.came c.requires.stands.0
+          (moved led c.requires.stands.0 (ap (λ (r : Row). stands s code place r) (ap (λ (k : LinkKind). join_by c.args.block k) c.in-Fork.is))
+          ((c.in_ok-link.ensures.came c.requires.stands.0 c.requires.stands.1).1))).1))).1),
+    )
 
 pub returns-clause-came : goal.returns-clause-came
 returns-clause-came g c = λ first l.
@@ -112,4 +206,23 @@ returns-clause-came g c = λ first l.
     let place = c.args.seat.now in
     let led = g.M.Memory.led m place.own in
     let go : Finish → Row = λ right. join_outcome place c.args.block c.in-Fork.to c.in-Fork.copy (outcome_of_both c.in_ok-left.left right) in
-    c.join_values.ensures.came first (moved led first (ap (λ (r : Row). stands s code place r) (goes_by_outcome c.in_ok-right.right go (c.in_ok-right.ensures.came first (moved led first (ap (λ (r : Row). stands s code place r) (goes_by_outcome c.in_ok-left.left (λ left. Now (Load (JoinRight c.args.block c.in-Fork.to c.in-Fork.copy left))) (c.in_ok-left.ensures.came first (moved led first (ap (λ (r : Row). stands s code place r) (ap (λ (k : LinkKind). join_by c.args.block k) c.in-Fork.is)) ((c.in_ok-link.ensures.came first l).1))).0.1)) ((c.in_ok-left.ensures.came first (moved led first (ap (λ (r : Row). stands s code place r) (ap (λ (k : LinkKind). join_by c.args.block k) c.in-Fork.is)) ((c.in_ok-link.ensures.came first l).1))).1))).0.1 ∙ ap (λ (f : Finish). join_outcome place c.args.block c.in-Fork.to c.in-Fork.copy f) (sym c.joined-outcome.ensures.value ∙ c.in-Ended.is))) ((c.in_ok-right.ensures.came first (moved led first (ap (λ (r : Row). stands s code place r) (goes_by_outcome c.in_ok-left.left (λ left. Now (Load (JoinRight c.args.block c.in-Fork.to c.in-Fork.copy left))) (c.in_ok-left.ensures.came first (moved led first (ap (λ (r : Row). stands s code place r) (ap (λ (k : LinkKind). join_by c.args.block k) c.in-Fork.is)) ((c.in_ok-link.ensures.came first l).1))).0.1)) ((c.in_ok-left.ensures.came first (moved led first (ap (λ (r : Row). stands s code place r) (ap (λ (k : LinkKind). join_by c.args.block k) c.in-Fork.is)) ((c.in_ok-link.ensures.came first l).1))).1))).1))
+    c.join_values.ensures.came first
+    (moved led first (ap (λ (r : Row). stands s code place r)
+    (goes_by_outcome c.in_ok-right.right go
+    (c.in_ok-right.ensures.came first
+    (moved led first (ap (λ (r : Row). stands s code place r)
+    (goes_by_outcome c.in_ok-left.left (λ left. Now (Load (JoinRight c.args.block c.in-Fork.to c.in-Fork.copy left)))
+    (c.in_ok-left.ensures.came first (moved led first (ap (λ (r : Row). stands s code place r) (ap (λ (k : LinkKind). join_by c.args.block k) c.in-Fork.is))
+    ((c.in_ok-link.ensures.came first l).1))).0.1))
+    ((c.in_ok-left.ensures.came first
+    (moved led first (ap (λ (r : Row). stands s code place r) (ap (λ (k : LinkKind). join_by c.args.block k) c.in-Fork.is))
+    ((c.in_ok-link.ensures.came first l).1))).1))).0.1 ∙ ap (λ (f : Finish). join_outcome place c.args.block c.in-Fork.to c.in-Fork.copy f)
+    (sym c.joined-outcome.ensures.value ∙ c.in-Ended.is)))
+    ((c.in_ok-right.ensures.came first
+    (moved led first (ap (λ (r : Row). stands s code place r)
+    (goes_by_outcome c.in_ok-left.left (λ left. Now (Load (JoinRight c.args.block c.in-Fork.to c.in-Fork.copy left)))
+    (c.in_ok-left.ensures.came first (moved led first (ap (λ (r : Row). stands s code place r) (ap (λ (k : LinkKind). join_by c.args.block k) c.in-Fork.is))
+    ((c.in_ok-link.ensures.came first l).1))).0.1))
+    ((c.in_ok-left.ensures.came first
+    (moved led first (ap (λ (r : Row). stands s code place r) (ap (λ (k : LinkKind). join_by c.args.block k) c.in-Fork.is))
+    ((c.in_ok-link.ensures.came first l).1))).1))).1))

@@ -28,9 +28,16 @@ make-requires-clause-stands g c κs within =
     let code = g.M.Memory.code m in
     let place = c.args.seat.now in
     let led = g.M.Memory.led m place.own in
-    let there = c.if-not-cell_is_there.ensures ∙ ap (λ (x : Shape). is_there x c.cell_of-cell.result) c.shape-shape.ensures ∙ ap (λ (x : Cell). is_there s x) c.cell_of-cell.ensures in
-    let at = c.address-at.ensures.value ∙ ap (λ (x : Shape). address x c.cell_of-cell.result) c.shape-shape.ensures ∙ ap (λ (x : Cell). address s x) c.cell_of-cell.ensures in
-    (c.requires.stands.0, Now (Load c.args.point), load_next s place c.args.point c.address-at.result c.requires.point.1 at, moved led c.requires.stands.0 (stands_if s code place c.args.point true c.requires.point.1 there) (c.requires.stands.1))
+    let there = c.if-not-cell_is_there.ensures ∙ ap (λ (x : Shape). is_there x c.cell_of-cell.result) c.shape-shape.ensures ∙ ap
+    (λ (x : Cell). is_there s x) c.cell_of-cell.ensures in
+    let at = c.address-at.ensures.value ∙ ap (λ (x : Shape). address x c.cell_of-cell.result) c.shape-shape.ensures ∙ ap (λ (x : Cell). address s x)
+    c.cell_of-cell.ensures in (
+      c.requires.stands.0,
+      Now (Load c.args.point),
+      load_next s place c.args.point c.address-at.result c.requires.point.1 at,
+      moved led c.requires.stands.0
+          (stands_if s code place c.args.point true c.requires.point.1 there) (c.requires.stands.1),
+    )
 
 pub returns-then-not-cell_is_there-clause-came : goal.returns-then-not-cell_is_there-clause-came
 returns-then-not-cell_is_there-clause-came g c = λ first l.
@@ -39,7 +46,8 @@ returns-then-not-cell_is_there-clause-came g c = λ first l.
     let code = g.M.Memory.code m in
     let place = c.args.seat.now in
     let led = g.M.Memory.led m place.own in
-    let there = c.if-not-cell_is_there.ensures ∙ ap (λ (x : Shape). is_there x c.cell_of-cell.result) c.shape-shape.ensures ∙ ap (λ (x : Cell). is_there s x) c.cell_of-cell.ensures in
+    let there = c.if-not-cell_is_there.ensures ∙ ap (λ (x : Shape). is_there x c.cell_of-cell.result) c.shape-shape.ensures ∙ ap
+    (λ (x : Cell). is_there s x) c.cell_of-cell.ensures in
     moved led first (stands_if s code place c.args.point false c.requires.point.1 there) (l)
 
 pub returns-clause-came : goal.returns-clause-came
@@ -49,6 +57,9 @@ returns-clause-came g c = λ first l.
     let code = g.M.Memory.code m in
     let place = c.args.seat.now in
     let led = g.M.Memory.led m place.own in
-    let there = c.if-not-cell_is_there.ensures ∙ ap (λ (x : Shape). is_there x c.cell_of-cell.result) c.shape-shape.ensures ∙ ap (λ (x : Cell). is_there s x) c.cell_of-cell.ensures in
-    let at = c.address-at.ensures.value ∙ ap (λ (x : Shape). address x c.cell_of-cell.result) c.shape-shape.ensures ∙ ap (λ (x : Cell). address s x) c.cell_of-cell.ensures in
-    c.make.ensures.came first (Now (Load c.args.point)) (load_next s place c.args.point c.address-at.result c.requires.point.1 at) (moved led first (stands_if s code place c.args.point true c.requires.point.1 there) (l))
+    let there = c.if-not-cell_is_there.ensures ∙ ap (λ (x : Shape). is_there x c.cell_of-cell.result) c.shape-shape.ensures ∙ ap
+    (λ (x : Cell). is_there s x) c.cell_of-cell.ensures in
+    let at = c.address-at.ensures.value ∙ ap (λ (x : Shape). address x c.cell_of-cell.result) c.shape-shape.ensures ∙ ap (λ (x : Cell). address s x)
+    c.cell_of-cell.ensures in
+    c.make.ensures.came first (Now (Load c.args.point)) (load_next s place c.args.point c.address-at.result c.requires.point.1 at)
+    (moved led first (stands_if s code place c.args.point true c.requires.point.1 there) (l))

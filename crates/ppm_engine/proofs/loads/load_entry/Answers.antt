@@ -18,7 +18,9 @@ returns-in_err-word-clause-came g c = λ first l.
     let code = g.M.Memory.code m in
     let place = c.args.seat.now in
     let led = g.M.Memory.led m place.own in
-    exit_by (λ (r : Result Entry Stop). Came led first (g.M.Memory.refused m place.own) (g.M.Memory.over m) place.place c.load.new.own (g.W.Watch.told c.load.new.watch) c.load.new.tally IsEntry (λ it. stands s code place (found_at s place 0 c.args.point (AnEntry it))) r) _ _ c.from_residual.ensures.1
+    exit_by (λ (r : Result Entry Stop). Came led first (g.M.Memory.refused m place.own) (g.M.Memory.over m) place.place c.load.new.own
+    (g.W.Watch.told c.load.new.watch) c.load.new.tally IsEntry (λ it. stands s code place (found_at s place 0 c.args.point (AnEntry it))) r) _ _
+    c.from_residual.ensures.1
     (c.in_err-word.ensures.came first l)
 
 pub returns-in-Some-clause-came : goal.returns-in-Some-clause-came
@@ -27,8 +29,11 @@ returns-in-Some-clause-came g c = λ first l.
     let s = g.M.Memory.shape m in
     let code = g.M.Memory.code m in
     let place = c.args.seat.now in
-    let led = g.M.Memory.led m place.own in
-    (c.in-Some.ensures.fits, moved led first (with_content s code place c.args.point c.in_ok-word.word AsEntry (AnEntry c.in-Some.entry) c.requires.point.2 (an_entry c.in_ok-word.word (Some c.in-Some.entry) c.in-Some.ensures.value)) ((c.in_ok-word.ensures.came first l).1))
+    let led = g.M.Memory.led m place.own in (
+      c.in-Some.ensures.fits,
+      moved led first (with_content s code place c.args.point c.in_ok-word.word AsEntry (AnEntry c.in-Some.entry) c.requires.point.2
+          (an_entry c.in_ok-word.word (Some c.in-Some.entry) c.in-Some.ensures.value)) ((c.in_ok-word.ensures.came first l).1),
+    )
 
 pub returns-in-None-clause-came : goal.returns-in-None-clause-came
 returns-in-None-clause-came g c = λ first l.
@@ -37,4 +42,5 @@ returns-in-None-clause-came g c = λ first l.
     let code = g.M.Memory.code m in
     let place = c.args.seat.now in
     let led = g.M.Memory.led m place.own in
-    moved led first (unread s code place c.args.point c.in_ok-word.word AsEntry c.requires.point.2 (an_entry c.in_ok-word.word None c.in-None.ensures.value)) ((c.in_ok-word.ensures.came first l).1)
+    moved led first (unread s code place c.args.point c.in_ok-word.word AsEntry c.requires.point.2
+    (an_entry c.in_ok-word.word None c.in-None.ensures.value)) ((c.in_ok-word.ensures.came first l).1)

@@ -33,7 +33,8 @@ returns-in_err-word-clause-came g c = λ first row next l.
     let refused = g.M.Memory.refused m seat.own in
     let here = spot c.args.own.now (IsWithin seat row) (t c.args.watch.now) in
     let at = g.met.M.Memory.stays m seat.own first here (works c.args.tally.now.made c.args.tally.now.exchanged) l in
-    exit_by (λ (r : Result ℕ Stop). Came led first refused (g.M.Memory.over m) seat.place c.step.new.own (t c.step.new.watch) c.args.tally.now Any (λ word. went_row s code seat 0 word row) r) _ _ c.from_residual.ensures.1
+    exit_by (λ (r : Result ℕ Stop). Came led first refused (g.M.Memory.over m) seat.place c.step.new.own (t c.step.new.watch) c.args.tally.now Any
+    (λ word. went_row s code seat 0 word row) r) _ _ c.from_residual.ensures.1
     (stops_after led refused (g.M.Memory.over m) first s code seat row c.args.own.now c.step.new.own (t c.args.watch.now) (t c.step.new.watch) c.args.tally.now
     (one (IsWithin seat row) c.args.want) c.in_err-word.field-0.0 (λ y z k n most a b e. g.met.M.Memory.stopped m seat.own first y z k n most a b e) l
     (c.in_err-word.ensures (IsWithin seat row) at (to_make s seat row c.args.want c.requires.seat c.requires.step next)))

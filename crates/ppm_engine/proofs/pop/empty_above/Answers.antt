@@ -20,7 +20,8 @@ returns-in_err-entry-clause-came g c = λ first l.
     let code = g.M.Memory.code m in
     let place = c.args.seat.now in
     let led = g.M.Memory.led m place.own in
-    exit_by (λ (r : Result Restart Stop). Came led first (g.M.Memory.refused m place.own) (g.M.Memory.over m) place.place c.load_entry.new.own (g.W.Watch.told c.load_entry.new.watch) c.load_entry.new.tally IsRestart (λ restart. IsAt place.place (Some restart)) r) _ _ c.from_residual.ensures.1
+    exit_by (λ (r : Result Restart Stop). Came led first (g.M.Memory.refused m place.own) (g.M.Memory.over m) place.place c.load_entry.new.own
+    (g.W.Watch.told c.load_entry.new.watch) c.load_entry.new.tally IsRestart (λ restart. IsAt place.place (Some restart)) r) _ _ c.from_residual.ensures.1
     (c.in_err-entry.ensures.came first l)
 
 pub begin_right-requires-clause-stands : goal.begin_right-requires-clause-stands
@@ -29,8 +30,11 @@ begin_right-requires-clause-stands g c κs within =
     let s = g.M.Memory.shape m in
     let code = g.M.Memory.code m in
     let place = c.args.seat.now in
-    let led = g.M.Memory.led m place.own in
-    (c.requires.stands.0, moved led c.requires.stands.0 (ap (λ (r : Row). stands s code place r) (empties_none s place c.args.block c.in_ok-entry.entry c.in_default.not-Local)) ((c.in_ok-entry.ensures.came c.requires.stands.0 c.requires.stands.1).1))
+    let led = g.M.Memory.led m place.own in (
+      c.requires.stands.0,
+      moved led c.requires.stands.0 (ap (λ (r : Row). stands s code place r) (empties_none s place c.args.block c.in_ok-entry.entry
+          c.in_default.not-Local)) ((c.in_ok-entry.ensures.came c.requires.stands.0 c.requires.stands.1).1),
+    )
 
 pub returns-in_default-clause-came : goal.returns-in_default-clause-came
 returns-in_default-clause-came g c = λ first l.
@@ -39,11 +43,16 @@ returns-in_default-clause-came g c = λ first l.
     let code = g.M.Memory.code m in
     let place = c.args.seat.now in
     let led = g.M.Memory.led m place.own in
-    c.begin_right.ensures.came first (moved led first (ap (λ (r : Row). stands s code place r) (empties_none s place c.args.block c.in_ok-entry.entry c.in_default.not-Local)) ((c.in_ok-entry.ensures.came first l).1))
+    c.begin_right.ensures.came first
+    (moved led first (ap (λ (r : Row). stands s code place r) (empties_none s place c.args.block c.in_ok-entry.entry c.in_default.not-Local))
+    ((c.in_ok-entry.ensures.came first l).1))
 
 pub raise_entry-requires-clause-entries : goal.raise_entry-requires-clause-entries
-raise_entry-requires-clause-entries g c κs within =
-    (subst IsEntry c.in-Local.is (c.in_ok-entry.ensures.came c.requires.stands.0 c.requires.stands.1).0, λ rises. emptied_fits c.in-Local.tag c.in-Local.block rises)
+raise_entry-requires-clause-entries g c κs within = (
+  subst IsEntry c.in-Local.is (c.in_ok-entry.ensures.came c.requires.stands.0 c.requires.stands.1).0,
+  λ rises. emptied_fits c.in-Local.tag
+      c.in-Local.block rises,
+)
 
 pub raise_entry-requires-clause-stands : goal.raise_entry-requires-clause-stands
 raise_entry-requires-clause-stands g c κs within =
@@ -51,8 +60,13 @@ raise_entry-requires-clause-stands g c κs within =
     let s = g.M.Memory.shape m in
     let code = g.M.Memory.code m in
     let place = c.args.seat.now in
-    let led = g.M.Memory.led m place.own in
-    (c.requires.stands.0, (Load (Offset c.args.block (place.restart.bottom - 1))), moved led c.requires.stands.0 (ap (λ (r : Row). stands s code place r) (empties s place c.args.block c.in_ok-entry.entry c.in-Local.tag c.in-Local.block c.in-Local.is)) ((c.in_ok-entry.ensures.came c.requires.stands.0 c.requires.stands.1).1))
+    let led = g.M.Memory.led m place.own in (
+      c.requires.stands.0,
+      (Load (Offset c.args.block (place.restart.bottom - 1))),
+      moved led c.requires.stands.0
+          (ap (λ (r : Row). stands s code place r) (empties s place c.args.block c.in_ok-entry.entry c.in-Local.tag c.in-Local.block c.in-Local.is))
+          ((c.in_ok-entry.ensures.came c.requires.stands.0 c.requires.stands.1).1),
+    )
 
 pub returns-in_err-raise_entry-clause-came : goal.returns-in_err-raise_entry-clause-came
 returns-in_err-raise_entry-clause-came g c = λ first l.
@@ -61,8 +75,12 @@ returns-in_err-raise_entry-clause-came g c = λ first l.
     let code = g.M.Memory.code m in
     let place = c.args.seat.now in
     let led = g.M.Memory.led m place.own in
-    exit_by (λ (r : Result Restart Stop). Came led first (g.M.Memory.refused m place.own) (g.M.Memory.over m) place.place c.raise_entry.new.own (g.W.Watch.told c.raise_entry.new.watch) c.raise_entry.new.tally IsRestart (λ restart. IsAt place.place (Some restart)) r) _ _ c.from_residual-in_err-raise_entry.ensures.1
-    (c.in_err-raise_entry.ensures.came first (Load (Offset c.args.block (place.restart.bottom - 1))) (moved led first (ap (λ (r : Row). stands s code place r) (empties s place c.args.block c.in_ok-entry.entry c.in-Local.tag c.in-Local.block c.in-Local.is)) ((c.in_ok-entry.ensures.came first l).1)))
+    exit_by (λ (r : Result Restart Stop). Came led first (g.M.Memory.refused m place.own) (g.M.Memory.over m) place.place c.raise_entry.new.own
+    (g.W.Watch.told c.raise_entry.new.watch) c.raise_entry.new.tally IsRestart (λ restart. IsAt place.place (Some restart)) r) _ _
+    c.from_residual-in_err-raise_entry.ensures.1
+    (c.in_err-raise_entry.ensures.came first (Load (Offset c.args.block (place.restart.bottom - 1)))
+    (moved led first (ap (λ (r : Row). stands s code place r) (empties s place c.args.block c.in_ok-entry.entry c.in-Local.tag c.in-Local.block
+    c.in-Local.is)) ((c.in_ok-entry.ensures.came first l).1)))
 
 pub begin_right-requires-2-clause-stands : goal.begin_right-requires-2-clause-stands
 begin_right-requires-2-clause-stands g c κs within =
@@ -70,8 +88,12 @@ begin_right-requires-2-clause-stands g c κs within =
     let s = g.M.Memory.shape m in
     let code = g.M.Memory.code m in
     let place = c.args.seat.now in
-    let led = g.M.Memory.led m place.own in
-    (c.requires.stands.0, (c.in_ok-raise_entry.ensures.came c.requires.stands.0 (Load (Offset c.args.block (place.restart.bottom - 1))) (moved led c.requires.stands.0 (ap (λ (r : Row). stands s code place r) (empties s place c.args.block c.in_ok-entry.entry c.in-Local.tag c.in-Local.block c.in-Local.is)) ((c.in_ok-entry.ensures.came c.requires.stands.0 c.requires.stands.1).1))).1)
+    let led = g.M.Memory.led m place.own in (
+      c.requires.stands.0,
+      (c.in_ok-raise_entry.ensures.came c.requires.stands.0 (Load (Offset c.args.block (place.restart.bottom - 1)))
+          (moved led c.requires.stands.0 (ap (λ (r : Row). stands s code place r) (empties s place c.args.block c.in_ok-entry.entry c.in-Local.tag
+          c.in-Local.block c.in-Local.is)) ((c.in_ok-entry.ensures.came c.requires.stands.0 c.requires.stands.1).1))).1,
+    )
 
 pub returns-clause-came : goal.returns-clause-came
 returns-clause-came g c = λ first l.
@@ -80,4 +102,6 @@ returns-clause-came g c = λ first l.
     let code = g.M.Memory.code m in
     let place = c.args.seat.now in
     let led = g.M.Memory.led m place.own in
-    c.begin_right-2.ensures.came first ((c.in_ok-raise_entry.ensures.came first (Load (Offset c.args.block (place.restart.bottom - 1))) (moved led first (ap (λ (r : Row). stands s code place r) (empties s place c.args.block c.in_ok-entry.entry c.in-Local.tag c.in-Local.block c.in-Local.is)) ((c.in_ok-entry.ensures.came first l).1))).1)
+    c.begin_right-2.ensures.came first ((c.in_ok-raise_entry.ensures.came first (Load (Offset c.args.block (place.restart.bottom - 1)))
+    (moved led first (ap (λ (r : Row). stands s code place r) (empties s place c.args.block c.in_ok-entry.entry c.in-Local.tag c.in-Local.block
+    c.in-Local.is)) ((c.in_ok-entry.ensures.came first l).1))).1)

@@ -20,12 +20,17 @@ returns-in_err-entry-clause-came g c = λ first l.
     let code = g.M.Memory.code m in
     let place = c.args.seat.now in
     let led = g.M.Memory.led m place.own in
-    exit_by (λ (r : Result Restart Stop). Came led first (g.M.Memory.refused m place.own) (g.M.Memory.over m) place.place c.load_entry.new.own (g.W.Watch.told c.load_entry.new.watch) c.load_entry.new.tally IsRestart (λ restart. IsAt place.place (Some restart)) r) _ _ c.from_residual.ensures.1
+    exit_by (λ (r : Result Restart Stop). Came led first (g.M.Memory.refused m place.own) (g.M.Memory.over m) place.place c.load_entry.new.own
+    (g.W.Watch.told c.load_entry.new.watch) c.load_entry.new.tally IsRestart (λ restart. IsAt place.place (Some restart)) r) _ _ c.from_residual.ensures.1
     (c.in_err-entry.ensures.came first l)
 
 pub raise_then-requires-clause-entries : goal.raise_then-requires-clause-entries
-raise_then-requires-clause-entries g c κs within =
-    (subst IsEntry c.in-Job.is (c.in_ok-entry.ensures.came c.requires.stands.0 c.requires.stands.1).0, λ rises. back_fits c.in-Job.tag c.in-Job.block (subst IsEntry c.in-Job.is (c.in_ok-entry.ensures.came c.requires.stands.0 c.requires.stands.1).0) rises, tt)
+raise_then-requires-clause-entries g c κs within = (
+  subst IsEntry c.in-Job.is (c.in_ok-entry.ensures.came c.requires.stands.0 c.requires.stands.1).0,
+  λ rises. back_fits c.in-Job.tag c.in-Job.block
+      (subst IsEntry c.in-Job.is (c.in_ok-entry.ensures.came c.requires.stands.0 c.requires.stands.1).0) rises,
+  tt,
+)
 
 pub raise_then-requires-clause-stands : goal.raise_then-requires-clause-stands
 raise_then-requires-clause-stands g c κs within =
@@ -33,8 +38,11 @@ raise_then-requires-clause-stands g c κs within =
     let s = g.M.Memory.shape m in
     let code = g.M.Memory.code m in
     let place = c.args.seat.now in
-    let led = g.M.Memory.led m place.own in
-    (c.requires.stands.0, moved led c.requires.stands.0 (ap (λ (r : Row). stands s code place r) (back_rises s place c.in-Job.block c.in_ok-entry.entry c.in-Job.tag c.in-Job.is)) ((c.in_ok-entry.ensures.came c.requires.stands.0 c.requires.stands.1).1))
+    let led = g.M.Memory.led m place.own in (
+      c.requires.stands.0,
+      moved led c.requires.stands.0 (ap (λ (r : Row). stands s code place r) (back_rises s place c.in-Job.block c.in_ok-entry.entry
+          c.in-Job.tag c.in-Job.is)) ((c.in_ok-entry.ensures.came c.requires.stands.0 c.requires.stands.1).1),
+    )
 
 pub returns-in-Job-clause-came : goal.returns-in-Job-clause-came
 returns-in-Job-clause-came g c = λ first l.
@@ -43,7 +51,9 @@ returns-in-Job-clause-came g c = λ first l.
     let code = g.M.Memory.code m in
     let place = c.args.seat.now in
     let led = g.M.Memory.led m place.own in
-    c.raise_then.ensures.came first (moved led first (ap (λ (r : Row). stands s code place r) (back_rises s place c.in-Job.block c.in_ok-entry.entry c.in-Job.tag c.in-Job.is)) ((c.in_ok-entry.ensures.came first l).1))
+    c.raise_then.ensures.came first
+    (moved led first (ap (λ (r : Row). stands s code place r) (back_rises s place c.in-Job.block c.in_ok-entry.entry c.in-Job.tag c.in-Job.is))
+    ((c.in_ok-entry.ensures.came first l).1))
 
 pub install-requires-clause-stands : goal.install-requires-clause-stands
 install-requires-clause-stands g c κs within =
@@ -51,8 +61,11 @@ install-requires-clause-stands g c κs within =
     let s = g.M.Memory.shape m in
     let code = g.M.Memory.code m in
     let place = c.args.seat.now in
-    let led = g.M.Memory.led m place.own in
-    (c.requires.stands.0, moved led c.requires.stands.0 (ap (λ (r : Row). stands s code place r) (ap (λ (e : Entry). get_back place e) c.in-Local.is)) ((c.in_ok-entry.ensures.came c.requires.stands.0 c.requires.stands.1).1))
+    let led = g.M.Memory.led m place.own in (
+      c.requires.stands.0,
+      moved led c.requires.stands.0 (ap (λ (r : Row). stands s code place r) (ap (λ (e : Entry). get_back place e) c.in-Local.is))
+          ((c.in_ok-entry.ensures.came c.requires.stands.0 c.requires.stands.1).1),
+    )
 
 pub returns-in-Local-clause-came : goal.returns-in-Local-clause-came
 returns-in-Local-clause-came g c = λ first l.
@@ -61,7 +74,8 @@ returns-in-Local-clause-came g c = λ first l.
     let code = g.M.Memory.code m in
     let place = c.args.seat.now in
     let led = g.M.Memory.led m place.own in
-    c.install.ensures.came first (moved led first (ap (λ (r : Row). stands s code place r) (ap (λ (e : Entry). get_back place e) c.in-Local.is)) ((c.in_ok-entry.ensures.came first l).1))
+    c.install.ensures.came first (moved led first (ap (λ (r : Row). stands s code place r) (ap (λ (e : Entry). get_back place e) c.in-Local.is))
+    ((c.in_ok-entry.ensures.came first l).1))
 
 pub install-requires-in-Taken-clause-stands : goal.install-requires-in-Taken-clause-stands
 install-requires-in-Taken-clause-stands g c κs within =
@@ -69,8 +83,11 @@ install-requires-in-Taken-clause-stands g c κs within =
     let s = g.M.Memory.shape m in
     let code = g.M.Memory.code m in
     let place = c.args.seat.now in
-    let led = g.M.Memory.led m place.own in
-    (c.requires.stands.0, moved led c.requires.stands.0 (ap (λ (r : Row). stands s code place r) (ap (λ (e : Entry). get_back place e) c.in-Taken.is)) ((c.in_ok-entry.ensures.came c.requires.stands.0 c.requires.stands.1).1))
+    let led = g.M.Memory.led m place.own in (
+      c.requires.stands.0,
+      moved led c.requires.stands.0 (ap (λ (r : Row). stands s code place r) (ap (λ (e : Entry). get_back place e) c.in-Taken.is))
+          ((c.in_ok-entry.ensures.came c.requires.stands.0 c.requires.stands.1).1),
+    )
 
 pub returns-in-Taken-clause-came : goal.returns-in-Taken-clause-came
 returns-in-Taken-clause-came g c = λ first l.
@@ -79,7 +96,8 @@ returns-in-Taken-clause-came g c = λ first l.
     let code = g.M.Memory.code m in
     let place = c.args.seat.now in
     let led = g.M.Memory.led m place.own in
-    c.install-in-Taken.ensures.came first (moved led first (ap (λ (r : Row). stands s code place r) (ap (λ (e : Entry). get_back place e) c.in-Taken.is)) ((c.in_ok-entry.ensures.came first l).1))
+    c.install-in-Taken.ensures.came first (moved led first (ap (λ (r : Row). stands s code place r) (ap (λ (e : Entry). get_back place e) c.in-Taken.is))
+    ((c.in_ok-entry.ensures.came first l).1))
 
 pub returns-in-Empty-clause-came : goal.returns-in-Empty-clause-came
 returns-in-Empty-clause-came g c = λ first l.

@@ -14,8 +14,11 @@ push_inline-requires-clause-stands g c κs within =
     let code = g.M.Memory.code m in
     let place = c.args.seat.now in
     let led = g.M.Memory.led m place.own in
-    let last = ap (λ (x : Shape). place.restart.bottom + 1 == x.slots) (sym c.shape-shape.ensures) ∙ sym c.if-is_last.ensures in
-    (c.requires.stands.0, moved led c.requires.stands.0 (ap (λ (r : Row). stands s code place r) (push_as place s.takeover s.takeover c.args.block (place.restart.bottom + 1 == s.slots) true refl last)) (c.requires.stands.1))
+    let last = ap (λ (x : Shape). place.restart.bottom + 1 == x.slots) (sym c.shape-shape.ensures) ∙ sym c.if-is_last.ensures in (
+      c.requires.stands.0,
+      moved led c.requires.stands.0 (ap (λ (r : Row). stands s code place r) (push_as place s.takeover s.takeover c.args.block
+          (place.restart.bottom + 1 == s.slots) true refl last)) (c.requires.stands.1),
+    )
 
 pub returns-then-is_last-clause-came : goal.returns-then-is_last-clause-came
 returns-then-is_last-clause-came g c = λ first l.
@@ -25,7 +28,9 @@ returns-then-is_last-clause-came g c = λ first l.
     let place = c.args.seat.now in
     let led = g.M.Memory.led m place.own in
     let last = ap (λ (x : Shape). place.restart.bottom + 1 == x.slots) (sym c.shape-shape.ensures) ∙ sym c.if-is_last.ensures in
-    c.push_inline.ensures.came first (moved led first (ap (λ (r : Row). stands s code place r) (push_as place s.takeover s.takeover c.args.block (place.restart.bottom + 1 == s.slots) true refl last)) (l))
+    c.push_inline.ensures.came first
+    (moved led first (ap (λ (r : Row). stands s code place r) (push_as place s.takeover s.takeover c.args.block
+    (place.restart.bottom + 1 == s.slots) true refl last)) (l))
 
 pub push_above-requires-clause-stands : goal.push_above-requires-clause-stands
 push_above-requires-clause-stands g c κs within =
@@ -35,8 +40,12 @@ push_above-requires-clause-stands g c κs within =
     let place = c.args.seat.now in
     let led = g.M.Memory.led m place.own in
     let more = ap (λ (x : Shape). place.restart.bottom + 1 == x.slots) (sym c.shape-shape.ensures) ∙ sym c.if-is_last.ensures in
-    let how = sym (ap (λ (x : Shape). x.takeover) c.shape-shape.ensures) ∙ c.in-ByPlaces.is in
-    (c.requires.stands.0, moved led c.requires.stands.0 (ap (λ (r : Row). stands s code place r) (push_as place ByPlaces s.takeover c.args.block (place.restart.bottom + 1 == s.slots) false how more)) (c.requires.stands.1))
+    let how = sym (ap (λ (x : Shape). x.takeover) c.shape-shape.ensures) ∙ c.in-ByPlaces.is in (
+      c.requires.stands.0,
+      moved led c.requires.stands.0
+          (ap (λ (r : Row). stands s code place r) (push_as place ByPlaces s.takeover c.args.block (place.restart.bottom + 1 == s.slots) false how more))
+          (c.requires.stands.1),
+    )
 
 pub returns-in-ByPlaces-clause-came : goal.returns-in-ByPlaces-clause-came
 returns-in-ByPlaces-clause-came g c = λ first l.
@@ -47,7 +56,9 @@ returns-in-ByPlaces-clause-came g c = λ first l.
     let led = g.M.Memory.led m place.own in
     let more = ap (λ (x : Shape). place.restart.bottom + 1 == x.slots) (sym c.shape-shape.ensures) ∙ sym c.if-is_last.ensures in
     let how = sym (ap (λ (x : Shape). x.takeover) c.shape-shape.ensures) ∙ c.in-ByPlaces.is in
-    c.push_above.ensures.came first (moved led first (ap (λ (r : Row). stands s code place r) (push_as place ByPlaces s.takeover c.args.block (place.restart.bottom + 1 == s.slots) false how more)) (l))
+    c.push_above.ensures.came first
+    (moved led first (ap (λ (r : Row). stands s code place r) (push_as place ByPlaces s.takeover c.args.block
+    (place.restart.bottom + 1 == s.slots) false how more)) (l))
 
 pub push_by_order-requires-clause-stands : goal.push_by_order-requires-clause-stands
 push_by_order-requires-clause-stands g c κs within =
@@ -57,8 +68,12 @@ push_by_order-requires-clause-stands g c κs within =
     let place = c.args.seat.now in
     let led = g.M.Memory.led m place.own in
     let more = ap (λ (x : Shape). place.restart.bottom + 1 == x.slots) (sym c.shape-shape.ensures) ∙ sym c.if-is_last.ensures in
-    let how = sym (ap (λ (x : Shape). x.takeover) c.shape-shape.ensures) ∙ c.in-ByEntries.is in
-    (c.requires.stands.0, moved led c.requires.stands.0 (ap (λ (r : Row). stands s code place r) (push_as place ByEntries s.takeover c.args.block (place.restart.bottom + 1 == s.slots) false how more)) (c.requires.stands.1))
+    let how = sym (ap (λ (x : Shape). x.takeover) c.shape-shape.ensures) ∙ c.in-ByEntries.is in (
+      c.requires.stands.0,
+      moved led c.requires.stands.0
+          (ap (λ (r : Row). stands s code place r) (push_as place ByEntries s.takeover c.args.block (place.restart.bottom + 1 == s.slots) false how more))
+          (c.requires.stands.1),
+    )
 
 pub returns-in-ByEntries-clause-came : goal.returns-in-ByEntries-clause-came
 returns-in-ByEntries-clause-came g c = λ first l.
@@ -69,4 +84,6 @@ returns-in-ByEntries-clause-came g c = λ first l.
     let led = g.M.Memory.led m place.own in
     let more = ap (λ (x : Shape). place.restart.bottom + 1 == x.slots) (sym c.shape-shape.ensures) ∙ sym c.if-is_last.ensures in
     let how = sym (ap (λ (x : Shape). x.takeover) c.shape-shape.ensures) ∙ c.in-ByEntries.is in
-    c.push_by_order.ensures.came first (moved led first (ap (λ (r : Row). stands s code place r) (push_as place ByEntries s.takeover c.args.block (place.restart.bottom + 1 == s.slots) false how more)) (l))
+    c.push_by_order.ensures.came first
+    (moved led first (ap (λ (r : Row). stands s code place r) (push_as place ByEntries s.takeover c.args.block
+    (place.restart.bottom + 1 == s.slots) false how more)) (l))

@@ -18,7 +18,8 @@ returns-in_err-entry-clause-came g c = λ first l.
     let code = g.M.Memory.code m in
     let place = c.args.seat.now in
     let led = g.M.Memory.led m place.own in
-    exit_by (λ (r : Result Restart Stop). Came led first (g.M.Memory.refused m place.own) (g.M.Memory.over m) place.place c.load_entry.new.own (g.W.Watch.told c.load_entry.new.watch) c.load_entry.new.tally IsRestart (λ restart. IsAt place.place (Some restart)) r) _ _ c.from_residual.ensures.1
+    exit_by (λ (r : Result Restart Stop). Came led first (g.M.Memory.refused m place.own) (g.M.Memory.over m) place.place c.load_entry.new.own
+    (g.W.Watch.told c.load_entry.new.watch) c.load_entry.new.tally IsRestart (λ restart. IsAt place.place (Some restart)) r) _ _ c.from_residual.ensures.1
     (c.in_err-entry.ensures.came first l)
 
 pub install-requires-clause-stands : goal.install-requires-clause-stands
@@ -27,8 +28,11 @@ install-requires-clause-stands g c κs within =
     let s = g.M.Memory.shape m in
     let code = g.M.Memory.code m in
     let place = c.args.seat.now in
-    let led = g.M.Memory.led m place.own in
-    (c.requires.stands.0, moved led c.requires.stands.0 (ap (λ (r : Row). stands s code place r) (bottom_stays s place c.args.block c.in_ok-entry.entry c.in_default.not-Local)) ((c.in_ok-entry.ensures.came c.requires.stands.0 c.requires.stands.1).1))
+    let led = g.M.Memory.led m place.own in (
+      c.requires.stands.0,
+      moved led c.requires.stands.0 (ap (λ (r : Row). stands s code place r) (bottom_stays s place c.args.block c.in_ok-entry.entry
+          c.in_default.not-Local)) ((c.in_ok-entry.ensures.came c.requires.stands.0 c.requires.stands.1).1),
+    )
 
 pub returns-in_default-clause-came : goal.returns-in_default-clause-came
 returns-in_default-clause-came g c = λ first l.
@@ -37,11 +41,16 @@ returns-in_default-clause-came g c = λ first l.
     let code = g.M.Memory.code m in
     let place = c.args.seat.now in
     let led = g.M.Memory.led m place.own in
-    c.install.ensures.came first (moved led first (ap (λ (r : Row). stands s code place r) (bottom_stays s place c.args.block c.in_ok-entry.entry c.in_default.not-Local)) ((c.in_ok-entry.ensures.came first l).1))
+    c.install.ensures.came first (moved led first (ap (λ (r : Row). stands s code place r) (bottom_stays s place c.args.block c.in_ok-entry.entry
+    c.in_default.not-Local)) ((c.in_ok-entry.ensures.came first l).1))
 
 pub raise_then-requires-clause-entries : goal.raise_then-requires-clause-entries
-raise_then-requires-clause-entries g c κs within =
-    (subst IsEntry c.in-Local.is (c.in_ok-entry.ensures.came c.requires.stands.0 c.requires.stands.1).0, λ rises. job_fits c.in-Local.tag c.in-Local.block c.args.block c.requires.block rises, tt)
+raise_then-requires-clause-entries g c κs within = (
+  subst IsEntry c.in-Local.is (c.in_ok-entry.ensures.came c.requires.stands.0 c.requires.stands.1).0,
+  λ rises. job_fits c.in-Local.tag c.in-Local.block
+      c.args.block c.requires.block rises,
+  tt,
+)
 
 pub raise_then-requires-clause-stands : goal.raise_then-requires-clause-stands
 raise_then-requires-clause-stands g c κs within =
@@ -49,8 +58,11 @@ raise_then-requires-clause-stands g c κs within =
     let s = g.M.Memory.shape m in
     let code = g.M.Memory.code m in
     let place = c.args.seat.now in
-    let led = g.M.Memory.led m place.own in
-    (c.requires.stands.0, moved led c.requires.stands.0 (ap (λ (r : Row). stands s code place r) (bottom_rises s place c.args.block c.in_ok-entry.entry c.in-Local.tag c.in-Local.block c.in-Local.is)) ((c.in_ok-entry.ensures.came c.requires.stands.0 c.requires.stands.1).1))
+    let led = g.M.Memory.led m place.own in (
+      c.requires.stands.0,
+      moved led c.requires.stands.0 (ap (λ (r : Row). stands s code place r) (bottom_rises s place c.args.block c.in_ok-entry.entry
+          c.in-Local.tag c.in-Local.block c.in-Local.is)) ((c.in_ok-entry.ensures.came c.requires.stands.0 c.requires.stands.1).1),
+    )
 
 pub returns-clause-came : goal.returns-clause-came
 returns-clause-came g c = λ first l.
@@ -59,4 +71,6 @@ returns-clause-came g c = λ first l.
     let code = g.M.Memory.code m in
     let place = c.args.seat.now in
     let led = g.M.Memory.led m place.own in
-    c.raise_then.ensures.came first (moved led first (ap (λ (r : Row). stands s code place r) (bottom_rises s place c.args.block c.in_ok-entry.entry c.in-Local.tag c.in-Local.block c.in-Local.is)) ((c.in_ok-entry.ensures.came first l).1))
+    c.raise_then.ensures.came first
+    (moved led first (ap (λ (r : Row). stands s code place r) (bottom_rises s place c.args.block c.in_ok-entry.entry c.in-Local.tag c.in-Local.block
+    c.in-Local.is)) ((c.in_ok-entry.ensures.came first l).1))

@@ -12,8 +12,11 @@ bump-requires-clause-stands g c κs within =
     let s = g.M.Memory.shape m in
     let code = g.M.Memory.code m in
     let place = c.args.seat.now in
-    let led = g.M.Memory.led m place.own in
-    (c.requires.stands.0, moved led c.requires.stands.0 (ap (λ (r : Row). stands s code place r) (ap (λ (k : RestartKind). row_of s place k) c.in-Bump.is)) (c.requires.stands.1))
+    let led = g.M.Memory.led m place.own in (
+      c.requires.stands.0,
+      moved led c.requires.stands.0 (ap (λ (r : Row). stands s code place r) (ap (λ (k : RestartKind). row_of s place k) c.in-Bump.is))
+          (c.requires.stands.1),
+    )
 
 pub returns-in-Bump-clause-came : goal.returns-in-Bump-clause-came
 returns-in-Bump-clause-came g c = λ first l.
@@ -30,8 +33,11 @@ push1-requires-clause-stands g c κs within =
     let s = g.M.Memory.shape m in
     let code = g.M.Memory.code m in
     let place = c.args.seat.now in
-    let led = g.M.Memory.led m place.own in
-    (c.requires.stands.0, moved led c.requires.stands.0 (ap (λ (r : Row). stands s code place r) (ap (λ (k : RestartKind). row_of s place k) c.in-Push1.is)) (c.requires.stands.1))
+    let led = g.M.Memory.led m place.own in (
+      c.requires.stands.0,
+      moved led c.requires.stands.0 (ap (λ (r : Row). stands s code place r) (ap (λ (k : RestartKind). row_of s place k) c.in-Push1.is))
+          (c.requires.stands.1),
+    )
 
 pub returns-in-Push1-clause-came : goal.returns-in-Push1-clause-came
 returns-in-Push1-clause-came g c = λ first l.
@@ -48,8 +54,11 @@ push2-requires-clause-stands g c κs within =
     let s = g.M.Memory.shape m in
     let code = g.M.Memory.code m in
     let place = c.args.seat.now in
-    let led = g.M.Memory.led m place.own in
-    (c.requires.stands.0, moved led c.requires.stands.0 (ap (λ (r : Row). stands s code place r) (ap (λ (k : RestartKind). row_of s place k) c.in-Push2.is)) (c.requires.stands.1))
+    let led = g.M.Memory.led m place.own in (
+      c.requires.stands.0,
+      moved led c.requires.stands.0 (ap (λ (r : Row). stands s code place r) (ap (λ (k : RestartKind). row_of s place k) c.in-Push2.is))
+          (c.requires.stands.1),
+    )
 
 pub returns-in-Push2-clause-came : goal.returns-in-Push2-clause-came
 returns-in-Push2-clause-came g c = λ first l.
@@ -66,8 +75,11 @@ unwind-requires-clause-stands g c κs within =
     let s = g.M.Memory.shape m in
     let code = g.M.Memory.code m in
     let place = c.args.seat.now in
-    let led = g.M.Memory.led m place.own in
-    (c.requires.stands.0, moved led c.requires.stands.0 (ap (λ (r : Row). stands s code place r) (ap (λ (k : RestartKind). row_of s place k) c.in-Unwind.is)) (c.requires.stands.1))
+    let led = g.M.Memory.led m place.own in (
+      c.requires.stands.0,
+      moved led c.requires.stands.0
+          (ap (λ (r : Row). stands s code place r) (ap (λ (k : RestartKind). row_of s place k) c.in-Unwind.is)) (c.requires.stands.1),
+    )
 
 pub returns-in-Unwind-clause-came : goal.returns-in-Unwind-clause-came
 returns-in-Unwind-clause-came g c = λ first l.
@@ -84,8 +96,11 @@ arrive-requires-clause-stands g c κs within =
     let s = g.M.Memory.shape m in
     let code = g.M.Memory.code m in
     let place = c.args.seat.now in
-    let led = g.M.Memory.led m place.own in
-    (c.requires.stands.0, moved led c.requires.stands.0 (ap (λ (r : Row). stands s code place r) (ap (λ (k : RestartKind). row_of s place k) c.in-Arrive.is)) (c.requires.stands.1))
+    let led = g.M.Memory.led m place.own in (
+      c.requires.stands.0,
+      moved led c.requires.stands.0
+          (ap (λ (r : Row). stands s code place r) (ap (λ (k : RestartKind). row_of s place k) c.in-Arrive.is)) (c.requires.stands.1),
+    )
 
 pub returns-in-Arrive-clause-came : goal.returns-in-Arrive-clause-came
 returns-in-Arrive-clause-came g c = λ first l.
@@ -102,8 +117,11 @@ join-requires-clause-stands g c κs within =
     let s = g.M.Memory.shape m in
     let code = g.M.Memory.code m in
     let place = c.args.seat.now in
-    let led = g.M.Memory.led m place.own in
-    (c.requires.stands.0, moved led c.requires.stands.0 (ap (λ (r : Row). stands s code place r) (ap (λ (k : RestartKind). row_of s place k) c.in-Join.is)) (c.requires.stands.1))
+    let led = g.M.Memory.led m place.own in (
+      c.requires.stands.0,
+      moved led c.requires.stands.0 (ap (λ (r : Row). stands s code place r) (ap (λ (k : RestartKind). row_of s place k) c.in-Join.is))
+          (c.requires.stands.1),
+    )
 
 pub returns-in-Join-clause-came : goal.returns-in-Join-clause-came
 returns-in-Join-clause-came g c = λ first l.
@@ -120,8 +138,11 @@ pop1-requires-clause-stands g c κs within =
     let s = g.M.Memory.shape m in
     let code = g.M.Memory.code m in
     let place = c.args.seat.now in
-    let led = g.M.Memory.led m place.own in
-    (c.requires.stands.0, moved led c.requires.stands.0 (ap (λ (r : Row). stands s code place r) (ap (λ (k : RestartKind). row_of s place k) c.in-Pop1.is)) (c.requires.stands.1))
+    let led = g.M.Memory.led m place.own in (
+      c.requires.stands.0,
+      moved led c.requires.stands.0 (ap (λ (r : Row). stands s code place r) (ap (λ (k : RestartKind). row_of s place k) c.in-Pop1.is))
+          (c.requires.stands.1),
+    )
 
 pub returns-in-Pop1-clause-came : goal.returns-in-Pop1-clause-came
 returns-in-Pop1-clause-came g c = λ first l.
@@ -138,8 +159,11 @@ pop2-requires-clause-stands g c κs within =
     let s = g.M.Memory.shape m in
     let code = g.M.Memory.code m in
     let place = c.args.seat.now in
-    let led = g.M.Memory.led m place.own in
-    (c.requires.stands.0, moved led c.requires.stands.0 (ap (λ (r : Row). stands s code place r) (ap (λ (k : RestartKind). row_of s place k) c.in-Pop2.is)) (c.requires.stands.1))
+    let led = g.M.Memory.led m place.own in (
+      c.requires.stands.0,
+      moved led c.requires.stands.0 (ap (λ (r : Row). stands s code place r) (ap (λ (k : RestartKind). row_of s place k) c.in-Pop2.is))
+          (c.requires.stands.1),
+    )
 
 pub returns-in-Pop2-clause-came : goal.returns-in-Pop2-clause-came
 returns-in-Pop2-clause-came g c = λ first l.

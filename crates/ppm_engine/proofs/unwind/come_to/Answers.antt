@@ -25,7 +25,9 @@ returns-in_err-outcome-clause-came g c = λ first l.
     let place = c.args.seat.now in
     let led = g.M.Memory.led m place.own in
     let arm = c.args.arm in
-    exit_by (λ (r : Result Restart Stop). Came led first (g.M.Memory.refused m place.own) (g.M.Memory.over m) place.place c.load_outcome.new.own (g.W.Watch.told c.load_outcome.new.watch) c.load_outcome.new.tally IsRestart (λ restart. IsAt place.place (Some restart)) r) _ _ c.from_residual.ensures.1
+    exit_by (λ (r : Result Restart Stop). Came led first (g.M.Memory.refused m place.own) (g.M.Memory.over m) place.place c.load_outcome.new.own
+    (g.W.Watch.told c.load_outcome.new.watch) c.load_outcome.new.tally IsRestart (λ restart. IsAt place.place (Some restart)) r) _ _
+    c.from_residual.ensures.1
     (c.in_err-outcome.ensures.came first l)
 
 pub store_then-requires-clause-stands : goal.store_then-requires-clause-stands
@@ -35,8 +37,14 @@ store_then-requires-clause-stands g c κs within =
     let code = g.M.Memory.code m in
     let place = c.args.seat.now in
     let led = g.M.Memory.led m place.own in
-    let arm = c.args.arm in
-    (c.requires.stands.0, moved led c.requires.stands.0 (ap (λ (r : Row). stands s code place r) (goes_by_outcome c.in_ok-outcome.outcome (unwound place c.args.frame (Branch arm.side arm.block)) (c.in_ok-outcome.ensures.came c.requires.stands.0 c.requires.stands.1).0.1 ∙ ap (λ (cell : Cell). Store cell (AFinish c.in_ok-outcome.outcome) (with_kind place (Arrive arm.block arm.side))) (sym c.outcome_cell.ensures))) ((c.in_ok-outcome.ensures.came c.requires.stands.0 c.requires.stands.1).1))
+    let arm = c.args.arm in (
+      c.requires.stands.0,
+      moved led c.requires.stands.0
+          (ap (λ (r : Row). stands s code place r) (goes_by_outcome c.in_ok-outcome.outcome (unwound place c.args.frame (Branch arm.side arm.block))
+          (c.in_ok-outcome.ensures.came c.requires.stands.0 c.requires.stands.1).0.1 ∙ ap (λ (cell : Cell). Store cell (AFinish c.in_ok-outcome.outcome)
+          (with_kind place (Arrive arm.block arm.side))) (sym c.outcome_cell.ensures)))
+          ((c.in_ok-outcome.ensures.came c.requires.stands.0 c.requires.stands.1).1),
+    )
 
 pub returns-clause-came : goal.returns-clause-came
 returns-clause-came g c = λ first l.
@@ -46,4 +54,8 @@ returns-clause-came g c = λ first l.
     let place = c.args.seat.now in
     let led = g.M.Memory.led m place.own in
     let arm = c.args.arm in
-    c.store_then.ensures.came first (moved led first (ap (λ (r : Row). stands s code place r) (goes_by_outcome c.in_ok-outcome.outcome (unwound place c.args.frame (Branch arm.side arm.block)) (c.in_ok-outcome.ensures.came first l).0.1 ∙ ap (λ (cell : Cell). Store cell (AFinish c.in_ok-outcome.outcome) (with_kind place (Arrive arm.block arm.side))) (sym c.outcome_cell.ensures))) ((c.in_ok-outcome.ensures.came first l).1))
+    c.store_then.ensures.came first
+    (moved led first (ap (λ (r : Row). stands s code place r)
+    (goes_by_outcome c.in_ok-outcome.outcome (unwound place c.args.frame (Branch arm.side arm.block)) (c.in_ok-outcome.ensures.came first l).0.1 ∙ ap
+    (λ (cell : Cell). Store cell (AFinish c.in_ok-outcome.outcome) (with_kind place (Arrive arm.block arm.side))) (sym c.outcome_cell.ensures)))
+    ((c.in_ok-outcome.ensures.came first l).1))

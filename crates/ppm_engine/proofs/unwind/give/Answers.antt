@@ -22,7 +22,9 @@ returns-in_err-target-clause-came g c = λ first l.
     let place = c.args.seat.now in
     let led = g.M.Memory.led m place.own in
     let gift = c.args.gift in
-    exit_by (λ (r : Result (Unit {0}) Stop). Came led first (g.M.Memory.refused m place.own) (g.M.Memory.over m) place.place c.load_number.new.own (g.W.Watch.told c.load_number.new.watch) c.load_number.new.tally Any (λ done. stands_then s code place (after_value place gift.to gift.copy gift.right_of)) r) _ _ c.from_residual.ensures.1
+    exit_by (λ (r : Result (Unit {0}) Stop). Came led first (g.M.Memory.refused m place.own) (g.M.Memory.over m) place.place c.load_number.new.own
+    (g.W.Watch.told c.load_number.new.watch) c.load_number.new.tally Any
+    (λ done. stands_then s code place (after_value place gift.to gift.copy gift.right_of)) r) _ _ c.from_residual.ensures.1
     (c.in_err-target.ensures.came first l)
 
 pub returns-then-target-eq0-clause-came : goal.returns-then-target-eq0-clause-came
@@ -32,8 +34,11 @@ returns-then-target-eq0-clause-came g c = λ first l.
     let code = g.M.Memory.code m in
     let place = c.args.seat.now in
     let led = g.M.Memory.led m place.own in
-    let gift = c.args.gift in
-    (tt, moved led first (ap (λ (r : Row). stands s code place r) (ap (λ (n : ℕ). target_found place gift.frame gift.to gift.copy gift.right_of n) c.if-target-eq0.true)) ((c.in_ok-target.ensures.came first l).1))
+    let gift = c.args.gift in (
+      tt,
+      moved led first (ap (λ (r : Row). stands s code place r) (ap (λ (n : ℕ). target_found place gift.frame gift.to gift.copy gift.right_of n)
+          c.if-target-eq0.true)) ((c.in_ok-target.ensures.came first l).1),
+    )
 
 pub load_number-requires-2-clause-stands : goal.load_number-requires-2-clause-stands
 load_number-requires-2-clause-stands g c κs within =
@@ -42,8 +47,11 @@ load_number-requires-2-clause-stands g c κs within =
     let code = g.M.Memory.code m in
     let place = c.args.seat.now in
     let led = g.M.Memory.led m place.own in
-    let gift = c.args.gift in
-    (c.requires.stands.0, moved led c.requires.stands.0 (ap (λ (r : Row). stands s code place r) (gives place gift.frame gift.to gift.copy gift.right_of c.in_ok-target.target c.if-target-eq0.false)) ((c.in_ok-target.ensures.came c.requires.stands.0 c.requires.stands.1).1))
+    let gift = c.args.gift in (
+      c.requires.stands.0,
+      moved led c.requires.stands.0 (ap (λ (r : Row). stands s code place r) (gives place gift.frame gift.to gift.copy gift.right_of
+          c.in_ok-target.target c.if-target-eq0.false)) ((c.in_ok-target.ensures.came c.requires.stands.0 c.requires.stands.1).1),
+    )
 
 pub returns-in_err-value-clause-came : goal.returns-in_err-value-clause-came
 returns-in_err-value-clause-came g c = λ first l.
@@ -53,8 +61,12 @@ returns-in_err-value-clause-came g c = λ first l.
     let place = c.args.seat.now in
     let led = g.M.Memory.led m place.own in
     let gift = c.args.gift in
-    exit_by (λ (r : Result (Unit {0}) Stop). Came led first (g.M.Memory.refused m place.own) (g.M.Memory.over m) place.place c.load_number-2.new.own (g.W.Watch.told c.load_number-2.new.watch) c.load_number-2.new.tally Any (λ done. stands_then s code place (after_value place gift.to gift.copy gift.right_of)) r) _ _ c.from_residual-in_err-value.ensures.1
-    (c.in_err-value.ensures.came first (moved led first (ap (λ (r : Row). stands s code place r) (gives place gift.frame gift.to gift.copy gift.right_of c.in_ok-target.target c.if-target-eq0.false)) ((c.in_ok-target.ensures.came first l).1)))
+    exit_by (λ (r : Result (Unit {0}) Stop). Came led first (g.M.Memory.refused m place.own) (g.M.Memory.over m) place.place c.load_number-2.new.own
+    (g.W.Watch.told c.load_number-2.new.watch) c.load_number-2.new.tally Any
+    (λ done. stands_then s code place (after_value place gift.to gift.copy gift.right_of)) r) _ _ c.from_residual-in_err-value.ensures.1
+    (c.in_err-value.ensures.came first
+    (moved led first (ap (λ (r : Row). stands s code place r) (gives place gift.frame gift.to gift.copy gift.right_of c.in_ok-target.target
+    c.if-target-eq0.false)) ((c.in_ok-target.ensures.came first l).1)))
 
 pub returns-in_default-clause-came : goal.returns-in_default-clause-came
 returns-in_default-clause-came g c = λ first l.
@@ -65,7 +77,11 @@ returns-in_default-clause-came g c = λ first l.
     let led = g.M.Memory.led m place.own in
     let gift = c.args.gift in
     let at = c.in_default.ensures ∙ ap (λ (x : Shape). address_if x (gift.to + 5 + c.in_ok-target.target)) c.shape-shape.ensures in
-    moved led first (ap (λ (r : Row). stands s code place r) (there_breaks s (gift.to + 5 + c.in_ok-target.target) (Store (BlockWord (gift.to + 5 + c.in_ok-target.target)) (ANumber c.in_ok-value.value) (after_value place gift.to gift.copy gift.right_of)) at)) ((c.in_ok-value.ensures.came first (moved led first (ap (λ (r : Row). stands s code place r) (gives place gift.frame gift.to gift.copy gift.right_of c.in_ok-target.target c.if-target-eq0.false)) ((c.in_ok-target.ensures.came first l).1))).1)
+    moved led first (ap (λ (r : Row). stands s code place r) (there_breaks s (gift.to + 5 + c.in_ok-target.target)
+    (Store (BlockWord (gift.to + 5 + c.in_ok-target.target)) (ANumber c.in_ok-value.value) (after_value place gift.to gift.copy gift.right_of)) at))
+    ((c.in_ok-value.ensures.came first
+    (moved led first (ap (λ (r : Row). stands s code place r) (gives place gift.frame gift.to gift.copy gift.right_of c.in_ok-target.target
+    c.if-target-eq0.false)) ((c.in_ok-target.ensures.came first l).1))).1)
 
 pub store-requires-clause-stands : goal.store-requires-clause-stands
 store-requires-clause-stands g c κs within =
@@ -75,8 +91,15 @@ store-requires-clause-stands g c κs within =
     let place = c.args.seat.now in
     let led = g.M.Memory.led m place.own in
     let gift = c.args.gift in
-    let at = c.in-Some.ensures ∙ ap (λ (x : Shape). address_if x (gift.to + 5 + c.in_ok-target.target)) c.shape-shape.ensures in
-    (c.requires.stands.0, (after_value place gift.to gift.copy gift.right_of), moved led c.requires.stands.0 (ap (λ (r : Row). stands s code place r) (value_goes s place gift.to gift.copy c.in_ok-target.target gift.right_of c.in_ok-value.value c.in-Some.address at)) ((c.in_ok-value.ensures.came c.requires.stands.0 (moved led c.requires.stands.0 (ap (λ (r : Row). stands s code place r) (gives place gift.frame gift.to gift.copy gift.right_of c.in_ok-target.target c.if-target-eq0.false)) ((c.in_ok-target.ensures.came c.requires.stands.0 c.requires.stands.1).1))).1))
+    let at = c.in-Some.ensures ∙ ap (λ (x : Shape). address_if x (gift.to + 5 + c.in_ok-target.target)) c.shape-shape.ensures in (
+      c.requires.stands.0,
+      (after_value place gift.to gift.copy gift.right_of),
+      moved led c.requires.stands.0
+          (ap (λ (r : Row). stands s code place r) (value_goes s place gift.to gift.copy c.in_ok-target.target gift.right_of c.in_ok-value.value
+          c.in-Some.address at)) ((c.in_ok-value.ensures.came c.requires.stands.0
+          (moved led c.requires.stands.0 (ap (λ (r : Row). stands s code place r) (gives place gift.frame gift.to gift.copy gift.right_of c.in_ok-target.target
+          c.if-target-eq0.false)) ((c.in_ok-target.ensures.came c.requires.stands.0 c.requires.stands.1).1))).1),
+    )
 
 pub returns-clause-came : goal.returns-clause-came
 returns-clause-came g c = λ first l.
@@ -87,4 +110,8 @@ returns-clause-came g c = λ first l.
     let led = g.M.Memory.led m place.own in
     let gift = c.args.gift in
     let at = c.in-Some.ensures ∙ ap (λ (x : Shape). address_if x (gift.to + 5 + c.in_ok-target.target)) c.shape-shape.ensures in
-    c.store.ensures.came first (after_value place gift.to gift.copy gift.right_of) (moved led first (ap (λ (r : Row). stands s code place r) (value_goes s place gift.to gift.copy c.in_ok-target.target gift.right_of c.in_ok-value.value c.in-Some.address at)) ((c.in_ok-value.ensures.came first (moved led first (ap (λ (r : Row). stands s code place r) (gives place gift.frame gift.to gift.copy gift.right_of c.in_ok-target.target c.if-target-eq0.false)) ((c.in_ok-target.ensures.came first l).1))).1))
+    c.store.ensures.came first (after_value place gift.to gift.copy gift.right_of)
+    (moved led first (ap (λ (r : Row). stands s code place r) (value_goes s place gift.to gift.copy c.in_ok-target.target gift.right_of c.in_ok-value.value
+    c.in-Some.address at)) ((c.in_ok-value.ensures.came first
+    (moved led first (ap (λ (r : Row). stands s code place r) (gives place gift.frame gift.to gift.copy gift.right_of c.in_ok-target.target
+    c.if-target-eq0.false)) ((c.in_ok-target.ensures.came first l).1))).1))

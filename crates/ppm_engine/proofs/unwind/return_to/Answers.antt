@@ -22,7 +22,9 @@ returns-in_err-outcome-clause-came g c = λ first l.
     let place = c.args.seat.now in
     let led = g.M.Memory.led m place.own in
     let back = c.args.back in
-    exit_by (λ (r : Result Restart Stop). Came led first (g.M.Memory.refused m place.own) (g.M.Memory.over m) place.place c.load_outcome.new.own (g.W.Watch.told c.load_outcome.new.watch) c.load_outcome.new.tally IsRestart (λ restart. IsAt place.place (Some restart)) r) _ _ c.from_residual.ensures.1
+    exit_by (λ (r : Result Restart Stop). Came led first (g.M.Memory.refused m place.own) (g.M.Memory.over m) place.place c.load_outcome.new.own
+    (g.W.Watch.told c.load_outcome.new.watch) c.load_outcome.new.tally IsRestart (λ restart. IsAt place.place (Some restart)) r) _ _
+    c.from_residual.ensures.1
     (c.in_err-outcome.ensures.came first l)
 
 pub take_over-requires-clause-stands : goal.take_over-requires-clause-stands
@@ -32,8 +34,13 @@ take_over-requires-clause-stands g c κs within =
     let code = g.M.Memory.code m in
     let place = c.args.seat.now in
     let led = g.M.Memory.led m place.own in
-    let back = c.args.back in
-    (c.requires.stands.0, moved led c.requires.stands.0 (ap (λ (r : Row). stands s code place r) (goes_by_outcome c.in_ok-outcome.outcome (unwound place c.args.frame (Call back.to back.copy)) (c.in_ok-outcome.ensures.came c.requires.stands.0 c.requires.stands.1).0.1 ∙ back_traps place c.args.frame back.to back.copy c.in_ok-outcome.outcome c.in_default.not-Ended)) ((c.in_ok-outcome.ensures.came c.requires.stands.0 c.requires.stands.1).1))
+    let back = c.args.back in (
+      c.requires.stands.0,
+      moved led c.requires.stands.0
+          (ap (λ (r : Row). stands s code place r) (goes_by_outcome c.in_ok-outcome.outcome (unwound place c.args.frame (Call back.to back.copy))
+          (c.in_ok-outcome.ensures.came c.requires.stands.0 c.requires.stands.1).0.1 ∙ back_traps place c.args.frame back.to back.copy c.in_ok-outcome.outcome
+          c.in_default.not-Ended)) ((c.in_ok-outcome.ensures.came c.requires.stands.0 c.requires.stands.1).1),
+    )
 
 pub returns-in_default-clause-came : goal.returns-in_default-clause-came
 returns-in_default-clause-came g c = λ first l.
@@ -43,7 +50,10 @@ returns-in_default-clause-came g c = λ first l.
     let place = c.args.seat.now in
     let led = g.M.Memory.led m place.own in
     let back = c.args.back in
-    c.take_over.ensures.came first (moved led first (ap (λ (r : Row). stands s code place r) (goes_by_outcome c.in_ok-outcome.outcome (unwound place c.args.frame (Call back.to back.copy)) (c.in_ok-outcome.ensures.came first l).0.1 ∙ back_traps place c.args.frame back.to back.copy c.in_ok-outcome.outcome c.in_default.not-Ended)) ((c.in_ok-outcome.ensures.came first l).1))
+    c.take_over.ensures.came first (moved led first
+    (ap (λ (r : Row). stands s code place r) (goes_by_outcome c.in_ok-outcome.outcome (unwound place c.args.frame (Call back.to back.copy))
+    (c.in_ok-outcome.ensures.came first l).0.1 ∙ back_traps place c.args.frame back.to back.copy c.in_ok-outcome.outcome c.in_default.not-Ended))
+    ((c.in_ok-outcome.ensures.came first l).1))
 
 pub give-requires-clause-stands : goal.give-requires-clause-stands
 give-requires-clause-stands g c κs within =
@@ -52,8 +62,13 @@ give-requires-clause-stands g c κs within =
     let code = g.M.Memory.code m in
     let place = c.args.seat.now in
     let led = g.M.Memory.led m place.own in
-    let back = c.args.back in
-    (c.requires.stands.0, moved led c.requires.stands.0 (ap (λ (r : Row). stands s code place r) (goes_by_outcome c.in_ok-outcome.outcome (unwound place c.args.frame (Call back.to back.copy)) (c.in_ok-outcome.ensures.came c.requires.stands.0 c.requires.stands.1).0.1 ∙ ap (λ (f : Finish). back_to place c.args.frame back.to back.copy f) c.in-Ended.is)) ((c.in_ok-outcome.ensures.came c.requires.stands.0 c.requires.stands.1).1))
+    let back = c.args.back in (
+      c.requires.stands.0,
+      moved led c.requires.stands.0
+          (ap (λ (r : Row). stands s code place r) (goes_by_outcome c.in_ok-outcome.outcome (unwound place c.args.frame (Call back.to back.copy))
+          (c.in_ok-outcome.ensures.came c.requires.stands.0 c.requires.stands.1).0.1 ∙ ap (λ (f : Finish). back_to place c.args.frame back.to back.copy f)
+          c.in-Ended.is)) ((c.in_ok-outcome.ensures.came c.requires.stands.0 c.requires.stands.1).1),
+    )
 
 pub returns-in_err-give-clause-came : goal.returns-in_err-give-clause-came
 returns-in_err-give-clause-came g c = λ first l.
@@ -63,8 +78,12 @@ returns-in_err-give-clause-came g c = λ first l.
     let place = c.args.seat.now in
     let led = g.M.Memory.led m place.own in
     let back = c.args.back in
-    exit_by (λ (r : Result Restart Stop). Came led first (g.M.Memory.refused m place.own) (g.M.Memory.over m) place.place c.give.new.own (g.W.Watch.told c.give.new.watch) c.give.new.tally IsRestart (λ restart. IsAt place.place (Some restart)) r) _ _ c.from_residual-in_err-give.ensures.1
-    (c.in_err-give.ensures.came first (moved led first (ap (λ (r : Row). stands s code place r) (goes_by_outcome c.in_ok-outcome.outcome (unwound place c.args.frame (Call back.to back.copy)) (c.in_ok-outcome.ensures.came first l).0.1 ∙ ap (λ (f : Finish). back_to place c.args.frame back.to back.copy f) c.in-Ended.is)) ((c.in_ok-outcome.ensures.came first l).1)))
+    exit_by (λ (r : Result Restart Stop). Came led first (g.M.Memory.refused m place.own) (g.M.Memory.over m) place.place c.give.new.own
+    (g.W.Watch.told c.give.new.watch) c.give.new.tally IsRestart (λ restart. IsAt place.place (Some restart)) r) _ _ c.from_residual-in_err-give.ensures.1
+    (c.in_err-give.ensures.came first
+    (moved led first (ap (λ (r : Row). stands s code place r) (goes_by_outcome c.in_ok-outcome.outcome (unwound place c.args.frame (Call back.to back.copy))
+    (c.in_ok-outcome.ensures.came first l).0.1 ∙ ap (λ (f : Finish). back_to place c.args.frame back.to back.copy f) c.in-Ended.is))
+    ((c.in_ok-outcome.ensures.came first l).1)))
 
 pub install-requires-clause-stands : goal.install-requires-clause-stands
 install-requires-clause-stands g c κs within =
@@ -73,8 +92,14 @@ install-requires-clause-stands g c κs within =
     let code = g.M.Memory.code m in
     let place = c.args.seat.now in
     let led = g.M.Memory.led m place.own in
-    let back = c.args.back in
-    (c.requires.stands.0, (c.in_ok-give.ensures.came c.requires.stands.0 (moved led c.requires.stands.0 (ap (λ (r : Row). stands s code place r) (goes_by_outcome c.in_ok-outcome.outcome (unwound place c.args.frame (Call back.to back.copy)) (c.in_ok-outcome.ensures.came c.requires.stands.0 c.requires.stands.1).0.1 ∙ ap (λ (f : Finish). back_to place c.args.frame back.to back.copy f) c.in-Ended.is)) ((c.in_ok-outcome.ensures.came c.requires.stands.0 c.requires.stands.1).1))).1)
+    let back = c.args.back in (
+      c.requires.stands.0,
+      (c.in_ok-give.ensures.came c.requires.stands.0
+          (moved led c.requires.stands.0 (ap (λ (r : Row). stands s code place r)
+          (goes_by_outcome c.in_ok-outcome.outcome (unwound place c.args.frame (Call back.to back.copy)) (c.in_ok-outcome.ensures.came c.requires.stands.0
+          c.requires.stands.1).0.1 ∙ ap (λ (f : Finish). back_to place c.args.frame back.to back.copy f) c.in-Ended.is))
+          ((c.in_ok-outcome.ensures.came c.requires.stands.0 c.requires.stands.1).1))).1,
+    )
 
 pub returns-clause-came : goal.returns-clause-came
 returns-clause-came g c = λ first l.
@@ -84,4 +109,7 @@ returns-clause-came g c = λ first l.
     let place = c.args.seat.now in
     let led = g.M.Memory.led m place.own in
     let back = c.args.back in
-    c.install.ensures.came first ((c.in_ok-give.ensures.came first (moved led first (ap (λ (r : Row). stands s code place r) (goes_by_outcome c.in_ok-outcome.outcome (unwound place c.args.frame (Call back.to back.copy)) (c.in_ok-outcome.ensures.came first l).0.1 ∙ ap (λ (f : Finish). back_to place c.args.frame back.to back.copy f) c.in-Ended.is)) ((c.in_ok-outcome.ensures.came first l).1))).1)
+    c.install.ensures.came first ((c.in_ok-give.ensures.came first
+    (moved led first (ap (λ (r : Row). stands s code place r) (goes_by_outcome c.in_ok-outcome.outcome (unwound place c.args.frame (Call back.to back.copy))
+    (c.in_ok-outcome.ensures.came first l).0.1 ∙ ap (λ (f : Finish). back_to place c.args.frame back.to back.copy f) c.in-Ended.is))
+    ((c.in_ok-outcome.ensures.came first l).1))).1)
