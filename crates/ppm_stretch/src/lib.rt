@@ -15,6 +15,8 @@ mod entering;
 mod frames;
 mod refusing;
 mod rows;
+mod scheduling;
+mod seated;
 mod waiting;
 mod way;
 
