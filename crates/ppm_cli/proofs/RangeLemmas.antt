@@ -293,8 +293,8 @@ explained_are : (text : ExplainedText) (p : ℕ) (plan schedule : Option Text) �
     → IfSome (explain_by text p plan schedule) IsInRange
 explained_are text p None None h = tt
 explained_are text p (Some plan) None h = h
-explained_are text p None (Some items) h = h
-explained_are text p (Some plan) (Some items) h = tt
+explained_are text p None (Some schedule) h = h
+explained_are text p (Some plan) (Some schedule) h = tt
 
 explain_are : (rows : List Row) → IfSome (explain_in rows) IsInRange
 explain_are rows =

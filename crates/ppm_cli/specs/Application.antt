@@ -5,7 +5,7 @@ use Rattle.clap.specs.Simple.{on_top}
 use Rattle.clap.specs.declared.builder.ArgAction.TheVariants.{Set}
 use Rattle.clap.specs.declared.builder.value_parser.ValueParser.{ValueParser}
 use Rattle.clap.specs.declared.builder.value_parser.ValueParser.TheVariants as parsers
-use Rattle.ppm_cli.specs.CommandLine.{CommandRule, Form, Number, Choice, AnyText, StatedText, OptionRule, command_line, free_text}
+use Rattle.ppm_cli.specs.CommandLine.{CommandRule, Form, Number, Choice, AnyText, OptionRule, command_line, free_text}
 use Rattle.ppm_cli.specs.declared.table.CommandRow.{CommandRow}
 use Rattle.ppm_cli.specs.declared.table.NumberOption.{NumberOption}
 use Rattle.ppm_cli.specs.declared.table.ChoiceOption.{ChoiceOption}
@@ -13,12 +13,11 @@ use Rattle.ppm_cli.specs.declared.table.TextOption.{TextOption}
 use Rattle.ppm_cli.specs.declared.table.OptionRow.{OptionRow}
 use Rattle.ppm_cli.specs.declared.table.OptionRow.TheVariants as row
 
--- what clap asks of a value: to be a number in the range; of a choice and of texts it asks nothing
+-- what clap asks of a value: to be a number in the range; of a choice and of a text it asks nothing
 abbrev pub parser_of : Form → Option ValueParser
 parser_of (Number low high) = Some (parsers.Unsigned low high)
 parser_of (Choice words) = None
 parser_of AnyText = None
-parser_of StatedText = None
 
 -- the argument that an option is: `--name` with one value, given at most once
 abbrev pub argument_of : OptionRule → Rule
@@ -66,16 +65,11 @@ choice_rule o =
 abbrev pub text_rule : TextOption → OptionRule
 text_rule o = free_text o.name.now o.default.now
 
--- of a text that may not be stated
-abbrev pub stated_rule : TextOption → OptionRule
-stated_rule o = record { name = o.name.now; form = StatedText; default = o.default.now }
-
 -- of any option
 abbrev pub option_rule : OptionRow → OptionRule
 option_rule (row.Number o) = number_rule o
 option_rule (row.Choice o) = choice_rule o
 option_rule (row.Text o) = text_rule o
-option_rule (row.Stated o) = stated_rule o
 
 -- and of a command
 abbrev pub command_rule : CommandRow → CommandRule

@@ -5,13 +5,11 @@ use Rattle.clap.specs.Words.{Text}
 use Rattle.ppm_words.specs.Limits.{processor_limit, entry_limit, turn_limit}
 use Rattle.ppm_cells.specs.Limits.{most_pool_words, most_saved_pool_words}
 
--- what the value of an option is: a whole number from the least to the most, one of these words, any text that does not begin with a hyphen, or
--- such a text or a hyphen alone, which says that none is stated
+-- what the value of an option is: a whole number from the least to the most, one of these words, or any text that does not begin with a hyphen
 pub data Form : Type 0 where
   Number : ℕ → ℕ → Form
   Choice : List Text → Form
   AnyText : Form
-  StatedText : Form
 
 -- an option `--name`: the form of its value, and the word that stands for the value where the option is not given
 pub record OptionRule : Type 0 where
@@ -46,10 +44,6 @@ free_text name default = record { name = name; form = AnyText; default = default
 -- the same, the two written as strings
 abbrev pub text : String → String → OptionRule
 text name default = free_text (codes name) (codes default)
-
--- an option whose value is any such text, if one is stated, and by default none is
-abbrev pub stated : String → OptionRule
-stated name = record { name = codes name; form = StatedText; default = codes "-" }
 
 -- a command with its options
 abbrev pub command : String → List OptionRule → CommandRule
@@ -193,12 +187,12 @@ any_input = choice "input" ("source" ∷ "case" ∷ "saved" ∷ []) "source"
 abbrev pub explained : OptionRule
 explained = choice "input" ("source" ∷ "listing" ∷ "case" ∷ "saved" ∷ []) "source"
 
--- the plan that is explained, and the schedule
+-- the plan that is explained, and the schedule: `-` says that it is not stated
 abbrev pub stated_plan : OptionRule
-stated_plan = stated "plan"
+stated_plan = text "plan" "-"
 
 abbrev pub stated_schedule : OptionRule
-stated_schedule = stated "schedule"
+stated_schedule = text "schedule" "-"
 
 -- ---- the commands
 

@@ -1,17 +1,16 @@
 -- What holds of the whole command line.
-use Rattle.std.specs.Prelude.{◌≡◌, ◌&&◌, ◌||◌, Bool, true, not, List, [], ◌∷◌, codes, map}
+use Rattle.std.specs.Prelude.{◌≡◌, ◌&&◌, Bool, true, not, List, [], ◌∷◌, codes, map}
 use Rattle.std.specs.List.{list_all, list_any}
 use Rattle.std.specs.Str.{bytes_eq}
 use Rattle.clap.specs.Words.{Text}
 use Rattle.clap.specs.ValueTests.{is_unsigned_in}
-use Rattle.ppm_cli.specs.CommandLine.{CommandRule, Form, Number, Choice, AnyText, StatedText, is_free_text}
+use Rattle.ppm_cli.specs.CommandLine.{CommandRule, Form, Number, Choice, AnyText, is_free_text}
 
 -- the word is a value of this form
 abbrev pub is_value_of : Form → Text → Bool
 is_value_of (Number low high) word = is_unsigned_in low high word
 is_value_of (Choice words) word = list_any (bytes_eq word) words
 is_value_of AnyText word = is_free_text word
-is_value_of StatedText word = bytes_eq word (codes "-") || is_free_text word
 
 -- no name stands twice
 abbrev pub are_distinct : List Text → Bool

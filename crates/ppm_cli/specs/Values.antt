@@ -9,7 +9,7 @@ use Rattle.ppm_words.specs.declared.idle.Idle.TheVariants.{Leave, Park}
 use Rattle.ppm_cells.specs.Limits.{most_pool_words, most_saved_pool_words}
 use Rattle.ppm_cells.specs.declared.shape.Takeover.{Takeover}
 use Rattle.ppm_cells.specs.declared.shape.Takeover.TheVariants.{ByPlaces, ByEntries}
-use Rattle.ppm_cli.specs.CommandLine.{Form, Number, Choice, AnyText, StatedText, OptionRule, is_free_text, takeover, swept_takeovers, counts, idle, input, any_input, explained, traced_form, only}
+use Rattle.ppm_cli.specs.CommandLine.{Form, Number, Choice, AnyText, OptionRule, is_free_text, takeover, swept_takeovers, counts, idle, input, any_input, explained, traced_form, only}
 use Rattle.ppm_cli.specs.declared.explain.ExplainedText.{ExplainedText}
 use Rattle.ppm_cli.specs.declared.explain.ExplainedText.TheVariants as texts
 use Rattle.ppm_cli.specs.declared.input.InputKind.{InputKind}
@@ -49,8 +49,7 @@ text_given o rows = option_and_then (text_in o.form) (first_of o.name rows)
 
 -- the text, if the form takes it; `-` says that none is stated
 abbrev pub stated_in : Form → Text → Option (Option Text)
-stated_in StatedText text = if bytes_eq text (codes "-") then Some None else option_map (λ t. Some t) (text_in AnyText text)
-stated_in _ text = None
+stated_in form text = if bytes_eq text (codes "-") then Some None else option_map (λ t. Some t) (text_in form text)
 
 -- the text of an option in the matches of its command, if it is stated there
 abbrev pub stated_given : OptionRule → List Row → Option (Option Text)

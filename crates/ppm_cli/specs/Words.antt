@@ -227,8 +227,8 @@ races_in rows = option_map (λ l. commands.Races l) (capsule_limit rows)
 abbrev pub explain_by : ExplainedText → (processors : ℕ) → (plan schedule : Option Text) → Option Command
 explain_by text p None None = Some (commands.Explain text)
 explain_by text p (Some plan) None = Some (commands.ExplainOrders (record { orders = orders.Plan; processors = p }) plan)
-explain_by text p None (Some items) = Some (commands.ExplainOrders (record { orders = orders.Schedule; processors = p }) items)
-explain_by text p (Some plan) (Some items) = None
+explain_by text p None (Some schedule) = Some (commands.ExplainOrders (record { orders = orders.Schedule; processors = p }) schedule)
+explain_by text p (Some plan) (Some schedule) = None
 
 abbrev pub explain_in : List Row → Option Command
 explain_in rows =

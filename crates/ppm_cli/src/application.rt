@@ -62,7 +62,6 @@ fn argument<'a>(alloc: Global, option: OptionRow) -> Arg<'a>
         OptionRow::Number(number) => number_argument(alloc, number),
         OptionRow::Choice(choice) => text_argument(alloc, choice.name, choice.default),
         OptionRow::Text(text) => text_argument(alloc, text.name, text.default),
-        OptionRow::Stated(text) => text_argument(alloc, text.name, text.default),
     }
 }
 

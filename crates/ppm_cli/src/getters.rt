@@ -2,8 +2,8 @@
 ghost use Rattle.std.specs.Prelude.{◌≡◌, ◌≤◌, IfOk, IfSome, codes, map, option_map};
 ghost use Rattle.std.specs.Str.{bytes_eq};
 ghost use Rattle.clap.specs.Words.{first_of, found_of, rows_of};
-ghost use Rattle.ppm_cli.specs.Application.{choice_rule, number_rule, stated_rule, text_rule};
-ghost use Rattle.ppm_cli.specs.CommandLine.{AnyText, StatedText};
+ghost use Rattle.ppm_cli.specs.Application.{choice_rule, number_rule, text_rule};
+ghost use Rattle.ppm_cli.specs.CommandLine.{AnyText};
 ghost use Rattle.ppm_cli.specs.Values.{choice_given, kept_in as kept, number_given, text_given};
 ghost use Rattle.ppm_cli.specs.Values.{stated_given, stated_in, text_in, value_among as value_by};
 
@@ -97,7 +97,7 @@ pub(crate) fn stated_of(
     option: TextOption,
 ) -> Result<Option<Option<Items<u8>>>, AllocError>
     ensures { IfOk result (λ bytes. bytes
-        ≡ stated_given (stated_rule option) (rows_of (found_of matches.now))) }
+        ≡ stated_given (text_rule option) (rows_of (found_of matches.now))) }
 {
     match text_of(matches, option.name) {
         Some(text) => stated(alloc, text.as_bytes()),
@@ -114,7 +114,7 @@ fn is_unstated(bytes: &[u8]) -> bool
 
 /// The text of these bytes, if it is stated.
 fn stated(alloc: Global, bytes: &[u8]) -> Result<Option<Option<Items<u8>>>, AllocError>
-    ensures { IfOk result (λ text. text ≡ stated_in StatedText bytes.now) }
+    ensures { IfOk result (λ text. text ≡ stated_in AnyText bytes.now) }
 {
     if is_unstated(bytes) {
         return Ok(Some(None));

@@ -41,8 +41,6 @@ pub enum OptionRow {
     Choice(ChoiceOption),
     /// One whose value is any text.
     Text(TextOption),
-    /// One whose value is any text, if one is stated; `-` says that none is.
-    Stated(TextOption),
 }
 
 /// An option `--name` whose value is a whole number.
@@ -482,8 +480,8 @@ pub const COMMANDS: [CommandRow; 15] = [
         name: "explain",
         options: &[
             OptionRow::Choice(EXPLAINED),
-            OptionRow::Stated(PLAN),
-            OptionRow::Stated(STATED_SCHEDULE),
+            OptionRow::Text(PLAN),
+            OptionRow::Text(STATED_SCHEDULE),
             OptionRow::Number(PROCESSORS),
         ],
     },

@@ -42,7 +42,7 @@ fn name_of(option: OptionRow) -> &'static str
     match option {
         OptionRow::Number(number) => number.name,
         OptionRow::Choice(choice) => choice.name,
-        OptionRow::Text(text) | OptionRow::Stated(text) => text.name,
+        OptionRow::Text(text) => text.name,
     }
 }
 
@@ -51,7 +51,7 @@ fn values_of(alloc: Global, option: OptionRow) -> Result<String, AllocError> {
     match option {
         OptionRow::Number(number) => format!(in alloc; "{} to {}", number.low, number.high),
         OptionRow::Choice(choice) => words_of(alloc, choice.words),
-        OptionRow::Text(_) | OptionRow::Stated(_) => String::from_str(alloc, "a text"),
+        OptionRow::Text(_) => String::from_str(alloc, "a text"),
     }
 }
 
@@ -74,6 +74,6 @@ fn default_of(option: OptionRow) -> &'static str
     match option {
         OptionRow::Number(number) => number.default,
         OptionRow::Choice(choice) => choice.default,
-        OptionRow::Text(text) | OptionRow::Stated(text) => text.default,
+        OptionRow::Text(text) => text.default,
     }
 }
