@@ -1,5 +1,5 @@
 -- The rows of `replay` of a saved text.
-use Rattle.std.proofs.Common.{◌≡◌, ◌⊎◌, ◌<◌, ◌^◌, ℕ, List, inl, inr, sym, subst}
+use Rattle.std.proofs.Common.{◌≡◌, ◌⊎◌, ◌<◌, ◌+◌, ◌^◌, ℕ, List, inl, inr, sym, subst}
 use Rattle.ppm_words.specs.declared.named_array.NamedArray.{NamedArray}
 use Rattle.ppm_ports.specs.Outside.{Ports}
 use Rattle.ppm_code.specs.declared.code.CodeParts.{CodeParts}
@@ -50,12 +50,12 @@ module _ (laws : ResumeLaws) (options : ReplaySavedOptions) (schedule : List ℕ
   late : (place : ℕ) (read : Read (answers.Broken place)) (code : CodeParts) (input : List NamedArray) → MayRun code input
       → (left : IsLeftByCode code input read.2.state)
       → (h : StateReplays options read.2.has.items read.2.state (answers.Broken place))
-      × (2 ^ 34 < worked_in_all left.start (legs_of left h.start.state.words) (turns_by options read.2.has.items h.start))
+      × (2 ^ 34 + 2 ^ 28 < worked_in_all left.start (legs_of left h.start.state.words) (turns_by options read.2.has.items h.start))
   late place read code input may left = go read.2.has.has
     where
       go : ItemsHave (StateReplays options) read.2.has.items read.2.state (answers.Broken place)
           → (h : StateReplays options read.2.has.items read.2.state (answers.Broken place))
-          × (2 ^ 34 < worked_in_all left.start (legs_of left h.start.state.words) (turns_by options read.2.has.items h.start))
+          × (2 ^ 34 + 2 ^ 28 < worked_in_all left.start (legs_of left h.start.state.words) (turns_by options read.2.has.items h.start))
       go (inl h) = absurd (left_words_stand laws.legs laws.comes code input may read.2.state left h.0)
       go (inr h) = (
         h,

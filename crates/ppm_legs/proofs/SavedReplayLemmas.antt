@@ -45,7 +45,6 @@ use Rattle.ppm_outcomes.specs.Legs.{finish_at_last, worked_in_all}
 use Rattle.ppm_outcomes.specs.LegsAsCode.{EndsAsCodeInAll, IsAsCodeInAll, RunsInLegsAreAsCode}
 use Rattle.ppm_outcomes.specs.Replays.{IsSaid, tally_of}
 use Rattle.ppm_outcomes.specs.Resumes.{SavedState, saved_finish, GoesOnFrom, IsTextOf, named}
-use Rattle.ppm_outcomes.proofs.LegsMeant.{less_work}
 use Rattle.ppm_outcomes.proofs.MeantRows.{ended_replay, trapped_replay, full_replay, broken_replay}
 use Rattle.ppm_outcomes.proofs.MeantRows.{no_other, no_other_trap, no_other_room, no_other_broken}
 use Rattle.ppm_outcomes.proofs.ReplayLemmas.{one_said}
@@ -272,7 +271,7 @@ module _ (law : RunsInLegsAreAsCode) (comes : CodeWordsComeBack) (options : Repl
       let k = said a h (no_other_broken options.turns place) in
       let e = broken_replay m.shape m.array_lengths m.state.words (named z.arrays) options.turns (tally_of m) k.0 place k.2 in
       let few = left.few in
-      less_work _ ((as_code a h).unbroken (omega (arith, few)) place (at_last a h (no_other_broken options.turns place) _ e))
+      (as_code a h).unbroken (omega (arith, few)) place (at_last a h (no_other_broken options.turns place) _ e)
   says a h = absurd (replay_kind options items z a h)
 
   pub as_replayed : (a : Answer) (h : HasIt a) → IsAsReplayed h left

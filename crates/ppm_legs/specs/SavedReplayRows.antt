@@ -1,5 +1,5 @@
 -- What follows from each status of `replay` of a saved text.
-use Rattle.std.specs.Prelude.{◌<◌, ℕ, ◌^◌, List, ◌++◌}
+use Rattle.std.specs.Prelude.{◌<◌, ℕ, ◌+◌, ◌^◌, List, ◌++◌}
 use Rattle.ppm_words.specs.declared.named_array.NamedArray.{NamedArray}
 use Rattle.ppm_words.specs.declared.trap.Trap.{Trap}
 use Rattle.ppm_words.specs.declared.outcome.Outcome.{Outcome}
@@ -73,13 +73,13 @@ module _ (options : ReplaySavedOptions) (schedule : List ℕ) (o : Ports) where
     pub gets : Gets o.err (room_text place)
 
   -- The words are broken: the run says so, or the saved finish word did, or that word stands for nothing; and err got exactly the line that says so. Of
-  -- a state that a sound code left it is a run, and so late: after more than 2^34 work turns of all legs.
+  -- a state that a sound code left it is a run, and so late: after more than 2^34 + 2^28 work turns of all legs.
   pub record WritesBroken : Type 0 where
     pub place : ℕ
     pub read : HasRead (answers.Broken place)
     pub late : (code : CodeParts) (input : List NamedArray) → MayRun code input → (left : IsLeftByCode code input read.2.state)
         → (h : StateReplays options read.2.has.items read.2.state (answers.Broken place))
-        × (2 ^ 34 < worked_in_all left.start (legs_of left h.start.state.words) (turns_by options read.2.has.items h.start))
+        × (2 ^ 34 + 2 ^ 28 < worked_in_all left.start (legs_of left h.start.state.words) (turns_by options read.2.has.items h.start))
     pub gets : Gets o.err (broken_text place)
 
   -- what each status says; the others never come

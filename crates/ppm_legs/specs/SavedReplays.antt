@@ -1,5 +1,5 @@
 -- What `replay` answers of a saved text, and when it may.
-use Rattle.std.specs.Prelude.{◌≡◌, ◌≢◌, ◌<◌, ℕ, ◌^◌, List, Some, None}
+use Rattle.std.specs.Prelude.{◌≡◌, ◌≢◌, ◌<◌, ℕ, ◌+◌, ◌^◌, List, Some, None}
 use Rattle.ppm_words.specs.declared.named_array.NamedArray.{NamedArray}
 use Rattle.ppm_words.specs.declared.outcome.Outcome.TheVariants as outcome
 use Rattle.ppm_ports.specs.Ports.{Port}
@@ -70,8 +70,8 @@ abbrev pub turns_by : ReplaySavedOptions → List ScheduleItem → Situation →
 turns_by options items m = schedule_turns m.shape m.code m.state items options.turns
 
 -- What an answer says of a run from a state that a code left. An outcome is that of the code, run depth first, and over all legs each branch that was
--- forked was taken once. A full pool is that of a place, and the code takes more words. That words are broken comes only after more than 2^34 work
--- turns of all legs.
+-- forked was taken once. A full pool is that of a place, and the code takes more words. That words are broken comes only after more than
+-- 2^34 + 2^28 work turns of all legs.
 abbrev pub SaysAsReplayed : {code : CodeParts} {input : List NamedArray} {z : SavedState} → IsLeftByCode code input z → (back : List ℕ) → List Turn
     → Answer → Type 0
 SaysAsReplayed {code} {input} {z} left back turns (answers.EndedWith arrays tally) =
@@ -80,7 +80,7 @@ SaysAsReplayed {code} {input} {z} left back turns (answers.TrappedWith trap line
     EndsAsCodeInAll left.start (legs_of left back) turns code input (outcome.Trapped trap line)
 SaysAsReplayed {code} {input} {z} left back turns (answers.Unfinished acts) = Unit {0}
 SaysAsReplayed {code} {input} {z} left back turns (answers.OutOfRoom place) = (place < z.shape.processors) × CodeNeedsMoreRoom code input z.shape.room
-SaysAsReplayed {code} {input} {z} left back turns (answers.Broken place) = 2 ^ 34 < worked_in_all left.start (legs_of left back) turns
+SaysAsReplayed {code} {input} {z} left back turns (answers.Broken place) = 2 ^ 34 + 2 ^ 28 < worked_in_all left.start (legs_of left back) turns
 SaysAsReplayed left back turns answer = ⊥
 
 -- a run that an answer of a state is of, where a code left the state: with the legs before it is as the code, and the answer says so

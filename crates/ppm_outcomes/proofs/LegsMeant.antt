@@ -1,6 +1,6 @@
 -- With takeover by places runs in legs end as their programs do: a program's code is sound, so they end as that does, run depth first
 -- (`LegsOfCode`), and its outcome is the program's (`MeantLemmas`).
-use Rattle.std.proofs.Common.{ℕ, ◌+◌, ◌<◌, ◌^◌, List, arith}
+use Rattle.std.proofs.Common.{ℕ, List}
 use Rattle.ppm_words.specs.declared.named_array.NamedArray.{NamedArray}
 use Rattle.ppm_words.specs.declared.outcome.Outcome.{Outcome}
 use Rattle.ppm_code.specs.declared.code.CodeParts.{CodeParts}
@@ -13,10 +13,6 @@ use Rattle.ppm_core.specs.Situation.{Situation}
 use Rattle.ppm_outcomes.specs.Legs.{EndsAsProgramInAll, IsAsProgramInAll, RunsInLegsAreAsPrograms, TagsMayRiseInLegs}
 use Rattle.ppm_outcomes.specs.LegsAsCode.{EndsAsCodeInAll, IsAsCodeInAll, RunsInLegsAreAsCode, TagsMayRiseInLegsOfCode}
 use Rattle.ppm_outcomes.specs.ProgramsAsCode.{IsAsItsCode, ProgramsAreAsCode}
-
--- what is more than the work that breaks nothing over legs is more than 2^34
-pub less_work : (n : ℕ) → 2 ^ 34 + 2 ^ 28 < n → 2 ^ 34 < n
-less_work n h = omega (arith, h)
 
 module _ (t : ProgramTree) (its : IsAsItsCode t) (m : Situation) (legs : List Leg) (turns : List Turn) where
   abbrev code : CodeParts
@@ -45,7 +41,7 @@ module _ (t : ProgramTree) (its : IsAsItsCode t) (m : Situation) (legs : List Le
     full = λ place says. let k = h.full place says in (k.0, its.more_room m.shape.room k.1);
     pools = h.pools;
     stands = h.stands;
-    unbroken = λ low place says. less_work _ (h.unbroken low place says);
+    unbroken = h.unbroken;
   }
 
 -- this holds with each text's program

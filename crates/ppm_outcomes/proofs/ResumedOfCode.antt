@@ -37,7 +37,6 @@ use Rattle.ppm_outcomes.specs.Meant.{struck_in}
 use Rattle.ppm_outcomes.specs.Resumes.{SavedState, GoesOnFrom, named, limits_of, plan_of, saved_finish, ResumedHas}
 use Rattle.ppm_outcomes.specs.RunOf.{words_behind, finish_behind}
 use Rattle.ppm_outcomes.specs.Stops.{names_of}
-use Rattle.ppm_outcomes.proofs.LegsMeant.{less_work}
 use Rattle.ppm_outcomes.proofs.MeantRows.{ended_run, trapped_run, full_run, broken_run}
 use Rattle.ppm_outcomes.proofs.ResumeLemmas.{spent_has, has_kind, saved_or_none}
 use Rattle.ppm_outcomes.proofs.StrikeLemmas.{strikes_are_planned}
@@ -235,17 +234,14 @@ module _ (law : RunsInLegsAreAsCode) (comes : CodeWordsComeBack) (code : CodePar
         times_more n k = grind arith
 
     -- broken words are met late
-    pub resumed_breaks_late : (place : ℕ) (h : Resumed (answers.Broken place))
+    pub resumed_breaks : (place : ℕ) (h : Resumed (answers.Broken place))
         → 2 ^ 34 + 2 ^ 28 < worked_in_all m (legs_of left h.start.state.words) h.run.turns
-    resumed_breaks_late place h =
+    resumed_breaks place h =
         let a = answers.Broken place in
         let k = said a h in
         let e = broken_run h.start.shape h.start.array_lengths (words_behind h.start h.run.turns) (named z.arrays) k.0 place k.2 in
         let few = left.few in
         (resumed_is a h).unbroken (omega (arith, few)) place (says_at_last a h _ e)
-
-    pub resumed_breaks : (place : ℕ) (h : Resumed (answers.Broken place)) → 2 ^ 34 < worked_in_all m (legs_of left h.start.state.words) h.run.turns
-    resumed_breaks place h = less_work _ (resumed_breaks_late place h)
 
     -- an answer says so
     says : (a : Answer) (h : Resumed a) → SaysAsResumed left options.turns h.start.state.words h.run.turns a

@@ -89,13 +89,13 @@ module _ {code : CodeParts} {input : List NamedArray} {z : SavedState} (left : I
   -- What an answer says of turns of fresh processors from the words that came back, if each may make so many work turns. An outcome is that of the
   -- code, run depth first, and over all legs each branch that was forked was taken once. Else the turns are fewer than 256 for each capsule of that
   -- run and each row of work that was lost; or that run takes more words than a pool has; or it has no end. That words are broken comes only after
-  -- more than 2^34 work turns of all legs. No other answer comes.
+  -- more than 2^34 + 2^28 work turns of all legs. No other answer comes.
   abbrev pub SaysAsResumed : (limit : ℕ) → (back : List ℕ) → List Turn → Answer → Type 0
   SaysAsResumed limit back turns (answers.Ended arrays) = EndsAsCodeInAll left.start (legs_of back) turns code input (outcome.Ended arrays)
   SaysAsResumed limit back turns (answers.Trapped trap line) = EndsAsCodeInAll left.start (legs_of back) turns code input (outcome.Trapped trap line)
   SaysAsResumed limit back turns (answers.OutOfTurns processor) = CodeNeedsMoreTurns code input (lost_in_all left.start (legs_of back) turns) limit
   SaysAsResumed limit back turns (answers.OutOfRoom place) = (place < z.shape.processors) × CodeNeedsMoreRoom code input z.shape.room
-  SaysAsResumed limit back turns (answers.Broken place) = 2 ^ 34 < worked_in_all left.start (legs_of back) turns
+  SaysAsResumed limit back turns (answers.Broken place) = 2 ^ 34 + 2 ^ 28 < worked_in_all left.start (legs_of back) turns
   SaysAsResumed limit back turns answer = ⊥
 
 -- A run that an answer of a state is of, where a code left the state: with the legs before it is as the code. No more rows of work were lost than

@@ -88,7 +88,7 @@ module _ (m : Situation) (legs : List Leg) (turns : List Turn) where
   -- of the words then, or this trap; where it says that a pool is full, it is that of a place, and the program takes more words. All work turns
   -- are fewer than 256 for each capsule that the program's code runs depth first, if that run ends, each fault that strikes a row of work, and each
   -- fresh processor; no more faults strike one than turns are faults. No place has given out more of its pool than that run takes. The finish word
-  -- stands for a finish; that words are broken it says only after more than 2^34 work turns, where words came back at most 2^50 times.
+  -- stands for a finish; that words are broken it says only after more than 2^34 + 2^28 work turns, where words came back at most 2^50 times.
   pub record IsAsProgramInAll (t : ProgramTree) : Type 0 where
     pub once : NoneIsTakenTwiceInAll
     pub ended : finish_of finish_at_last ≡ Some finishes.Ended
@@ -102,7 +102,8 @@ module _ (m : Situation) (legs : List Leg) (turns : List Turn) where
     pub pools : (e : CapsuleEnd Result) → ComesTo (code_of t) (initial_arrays t) e → (place : ℕ) → place < m.shape.processors
         → read m.shape words_at_last (RoomCounter place) ≤ pool_at m.shape place + pool_words (code_of t) e.counts
     pub stands : finish_of finish_at_last ≢ None
-    pub unbroken : length legs ≤ 2 ^ 50 → (place : ℕ) → finish_of finish_at_last ≡ Some (finishes.Broken place) → 2 ^ 34 < worked_in_all
+    pub unbroken : length legs ≤ 2 ^ 50 → (place : ℕ) → finish_of finish_at_last ≡ Some (finishes.Broken place)
+        → 2 ^ 34 + 2 ^ 28 < worked_in_all
 
 -- With takeover by places, from the machine with which a run of a text's program begins, however often its words came back, and whatever the
 -- turns are, in whatever order, faults and quits among them. A run in which no words came back has no legs.

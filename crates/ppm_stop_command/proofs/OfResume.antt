@@ -1,6 +1,6 @@
 -- What rows say of `resume`: each status says its sentence; and of each sound code, and each program, that left the state the whole run, with the
 -- legs before, is as the code (`ResumedOfCode`), and as the program.
-use Rattle.std.proofs.Common.{◌≡◌, ◌≢◌, ◌⊎◌, ◌<◌, ◌*◌, ◌^◌, ℕ, List, [], ◌∷◌, length, None, inl, inr, sym, ap, ◌∙◌, subst, arith}
+use Rattle.std.proofs.Common.{◌≡◌, ◌≢◌, ◌⊎◌, ◌<◌, ◌*◌, ◌+◌, ◌^◌, ℕ, List, [], ◌∷◌, length, None, inl, inr, sym, ap, ◌∙◌, subst, arith}
 use Rattle.ppm_words.specs.declared.named_array.NamedArray.{NamedArray}
 use Rattle.ppm_words.specs.declared.outcome.Outcome.TheVariants as outcome
 use Rattle.ppm_words.specs.declared.trap.Trap.{Trap}
@@ -91,7 +91,8 @@ module _ (laws : ResumeLaws) (options : ResumeOptions) (before now : ToldLists) 
   program_needs_turns c h made =
       resumed_needs_turns laws.legs laws.comes code input its.may z (by_code left) options before now items c h made
 
-  program_breaks : (place : ℕ) (h : Resumed (answers.Broken place)) → 2 ^ 34 < worked_in_all left.start (legs_with left h.start.state.words) h.run.turns
+  program_breaks : (place : ℕ) (h : Resumed (answers.Broken place)) 
+      → 2 ^ 34 + 2 ^ 28 < worked_in_all left.start (legs_with left h.start.state.words) h.run.turns
   program_breaks place h = resumed_breaks laws.legs laws.comes code input its.may z (by_code left) options before now items place h
 
   program_stands : finish_of (saved_finish z) ≢ None

@@ -44,7 +44,7 @@ use Rattle.ppm_stop_command.specs.Stopped.{IsOutcomeOf, ResumesStopped, StoppedR
 use Rattle.ppm_outcomes.specs.Stops.{CodeHas, IsReadBack, sizes_of, text_of}
 use Rattle.ppm_outcomes.specs.Strikes.{scheduled_faults}
 use Rattle.ppm_outcomes.proofs.LeftLemmas.{text_by_code}
-use Rattle.ppm_outcomes.proofs.ResumedOfCode.{among, left_stands, resumed_breaks_late, work_split}
+use Rattle.ppm_outcomes.proofs.ResumedOfCode.{among, left_stands, resumed_breaks, work_split}
 use Rattle.ppm_stop_command.proofs.StopLemmas.{same_text}
 use Rattle.ppm_outcomes.proofs.WorkLemmas.{obeyed_work}
 
@@ -107,7 +107,7 @@ module _ (code : CodeParts) (input : List NamedArray) (faults : ℕ) (text : Lis
         (ap (λ (x : Situation). x.shape) h.goes_on.loads)
         (obeyed_work h.start.shape h.start.code (plan_of l.state items) (limits_of options) h.start.state h.run.turns h.run.obey all) in
         let most = mul-le l.state.shape.processors options.turns 64 268435456 l.small resumed.0.1 in
-        let late = resumed_breaks_late law comes code input may l.state l.by options before now items place h in
+        let late = resumed_breaks law comes code input may l.state l.by options before now items place h in
         let work = l.work in
         omega (arith, late, split, own, work, most)
 

@@ -1,6 +1,6 @@
 -- What follows from each status of `resume`. What is said of programs is said of each source whose program left the state: a run of it came to
 -- the saved words, whatever was stopped and resumed how often before.
-use Rattle.std.specs.Prelude.{◌≡◌, ◌⊎◌, ℕ, ◌<◌, ◌≤◌, ◌^◌, List, [], ◌∷◌, Some}
+use Rattle.std.specs.Prelude.{◌≡◌, ◌⊎◌, ℕ, ◌<◌, ◌≤◌, ◌+◌, ◌^◌, List, [], ◌∷◌, Some}
 use Rattle.ppm_words.specs.declared.named_array.NamedArray.{NamedArray}
 use Rattle.ppm_words.specs.declared.outcome.Outcome.TheVariants as outcome
 use Rattle.ppm_words.specs.declared.trap.Trap.{Trap}
@@ -119,10 +119,10 @@ module _ (options : ResumeOptions) (plan : List ℕ) (o : Outside) where
     pub gets : Gets o.err (room_text place)
 
   -- That words are broken is said of a state that a program left only by a run from it, so its finish word stands for a finish; and only so
-  -- late: the work turns that all legs made, with those of this run, are more than 2^34.
+  -- late: the work turns that all legs made, with those of this run, are more than 2^34 + 2^28.
   abbrev pub ComesLate : List PlanItem → SavedState → (place : ℕ) → Type 0
   ComesLate items z place = (source : List ℕ) (left : IsLeftBy source z)
-      → (run : Resumed items z (answers.Broken place)) × (2 ^ 34 < worked_in_all left.start (legs_with left run.start.state.words) run.run.turns)
+      → (run : Resumed items z (answers.Broken place)) × (2 ^ 34 + 2 ^ 28 < worked_in_all left.start (legs_with left run.start.state.words) run.run.turns)
 
   -- the words are broken, so late, and err got exactly the line that says so
   pub record WritesBroken : Type 0 where

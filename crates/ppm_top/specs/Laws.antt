@@ -36,7 +36,7 @@ use Rattle.ppm_outcomes.specs.Stops.{HaveOneAnswer as StopsHaveOneAnswer}
 use Rattle.ppm_sweep_command.specs.SweepRows.{SweepsAreAsCode}
 use Rattle.ppm_sweep_command.specs.Sweeps.{HaveOneAnswer as SweepsHaveOneAnswer}
 use Rattle.ppm_trace_command.specs.Traces.{HaveOneAnswer as TracesHaveOneAnswer}
-use Rattle.ppm_legs.specs.Chains.{StopsGoOnChains}
+use Rattle.ppm_legs.specs.Chains.{StopsBeginChains, StopsGoOnChains}
 use Rattle.ppm_legs.specs.SavedReplays.{HaveOneAnswer as SavedReplaysHaveOneAnswer}
 use Rattle.ppm_legs.specs.SavedStops.{HaveOneAnswer as SavedStopsHaveOneAnswer}
 use Rattle.ppm_legs.specs.SavedTraces.{HaveOneAnswer as SavedTracesHaveOneAnswer}
@@ -74,6 +74,7 @@ pub record ProgramLaws : Type 0 where
   pub saved_stops : SavedStopsHaveOneAnswer
   pub saved_replays : SavedReplaysHaveOneAnswer
   pub saved_traces : SavedTracesHaveOneAnswer
+  pub begin_chains : StopsBeginChains
   pub chains : StopsGoOnChains
   pub case_runs : AnswersAreAsCode
   pub case_replays : ReplaysAreAsCode

@@ -34,6 +34,7 @@ returns c = record {
     saved_stops = c.saved_stops_have_one_answer.ensures.law;
     saved_replays = c.saved_replays_have_one_answer.ensures.law;
     saved_traces = c.saved_traces_have_one_answer.ensures.law;
+    begin_chains = c.stops_go_on_chains.ensures.begin;
     chains = c.stops_go_on_chains.ensures.law;
     case_runs = c.answers_are_as_code.ensures.law;
     case_replays = c.replays_are_as_code.ensures.law;
