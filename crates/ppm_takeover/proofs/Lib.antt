@@ -29,3 +29,5 @@ pub mod ComeSteps
 pub mod SoonRuns
 pub mod LapRuns
 pub mod LookSteps
+pub mod AimRows
+pub mod AimTurns

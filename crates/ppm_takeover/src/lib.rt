@@ -11,6 +11,8 @@
 
 mod finishing;
 mod laws;
+mod probe;
 
 pub use finishing::runs_end_by_places;
+pub use probe::p;
 pub use laws::{looks_are_short, nothing_is_lost, work_turns_come_soon_by_places};
