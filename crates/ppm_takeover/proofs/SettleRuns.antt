@@ -29,7 +29,7 @@ use Rattle.ppm_layout.specs.declared.images.Image.{Image}
 use Rattle.ppm_layout.proofs.ValueLemmas.{stands_for}
 use Rattle.ppm_step.specs.Among.{IsTurnAmong}
 use Rattle.ppm_step.specs.Laws.{reached, finish_at}
-use Rattle.ppm_step.specs.Rows.{seek_holder, found_at}
+use Rattle.ppm_step.specs.Rows.{seek_by, found_at}
 use Rattle.ppm_step.specs.Standings.{Standing, IsLost, IsWithin, IsDone}
 use Rattle.ppm_step.specs.State.{State as RunState, stand_in, stand_of, happens, after, along, opening, is_done_at, is_step, is_work, is_work_next, is_work_turn}
 use Rattle.ppm_step.specs.State.{work_of, seeks_holder}
@@ -63,7 +63,7 @@ use Rattle.ppm_choice.specs.ScheduleLaws.{load_of, loads_made}
 use Rattle.ppm_choice.proofs.TurnsLemmas.{tell_on}
 use Rattle.ppm_progress.specs.Soon.{turns_of, StepsOnly}
 use Rattle.ppm_progress.proofs.ListLemmas.{both, front, back, has_some, work_both}
-use Rattle.ppm_progress.proofs.MomentLemmas.{number_of, IsMoment, alive_at}
+use Rattle.ppm_progress.proofs.MomentLemmas.{number_of, IsMoment, alive_at, sees_at}
 use Rattle.ppm_progress.proofs.SpotLemmas.{Made}
 use Rattle.ppm_progress.proofs.UnhurtRuns.{done_is}
 use Rattle.ppm_progress.proofs.WriteLemmas.{MovesTo}
@@ -115,7 +115,7 @@ load_seeks s seat k (suc n) a = again_seeks k n s seat (subst (LooksAtMost s sea
     own = record { tag = 0; processor = 0 }
 
     by : (y : Bool) → (seat.place == seat.place) ≡ y → found_at s seat seat.place SeekHolder (AHolder own) ≡ Now Again
-    by true e = ap (λ (z : Bool). if z then Now Again else _) e
+    by true e = ap (λ (z : Bool). if z then Now Again else seek_by s seat seat.place own s.takeover) e
     by false e = absurd (true≢false (sym (eq-eqb seat.place seat.place refl) ∙ e))
 
 -- a kind looks or is work
@@ -184,9 +184,6 @@ module _ (code : CodeParts) (input : List NamedArray) (s : Shape) (keeper : ℕ)
   no_bid : (p v : ℕ) → BidsFor (spots.kinds s im.words p) v → ⊥
   no_bid p v bids = by (nat_lt p s.processors) refl
     where
-      abbrev_of : (x : Restart) → BidsFor x.kind v → Type 0
-      abbrev_of x b = ⊥
-
       some : p < s.processors → ⊥
       some lt = elim (cases_eq p keeper) [
         | inl same ↦
@@ -326,3 +323,170 @@ module _ (code : CodeParts) (input : List NamedArray) (s : Shape) (keeper : ℕ)
             subst (λ (z : RunState). IsSettled s (after s code z more) c) is
             (settled_along c there more then_ a_then b.1 spared_then spares.1 rest (subst (λ (z : RunState). IsSettled s z c) (sym is) next))
       ]
+
+  -- of a stretch with seventeen steps of c
+  module _ (c : ℕ) (there : c < s.processors) (first more : List Turn) (a : Among first) (b : Among more) (spared : AllByRecursion (Spares c) first)
+      (steps : AllByRecursion (StepsOnly c) more) (quiet : IsQuiet first more) where
+    going : is_done_at (stand_of (at first) c) ≡ false
+    going = elim (going_or first a c there spared) [
+      | inl live ↦ live
+      | inr set ↦ absurd (set_later first more set quiet.unset)
+    ]
+
+    soon : 17 ≤ turns_of c more → StepsFrom s code IsLooking c 16 (at first) more ⊎ StepsFrom s code IsMoving c 16 (at first) more
+    soon many = elim (looks_come_soon code input s keeper im places fair opens calm [] tt first more a b c there going steps many) [
+      | inl look ↦ inl look
+      | inr (inl move) ↦ inr move
+      | inr (inr (inl found)) ↦
+          let some = has_some (along s code work_of (at first) more) c found in
+          let idle = quiet.idle in
+          absurd (omega (arith, some, idle))
+      | inr (inr (inr set)) ↦ absurd (set (sym (ap (finish_at s) (in_two s code start first more)) ∙ quiet.unset))
+    ]
+
+    -- where it steps so
+    module _ (P : Standing → Type 0) (from : StepsFrom s code P c 16 (at first) more) where
+      abbrev turn : Turn
+      turn = record { processor = c; act = Step from.victim }
+
+      abbrev upto : List Turn
+      upto = first ++ from.before
+
+      split : Among (from.before ++ turn ∷ from.rest)
+      split = subst Among from.turns_are b
+
+      among_before : Among from.before
+      among_before = front (IsTurnAmong s.processors) from.before (turn ∷ from.rest) split
+
+      among_rest : Among (turn ∷ from.rest)
+      among_rest = back (IsTurnAmong s.processors) from.before (turn ∷ from.rest) split
+
+      among_upto : Among upto
+      among_upto = both (IsTurnAmong s.processors) first from.before a among_before
+
+      spares : AllByRecursion (Spares c) (from.before ++ turn ∷ from.rest)
+      spares = subst (AllByRecursion (Spares c)) from.turns_are (steps_spare c more steps)
+
+      spares_before : AllByRecursion (Spares c) from.before
+      spares_before = front (Spares c) from.before (turn ∷ from.rest) spares
+
+      spares_rest : AllByRecursion (Spares c) (turn ∷ from.rest)
+      spares_rest = back (Spares c) from.before (turn ∷ from.rest) spares
+
+      spared_upto : AllByRecursion (Spares c) upto
+      spared_upto = both (Spares c) first from.before spared spares_before
+
+      quiet_split : IsQuiet first (from.before ++ turn ∷ from.rest)
+      quiet_split = subst (IsQuiet first) from.turns_are quiet
+
+      quiet_before : IsQuiet first from.before
+      quiet_before = quiet_front first from.before (turn ∷ from.rest) a among_before among_rest quiet_split
+
+      quiet_rest : IsQuiet upto (turn ∷ from.rest)
+      quiet_rest = quiet_back first from.before (turn ∷ from.rest) a among_before among_rest quiet_split
+
+      on : after s code (at first) from.before ≡ at upto
+      on = sym (in_two s code start first from.before)
+
+      stands : P (stand_of (at upto) c)
+      stands = subst (λ (z : RunState). P (stand_of z c)) on from.stands
+
+      ends : after s code (at upto) (turn ∷ from.rest) ≡ at (first ++ more)
+      ends =
+          sym (in_two s code start upto (turn ∷ from.rest)) ∙ ap at (append_assoc first from.before (turn ∷ from.rest))
+          ∙ ap (λ (l : List Turn). at (first ++ l)) (sym from.turns_are)
+
+      sees : (x : Standing) → stand_of (at upto) c ≡ x
+          → Sees s (spots.view s (at upto).words) (spots.kinds s (at upto).words) (spots.bottoms s (at upto).words) c x
+      sees x e = sees_at s code fair root arrays (at upto) (moment upto among_upto) c x e
+
+      working_not : (seat : Seat) (row : Row) → stand_of (at upto) c ≡ IsWithin seat row → is_work seat.restart.kind ≡ true → ⊥
+      working_not seat row e work =
+          let row_works : is_work_turn (Step from.victim) (IsWithin seat row) ≡ true =
+          ap (λ (y : Bool). is_work_next (if y then Work else Look)) work in
+          let told : work_of (at upto) turn ≡ c ∷ [] =
+          ap (λ (z : Standing). if is_work_turn (Step from.victim) z then c ∷ [] else []) e ∙ ap (λ (y : Bool). if y then c ∷ [] else []) row_works in
+          let later = along s code work_of (happens s code (at upto) turn) from.rest in
+          let is = ap (λ (l : List ℕ). length (l ++ later)) told in
+          let whole : work_in s code (at upto) (turn ∷ from.rest) ≡ length (work_of (at upto) turn ++ later) = refl in
+          let sum_ = length-append (c ∷ []) later in
+          let one : length (c ∷ []) ≡ 1 = refl in
+          let idle = quiet_rest.idle in
+          omega (arith, is, whole, sum_, one, idle)
+
+    looking_settles : StepsFrom s code IsLooking c 16 (at first) more → IsSettled s (at (first ++ more)) c
+    looking_settles from =
+        let u = upto IsLooking from in
+        let seat_is = seeks_is (stand_of (at u) c) (stands IsLooking from) in
+        let seat = seat_is.0 in
+        let row = Now (Load SeekHolder) in
+        let seen = sees IsLooking from (IsWithin seat row) seat_is.1 in
+        let M = spots.with_restarts (spots.view s (at u).words) (spots.kinds s (at u).words) (spots.bottoms s (at u).words) in
+        let kind : seat.restart.kind ≡ Seek = elim (look_or_work seat.restart.kind) [
+          | inl look ↦ let r = look_row s places M seat row look seen.1 in load_seeks s seat seat.restart.kind r.0 r.2
+          | inr work ↦ absurd (working_not IsLooking from seat row seat_is.1 work)
+        ] in
+        let settled : IsSettled s (at u) c = λ v took names.
+        let place = ap number_of (sym took.carried ∙ seen.0.carried.carry) in
+        subst (λ (k : RestartKind). BidsFor k v) (ap (spots.kinds s (at u).words) place ∙ seen.0.at.kind ∙ kind) took.bids in
+        subst (λ (z : RunState). IsSettled s z c) (ends IsLooking from)
+        (settled_along c there (turn IsLooking from ∷ from.rest) u (among_upto IsLooking from) (among_rest IsLooking from) (spared_upto IsLooking from)
+        (spares_rest IsLooking from) (quiet_rest IsLooking from) settled)
+
+    module _ (from : StepsFrom s code IsMoving c 16 (at first) more) where
+      abbrev u : List Turn
+      u = upto IsMoving from
+
+      abbrev mine : Turn
+      mine = turn IsMoving from
+
+      move : (seat : Seat) × (r : ℕ) × (stand_of (at u) c ≡ IsWithin seat (Now (Move r)))
+      move = moving_is (stand_of (at u) c) (stands IsMoving from)
+
+      among_u : Among u
+      among_u = among_upto IsMoving from
+
+      moving_settles : IsSettled s (at (first ++ more)) c
+      moving_settles =
+          let then_ = u ++ mine ∷ [] in
+          let all = among_rest IsMoving from in
+          let spare = spares_rest IsMoving from in
+          let among_then = both (IsTurnAmong s.processors) u (mine ∷ []) among_u (all.0, tt) in
+          let spared_then = both (Spares c) u (mine ∷ []) (spared_upto IsMoving from) (spare.0, tt) in
+          let one = quiet_front u (mine ∷ []) from.rest among_u (all.0, tt) all.1 (quiet_rest IsMoving from) in
+          let rest = quiet_back u (mine ∷ []) from.rest among_u (all.0, tt) all.1 (quiet_rest IsMoving from) in
+          let is = one_more u mine in
+          elim (going_or then_ among_then c there spared_then) [
+            | inr set ↦ absurd (set one.unset)
+            | inl going_then ↦
+                let alive = subst (λ (z : RunState). IsAlive (spots.view s z.words) c) is
+                (alive_at s code fair root arrays (at then_) (moment then_ among_then) c going_then) in
+                let now = tended u among_u in
+                let run = now.1.advancing.run in
+                let next = moved_settles s code places fair root arrays (at u) _ _ _ [] now.0 run.halves run.joint.agrees mine all.0 (apart_at u among_u)
+                from.victim move.0 move.1 refl move.2 alive in
+                subst (λ (z : RunState). IsSettled s z c)
+                (ap (λ (z : RunState). after s code z from.rest) is ∙ ends IsMoving from)
+                (settled_along c there from.rest then_ among_then all.1 spared_then spare.1 rest (subst (λ (z : RunState). IsSettled s z c) (sym is) next))
+          ]
+
+      moving_not : IsSettled s (at first) c → ⊥
+      moving_not settled =
+          let now = tended u among_u in
+          let run = now.1.advancing.run in
+          let seen = sees IsMoving from (IsWithin move.0 (Now (Move move.1))) move.2 in
+          let there_ = subst (λ (z : RunState). IsSettled s z c) (on IsMoving from)
+          (settled_along c there from.before first a (among_before IsMoving from) spared (spares_before IsMoving from) (quiet_before IsMoving from) settled) in
+          let moved = moves s code places fair root arrays (at u) _ _ _ [] now.0 run.halves run.joint.agrees mine (among_rest IsMoving from).0
+          (apart_at u among_u) (Step from.victim) (stand_of (at u) c) c move.1 refl
+          (subst (λ (z : Standing). MovesTo (Step from.victim) z c move.1) (sym move.2) (seen.0.own, refl)) in
+          there_ move.1 moved.took moved.names
+
+    pub settles : 17 ≤ turns_of c more → IsSettled s (at (first ++ more)) c
+    settles many = elim (soon many) [ inl look ↦ looking_settles look | inr move_ ↦ moving_settles move_ ]
+
+    pub looks_again : 17 ≤ turns_of c more → IsSettled s (at first) c → StepsFrom s code IsLooking c 16 (at first) more × IsSettled s (at (first ++ more)) c
+    looks_again many settled = elim (soon many) [
+      | inl look ↦ (look, looking_settles look)
+      | inr move_ ↦ absurd (moving_not move_ settled)
+    ]
