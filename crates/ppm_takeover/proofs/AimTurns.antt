@@ -404,7 +404,7 @@ module _ (s : Shape) (code : CodeParts) (plain : s.takeover ≡ ByPlaces) (fair 
 
   row_clear : (v : ℕ) → v < s.processors → (seat : Seat) (row : Row) → x ≡ IsWithin seat row
       → AimsClearAt n c (stand_after s code c (Step v) (found_in ws (want_of s code c (Step v) (IsWithin seat row))) (IsWithin seat row))
-  row_clear v lt seat (Now (Load point)) e = 
+  row_clear v lt seat (Now (Load point)) e =
       let w = content_of (reading_at point) (read s ws (cell_at seat v point)) in
       stands_clear s code n c seat (found_at s seat v point w) (λ kind.
       clear_on m n c (back seat (Now (Load point)) e kind) (next_in (found_at s seat v point w))
