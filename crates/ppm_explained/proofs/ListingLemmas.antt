@@ -19,7 +19,8 @@ use Rattle.ppm_notes.specs.Listings.{conflict_notes, fault_notes, listing_notes}
 use Rattle.ppm_notes.specs.Meanings.{long_listing}
 use Rattle.ppm_explained.specs.Texts.{AreConflictNotes, AreListingNotes}
 
-by_code : (text : List ℕ) (c : Conflict) → CodeParts → List ℕ
+-- the notes of a conflict, by the code
+abbrev pub by_code : (text : List ℕ) (c : Conflict) → CodeParts → List ℕ
 by_code text c code = conflict_notes text (line_at 0 code c.capsule c.read_at) (line_at 0 code c.capsule c.write_at)
 
 long : (n : ℕ) → listing_limit < n → nat_lt listing_limit n ≡ true
