@@ -157,3 +157,12 @@ made_so told table k place x o o' id me w w' tally (Err stops.Broken) few h =
 made_so told table k place x o o' id me w w' tally (Err stops.Refused) few h =
     refuses_alive told table k place.own (id o) (id o') (me o) (me o') x h.0 w w' (tally.made + 1) 13 h.1 (omega (arith, few)) h.2
 made_so told table k place x o o' id me w w' tally (Err stops.Over) few h = absurd h.1
+
+-- the seat is still one of the table
+pub made_at : {W Own : Type 0} (told : W → Option (List Event)) (table : TableId) (k : Opening) (place : Seat) (x : Standing) (o o' : Own) (id : Own → TableId) (me : Own → Mine) (w w' : W)
+    (tally : Tally) (r : Result Restart Stop)
+    → Came (led_by table k place id me) (spot o x (told w)) (refused_by table k place id me) ⊥ place.place o' (told w') tally IsRestart (λ restart. IsAt place.place (Some restart)) r → id o' ≡ table
+made_at told table k place x o o' id me w w' tally (Ok restart) h = h.1.to.of_table
+made_at told table k place x o o' id me w w' tally (Err stops.Broken) h = h.to.of_table
+made_at told table k place x o o' id me w w' tally (Err stops.Refused) h = h.2.to.of_table
+made_at told table k place x o o' id me w w' tally (Err stops.Over) h = absurd h.1
