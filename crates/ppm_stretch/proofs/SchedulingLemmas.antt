@@ -27,6 +27,7 @@ use Rattle.ppm_table.specs.Run.{Mine, stands_by, deeds_in}
 use Rattle.ppm_stretch.specs.declared.way.RowEnd.{RowEnd}
 use Rattle.ppm_stretch.specs.declared.way.RowEnd.TheVariants.{Installed, Broken, Over, Refused as RefusedAt}
 use Rattle.ppm_stretch.specs.declared.way.Steps.{Steps}
+use Rattle.ppm_stretch.specs.Rows.{GivesUpIfRefused}
 use Rattle.ppm_stretch.specs.Scheduling.{HasRowed, HasWorked, end_by, most_of_a_row}
 use Rattle.ppm_words.specs.declared.event.Event.{Event}
 
@@ -137,6 +138,11 @@ pub sum_few : (steps sum : Steps) (work : ℕ) (exchanged : Bool)
 sum_few steps sum work exchanged is few looks =
     subst (λ (x : Steps). (x.made ≡ steps.made + (work + 1)) × (x.work ≤ x.made) × (x.looks ≤ x.made) × (x.refused ≡ steps.refused)) (sym is)
     (refl, omega (arith, few), sum_few_by steps.looks steps.made work (looks_behind 1 work 0) (work == 0) looks (looks_few_by work (work == 0)), refl)
+
+-- where none was refused
+pub none_stops : {W : Type 0} (told : W → Option (List Event)) (k : Opening) (own : ℕ) (a b : Mine) (w0 w1 : W) (most : ℕ) (steps : Steps) → steps.refused ≡ false
+    → GivesUpIfRefused told k own a b w0 w1 most steps
+none_stops told k own a b w0 w1 most steps fine = λ refused. let e : true ≡ false = sym refused ∙ fine in absurd cc
 
 -- what the engine says of steps of a seat, in the words of steps in a row
 abbrev pub led_by : {Own : Type 0} → TableId → Opening → Seat → (Own → TableId) → (Own → Mine) → Spot Own → Spot Own → Counts → Type 0
