@@ -27,6 +27,7 @@ use Rattle.ppm_table.specs.Run.{Mine, stands_by, deeds_in}
 use Rattle.ppm_stretch.specs.declared.way.RowEnd.{RowEnd}
 use Rattle.ppm_stretch.specs.declared.way.RowEnd.TheVariants.{Installed, Broken, Over, Refused as RefusedAt}
 use Rattle.ppm_stretch.specs.declared.way.Steps.{Steps}
+use Rattle.ppm_stretch.specs.Rows.{GivesUpIfRefused}
 use Rattle.ppm_stretch.specs.Scheduling.{HasRowed, HasWorked, end_by, most_of_a_row}
 use Rattle.ppm_words.specs.declared.event.Event.{Event}
 
@@ -138,6 +139,11 @@ sum_few steps sum work exchanged is few looks =
     subst (λ (x : Steps). (x.made ≡ steps.made + (work + 1)) × (x.work ≤ x.made) × (x.looks ≤ x.made) × (x.refused ≡ steps.refused)) (sym is)
     (refl, omega (arith, few), sum_few_by steps.looks steps.made work (looks_behind 1 work 0) (work == 0) looks (looks_few_by work (work == 0)), refl)
 
+-- where none was refused
+pub none_stops : {W : Type 0} (told : W → Option (List Event)) (k : Opening) (own : ℕ) (a b : Mine) (w0 w1 : W) (most : ℕ) (steps : Steps) → steps.refused ≡ false
+    → GivesUpIfRefused told k own a b w0 w1 most steps
+none_stops told k own a b w0 w1 most steps fine = λ refused. let e : true ≡ false = sym refused ∙ fine in absurd cc
+
 -- what the engine says of steps of a seat, in the words of steps in a row
 abbrev pub led_by : {Own : Type 0} → TableId → Opening → Seat → (Own → TableId) → (Own → Mine) → Spot Own → Spot Own → Counts → Type 0
 led_by table k place id me a b c = Led table k place.own (id a.own) (me a.own) a.stands a.told (id b.own) (me b.own) b.stands b.told c
@@ -157,3 +163,12 @@ made_so told table k place x o o' id me w w' tally (Err stops.Broken) few h =
 made_so told table k place x o o' id me w w' tally (Err stops.Refused) few h =
     refuses_alive told table k place.own (id o) (id o') (me o) (me o') x h.0 w w' (tally.made + 1) 13 h.1 (omega (arith, few)) h.2
 made_so told table k place x o o' id me w w' tally (Err stops.Over) few h = absurd h.1
+
+-- the seat is still one of the table
+pub made_at : {W Own : Type 0} (told : W → Option (List Event)) (table : TableId) (k : Opening) (place : Seat) (x : Standing) (o o' : Own) (id : Own → TableId) (me : Own → Mine) (w w' : W)
+    (tally : Tally) (r : Result Restart Stop)
+    → Came (led_by table k place id me) (spot o x (told w)) (refused_by table k place id me) ⊥ place.place o' (told w') tally IsRestart (λ restart. IsAt place.place (Some restart)) r → id o' ≡ table
+made_at told table k place x o o' id me w w' tally (Ok restart) h = h.1.to.of_table
+made_at told table k place x o o' id me w w' tally (Err stops.Broken) h = h.to.of_table
+made_at told table k place x o o' id me w w' tally (Err stops.Refused) h = h.2.to.of_table
+made_at told table k place x o o' id me w w' tally (Err stops.Over) h = absurd h.1

@@ -30,7 +30,7 @@ module _ {W : Type 0} (told : W → Option (List Event)) where
   gives_up_within k own a b w0 w1 n most within g = record {
     lives = g.lives;
     behind = g.behind;
-    refuses = refuses_within k own a g.behind w0 w1 g.lives n most within g.refuses;
+    refuses = refuses_within told k own a g.behind w0 w1 g.lives n most within g.refuses;
     quits = g.quits;
   }
 
@@ -40,7 +40,7 @@ module _ {W : Type 0} (told : W → Option (List Event)) where
   gives_up_behind k own a b c w0 w1 w2 m v x p n most within f g = record {
     lives = g.lives;
     behind = g.behind;
-    refuses = refuses_both k own a b g.behind w0 w1 w2 m v x p g.lives n most within f g.refuses;
+    refuses = refuses_both told k own a b g.behind w0 w1 w2 m v x p g.lives n most within f g.refuses;
     quits = g.quits;
   }
 

@@ -51,29 +51,29 @@ module _ {W : Type 0} (told : W → Option (List Event)) where
   -- what came of an instruction: a step was made, and another instruction follows; or none was, since the capsule ends here or asks for words, or
   -- has met broken words; or the watcher refused
   abbrev pub CameTo : Opening → Shape → CodeParts → Seat → Home → List Instr → List ℕ → Mine → Mine → W → W → Way → Type 0
-  CameTo k s code seat home instrs registers me me' w w' (Made next) = Moves k seat.own me me' w w' 1 1 0 false × StandsAt k s code seat home instrs next registers me'
+  CameTo k s code seat home instrs registers me me' w w' (Made next) = Moves told k seat.own me me' w w' 1 1 0 false × StandsAt k s code seat home instrs next registers me'
   CameTo k s code seat home instrs registers me me' w w' (Stops next what) = (me' ≡ me) × (w' ≡ w) × StandsReached k s code seat home instrs next what registers me'
   CameTo k s code seat home instrs registers me me' w w' Breaks = (me' ≡ me) × (w' ≡ w) × (stands_by k seat.own (deeds_in me'.0) ≡ IsBroken seat.place)
-  CameTo k s code seat home instrs registers me me' w w' Refused = Refuses k seat.own me me' w w' true 1
+  CameTo k s code seat home instrs registers me me' w w' Refused = Refuses told k seat.own me me' w w' true 1
 
   -- what came of so many of them, where at most so many were to be made
   abbrev pub LedTo : Opening → Shape → CodeParts → Seat → Home → List Instr → List ℕ → Mine → Mine → W → W → (most made : ℕ) → Way → Type 0
-  LedTo k s code seat home instrs registers me me' w w' most made (Made next) = Moves k seat.own me me' w w' made made 0 false × StandsAt k s code seat home instrs next registers me'
+  LedTo k s code seat home instrs registers me me' w w' most made (Made next) = Moves told k seat.own me me' w w' made made 0 false × StandsAt k s code seat home instrs next registers me'
   LedTo k s code seat home instrs registers me me' w w' most made (Stops next what) =
-      Moves k seat.own me me' w w' made made 0 false × StandsReached k s code seat home instrs next what registers me'
-  LedTo k s code seat home instrs registers me me' w w' most made Breaks = Moves k seat.own me me' w w' made made 0 false × (stands_by k seat.own (deeds_in me'.0) ≡ IsBroken seat.place)
-  LedTo k s code seat home instrs registers me me' w w' most made Refused = Refuses k seat.own me me' w w' true most
+      Moves told k seat.own me me' w w' made made 0 false × StandsReached k s code seat home instrs next what registers me'
+  LedTo k s code seat home instrs registers me me' w w' most made Breaks = Moves told k seat.own me me' w w' made made 0 false × (stands_by k seat.own (deeds_in me'.0) ≡ IsBroken seat.place)
+  LedTo k s code seat home instrs registers me me' w w' most made Refused = Refuses told k seat.own me me' w w' true most
 
   -- what came of the load of a location, by the word found, or of its store
   abbrev pub HasLoaded : Opening → Shape → Seat → (ℕ → Rest) → Mine → Mine → W → W → Load → Type 0
   HasLoaded k s seat go me me' w w' loads.Gone = (me' ≡ me) × (w' ≡ w) × (stands_by k seat.own (deeds_in me'.0) ≡ IsBroken seat.place)
-  HasLoaded k s seat go me me' w w' loads.Refused = Refuses k seat.own me me' w w' true 1
-  HasLoaded k s seat go me me' w w' (loads.Found found) = Moves k seat.own me me' w w' 1 1 0 false × (stands_by k seat.own (deeds_in me'.0) ≡ running s seat (go found))
+  HasLoaded k s seat go me me' w w' loads.Refused = Refuses told k seat.own me me' w w' true 1
+  HasLoaded k s seat go me me' w w' (loads.Found found) = Moves told k seat.own me me' w w' 1 1 0 false × (stands_by k seat.own (deeds_in me'.0) ≡ running s seat (go found))
 
   abbrev pub HasStored : Opening → Shape → Seat → Rest → Mine → Mine → W → W → Store → Type 0
   HasStored k s seat rest me me' w w' stores.Gone = (me' ≡ me) × (w' ≡ w) × (stands_by k seat.own (deeds_in me'.0) ≡ IsBroken seat.place)
-  HasStored k s seat rest me me' w w' stores.Refused = Refuses k seat.own me me' w w' true 1
-  HasStored k s seat rest me me' w w' stores.Stored = Moves k seat.own me me' w w' 1 1 0 false × (stands_by k seat.own (deeds_in me'.0) ≡ running s seat rest)
+  HasStored k s seat rest me me' w w' stores.Refused = Refuses told k seat.own me me' w w' true 1
+  HasStored k s seat rest me me' w w' stores.Stored = Moves told k seat.own me me' w w' 1 1 0 false × (stands_by k seat.own (deeds_in me'.0) ≡ running s seat rest)
 
 -- a processor is before the load of a cell, or before its store, if that is there
 pub record IsLoading (k : Opening) (s : Shape) (seat : Seat) (cell : Cell) (me : Mine) : Type 0 where

@@ -15,8 +15,8 @@ fine_not : (b : Bool) → not b ≡ true → b ≡ false
 fine_not true e = cc
 fine_not false e = refl
 
-pub load_finish-requires-clause-looks : goal.load_finish-requires-clause-looks
-load_finish-requires-clause-looks g c κs within = ap before_kind c.requires.kind
+pub load_finish-finish-requires-clause-looks : goal.load_finish-finish-requires-clause-looks
+load_finish-finish-requires-clause-looks g c κs within = ap before_kind c.requires.kind
 
 pub returns-then-number-clause-begun : goal.returns-then-number-clause-begun
 returns-then-number-clause-begun g c = (

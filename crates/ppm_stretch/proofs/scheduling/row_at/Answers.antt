@@ -13,8 +13,8 @@ fine_not : (b : Bool) → not b ≡ true → b ≡ false
 fine_not true e = cc
 fine_not false e = refl
 
-pub load_finish-requires-clause-looks : goal.load_finish-requires-clause-looks
-load_finish-requires-clause-looks g c κs within = row_looks c.args.place.now.restart.kind c.requires.seat.3
+pub load_finish-finish-requires-clause-looks : goal.load_finish-finish-requires-clause-looks
+load_finish-finish-requires-clause-looks g c κs within = row_looks c.args.place.now.restart.kind c.requires.seat.3
 
 pub returns-then-finish-ne0-clause-rowed : goal.returns-then-finish-ne0-clause-rowed
 returns-then-finish-ne0-clause-rowed g c =
