@@ -2,7 +2,7 @@
 -- bid stands; and no other row goes on to bid.
 use Rattle.std.proofs.Common.{◌≡◌, ◌⊎◌, ◌==◌, ◌+◌, ◌-◌, ℕ, zero, suc, Bool, true, false, if◌then◌else◌, List, [], ◌∷◌, inl, inr, refl, sym, ap, ◌∙◌, subst}
 use Rattle.std.specs.Prelude.{◌&&◌, ◌^◌, nat_lt}
-use Rattle.std.proofs.lemmas.Bool.{cases_Bool, eqb-true}
+use Rattle.std.proofs.lemmas.Bool.{eqb-true}
 use Rattle.ppm_cells.specs.Cells.{word_count}
 use Rattle.ppm_cells.specs.declared.cell.Cell.TheVariants.{EntryWord}
 use Rattle.ppm_cells.specs.declared.entry.Entry.TheVariants as entries
@@ -13,22 +13,21 @@ use Rattle.ppm_cells.specs.declared.restart.RestartKind.TheVariants.{Run, Bump, 
 use Rattle.ppm_cells.specs.declared.shape.Shape.{Shape}
 use Rattle.ppm_cells.specs.declared.shape.Takeover.{Takeover}
 use Rattle.ppm_cells.specs.declared.shape.Takeover.TheVariants.{ByPlaces, ByEntries}
-use Rattle.ppm_step.specs.Rows.{with_kind, raised, left_begins, by_places, seek_by, seek_held, bids, passes_by, local_by, bid_again, bid_holder, found_at, row_of}
+use Rattle.ppm_step.specs.Rows.{with_kind, raised, left_begins, by_places, seek_by, seek_held, bids, passes_by, local_by, bid_again, bid_holder, row_of}
 use Rattle.ppm_step.specs.declared.row.Point.TheVariants.{PushBottom, PopBelow, PopAgain, PopAbove, Offset, SeekHolder, SeekDead, SeekTop, SeekEntry, BidAgain, BidHolder}
 use Rattle.ppm_step.specs.declared.row.Row.{Row}
-use Rattle.ppm_step.specs.declared.row.Row.TheVariants.{Now, Store, Exchange}
+use Rattle.ppm_step.specs.declared.row.Row.TheVariants.{Now}
 use Rattle.ppm_step.specs.declared.row.Seat.{Seat}
 use Rattle.ppm_step.specs.declared.row.Then.TheVariants.{Load, Install, Begin, Move, Again, Broken}
-use Rattle.ppm_tickets.specs.Lawful.{May, Names}
+use Rattle.ppm_tickets.specs.Lawful.{Names}
 use Rattle.ppm_tickets.specs.Saw.{rest_of, Saw, IsStrand, IsStrandOrPop, IsQuiet, HasSeen, Strand, Looks}
-use Rattle.ppm_tickets.specs.View.{content_by, word_as}
 use Rattle.ppm_tickets.specs.Words.{Word, Empty, Local, Job, Taken, Held, Number, Linked, Restarts, Unread, Spot, Bid, Holder}
 use Rattle.ppm_tickets.proofs.QuietLemmas.{begun_quiet, rest_quiet}
 use Rattle.ppm_kept.specs.Pushing.{kind_seat}
 use Rattle.ppm_runs.proofs.AgreeLemmas.{IsRunKind, push1_shape}
 use Rattle.ppm_paces.specs.Costs.{IsLook}
 use Rattle.ppm_takeover.specs.Lost.{BidsFor}
-use Rattle.ppm_takeover.specs.Short.{LooksAtMost, LookEnds}
+use Rattle.ppm_takeover.specs.Short.{LooksAtMost}
 use Rattle.ppm_takeover.proofs.LookRows.{look_row}
 
 -- a row that seeks work and is about to bid has a message of its own processor

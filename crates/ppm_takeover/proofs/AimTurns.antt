@@ -45,10 +45,10 @@ use Rattle.ppm_step.specs.declared.turn.Act.TheVariants.{Step, Soft, Hard, Quit}
 use Rattle.ppm_step.specs.declared.turn.Turn.{Turn}
 use Rattle.ppm_tickets.specs.Homes.{Home}
 use Rattle.ppm_tickets.specs.Lawful.{IsAlive, IsDead, Names, Dooms, tag}
-use Rattle.ppm_tickets.specs.Saw.{Carried, IsStrand, Sees}
+use Rattle.ppm_tickets.specs.Saw.{IsStrand, Sees}
 use Rattle.ppm_tickets.specs.View as spots
 use Rattle.ppm_tickets.specs.View.{content_by}
-use Rattle.ppm_tickets.specs.Words.{Word, Held, Number, Spot, Bid, Holder, Carry, Dead}
+use Rattle.ppm_tickets.specs.Words.{Word, Number, Spot, Bid, Holder, Carry, Dead}
 use Rattle.ppm_tickets.proofs.StepLemmas.{stand_own}
 use Rattle.ppm_tickets.proofs.ViewLemmas.{shows_content, view_here}
 use Rattle.ppm_frames.specs.Skeletons.{Skeleton}
@@ -64,7 +64,7 @@ use Rattle.ppm_progress.proofs.RestartLemmas.{restart_goes_on}
 use Rattle.ppm_progress.proofs.SpotLemmas.{Made, alive_was, carry_goes, bid_goes, holder_goes}
 use Rattle.ppm_progress.proofs.WriteLemmas.{Gives, MovesTo, StoresAt, Wrote, turn_wrote}
 use Rattle.ppm_takeover.specs.Lost.{BidsFor, TookOver}
-use Rattle.ppm_takeover.proofs.AimRows.{SeekSo, MoveSo, seek_row, move_row, BidsSo, bids_so}
+use Rattle.ppm_takeover.proofs.AimRows.{seek_row, move_row, BidsSo, bids_so}
 use Rattle.ppm_takeover.proofs.MoveRows.{moves_after_bid}
 use Rattle.ppm_takeover.proofs.StandRows.{names_content, stores_no_bid}
 

@@ -1,6 +1,6 @@
 -- A replay by places ends, hard faults in its schedule: rounds are laps, and each lap has a work turn or a new holder, or the finish word is set by then.
-use Rattle.std.proofs.Common.{◌≡◌, ◌≢◌, ◌⊎◌, ◌≤◌, ◌<◌, ◌+◌, ◌*◌, ◌-◌, ◌==◌, ◌||◌, ℕ, zero, suc, Bool, true, false, List, [], ◌∷◌, ◌++◌, length}
-use Rattle.std.proofs.Common.{inl, inr, refl, sym, ap, ◌∙◌, subst, arith, map}
+use Rattle.std.proofs.Common.{◌≡◌, ◌≢◌, ◌⊎◌, ◌≤◌, ◌<◌, ◌+◌, ◌*◌, ◌-◌, ◌||◌, ℕ, zero, suc, Bool, true, false, List, [], ◌∷◌, ◌++◌, length}
+use Rattle.std.proofs.Common.{inl, inr, refl, sym, ap, ◌∙◌, subst, arith}
 use Rattle.std.specs.List.{AllByRecursion, list_any}
 use Rattle.std.proofs.lemmas.Bool.{eq-eqb, true≢false}
 use Rattle.std.proofs.lemmas.List.{append_assoc, length-map}
@@ -25,10 +25,9 @@ use Rattle.ppm_plan.specs.declared.schedule_item.ScheduleItem.{ScheduleItem}
 use Rattle.ppm_step.specs.Among.{IsTurnAmong}
 use Rattle.ppm_step.specs.Laws.{reached, finish_at}
 use Rattle.ppm_step.specs.State.{State as RunState, opening}
-use Rattle.ppm_step.specs.declared.turn.Act.{Act}
 use Rattle.ppm_step.specs.declared.turn.Act.TheVariants.{Step, Soft, Hard}
 use Rattle.ppm_step.specs.declared.turn.Turn.{Turn}
-use Rattle.ppm_choice.specs.Course.{Due, Listed, InRound, Course, act_of, processor_of, victim_of, turn_of, seeks, loads_of, behind_all, turns_of as turns_due}
+use Rattle.ppm_choice.specs.Course.{Due, Listed, Course, act_of, processor_of, victim_of, turn_of, seeks, loads_of, behind_all, turns_of as turns_due}
 use Rattle.ppm_choice.specs.Schedules.{listed, rounds, dues_of, beginning, schedule_turns}
 use Rattle.ppm_choice.proofs.CourseLemmas.{turns_of_both}
 use Rattle.ppm_choice.proofs.DueLemmas.{all_due}

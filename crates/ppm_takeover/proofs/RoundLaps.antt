@@ -1,6 +1,6 @@
 -- Rounds of a replay by places, hard faults before them: each processor that isn't done makes a step in each round, and one that is spared works, or
 -- takes a place over, or looks at each place. So they are a lap.
-use Rattle.std.proofs.Common.{◌≡◌, ◌≢◌, ◌⊎◌, ◌≤◌, ◌<◌, ◌+◌, ◌*◌, ◌%◌, ◌==◌, if◌then◌else◌, ℕ, zero, suc, Bool, true, false, List, [], ◌∷◌, ◌++◌, length}
+use Rattle.std.proofs.Common.{◌≡◌, ◌≢◌, ◌⊎◌, ◌≤◌, ◌<◌, ◌+◌, ◌*◌, ◌%◌, if◌then◌else◌, ℕ, zero, suc, Bool, true, false, List, [], ◌∷◌, ◌++◌, length}
 use Rattle.std.proofs.Common.{None, inl, inr, refl, sym, ap, ◌∙◌, subst, arith}
 use Rattle.std.specs.List.{AllByRecursion}
 use Rattle.std.proofs.lemmas.Bool.{cases_Bool, cases_eq, cases_lt, eq-eqb}
@@ -26,7 +26,7 @@ use Rattle.ppm_step.specs.State.{State as RunState, stand_of, acts, happens, aft
 use Rattle.ppm_step.specs.declared.turn.Act.{Act}
 use Rattle.ppm_step.specs.declared.turn.Act.TheVariants.{Step}
 use Rattle.ppm_step.specs.declared.turn.Turn.{Turn}
-use Rattle.ppm_choice.specs.Course.{Due, InRound, Course, act_of, processor_of, victim_of, turn_of, seeks, loads_of, behind, behind_all, turns_in}
+use Rattle.ppm_choice.specs.Course.{Due, InRound, Course, act_of, victim_of, turn_of, seeks, loads_of, behind, behind_all, turns_in}
 use Rattle.ppm_choice.specs.Course.{turns_of as turns_due}
 use Rattle.ppm_choice.specs.Schedules.{round, rounds, beginning}
 use Rattle.ppm_choice.specs.ScheduleLaws.{loads_made}
@@ -50,7 +50,6 @@ use Rattle.ppm_progress.proofs.RoundLemmas.{steps, IsStepDue, steps_due, rounds_
 use Rattle.ppm_progress.proofs.SoonLemmas.{step_is}
 use Rattle.ppm_progress.proofs.UnhurtRuns.{done_is}
 use Rattle.ppm_takeover.specs.Laps.{LooksAt, TakesPart, IsLap, holder_tags}
-use Rattle.ppm_takeover.specs.Lost.{IsLeft}
 use Rattle.ppm_takeover.proofs.AimTurns.{IsSettled}
 use Rattle.ppm_takeover.proofs.LapRuns.{no_legs_few, sum_after, lap_grows}
 use Rattle.ppm_takeover.proofs.LoadCounts.{named, IsLoad, Load, loads_both, find_load, look_counts}

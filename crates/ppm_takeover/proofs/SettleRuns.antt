@@ -1,6 +1,6 @@
 -- In a stretch of turns in which nobody works and no place has a new holder a processor that takes steps has soon no place to go to, and then looks
 -- again and again.
-use Rattle.std.proofs.Common.{◌≡◌, ◌≢◌, ◌⊎◌, ◌≤◌, ◌<◌, ◌+◌, ◌==◌, if◌then◌else◌, ℕ, zero, suc, Bool, true, false, List, [], ◌∷◌, ◌++◌, length, inl, inr, refl}
+use Rattle.std.proofs.Common.{◌≡◌, ◌≢◌, ◌⊎◌, ◌≤◌, ◌<◌, ◌==◌, if◌then◌else◌, ℕ, zero, suc, Bool, true, false, List, [], ◌∷◌, ◌++◌, length, inl, inr, refl}
 use Rattle.std.proofs.Common.{sym, ap, ◌∙◌, subst, arith, replicate, length-append}
 use Rattle.std.specs.List.{AllByRecursion}
 use Rattle.std.specs.Prelude.{nat_lt, slice_get}
@@ -30,9 +30,9 @@ use Rattle.ppm_layout.proofs.ValueLemmas.{stands_for}
 use Rattle.ppm_step.specs.Among.{IsTurnAmong}
 use Rattle.ppm_step.specs.Laws.{reached, finish_at}
 use Rattle.ppm_step.specs.Rows.{seek_by, found_at}
-use Rattle.ppm_step.specs.Standings.{Standing, IsLost, IsWithin, IsDone}
+use Rattle.ppm_step.specs.Standings.{Standing, IsLost, IsWithin}
 use Rattle.ppm_step.specs.State.{State as RunState, stand_in, stand_of, happens, after, along, opening, is_done_at, is_step, is_work, is_work_next, is_work_turn}
-use Rattle.ppm_step.specs.State.{work_of, seeks_holder}
+use Rattle.ppm_step.specs.State.{work_of}
 use Rattle.ppm_step.specs.declared.content.Content.TheVariants.{AHolder}
 use Rattle.ppm_step.specs.declared.row.Point.TheVariants.{SeekHolder}
 use Rattle.ppm_step.specs.declared.row.Row.{Row}
@@ -44,11 +44,10 @@ use Rattle.ppm_step.specs.declared.turn.Act.TheVariants.{Step, Hard}
 use Rattle.ppm_step.specs.declared.turn.Next.TheVariants.{Work, Look}
 use Rattle.ppm_step.specs.declared.turn.Turn.{Turn}
 use Rattle.ppm_step.proofs.FinishLemmas.{done_has_cause}
-use Rattle.ppm_tickets.specs.Homes.{Home}
 use Rattle.ppm_tickets.specs.Lawful.{IsAlive, tag}
-use Rattle.ppm_tickets.specs.Saw.{HasSeen, Sees, IsBidThere}
+use Rattle.ppm_tickets.specs.Saw.{Sees, IsBidThere}
 use Rattle.ppm_tickets.specs.View as spots
-use Rattle.ppm_tickets.specs.Words.{Word, Number, Spot, Holder, Carry, has}
+use Rattle.ppm_tickets.specs.Words.{Word, Spot, Holder}
 use Rattle.ppm_tickets.proofs.ActLemmas.{restart_is}
 use Rattle.ppm_tickets.proofs.ViewLemmas.{if_false}
 use Rattle.ppm_frames.specs.Views.{view}
@@ -59,8 +58,6 @@ use Rattle.ppm_paces.specs.Costs.{IsLook}
 use Rattle.ppm_runs.specs.Legs.{all_homes, all_forked, all_taken}
 use Rattle.ppm_runs.specs.Work.{work_in}
 use Rattle.ppm_runs.proofs.WholeLemmas.{in_two}
-use Rattle.ppm_choice.specs.ScheduleLaws.{load_of, loads_made}
-use Rattle.ppm_choice.proofs.TurnsLemmas.{tell_on}
 use Rattle.ppm_progress.specs.Soon.{turns_of, StepsOnly}
 use Rattle.ppm_progress.proofs.ListLemmas.{both, front, back, has_some, work_both}
 use Rattle.ppm_progress.proofs.MomentLemmas.{number_of, IsMoment, alive_at, sees_at}
@@ -70,7 +67,7 @@ use Rattle.ppm_progress.proofs.WriteLemmas.{MovesTo}
 use Rattle.ppm_takeover.specs.Laps.{holder_tags}
 use Rattle.ppm_takeover.specs.Looks.{IsMoving, IsLooking, StepsFrom}
 use Rattle.ppm_takeover.specs.Lost.{BidsFor}
-use Rattle.ppm_takeover.specs.Short.{LookEnds, LooksAtMost}
+use Rattle.ppm_takeover.specs.Short.{LooksAtMost}
 use Rattle.ppm_takeover.proofs.LookRows.{look_row}
 use Rattle.ppm_takeover.proofs.CarriedRuns.{IsTended, tended_then, raised_by}
 use Rattle.ppm_takeover.proofs.SoonRuns.{moment_of, looks_come_soon}
