@@ -1,8 +1,8 @@
 -- A source that is refused has notes, and no two.
-use Rattle.std.proofs.Common.{◌≡◌, ◌⊎◌, ℕ, zero, suc, ◌<◌, ◌≤◌, Bool, true, false, List, [], ◌∷◌, ◌++◌, length, Some, None, refl, sym, ap, ◌∙◌, subst, inl, inr, arith}
+use Rattle.std.proofs.Common.{◌≡◌, ℕ, suc, ◌<◌, ◌≤◌, Bool, true, false, List, [], ◌∷◌, ◌++◌, length, Some, None, refl, sym, ap, ◌∙◌, subst, arith}
 use Rattle.std.proofs.Common.{append-nil}
-use Rattle.std.specs.Prelude.{◌↔◌, nat_lt, slice_index_or}
-use Rattle.std.specs.List.{All, AllPairs, filter}
+use Rattle.std.specs.Prelude.{nat_lt, slice_index_or}
+use Rattle.std.specs.List.{AllPairs, filter}
 use Rattle.ppm_text.specs.declared.token.Token.{Token}
 use Rattle.ppm_text.proofs.LexingLemmas.{one_lexing}
 use Rattle.ppm_grammar.specs.Rows.{In, first, later}
@@ -78,14 +78,14 @@ abbrev Below : Terminal → Terminal → Type 0
 Below x y = terminal_number x < terminal_number y
 
 -- what is in a list that is above a kind is above it
-above : {x y : Terminal} {ys : List Terminal} → ((k : ℕ) (d : Terminal) → k < length ys → Below x (slice_index_or ys k d)) → In y ys → Below x y
-above {y = y} h first = h 0 y (omega arith)
-above {x = x} {y = y} h (later {xs = zs} i) = above {x = x} {y = y} {ys = zs} (λ k d less. h (suc k) d (omega (arith, less))) i
+above : (x : Terminal) {y : Terminal} {ys : List Terminal} → ((k : ℕ) (d : Terminal) → k < length ys → Below x (slice_index_or ys k d))
+    → In y ys → Below x y
+above x {y = y} h first = h 0 y (omega arith)
+above x {y = y} h (later {xs = zs} i) = above x {y = y} {ys = zs} (λ k d less. h (suc k) d (omega (arith, less))) i
 
 -- the others of an ordered list
-above_first : {x y : Terminal} {xs : List Terminal} → AllPairs Below (x ∷ xs) → In y xs → Below x y
-above_first {x = x} {y = y} {xs = xs} o i =
-    above {x = x} {y = y} {ys = xs} (λ k d less. o 0 (suc k) d (omega arith) (omega (arith, less))) i
+above_first : (x : Terminal) {y : Terminal} (xs : List Terminal) → AllPairs Below (x ∷ xs) → In y xs → Below x y
+above_first x {y = y} xs o i = above x {y = y} {ys = xs} (λ k d less. o 0 (suc k) d (omega arith) (omega (arith, less))) i
 
 tail_of : (x : Terminal) (xs : List Terminal) → AllPairs Below (x ∷ xs) → AllPairs Below xs
 tail_of x xs o i j d less below = o (suc i) (suc j) d (omega (arith, less)) (omega (arith, below))
@@ -95,14 +95,14 @@ heads : {x y : Terminal} {xs ys : List Terminal} → AllPairs Below (x ∷ xs) �
 heads o p first j = refl
 heads o p (later i) first = refl
 heads {x = x} {y = y} {xs = xs} {ys = ys} o p (later i) (later j) =
-    let a : Below y x = above_first p i in
-    let b : Below x y = above_first o j in
+    let a : Below y x = above_first y ys p i in
+    let b : Below x y = above_first x xs o j in
     absurd (omega (arith, a, b))
 
 -- what is behind the first of one is behind that of the other
 behind : {x y k : Terminal} {xs ys : List Terminal} → x ≡ y → AllPairs Below (x ∷ xs) → In k xs → In k (y ∷ ys) → In k ys
-behind {x = x} {y = y} e o i first =
-    let a : Below x y = above_first o i in
+behind {x = x} {y = y} {xs = xs} e o i first =
+    let a : Below x y = above_first x xs o i in
     let same = ap terminal_number e in
     absurd (omega (arith, a, same))
 behind e o i (later j) = j

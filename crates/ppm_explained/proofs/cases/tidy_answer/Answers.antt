@@ -7,12 +7,14 @@ pub untidy_answer-requires : goal.untidy_answer-requires
 untidy_answer-requires c = record {
   refused = (
     record { code = c.args.code.now; input = c.args.input.now; is = c.requires.of_case },
-    c.requires.free,
-    record {
-      store = c.in-Some.store;
-      first = c.in-Some.ensures;
-      tells = c.store_told.ensures ∙ ap (λ (n : ℕ). store_told n c.args.code.now c.in-Some.store) c.array_count.ensures.value;
-    },
+    (
+      c.requires.free,
+      record {
+        store = c.in-Some.store;
+        first = c.in-Some.ensures;
+        tells = c.store_told.ensures ∙ ap (λ (n : ℕ). store_told n c.args.code.now c.in-Some.store) c.array_count.ensures.value;
+      },
+    ),
   );
 }
 
