@@ -13,7 +13,7 @@ use Rattle.ppm_engine.specs.declared.memory.Stop.TheVariants as stops
 use Rattle.ppm_engine.specs.declared.tally.Tally.{Tally}
 use Rattle.ppm_engine.specs.Memory.{Counts, Spot, spot}
 use Rattle.ppm_engine.specs.Steps.{Came, HasRow}
-use Rattle.ppm_table.specs.Moves.{Moves, Refuses, Lives, itself, looks_behind}
+use Rattle.ppm_table.specs.Moves.{Moves, Refuses, itself, looks_behind}
 use Rattle.ppm_table.proofs.MovesLemmas.{moves_both, of_told, refuses_then, refuses_within}
 use Rattle.ppm_stretch.specs.Seated.{Led, Refused}
 use Rattle.ppm_step.specs.declared.row.Seat.{Seat}
@@ -23,7 +23,7 @@ use Rattle.ppm_step.specs.There.{restart_is_there}
 use Rattle.ppm_step.specs.State.{before_kind, is_work}
 use Rattle.ppm_step.specs.declared.turn.Next.TheVariants.{Look}
 use Rattle.ppm_table.specs.declared.view.Opening.{Opening}
-use Rattle.ppm_table.specs.Run.{Mine, stands_by, deeds_in}
+use Rattle.ppm_table.specs.Run.{Mine}
 use Rattle.ppm_stretch.specs.declared.way.RowEnd.{RowEnd}
 use Rattle.ppm_stretch.specs.declared.way.RowEnd.TheVariants.{Installed, Broken, Over, Refused as RefusedAt}
 use Rattle.ppm_stretch.specs.declared.way.Steps.{Steps}
@@ -105,23 +105,40 @@ begins_lives s code seat false = λ e. cc
 
 module _ {W : Type 0} (told : W → Option (List Event)) where
   -- the steps of a row after the load of the finish word
-  pub row_after : (k : Opening) (seat : Seat) (a b c : Mine) (w0 w1 w2 : W) (work : ℕ) (exchanged : Bool) (end : RowEnd) → Moves told k seat.own a b w0 w1 1 0 1 false
+  pub row_after : (k : Opening) (seat : Seat) (a b c : Mine) (w0 w1 w2 : W) (work : ℕ) (exchanged : Bool) (end : RowEnd)
+      → Moves told k seat.own a b w0 w1 1 0 1 false
       → HasWorked told k seat b c w1 w2 work exchanged end → HasRowed told k seat a c w0 w2 work exchanged end
-  row_after k seat a b c w0 w1 w2 work exchanged (Installed restart) f h =
-      (moves_both told k seat.own a b c w0 w1 w2 1 work 0 work 1 0 (work + 1) work (looks_behind 1 work 0) false exchanged (omega arith) (omega arith) refl f h.0, h.1, h.2)
-  row_after k seat a b c w0 w1 w2 work exchanged Broken f h =
-      (moves_both told k seat.own a b c w0 w1 w2 1 work 0 work 1 0 (work + 1) work (looks_behind 1 work 0) false exchanged (omega arith) (omega arith) refl f h.0, h.1)
+  row_after k seat a b c w0 w1 w2 work exchanged (Installed restart) f h = (
+    moves_both told k seat.own a b c w0 w1 w2 1 work 0 work 1 0 (work + 1) work (looks_behind 1 work 0) false exchanged (omega arith)
+        (omega arith) refl f h.0,
+    h.1,
+    h.2,
+  )
+  row_after k seat a b c w0 w1 w2 work exchanged Broken f h = (
+    moves_both told k seat.own a b c w0 w1 w2 1 work 0 work 1 0 (work + 1) work (looks_behind 1 work 0) false exchanged (omega arith)
+        (omega arith) refl f h.0,
+    h.1,
+  )
   row_after k seat a b c w0 w1 w2 work exchanged Over f h = absurd h
-  row_after k seat a b c w0 w1 w2 work exchanged (RefusedAt lives) f h = refuses_then told k seat.own a b c w0 w1 w2 1 0 1 lives 13 most_of_a_row (omega arith) f h
+  row_after k seat a b c w0 w1 w2 work exchanged (RefusedAt lives) f h = refuses_then told k seat.own a b c w0 w1 w2 1 0 1 lives 13 most_of_a_row
+      (omega arith) f h
 
   -- and those of rows before it
   pub rows_after : (k : Opening) (own : ℕ) (a b c : Mine) (w0 w1 w2 : W) (steps sum : Steps) (work : ℕ) (exchanged : Bool)
-      → sum ≡ record { made = steps.made + (work + 1); work = steps.work + work; looks = looks_behind steps.looks work (looks_behind 1 work 0); exchanged = (steps.exchanged || exchanged); refused = steps.refused }
-      → Moves told k own a b w0 w1 steps.made steps.work steps.looks steps.exchanged → Moves told k own b c w1 w2 (work + 1) work (looks_behind 1 work 0) exchanged
+      → sum ≡ record {
+        made = steps.made + (work + 1);
+        work = steps.work + work;
+        looks = looks_behind steps.looks work (looks_behind 1 work 0);
+        exchanged = (steps.exchanged || exchanged);
+        refused = steps.refused;
+      }
+      → Moves told k own a b w0 w1 steps.made steps.work steps.looks steps.exchanged → Moves told k own b c w1 w2 (work + 1) work
+      (looks_behind 1 work 0) exchanged
       → Moves told k own a c w0 w2 sum.made sum.work sum.looks sum.exchanged
   rows_after k own a b c w0 w1 w2 steps sum work exchanged is f g =
       subst (λ (x : Steps). Moves told k own a c w0 w2 x.made x.work x.looks x.exchanged) (sym is)
-      (moves_both told k own a b c w0 w1 w2 steps.made (work + 1) steps.work work steps.looks (looks_behind 1 work 0) _ _ _ steps.exchanged exchanged refl refl refl f g)
+      (moves_both told k own a b c w0 w1 w2 steps.made (work + 1) steps.work work steps.looks (looks_behind 1 work 0) _ _ _
+      steps.exchanged exchanged refl refl refl f g)
 
 pub looks_few_by : (work : ℕ) (b : Bool) → (if b then 1 + 0 else 0) ≤ work + 1
 looks_few_by work true = omega arith
@@ -133,14 +150,22 @@ sum_few_by before made work last false f g = omega (arith, f, g)
 
 -- their numbers
 pub sum_few : (steps sum : Steps) (work : ℕ) (exchanged : Bool)
-    → sum ≡ record { made = steps.made + (work + 1); work = steps.work + work; looks = looks_behind steps.looks work (looks_behind 1 work 0); exchanged = (steps.exchanged || exchanged); refused = steps.refused }
-    → steps.work ≤ steps.made → steps.looks ≤ steps.made → (sum.made ≡ steps.made + (work + 1)) × (sum.work ≤ sum.made) × (sum.looks ≤ sum.made) × (sum.refused ≡ steps.refused)
+    → sum ≡ record {
+      made = steps.made + (work + 1);
+      work = steps.work + work;
+      looks = looks_behind steps.looks work (looks_behind 1 work 0);
+      exchanged = (steps.exchanged || exchanged);
+      refused = steps.refused;
+    }
+    → steps.work ≤ steps.made → steps.looks ≤ steps.made → (sum.made ≡ steps.made + (work + 1)) × (sum.work ≤ sum.made) × (sum.looks ≤ sum.made)
+    × (sum.refused ≡ steps.refused)
 sum_few steps sum work exchanged is few looks =
     subst (λ (x : Steps). (x.made ≡ steps.made + (work + 1)) × (x.work ≤ x.made) × (x.looks ≤ x.made) × (x.refused ≡ steps.refused)) (sym is)
     (refl, omega (arith, few), sum_few_by steps.looks steps.made work (looks_behind 1 work 0) (work == 0) looks (looks_few_by work (work == 0)), refl)
 
 -- where none was refused
-pub none_stops : {W : Type 0} (told : W → Option (List Event)) (k : Opening) (own : ℕ) (a b : Mine) (w0 w1 : W) (most : ℕ) (steps : Steps) → steps.refused ≡ false
+pub none_stops : {W : Type 0} (told : W → Option (List Event)) (k : Opening) (own : ℕ) (a b : Mine) (w0 w1 : W) (most : ℕ) (steps : Steps)
+    → steps.refused ≡ false
     → GivesUpIfRefused told k own a b w0 w1 most steps
 none_stops told k own a b w0 w1 most steps fine = λ refused. let e : true ≡ false = sym refused ∙ fine in absurd cc
 
@@ -152,9 +177,11 @@ abbrev pub refused_by : {Own : Type 0} → TableId → Opening → Seat → (Own
 refused_by table k place id me a b most = Refused table k place.own (id a.own) (me a.own) a.stands a.told (id b.own) (me b.own) b.stands b.told most
 
 -- by what came of a row
-pub made_so : {W Own : Type 0} (told : W → Option (List Event)) (table : TableId) (k : Opening) (place : Seat) (x : Standing) (o o' : Own) (id : Own → TableId) (me : Own → Mine) (w w' : W)
+pub made_so : {W Own : Type 0} (told : W → Option (List Event)) (table : TableId) (k : Opening) (place : Seat) (x : Standing) (o o' : Own)
+    (id : Own → TableId) (me : Own → Mine) (w w' : W)
     (tally : Tally) (r : Result Restart Stop) → tally.made ≤ 12
-    → Came (led_by table k place id me) (spot o x (told w)) (refused_by table k place id me) ⊥ place.place o' (told w') tally IsRestart (λ restart. IsAt place.place (Some restart)) r
+    → Came (led_by table k place id me) (spot o x (told w)) (refused_by table k place id me) ⊥ place.place o' (told w') tally IsRestart
+    (λ restart. IsAt place.place (Some restart)) r
     → HasWorked told k place (me o) (me o') w w' tally.made tally.exchanged (end_by r)
 made_so told table k place x o o' id me w w' tally (Ok restart) few h =
     (of_told told k place.own (me o) (me o') w w' tally.made tally.made 0 tally.exchanged h.1.moves, h.1.to.stands, h.0)
@@ -165,9 +192,11 @@ made_so told table k place x o o' id me w w' tally (Err stops.Refused) few h =
 made_so told table k place x o o' id me w w' tally (Err stops.Over) few h = absurd h.1
 
 -- the seat is still one of the table
-pub made_at : {W Own : Type 0} (told : W → Option (List Event)) (table : TableId) (k : Opening) (place : Seat) (x : Standing) (o o' : Own) (id : Own → TableId) (me : Own → Mine) (w w' : W)
+pub made_at : {W Own : Type 0} (told : W → Option (List Event)) (table : TableId) (k : Opening) (place : Seat) (x : Standing) (o o' : Own)
+    (id : Own → TableId) (me : Own → Mine) (w w' : W)
     (tally : Tally) (r : Result Restart Stop)
-    → Came (led_by table k place id me) (spot o x (told w)) (refused_by table k place id me) ⊥ place.place o' (told w') tally IsRestart (λ restart. IsAt place.place (Some restart)) r → id o' ≡ table
+    → Came (led_by table k place id me) (spot o x (told w)) (refused_by table k place id me) ⊥ place.place o' (told w') tally IsRestart
+    (λ restart. IsAt place.place (Some restart)) r → id o' ≡ table
 made_at told table k place x o o' id me w w' tally (Ok restart) h = h.1.to.of_table
 made_at told table k place x o o' id me w w' tally (Err stops.Broken) h = h.to.of_table
 made_at told table k place x o o' id me w w' tally (Err stops.Refused) h = h.2.to.of_table

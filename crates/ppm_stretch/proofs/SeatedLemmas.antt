@@ -1,13 +1,11 @@
 -- A step of a seat.
-use Rattle.std.proofs.Common.{◌≡◌, ◌≢◌, ◌∙◌, ◌+◌, ◌<◌, ◌≤◌, ℕ, Bool, true, false, if◌then◌else◌, not, List, Option, Some, sym, refl, ap, subst, arith}
+use Rattle.std.proofs.Common.{◌≡◌, ◌∙◌, ◌<◌, ℕ, Bool, true, false, not, List, Option, sym, refl, ap, subst, arith}
 use Rattle.atomic_table.specs.Seated.{TableId}
 use Rattle.ppm_cells.specs.declared.shape.Shape.{Shape}
-use Rattle.ppm_code.specs.declared.code.CodeParts.{CodeParts}
 use Rattle.ppm_words.specs.declared.event.Event.{Event}
 use Rattle.ppm_ports.specs.Told.{KeepsList}
 use Rattle.ppm_step.specs.declared.ask.Want.{Want}
 use Rattle.ppm_step.specs.declared.ask.Want.TheVariants.{Loads, Stores, Exchanges, Nothing}
-use Rattle.ppm_step.specs.declared.turn.Act.TheVariants.{Step}
 use Rattle.ppm_step.specs.Standings.{Standing, IsLost, IsPlaced, IsAt, IsWithin, IsRunning, IsBroken, IsDone, wanted, went}
 use Rattle.ppm_step.specs.State.{is_work_next, next_of, is_done_at}
 use Rattle.ppm_step.specs.Told.{place_of}
@@ -15,9 +13,9 @@ use Rattle.ppm_table.specs.declared.view.Opening.{Opening}
 use Rattle.ppm_table.specs.Run.{deed_by, seen, stands_by, deeds_in, Mine, IsSeat, IsFound, IsToStep, IsAsked as IsAskedOf}
 use Rattle.ppm_table.specs.Telling.{Shows}
 use Rattle.ppm_table.proofs.StandLemmas.{stands_on}
-use Rattle.ppm_table.specs.Moves.{Moves, Refuses, Goes, Lives, itself, is_exchange as is_exchanged}
-use Rattle.ppm_table.proofs.MovesLemmas.{goes_one, moves_both, moves_none, refuses_one, refuses_both, sits_more}
-use Rattle.ppm_engine.specs.Memory.{Counts, IsAsked, IsToMake, is_exchange, one, none, both}
+use Rattle.ppm_table.specs.Moves.{Goes, Lives, itself, is_exchange as is_exchanged}
+use Rattle.ppm_table.proofs.MovesLemmas.{goes_one, refuses_one, sits_more}
+use Rattle.ppm_engine.specs.Memory.{IsAsked, IsToMake, is_exchange, one}
 use Rattle.ppm_stretch.specs.Seated.{SitsAt, Led, Refused}
 
 asked_of : (want : Want) → IsAsked want → IsAskedOf want
@@ -41,7 +39,8 @@ done_by (IsRunning seat rest) e = cc
 done_by (IsBroken place) e = cc
 done_by IsDone e = refl
 
-lives_if : (k : Opening) (own : ℕ) (me : Mine) (x : Standing) (b : Bool) → IsSeat own me → stands_by k own (deeds_in me.0) ≡ x → b ≡ not (is_done_at x) → Lives k own me b
+lives_if : (k : Opening) (own : ℕ) (me : Mine) (x : Standing) (b : Bool) → IsSeat own me → stands_by k own (deeds_in me.0) ≡ x → b ≡ not (is_done_at x)
+    → Lives k own me b
 lives_if k own me x true sits at is = (sits, λ done. let e : true ≡ false = is ∙ ap (λ (y : Standing). not (is_done_at y)) (sym at ∙ done) in cc)
 lives_if k own me x false sits at is = (sits, at ∙ done_by x is)
 
@@ -64,12 +63,14 @@ module _ (table : TableId) (k : Opening) (s : Shape) (shape : k.shape ≡ s) (ow
   }
 
   -- where it stands behind it
-  pub stands_behind : (id id' : TableId) (me me' : Mine) (x : Standing) (want : Want) (found : ℕ) → SitsAt table k own id me x → IsToMake s own place x want → IsFound want found
+  pub stands_behind : (id id' : TableId) (me me' : Mine) (x : Standing) (want : Want) (found : ℕ) → SitsAt table k own id me x → IsToMake s own place x want
+      → IsFound want found
       → id' ≡ id → me' ≡ (seen me.0 (deed_by want found), me.1) → SitsAt table k own id' me' (went s k.code own 0 found x)
   stands_behind id id' me me' x want found at is is_found same made = record {
     of_table = same ∙ at.of_table;
     sits = sits_more own me me' (deed_by want found) at.sits made;
-    stands = sym (stands_on k s k.code shape refl own 0 me me' want found x (sym at.stands) at.sits (let e : 0 < s.processors = omega (arith, is.carrier) in e, λ _. refl)
+    stands = sym (stands_on k s k.code shape refl own 0 me me' want found x (sym at.stands) at.sits
+        (let e : 0 < s.processors = omega (arith, is.carrier) in e, λ _. refl)
         is.wants (asked_of want is.asked) is_found made);
   }
 
@@ -82,7 +83,8 @@ module _ (table : TableId) (k : Opening) (s : Shape) (shape : k.shape ≡ s) (ow
       (ap (λ (t : Shape). wanted t own 0 x) shape ∙ is.wants) (asked_of want is.asked) refl made)
 
   -- a step that was told
-  pub led_one : (id id' : TableId) (me me' : Mine) (x : Standing) (want : Want) (found : ℕ) (told told' : Option (List Event)) → SitsAt table k own id me x → IsToMake s own place x want
+  pub led_one : (id id' : TableId) (me me' : Mine) (x : Standing) (want : Want) (found : ℕ) (told told' : Option (List Event)) → SitsAt table k own id me x
+      → IsToMake s own place x want
       → IsFound want found → id' ≡ id → me' ≡ (seen me.0 (deed_by want found), me.1)
       → (place_of (stands_by k own (deeds_in me.0)) ≡ place → Shows k own told told' me me')
       → Led table k own id me x told id' me' (went s k.code own 0 found x) told' (one x want)
@@ -92,13 +94,15 @@ module _ (table : TableId) (k : Opening) (s : Shape) (shape : k.shape ≡ s) (ow
   }
 
   -- one that was refused
-  pub refused_one : (id id' : TableId) (me me' : Mine) (x : Standing) (want : Want) (found : ℕ) (told told' : Option (List Event)) → SitsAt table k own id me x → IsToMake s own place x want
+  pub refused_one : (id id' : TableId) (me me' : Mine) (x : Standing) (want : Want) (found : ℕ) (told told' : Option (List Event))
+      → SitsAt table k own id me x → IsToMake s own place x want
       → IsFound want found → id' ≡ id → me' ≡ (seen me.0 (deed_by want found), me.1) → KeepsList told told'
       → Refused table k own id me x told id' me' (went s k.code own 0 found x) told' 1
   refused_one id id' me me' x want found told told' at is is_found same made keeps =
       let to = stands_behind id id' me me' x want found at is is_found same made in record {
         to = to;
         lives = not (is_done_at (went s k.code own 0 found x));
-        refuses = refuses_one itself k own me me' told told' _ _ _ (not (is_done_at (went s k.code own 0 found x))) 1 (omega arith) at.sits (goes_so id me me' x want found at is made) keeps
+        refuses = refuses_one itself k own me me' told told' _ _ _ (not (is_done_at (went s k.code own 0 found x))) 1 (omega arith) at.sits
+            (goes_so id me me' x want found at is made) keeps
             (lives_by k own me' (went s k.code own 0 found x) to.sits to.stands);
       }

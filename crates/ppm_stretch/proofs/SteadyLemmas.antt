@@ -1,27 +1,21 @@
 -- Steps in a row.
-use Rattle.std.proofs.Common.{◌≡◌, ◌≢◌, ℕ, zero, suc, ◌+◌, ◌==◌, ◌<◌, ◌≤◌, ◌&&◌, ◌||◌, Bool, Option, Some, ne_eqb, true, false, List, [], ◌∷◌, ◌++◌, length, sym, refl, ap, ◌∙◌, subst, arith, append_assoc, append-nil, if◌then◌else◌}
+use Rattle.std.proofs.Common.{◌≡◌, ◌≢◌, ℕ, ◌+◌, ◌<◌, ◌≤◌, Bool, Option, true, false, List, sym, refl, ap, ◌∙◌, subst}
 use Rattle.ppm_cells.specs.declared.shape.Shape.{Shape}
-use Rattle.ppm_code.specs.declared.code.CodeParts.{CodeParts}
 use Rattle.ppm_step.specs.declared.ask.Want.{Want}
 use Rattle.ppm_step.specs.declared.ask.Want.TheVariants.{Stores as WantsStore}
 use Rattle.ppm_step.specs.declared.row.Seat.{Seat}
-use Rattle.ppm_step.specs.declared.turn.Next.TheVariants.{Seek}
 use Rattle.ppm_step.specs.Frames.{Rest, Loads, Stores, Full, Installs, Breaks}
-use Rattle.ppm_ports.specs.Told.{KeepsFront, KeepsList}
+use Rattle.ppm_ports.specs.Told.{KeepsFront}
 use Rattle.ppm_words.specs.declared.event.Event.{Event}
-use Rattle.ppm_step.specs.Standings.{Standing, IsDone, IsBroken, IsRunning, running, running_if, rest_is_there, wanted, wanted_rest, went_rest}
-use Rattle.ppm_step.specs.State.{seeks_holder, next_of}
-use Rattle.ppm_step.specs.Told.{is_work_next}
-use Rattle.ppm_table.specs.declared.view.Deed.{Deed}
+use Rattle.ppm_step.specs.Standings.{Standing, IsDone, IsBroken, IsRunning, running, running_if, rest_is_there, wanted_rest, went_rest}
 use Rattle.ppm_table.specs.declared.view.Opening.{Opening}
-use Rattle.ppm_table.specs.Run.{behind, stood, stands_by, deeds_in, deed_by, seen, seated, Mine, IsSeat, IsAsked, IsFound}
-use Rattle.ppm_stretch.specs.Steady.{IsSteady, AreSteady, work_in, looks_in, looks_behind, is_exchange, exchanged_in, Goes, Moves, Lives, Refuses, itself}
+use Rattle.ppm_table.specs.Run.{stands_by, deeds_in, deed_by, seen, Mine, IsSeat, IsAsked, IsFound}
+use Rattle.ppm_stretch.specs.Steady.{is_exchange, Goes, Moves, Lives, itself}
 use Rattle.ppm_stretch.specs.declared.way.Steps.{Steps}
 use Rattle.ppm_stretch.specs.Rows.{GivesUp, Makes, GivesUpIfRefused}
-use Rattle.ppm_table.specs.Telling.{shown, deeds_since, Shows}
-use Rattle.ppm_table.proofs.TellingLemmas.{keeps_both, keeps_known, keeps_same, shown_both, since_is}
-use Rattle.ppm_table.proofs.StandLemmas.{deeds_seen, stands_on, step_told}
-
+use Rattle.ppm_table.specs.Telling.{shown, deeds_since}
+use Rattle.ppm_table.proofs.TellingLemmas.{keeps_both, keeps_known, keeps_same}
+use Rattle.ppm_table.proofs.StandLemmas.{stands_on}
 pub use Rattle.ppm_table.proofs.MovesLemmas.{as_told, of_told, deeds_more_in, sits_more, goes_one, goes_none, goes_both, from_none, moves_both, moves_then, moves_idle, moves_none, moves_behind, moves_same, refuses_one, refuses_both, refuses_then, refuses_within, no_looks}
 
 module _ {W : Type 0} (told : W → Option (List Event)) where

@@ -1,5 +1,5 @@
 -- The rows of work of the scheduler.
-use Rattle.std.specs.Prelude.{◌≡◌, ℕ, ◌+◌, Bool, false, true, List, Option, Some, Result, Ok, Err}
+use Rattle.std.specs.Prelude.{◌≡◌, ℕ, ◌+◌, Bool, true, List, Option, Some, Result, Ok, Err}
 use Rattle.ppm_cells.specs.Restart.{IsRestart}
 use Rattle.ppm_cells.specs.declared.restart.Restart.{Restart}
 use Rattle.ppm_engine.specs.declared.memory.Stop.{Stop}
@@ -29,14 +29,16 @@ module _ {W : Type 0} (told : W → Option (List Event)) where
   abbrev pub HasWorked : Opening → Seat → Mine → Mine → W → W → (work : ℕ) → (exchanged : Bool) → RowEnd → Type 0
   HasWorked k seat me me' w w' work exchanged (Installed restart) =
       Moves told k seat.own me me' w w' work work 0 exchanged × (stands_by k seat.own (deeds_in me'.0) ≡ IsAt seat.place (Some restart)) × IsRestart restart
-  HasWorked k seat me me' w w' work exchanged Broken = Moves told k seat.own me me' w w' work work 0 exchanged × (stands_by k seat.own (deeds_in me'.0) ≡ IsBroken seat.place)
+  HasWorked k seat me me' w w' work exchanged Broken = Moves told k seat.own me me' w w' work work 0 exchanged
+      × (stands_by k seat.own (deeds_in me'.0) ≡ IsBroken seat.place)
   HasWorked k seat me me' w w' work exchanged Over = ⊥
   HasWorked k seat me me' w w' work exchanged (Refused lives) = Refuses told k seat.own me me' w w' lives 13
 
   -- what came of the row
   abbrev pub HasRowed : Opening → Seat → Mine → Mine → W → W → (work : ℕ) → (exchanged : Bool) → RowEnd → Type 0
   HasRowed k seat me me' w w' work exchanged (Installed restart) =
-      Moves told k seat.own me me' w w' (work + 1) work (looks_behind 1 work 0) exchanged × (stands_by k seat.own (deeds_in me'.0) ≡ IsAt seat.place (Some restart)) × IsRestart restart
+      Moves told k seat.own me me' w w' (work + 1) work (looks_behind 1 work 0) exchanged
+      × (stands_by k seat.own (deeds_in me'.0) ≡ IsAt seat.place (Some restart)) × IsRestart restart
   HasRowed k seat me me' w w' work exchanged Broken =
       Moves told k seat.own me me' w w' (work + 1) work (looks_behind 1 work 0) exchanged × (stands_by k seat.own (deeds_in me'.0) ≡ IsBroken seat.place)
   HasRowed k seat me me' w w' work exchanged Over =

@@ -16,12 +16,14 @@ module _ (table : TableId) (k : Opening) (own : ℕ) where
     pub stands : stands_by k own (deeds_in me.0) ≡ standing
 
   -- so many steps, all told
-  pub record Led (id : TableId) (me : Mine) (x : Standing) (told : Option (List Event)) (id' : TableId) (me' : Mine) (x' : Standing) (told' : Option (List Event)) (c : Counts) : Type 0 where
+  pub record Led (id : TableId) (me : Mine) (x : Standing) (told : Option (List Event)) (id' : TableId) (me' : Mine) (x' : Standing)
+      (told' : Option (List Event)) (c : Counts) : Type 0 where
     pub to : SitsAt id' me' x'
     pub moves : Moves itself k own me me' told told' c.made c.work c.looks c.exchanged
 
   -- at most so many, of which the last was refused
-  pub record Refused (id : TableId) (me : Mine) (x : Standing) (told : Option (List Event)) (id' : TableId) (me' : Mine) (x' : Standing) (told' : Option (List Event)) (most : ℕ) : Type 0 where
+  pub record Refused (id : TableId) (me : Mine) (x : Standing) (told : Option (List Event)) (id' : TableId) (me' : Mine) (x' : Standing)
+      (told' : Option (List Event)) (most : ℕ) : Type 0 where
     pub to : SitsAt id' me' x'
     pub lives : Bool
     pub refuses : Refuses itself k own me me' told told' lives most

@@ -1,5 +1,5 @@
 -- The laws of steps of a seat.
-use Rattle.std.specs.Prelude.{◌≡◌, ℕ, ◌+◌, ◌≤◌, List, Option, refl}
+use Rattle.std.specs.Prelude.{ℕ, ◌+◌, ◌≤◌, List, Option, refl}
 use Rattle.atomic_table.specs.Seated.{TableId}
 use Rattle.ppm_words.specs.declared.event.Event.{Event}
 use Rattle.ppm_step.specs.Standings.{Standing}
@@ -11,7 +11,8 @@ use Rattle.ppm_table.specs.Moves.{itself}
 use Rattle.ppm_stretch.specs.Seated.{SitsAt, Led, Refused}
 
 module _ (table : TableId) (k : Opening) (own : ℕ) where
-  pub led_none : (id : TableId) (me : Mine) (x : Standing) (told : Option (List Event)) → SitsAt table k own id me x → Led table k own id me x told id me x told none
+  pub led_none : (id : TableId) (me : Mine) (x : Standing) (told : Option (List Event)) → SitsAt table k own id me x
+      → Led table k own id me x told id me x told none
   led_none id me x told at = record { to = at; moves = moves_none itself k own me told at.sits }
 
   pub led_both : (i j l : TableId) (a b c : Mine) (x y z : Standing) (t u v : Option (List Event)) (m n : Counts)

@@ -1,5 +1,5 @@
 -- Steps that a processor makes in a row in a capsule of a frame.
-use Rattle.std.specs.Prelude.{◌≡◌, ◌≢◌, ℕ, ◌+◌, ◌<◌, ◌==◌, ◌||◌, if◌then◌else◌, Bool, true, false, List, [], ◌∷◌, ◌++◌, length, Option}
+use Rattle.std.specs.Prelude.{◌≡◌, ℕ, true, false, List, Option}
 use Rattle.ppm_cells.specs.declared.cell.Cell.{Cell}
 use Rattle.ppm_cells.specs.declared.shape.Shape.{Shape}
 use Rattle.ppm_step.specs.declared.content.Content.TheVariants.{ANumber}
@@ -7,22 +7,15 @@ use Rattle.ppm_strands.specs.Capsule.{Capsule}
 use Rattle.ppm_code.specs.Capsules.{capsule_from, reached}
 use Rattle.ppm_code.specs.declared.work.Reached.{Reached}
 use Rattle.ppm_words.specs.declared.event.Event.{Event}
-use Rattle.ppm_ports.specs.Told.{KeepsList}
 use Rattle.ppm_code.specs.Locations.{Where}
 use Rattle.ppm_code.specs.declared.act.End.{End}
 use Rattle.ppm_code.specs.declared.code.CodeParts.{CodeParts}
 use Rattle.ppm_code.specs.declared.instr.Instr.{Instr}
 use Rattle.ppm_step.specs.declared.frame.Home.{Home}
 use Rattle.ppm_step.specs.declared.row.Seat.{Seat}
-use Rattle.ppm_step.specs.declared.turn.Act.TheVariants.{Step}
-use Rattle.ppm_step.specs.declared.turn.Next.TheVariants.{Seek}
 use Rattle.ppm_core.specs.Rounds.{HasReached, stands_in}
 use Rattle.ppm_step.specs.Frames.{Rest, Loads, Stores}
-use Rattle.ppm_step.specs.Standings.{Standing, IsDone, IsBroken, running}
-use Rattle.ppm_step.specs.State.{seeks_holder, next_of}
-use Rattle.ppm_step.specs.Told.{is_work_next}
-use Rattle.ppm_table.specs.declared.view.Deed.{Deed}
-use Rattle.ppm_table.specs.declared.view.Deed.TheVariants.{Loaded, Stored, Exchanged, Softened, Hardened, Quitted}
+use Rattle.ppm_step.specs.Standings.{IsBroken, running}
 use Rattle.ppm_table.specs.declared.view.Opening.{Opening}
 use Rattle.ppm_stretch.specs.declared.way.Way.{Way}
 use Rattle.ppm_stretch.specs.declared.way.Way.TheVariants.{Made, Stops, Breaks, Refused}
@@ -30,7 +23,6 @@ use Rattle.ppm_stretch.specs.declared.way.Load.{Load}
 use Rattle.ppm_stretch.specs.declared.way.Load.TheVariants as loads
 use Rattle.ppm_stretch.specs.declared.way.Store.{Store}
 use Rattle.ppm_stretch.specs.declared.way.Store.TheVariants as stores
-use Rattle.ppm_table.specs.Telling.{Shows}
 use Rattle.ppm_table.specs.Run.{stands_by, deeds_in, Mine}
 pub use Rattle.ppm_table.specs.Moves.{IsSteady, AreSteady, work_in, looks_in, is_exchange, exchanged_in, looks_behind, Goes, Lives, Moves, Refuses, itself}
 

@@ -81,7 +81,8 @@ fn work_at<W: Watch>(
     requires stands { stands_by memory.now.words.now.shared.key place.now.own (deeds_in mine.old.me.0)
         ≡ stands memory.now.shape code.now place.now (row_of memory.now.shape place.now place.now.restart.kind) }
     ensures table { (mine.new.table_id ≡ mine.old.table_id) × (result.work ≤ 12) }
-    ensures worked { HasWorked W.told memory.now.words.now.shared.key place.now mine.old.me mine.new.me watch.old watch.new result.work result.exchanged result.end }
+    ensures worked { HasWorked W.told memory.now.words.now.shared.key place.now mine.old.me mine.new.me watch.old watch.new
+        result.work result.exchanged result.end }
 {
     let _ = code.parts().root;
     let mut tally = Tally {
@@ -107,10 +108,12 @@ fn row_at<W: Watch>(
 ) -> Rowed
     requires table { IsAtCode mine.old.table_id memory.now.words.now.shared.table_id memory.now.words.now.shared.key memory.now.shape code.now }
     requires sits { IsSeat place.now.own mine.old.me }
-    requires seat { (place.now.own < memory.now.shape.processors) × (place.now.place < memory.now.shape.processors) × IsRestart place.now.restart × HasRow place.now.restart.kind }
+    requires seat { (place.now.own < memory.now.shape.processors) × (place.now.place < memory.now.shape.processors)
+        × IsRestart place.now.restart × HasRow place.now.restart.kind }
     requires stands { StandsBefore memory.now.words.now.shared.key place.now mine.old.me }
     ensures table { (mine.new.table_id ≡ mine.old.table_id) × (result.work ≤ 12) }
-    ensures rowed { HasRowed W.told memory.now.words.now.shared.key place.now mine.old.me mine.new.me watch.old watch.new result.work result.exchanged result.end }
+    ensures rowed { HasRowed W.told memory.now.words.now.shared.key place.now mine.old.me mine.new.me watch.old watch.new
+        result.work result.exchanged result.end }
 {
     let finish = load_finish(memory.words, &memory.shape, code, mine, watch, place);
     if finish.word != 0 {
@@ -148,8 +151,13 @@ fn row_at<W: Watch>(
 #[inline(always)]
 fn with_row(steps: Steps, rowed: Rowed) -> Steps
     requires few { (steps.made + 13 < 2 ^ 64) × (steps.work ≤ steps.made) × (steps.looks ≤ steps.made) × (rowed.work ≤ 12) }
-    ensures { result ≡ record { made = steps.made + (rowed.work + 1); work = steps.work + rowed.work;
-        looks = looks_behind steps.looks rowed.work (looks_behind 1 rowed.work 0); exchanged = (steps.exchanged || rowed.exchanged); refused = steps.refused } }
+    ensures { result ≡ record {
+      made = steps.made + (rowed.work + 1);
+      work = steps.work + rowed.work;
+      looks = looks_behind steps.looks rowed.work (looks_behind 1 rowed.work 0);
+      exchanged = (steps.exchanged || rowed.exchanged);
+      refused = steps.refused;
+    } }
 {
     let last = looks_behind(1, rowed.work, 0);
     Steps {
@@ -173,7 +181,8 @@ pub(crate) fn rows_along<W: Watch>(
 ) -> Steps
     requires table { IsAtCode mine.old.table_id memory.now.words.now.shared.table_id memory.now.words.now.shared.key memory.now.shape code.now }
     requires sits { IsSeat local.old.own mine.old.me }
-    requires seat { (from.now.own ≡ local.old.own) × (local.old.own < memory.now.shape.processors) × (from.now.place < memory.now.shape.processors) × IsRestart from.now.restart }
+    requires seat { (from.now.own ≡ local.old.own) × (local.old.own < memory.now.shape.processors)
+        × (from.now.place < memory.now.shape.processors) × IsRestart from.now.restart }
     requires stands { StandsBefore memory.now.words.now.shared.key from.now mine.old.me }
     ensures table { (mine.new.table_id ≡ mine.old.table_id) × IsSeat local.old.own mine.new.me }
     ensures few { (result.made ≤ most) × (result.work ≤ result.made) × (result.looks ≤ result.made) }

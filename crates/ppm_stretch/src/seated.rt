@@ -30,9 +30,11 @@ impl Memory for Seated<'_> {
 
     ghost at = { λ m own a. SitsAt m.words.now.shared.table_id m.words.now.shared.key own a.own.table_id a.own.me a.stands };
 
-    ghost led = { λ m own a b c. Led m.words.now.shared.table_id m.words.now.shared.key own a.own.table_id a.own.me a.stands a.told b.own.table_id b.own.me b.stands b.told c };
+    ghost led = { λ m own a b c. Led m.words.now.shared.table_id m.words.now.shared.key own a.own.table_id a.own.me a.stands a.told
+        b.own.table_id b.own.me b.stands b.told c };
 
-    ghost refused = { λ m own a b most. Refused m.words.now.shared.table_id m.words.now.shared.key own a.own.table_id a.own.me a.stands a.told b.own.table_id b.own.me b.stands b.told most };
+    ghost refused = { λ m own a b most. Refused m.words.now.shared.table_id m.words.now.shared.key own a.own.table_id a.own.me a.stands a.told
+        b.own.table_id b.own.me b.stands b.told most };
 
     ghost over = { λ m. ⊥ };
 
@@ -63,7 +65,9 @@ impl Memory for Seated<'_> {
 
     ghost rest = { λ m own a at. led_none m.words.now.shared.table_id m.words.now.shared.key own a.own.table_id a.own.me a.stands a.told at };
 
-    ghost on = { λ m own x y z c d f g. led_both m.words.now.shared.table_id m.words.now.shared.key own x.own.table_id y.own.table_id z.own.table_id x.own.me y.own.me z.own.me x.stands y.stands z.stands x.told y.told z.told c d f g };
+    ghost on = { λ m own x y z c d f g. led_both m.words.now.shared.table_id m.words.now.shared.key own x.own.table_id y.own.table_id
+        z.own.table_id x.own.me y.own.me z.own.me x.stands y.stands z.stands x.told y.told z.told c d f g };
 
-    ghost stopped = { λ m own x y z c n most f r few. refused_behind m.words.now.shared.table_id m.words.now.shared.key own x.own.table_id y.own.table_id z.own.table_id x.own.me y.own.me z.own.me x.stands y.stands z.stands x.told y.told z.told c n most f r few };
+    ghost stopped = { λ m own x y z c n most f r few. refused_behind m.words.now.shared.table_id m.words.now.shared.key own x.own.table_id
+        y.own.table_id z.own.table_id x.own.me y.own.me z.own.me x.stands y.stands z.stands x.told y.told z.told c n most f r few };
 }

@@ -17,13 +17,15 @@ loop-so_far-preserved g c =
     let rowed = c.row_at-rowed.result in
     let new = c.row_at-rowed.new in
     let sum = c.with_row-so_far.result in
-    let came = subst (λ (end : RowEnd). HasRowed g.W.Watch.told k seat c.loop-so_far.mine.me new.mine.me c.loop-so_far.watch new.watch rowed.work rowed.exchanged end) c.in-Installed.is c.row_at-rowed.ensures.rowed in
+    let came = subst (λ (end : RowEnd). HasRowed g.W.Watch.told k seat c.loop-so_far.mine.me new.mine.me
+    c.loop-so_far.watch new.watch rowed.work rowed.exchanged end) c.in-Installed.is c.row_at-rowed.ensures.rowed in
     let few = sum_few c.loop-so_far.so_far sum rowed.work rowed.exchanged c.with_row-so_far.ensures i.1 i.2 in (
       omega (arith, few.0, i.0, c.loop-so_far-test.true, c.row_at-rowed.ensures.table.1),
       few.1,
       few.2,
       c.row_at-rowed.ensures.table.0 ∙ i.3,
-      rows_after g.W.Watch.told k own c.args.mine.now.me c.loop-so_far.mine.me new.mine.me c.args.watch.now c.loop-so_far.watch new.watch c.loop-so_far.so_far sum rowed.work rowed.exchanged c.with_row-so_far.ensures i.4 came.0,
+      rows_after g.W.Watch.told k own c.args.mine.now.me c.loop-so_far.mine.me new.mine.me c.args.watch.now c.loop-so_far.watch new.watch
+          c.loop-so_far.so_far sum rowed.work rowed.exchanged c.with_row-so_far.ensures i.4 came.0,
       came.1,
       came.2,
       few.3 ∙ i.7,
@@ -46,7 +48,8 @@ withdraw-requires-clause-lives g c =
     let seat : Seat = record { own = own; place = c.args.from.now.place; restart = c.loop-so_far.at } in
     let rowed = c.row_at-rowed.result in
     let new = c.row_at-rowed.new in
-    let came = subst (λ (end : RowEnd). HasRowed g.W.Watch.told k seat c.loop-so_far.mine.me new.mine.me c.loop-so_far.watch new.watch rowed.work rowed.exchanged end) c.in-Refused.is c.row_at-rowed.ensures.rowed in
+    let came = subst (λ (end : RowEnd). HasRowed g.W.Watch.told k seat c.loop-so_far.mine.me new.mine.me
+    c.loop-so_far.watch new.watch rowed.work rowed.exchanged end) c.in-Refused.is c.row_at-rowed.ensures.rowed in
     subst (λ (n : ℕ). Lives k n new.mine.me c.in-Refused.lives) (sym c.loop-so_far.invariant.8) came.stays
 
 pub returns-in-Refused-clause-stops : goal.returns-in-Refused-clause-stops
@@ -58,7 +61,8 @@ returns-in-Refused-clause-stops g c = λ refused.
     let rowed = c.row_at-rowed.result in
     let new = c.row_at-rowed.new in
     let so_far = c.loop-so_far.so_far in
-    let came = subst (λ (end : RowEnd). HasRowed g.W.Watch.told k seat c.loop-so_far.mine.me new.mine.me c.loop-so_far.watch new.watch rowed.work rowed.exchanged end) c.in-Refused.is c.row_at-rowed.ensures.rowed in
+    let came = subst (λ (end : RowEnd). HasRowed g.W.Watch.told k seat c.loop-so_far.mine.me new.mine.me
+    c.loop-so_far.watch new.watch rowed.work rowed.exchanged end) c.in-Refused.is c.row_at-rowed.ensures.rowed in
     record {
       lives = c.in-Refused.lives;
       behind = new.mine.me;
@@ -92,9 +96,11 @@ returns-in-Broken g c =
     let rowed = c.row_at-rowed.result in
     let new = c.row_at-rowed.new in
     let sum = c.with_row-so_far.result in
-    let came = subst (λ (end : RowEnd). HasRowed g.W.Watch.told k seat c.loop-so_far.mine.me new.mine.me c.loop-so_far.watch new.watch rowed.work rowed.exchanged end) c.in-Broken.is c.row_at-rowed.ensures.rowed in
+    let came = subst (λ (end : RowEnd). HasRowed g.W.Watch.told k seat c.loop-so_far.mine.me new.mine.me
+    c.loop-so_far.watch new.watch rowed.work rowed.exchanged end) c.in-Broken.is c.row_at-rowed.ensures.rowed in
     let few = sum_few c.loop-so_far.so_far sum rowed.work rowed.exchanged c.with_row-so_far.ensures i.1 i.2 in
-    let moves = rows_after g.W.Watch.told k own c.args.mine.now.me c.loop-so_far.mine.me new.mine.me c.args.watch.now c.loop-so_far.watch new.watch c.loop-so_far.so_far sum rowed.work rowed.exchanged c.with_row-so_far.ensures i.4 came.0 in
+    let moves = rows_after g.W.Watch.told k own c.args.mine.now.me c.loop-so_far.mine.me new.mine.me c.args.watch.now c.loop-so_far.watch new.watch
+    c.loop-so_far.so_far sum rowed.work rowed.exchanged c.with_row-so_far.ensures i.4 came.0 in
     record {
       table = (c.row_at-rowed.ensures.table.0 ∙ i.3, came.0.goes.sits);
       few = (omega (arith, few.0, i.0, c.loop-so_far-test.true, c.row_at-rowed.ensures.table.1), few.1, few.2);
@@ -113,9 +119,11 @@ returns-in-Over g c =
     let rowed = c.row_at-rowed.result in
     let new = c.row_at-rowed.new in
     let sum = c.with_row-so_far.result in
-    let came = subst (λ (end : RowEnd). HasRowed g.W.Watch.told k seat c.loop-so_far.mine.me new.mine.me c.loop-so_far.watch new.watch rowed.work rowed.exchanged end) c.in-Over.is c.row_at-rowed.ensures.rowed in
+    let came = subst (λ (end : RowEnd). HasRowed g.W.Watch.told k seat c.loop-so_far.mine.me new.mine.me
+    c.loop-so_far.watch new.watch rowed.work rowed.exchanged end) c.in-Over.is c.row_at-rowed.ensures.rowed in
     let few = sum_few c.loop-so_far.so_far sum rowed.work rowed.exchanged c.with_row-so_far.ensures i.1 i.2 in
-    let moves = rows_after g.W.Watch.told k own c.args.mine.now.me c.loop-so_far.mine.me new.mine.me c.args.watch.now c.loop-so_far.watch new.watch c.loop-so_far.so_far sum rowed.work rowed.exchanged c.with_row-so_far.ensures i.4 came.0 in
+    let moves = rows_after g.W.Watch.told k own c.args.mine.now.me c.loop-so_far.mine.me new.mine.me c.args.watch.now c.loop-so_far.watch new.watch
+    c.loop-so_far.so_far sum rowed.work rowed.exchanged c.with_row-so_far.ensures i.4 came.0 in
     record {
       table = (c.row_at-rowed.ensures.table.0 ∙ i.3, came.0.goes.sits);
       few = (omega (arith, few.0, i.0, c.loop-so_far-test.true, c.row_at-rowed.ensures.table.1), few.1, few.2);

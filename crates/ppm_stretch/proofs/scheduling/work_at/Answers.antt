@@ -1,4 +1,4 @@
-use Rattle.std.proofs.Common.{◌∙◌, true, sym, ap, subst}
+use Rattle.std.proofs.Common.{◌∙◌, sym, ap, subst}
 use Rattle.ppm_code.specs.declared.code.CodeParts.{CodeParts}
 use Rattle.ppm_engine.specs.Memory.{spot}
 use Rattle.ppm_stretch.specs.SeatedLaws.{led_none}
@@ -43,7 +43,8 @@ returns-clause-table g c =
       sits = c.requires.sits;
       stands = c.requires.stands ∙ ap (λ (code : CodeParts). stands s code place (row_of s place place.restart.kind)) (sym c.requires.table.2);
     }) in (
-      made_at t words.table_id words.key place x mine new.own (λ o. o.table_id) (λ o. o.me) w new.watch new.tally made.result (made.ensures.came (spot mine x (t w)) here)
+      made_at t words.table_id words.key place x mine new.own (λ o. o.table_id) (λ o. o.me) w new.watch new.tally made.result
+          (made.ensures.came (spot mine x (t w)) here)
           ∙ sym c.requires.table.0,
       made.ensures.few,
     )
@@ -65,4 +66,5 @@ returns-clause-worked g c =
       stands = c.requires.stands ∙ ap (λ (code : CodeParts). stands s code place (row_of s place place.restart.kind)) (sym c.requires.table.2);
     }) in
     subst (λ (end : RowEnd). HasWorked t words.key place mine.me new.own.me w new.watch new.tally.made new.tally.exchanged end) (sym c.end_by.ensures)
-    (made_so t words.table_id words.key place x mine new.own (λ o. o.table_id) (λ o. o.me) w new.watch new.tally made.result made.ensures.few (made.ensures.came (spot mine x (t w)) here))
+    (made_so t words.table_id words.key place x mine new.own (λ o. o.table_id) (λ o. o.me) w new.watch new.tally made.result made.ensures.few
+    (made.ensures.came (spot mine x (t w)) here))
