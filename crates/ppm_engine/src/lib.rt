@@ -1,8 +1,9 @@
 //! Steps of a processor in a row, on words of any kind.
 //! Model: a relation between where a processor stood and where it stands (`Memory::led`), which
 //! each kind of words has for itself.
-//! Contract: a row of the scheduler leads where its steps lead, one by one.
+//! Contract: a row of work of the scheduler leads where its steps lead, one by one.
 //! Stands on `ppm_step`; `ppm_stretch` makes the rows on words that threads share.
+//! After the parallel persistent memory of Blelloch et al., SPAA 2018.
 #![tactic(auto)]
 
 mod ends;

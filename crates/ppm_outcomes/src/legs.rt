@@ -19,8 +19,8 @@ use ppm_runs::{
 /// trap; and each right branch that was forked was taken. Where it says that a pool is full, that
 /// run takes more words than a pool has, or has no end. All work turns are fewer than 256 for each
 /// capsule of that run, each fault that strikes a row of work, and each fresh processor. That words
-/// are broken it says only after more than 2^34 work turns, if words came back at most 2^50 times.
-/// And no place's holder has the last tag then.
+/// are broken it says only after more than 2^34 + 2^28 work turns, if words came back at most 2^50
+/// times. And no place's holder has the last tag then.
 pub fn runs_in_legs_are_as_code()
     ensures law { RunsInLegsAreAsCode }
     ensures tags { TagsMayRiseInLegsOfCode }
@@ -45,8 +45,8 @@ pub fn runs_in_legs_are_as_code()
 /// branch that was forked was taken. Where it says that a pool is full, the program, run whole,
 /// takes more words than a pool has, or has no end. All work turns are fewer than 256 for each
 /// capsule that its code runs depth first, each fault that strikes a row of work, and each fresh
-/// processor. That words are broken it says only after more than 2^34 work turns, if words came
-/// back at most 2^50 times. And no place's holder has the last tag then.
+/// processor. That words are broken it says only after more than 2^34 + 2^28 work turns, if words
+/// came back at most 2^50 times. And no place's holder has the last tag then.
 pub fn runs_in_legs_are_as_programs()
     ensures law { RunsInLegsAreAsPrograms }
     ensures tags { TagsMayRiseInLegs }
