@@ -54,11 +54,11 @@ fn explained_word(text: ExplainedText) -> &'static str {
     }
 }
 
-/// What stands ahead of a plan or a schedule that is explained.
-fn orders_front(orders: ExplainedOrders) -> &'static str {
+/// The word of what is explained where nothing is read.
+fn orders_word(orders: ExplainedOrders) -> &'static str {
     match orders {
-        ExplainedOrders::Plan => " plan=",
-        ExplainedOrders::Schedule => " schedule=",
+        ExplainedOrders::Plan => "plan",
+        ExplainedOrders::Schedule => "schedule",
     }
 }
 
@@ -166,9 +166,13 @@ fn line_of(alloc: Global, command: &Command) -> Result<Vec<u8>, Fault> {
         Command::Show => String::from_str(alloc, "show")?,
         Command::Explain(it) => format!(in alloc; "explain {}", explained_word(*it))?,
         Command::ExplainOrders(it, orders) => {
-            front = orders_front(it.orders);
+            front = "=";
             plan = orders.as_slice();
-            format!(in alloc; "explain processors {}", it.processors)?
+            format!(in alloc;
+                "explain processors {} {}",
+                it.processors,
+                orders_word(it.orders)
+            )?
         }
         Command::Depth(it) => format!(in alloc; "depth capsules {}", it.capsules)?,
         Command::Races(it) => format!(in alloc; "races capsules {}", it.capsules)?,
