@@ -3,8 +3,8 @@
 //! (`specs/Numbers`).
 //! Contract: a text is cut at its first separator; what is no spelling of a number is none; each
 //! number is spelled in one way.
-//! Stands on `std`; `ppm_plan`, `ppm_listing_reader` and `ppm_saved_reader` read by it, and
-//! `ppm_plan` and `ppm_saved` write numbers by it.
+//! Stands on `itoa`; `ppm_plan`, `ppm_listing_reader` and `ppm_saved_reader` read by it, and
+//! `ppm_saved`, `ppm_naming` and others write numbers by it.
 //! After `split_once` of Rust's slices; that leading zeros and signs are refused is this project's.
 #![tactic(auto)]
 
