@@ -73,8 +73,8 @@ fn meaning_of(status: Status) -> &'static str {
         Status::WriteFault => "write fault: standard output or standard error failed",
         Status::NoMemory => "out of memory",
         Status::CodeRefused => {
-            "code refused: of `check`, `depth` or `races` a conflict, an untidy store or a race, the\n       \
-             first one, of `sweep` an untidy store; of these, and wherever `--input case` stands,\n       \
+            "code refused: of `check`, `depth` or `races` a conflict, a gap, an untidy store or a race,\n       \
+             the first one, of `sweep` an untidy store; of these, and wherever `--input case` stands,\n       \
              why what was read is no listing or no case (docs/CODE.md)"
         }
         Status::NotWithin => {

@@ -36,7 +36,7 @@ long_case = codes "a case has 536870912 bytes at most"
 -- faults of a case's arrays and root, by their numbers
 abbrev pub input_meaning : ℕ → List ℕ
 input_meaning n =
-    if n == 1 then codes "the line of an array is `array NAME LENGTH`, and its first values behind it, as `7` or `7*3`, with one blank between two words and numbers without zeros in front; the name is none of the language's words"
+    if n == 1 then codes "the line of an array is `array NAME LENGTH`, and its first values behind it, as `7` or `7*3`, with one blank between two words and numbers without zeros in front; the name has 32 bytes at most and is none of the language's words"
     else if n == 2 then codes "a length is 4194304 at most, a count 1 to 4194304, a value fits 64 bits, and there are no more values than the length says"
     else if n == 3 then codes "an array above has this name"
     else if n == 4 then codes "there are 64 arrays at most, with 4194304 words together"
@@ -66,9 +66,9 @@ long_saved = codes "a saved text has 671088640 bytes at most"
 abbrev pub saved_meaning : ℕ → List ℕ
 saved_meaning n =
     if n == 1 then codes "a line has the form of its place, as `stop` writes it, with a line feed at its end; the name of an array comes once, a word that comes again is counted, and as many bytes as it says follow `code`"
-    else if n == 2 then codes "a number of this line is out of its range: there are 1 to 64 processors, 64 to 4194304 words of room in all places together, 2 to 4096 slots, 64 arrays at most with 4194304 words together; a word has 64 bits"
-    else if n == 3 then codes "the bytes after this line are no listing, or its root names an array that is not there; `explain --input listing` says more of it"
-    else if n == 4 then codes "the code after this line has a conflict, or is not tidy; `explain --input case` says more of it"
+    else if n == 2 then codes "a number of this line is out of its range: there are 1 to 64 processors, 64 words of room at least in each place and 4194304 at most in all together, 2 to 4096 slots, 64 arrays at most with 4194304 words together; a word has 64 bits"
+    else if n == 3 then codes "the bytes after this line are no listing, or its root names an array that is not there; `explain --input case` says more, of the lines of arrays and these bytes"
+    else if n == 4 then codes "the code after this line has a conflict, or is not tidy; `explain --input case` says more, of the lines of arrays and these bytes"
     else if n == 5 then codes "the words are not as many as the sizes of the text say"
     else []
 

@@ -23,9 +23,9 @@ item_notes text n =
 -- what an item is
 abbrev pub item_meaning : ExplainedOrders → List ℕ
 item_meaning orders.Plan =
-    codes "an item of a plan is `C@Ts` or `C@Th`: at turn T of processor C a soft or a hard fault; items have commas between them, and `none` is no item"
+    codes "an item of a plan is `C@Ts` or `C@Th`: at turn T of processor C a soft or a hard fault, C and T below 4294967296; items have commas between them, and `none` is no item"
 item_meaning orders.Schedule =
-    codes "an item of a schedule is `C` or `C>V`, a step of processor C that may look at place V, with `*N` behind it N such steps, or `C!s` or `C!h`, a soft or a hard fault; items have commas between them, and `none` is no item"
+    codes "an item of a schedule is `C` or `C>V`, a step of processor C that may look at place V, with `*N` behind it N such steps, 1 to 268435456, or `C!s` or `C!h`, a soft or a hard fault; items have commas between them, and `none` is no item"
 
 -- which processors there are
 abbrev pub processors_meaning : ℕ → List ℕ

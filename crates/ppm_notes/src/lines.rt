@@ -50,7 +50,7 @@ fn input_meaning(number: u32) -> &'static str
 {
     match number {
         1 =>
-            "the line of an array is `array NAME LENGTH`, and its first values behind it, as `7` or `7*3`, with one blank between two words and numbers without zeros in front; the name is none of the language's words",
+            "the line of an array is `array NAME LENGTH`, and its first values behind it, as `7` or `7*3`, with one blank between two words and numbers without zeros in front; the name has 32 bytes at most and is none of the language's words",
         2 =>
             "a length is 4194304 at most, a count 1 to 4194304, a value fits 64 bits, and there are no more values than the length says",
         3 => "an array above has this name",
@@ -90,11 +90,11 @@ fn saved_meaning(number: u32) -> &'static str
         1 =>
             "a line has the form of its place, as `stop` writes it, with a line feed at its end; the name of an array comes once, a word that comes again is counted, and as many bytes as it says follow `code`",
         2 =>
-            "a number of this line is out of its range: there are 1 to 64 processors, 64 to 4194304 words of room in all places together, 2 to 4096 slots, 64 arrays at most with 4194304 words together; a word has 64 bits",
+            "a number of this line is out of its range: there are 1 to 64 processors, 64 words of room at least in each place and 4194304 at most in all together, 2 to 4096 slots, 64 arrays at most with 4194304 words together; a word has 64 bits",
         3 =>
-            "the bytes after this line are no listing, or its root names an array that is not there; `explain --input listing` says more of it",
+            "the bytes after this line are no listing, or its root names an array that is not there; `explain --input case` says more, of the lines of arrays and these bytes",
         4 =>
-            "the code after this line has a conflict, or is not tidy; `explain --input case` says more of it",
+            "the code after this line has a conflict, or is not tidy; `explain --input case` says more, of the lines of arrays and these bytes",
         5 => "the words are not as many as the sizes of the text say",
         _ => "",
     }

@@ -16,14 +16,14 @@ pub(crate) fn listing_meaning(number: u32) -> &'static str
         1 =>
             "a line has one of its forms, with one blank between two words, numbers without zeros in front, and a line feed at its end",
         2 =>
-            "a number of this line is out of its range: a register is `r0` to `r63`, a constant fits 64 bits, a slot is one of the procedure's, a trap is 1 to 4, a line of the source is 1 at least, an array is below 64, `room` asks for 1 word at least, a procedure has 25 slots at most",
+            "a number of this line is out of its range: a register is `r0` to `r63`, a constant fits 64 bits, a slot is one of the procedure's, a trap is 1 to 4, a line of the source is 1 to 1048577, an array is below 64, `room` asks for 1 to 1048576 words, a procedure has 25 slots at most",
         3 => "a branch leads to a later instruction of its capsule; these count from 0",
         4 =>
             "the last instruction of a capsule is an end, and a capsule has one: `next`, `end`, `trap`, `call`, `callto`, `fork` or `forkto`",
         5 =>
             "`room` stands first in its capsule; `storenew` names a word below it; a call asks for 6 words and the callee's slots, a fork for 17 and the slots of both branches",
         6 =>
-            "what this line names is not there, or of another procedure; or it is one too many: 1024 procedures, 65535 capsules, 160 instructions of a capsule; or no capsule comes",
+            "what this line names is not there, as no line below declares it, or is of another procedure; or it is one too many: 1024 procedures, 65535 capsules, 160 instructions of a capsule; or no capsule comes",
         _ => "",
     }
 }

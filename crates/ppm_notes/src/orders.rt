@@ -48,9 +48,9 @@ fn item_meaning(orders: ExplainedOrders) -> &'static str
 {
     match orders {
         ExplainedOrders::Plan =>
-            "an item of a plan is `C@Ts` or `C@Th`: at turn T of processor C a soft or a hard fault; items have commas between them, and `none` is no item",
+            "an item of a plan is `C@Ts` or `C@Th`: at turn T of processor C a soft or a hard fault, C and T below 4294967296; items have commas between them, and `none` is no item",
         ExplainedOrders::Schedule =>
-            "an item of a schedule is `C` or `C>V`, a step of processor C that may look at place V, with `*N` behind it N such steps, or `C!s` or `C!h`, a soft or a hard fault; items have commas between them, and `none` is no item",
+            "an item of a schedule is `C` or `C>V`, a step of processor C that may look at place V, with `*N` behind it N such steps, 1 to 268435456, or `C!s` or `C!h`, a soft or a hard fault; items have commas between them, and `none` is no item",
     }
 }
 
