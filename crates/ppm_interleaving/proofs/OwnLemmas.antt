@@ -1,0 +1,61 @@
+-- Own words as they are stored and built.
+use Rattle.std.proofs.Common.{◌≡◌, ◌<◌, ℕ, zero, suc, ◌+◌, ◌==◌, Bool, true, false, cond, List, [], ◌∷◌, get_or, refl, sym, ap, ◌∙◌, arith, nat_lt}
+use Rattle.ppm_strands.specs.Capsule.{Memory, store}
+use Rattle.ppm_code.specs.declared.location.FrameWord.{FrameWord}
+use Rattle.ppm_code.specs.declared.location.FrameWord.TheVariants.{Slot, Value}
+use Rattle.ppm_code.specs.Sizes.{slot_at, value_at}
+use Rattle.ppm_code.specs.Strands.{built}
+use Rattle.ppm_filled.specs.Racing.{OwnWord, OfFrame, OfBlock, OfEnd, EndWord, own_words, framed, block_in}
+use Rattle.ppm_interleaving.specs.declared.own.Own.{Own}
+use Rattle.ppm_interleaving.specs.Owns.{ShowsOwn, frame_word_in, slots_from}
+
+module _ (old new : Own) (o : Memory OwnWord) (shows : ShowsOwn old o) where
+  -- a slot
+  pub slot_stored : (i v : ℕ) → ((at : ℕ) → get_or new.slots.items at 0 ≡ cond (at == i) v (get_or old.slots.items at 0)) → new.value ≡ old.value
+      → new.block.items ≡ old.block.items → ShowsOwn new (store own_words o (OfFrame (Slot i)) v)
+  slot_stored i v is value block = record { frame = by; block = λ n. shows.block n ∙ ap (λ (ws : List ℕ). get_or ws n 0) (sym block) }
+    where
+      by : (k : FrameWord) → store own_words o (OfFrame (Slot i)) v (OfFrame k) ≡ frame_word_in new k
+      by (Slot j) = ap (λ (w : ℕ). cond (j == i) v w) (shows.frame (Slot j)) ∙ sym (is j)
+      by Value = shows.frame Value ∙ sym value
+
+  -- the value
+  pub value_stored : (v : ℕ) → new.slots.items ≡ old.slots.items → new.value ≡ v → new.block.items ≡ old.block.items
+      → ShowsOwn new (store own_words o (OfFrame Value) v)
+  value_stored v slots value block = record { frame = by; block = λ n. shows.block n ∙ ap (λ (ws : List ℕ). get_or ws n 0) (sym block) }
+    where
+      by : (k : FrameWord) → store own_words o (OfFrame Value) v (OfFrame k) ≡ frame_word_in new k
+      by (Slot j) = shows.frame (Slot j) ∙ ap (λ (ws : List ℕ). get_or ws j 0) (sym slots)
+      by Value = sym value
+
+  -- a word of the block
+  pub block_stored : (i v : ℕ) → ((at : ℕ) → get_or new.block.items at 0 ≡ cond (at == i) v (get_or old.block.items at 0)) → new.value ≡ old.value
+      → new.slots.items ≡ old.slots.items → ShowsOwn new (store own_words o (OfBlock i) v)
+  block_stored i v is value slots = record { frame = by; block = λ n. ap (λ (w : ℕ). cond (n == i) v w) (shows.block n) ∙ sym (is n) }
+    where
+      by : (k : FrameWord) → store own_words o (OfBlock i) v (OfFrame k) ≡ frame_word_in new k
+      by (Slot j) = shows.frame (Slot j) ∙ ap (λ (ws : List ℕ). get_or ws j 0) (sym slots)
+      by Value = shows.frame Value ∙ sym value
+
+-- what an end stores is none of the words that are shown
+pub end_stored : (own : Own) (o : Memory OwnWord) (w : EndWord) (v : ℕ) → ShowsOwn own o → ShowsOwn own (store own_words o (OfEnd w) v)
+end_stored own o w v shows = record { frame = λ k. shows.frame k; block = λ n. shows.block n }
+
+-- words from a place on, one by one
+pub from_place : (words : List ℕ) (place count i : ℕ) → get_or (slots_from words place count) i 0 ≡ cond (nat_lt i count) (get_or words (place + i) 0) 0
+from_place words place zero i = refl
+from_place words place (suc n) zero = ap (λ (k : ℕ). get_or words k 0) (omega arith)
+from_place words place (suc n) (suc i) =
+    from_place words (place + 1) n i ∙ ap (λ (k : ℕ). cond (nat_lt i n) (get_or words k 0) 0) (omega arith)
+
+-- the frame of a procedure in the block
+pub built_frame : (old new : Own) (o : Memory OwnWord) (slots frame : ℕ) → ShowsOwn old o
+    → new.slots.items ≡ slots_from old.block.items (frame + 6) slots → new.value ≡ get_or old.block.items (frame + 4) 0 → new.block.items ≡ []
+    → ShowsOwn new (framed (built slots frame (block_in o)))
+built_frame old new o slots frame shows is value block = record { frame = by; block = λ n. ap (λ (ws : List ℕ). get_or ws n 0) (sym block) }
+  where
+    by : (k : FrameWord) → framed (built slots frame (block_in o)) (OfFrame k) ≡ frame_word_in new k
+    by (Slot j) =
+        ap (λ (w : ℕ). cond (nat_lt j slots) w 0) (shows.block (frame + slot_at j) ∙ ap (λ (n : ℕ). get_or old.block.items n 0) (omega arith))
+        ∙ sym (from_place old.block.items (frame + 6) slots j) ∙ ap (λ (ws : List ℕ). get_or ws j 0) (sym is)
+    by Value = shows.block (frame + value_at) ∙ sym value

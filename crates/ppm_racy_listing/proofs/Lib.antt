@@ -1,0 +1,6 @@
+-- How the reader is to be shown: with puts in place of exchanges a text is a listing, line by line
+-- (`ppm_listing_reader`); a line that was an exchange is a put there, so its instruction is one
+-- (`ExchangeLemmas`), and the text is the listing of the code with these exchanges.
+
+mod ExchangeLemmas
+mod PlainListingLemmas

@@ -1,0 +1,4 @@
+pub mod Correct
+pub mod Exchanges
+pub mod Listing
+pub mod Plain
