@@ -2,5 +2,7 @@
 -- (`ppm_listing_reader`); a line that was an exchange is a put there, so its instruction is one
 -- (`ExchangeLemmas`), and the text is the listing of the code with these exchanges.
 
+mod CamLemmas
 mod ExchangeLemmas
 mod PlainListingLemmas
+mod TextLemmas

@@ -1,5 +1,7 @@
 //! Codes with the exchanges of their lines.
-ghost use Rattle.std.specs.Prelude.{◌≡◌, ◌<◌, ◌+◌, ◌^◌, nat_lt, None, IfOk, get_or, length};
+ghost use Rattle.std.specs.Prelude.{◌≡◌, ◌<◌, ◌≤◌, ◌+◌, ◌*◌, ◌^◌, nat_lt, None, IfOk, get_or};
+ghost use Rattle.std.specs.Prelude.{length};
+ghost use Rattle.std.specs.List.{AllByRecursion};
 ghost use Rattle.std.proofs.Common.{refl};
 ghost use Rattle.ppm_listing_reader.specs.Forms.{register_with};
 ghost use Rattle.ppm_racy.specs.Code.{plain_code};
@@ -83,6 +85,8 @@ fn racy_capsules(
     line: usize,
     capsules: &[Capsule],
 ) -> Result<Vec<RacyCapsule>, NoMemory>
+    requires lines { line + 161 * length capsules.now < 2 ^ 32 }
+    requires small { AllByRecursion (λ c. length c.instrs ≤ 160) capsules.now }
     ensures { IfOk result (λ racy. racy.items ≡ exchanged_capsules olds.now line capsules.now) }
 {
     let mut racy = Vec::new(alloc);

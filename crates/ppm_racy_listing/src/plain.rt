@@ -1,7 +1,7 @@
 //! Texts with puts in place of exchanges.
-ghost use Rattle.std.specs.Prelude.{◌≡◌, ◌++◌, ◌∷◌, IfOk, OnOk};
+ghost use Rattle.std.specs.Prelude.{◌≡◌, ◌++◌, ◌∷◌, IfOk, OnOk, MatchOption, Some, None};
 ghost use Rattle.ppm_racy_listing.specs.Plain.{register_in as number_in, plain_line, old_in};
-ghost use Rattle.ppm_racy_listing.specs.Plain.{plain_of_text, olds_of};
+ghost use Rattle.ppm_racy_listing.specs.Plain.{plain_of_text, olds_of, cam_line as cam_in_line};
 
 use ppm_pieces::{is_numeral, same_bytes, split_once, value};
 use ppm_words::NoMemory;
@@ -44,6 +44,15 @@ fn register_in(word: &[u8]) -> Option<u64>
 /// The words of a line, if it is `cam` and five words with one space between two, of which the
 /// third one is a register.
 fn cam_line(line: &[u8]) -> Option<CamLine<'_>>
+    ensures { MatchOption result
+        (cam_in_line line.now ≡ None)
+        (λ cam. cam_in_line line.now ≡ Some (record {
+          region = cam.region.now;
+          index = cam.index.now;
+          old = cam.old;
+          new = cam.new.now;
+          line = cam.line.now;
+        })) }
 {
     let (keyword, rest) = split_once(line, b' ')?;
     let (region, rest) = split_once(rest, b' ')?;
@@ -53,18 +62,18 @@ fn cam_line(line: &[u8]) -> Option<CamLine<'_>>
     if !same_bytes(keyword, b"cam") {
         return None;
     }
-    if split_once(line, b' ').is_some() {
-        return None;
-    }
-    match register_in(old) {
-        Some(old) => Some(CamLine {
-            region,
-            index,
-            old,
-            new,
-            line,
-        }),
-        None => None,
+    match split_once(line, b' ') {
+        Some(_) => None,
+        None => match register_in(old) {
+            Some(old) => Some(CamLine {
+                region,
+                index,
+                old,
+                new,
+                line,
+            }),
+            None => None,
+        },
     }
 }
 
