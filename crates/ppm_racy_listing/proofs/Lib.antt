@@ -6,3 +6,7 @@ mod CamLemmas
 mod ExchangeLemmas
 mod PlainListingLemmas
 mod TextLemmas
+mod SplitLemmas
+mod LineLemmas
+mod WholeLemmas
+mod WrongLemmas
