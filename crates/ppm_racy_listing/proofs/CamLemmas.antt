@@ -15,7 +15,7 @@ begins_with line keyword a region b index c old d new rest e f g h i =
     e ∙ (λ j. keyword ∷ (f ∙ (λ j. region ∷ (g ∙ (λ j. index ∷ (h ∙ (λ j. old ∷ i j)) j)) j)) j)
 
 -- with another keyword it is no exchange
-other_with : (keyword region index new line : List ℕ) (old : Option ℕ) → bytes_eq keyword (codes "cam") ≡ false
+pub other_with : (keyword region index new line : List ℕ) (old : Option ℕ) → bytes_eq keyword (codes "cam") ≡ false
     → cam_with keyword region index new line old ≡ None
 other_with keyword region index new line None h = refl
 other_with keyword region index new line (Some old) h =

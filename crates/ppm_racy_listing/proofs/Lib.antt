@@ -10,3 +10,5 @@ mod SplitLemmas
 mod LineLemmas
 mod WholeLemmas
 mod WrongLemmas
+mod BackLemmas
+mod LawLemmas

@@ -61,7 +61,7 @@ cam_told p cam h = go (split 32 p) refl h
 abbrev put_words : CamLine → List (List ℕ)
 put_words cam = codes "put" ∷ cam.region ∷ cam.index ∷ cam.new ∷ cam.line ∷ []
 
-regrouped : (a b c d e : List ℕ) → (((a ++ b) ++ c) ++ d) ++ e ≡ a ++ (b ++ (c ++ (d ++ e)))
+pub regrouped : (a b c d e : List ℕ) → (((a ++ b) ++ c) ++ d) ++ e ≡ a ++ (b ++ (c ++ (d ++ e)))
 regrouped a b c d e = append_assoc ((a ++ b) ++ c) d e ∙ append_assoc (a ++ b) c (d ++ e) ∙ append_assoc a b (c ++ (d ++ e))
 
 put_joined : (p : List ℕ) (cam : CamLine) → put_or p (Some cam) ≡ joined_at 32 (put_words cam)

@@ -39,11 +39,13 @@ pub record IsRacyListing (text : List ℕ) (c : RacyParts) : Type 0 where
   pub fits : NumbersFit (plain_code c)
   pub same : text ≡ racy_listing_of c
 
--- a listing has no fault, a text without one is a listing, and two codes of one text are one
+-- a listing has no fault, a text without one is a listing, two codes of one text are one, and two first faults are
 pub record RacyFaultsTellListings : Type 0 where
   pub excludes : (text : List ℕ) (code : RacyParts) (rule : Fault) (line : ℕ) → IsRacyListing text code → HasRacyFault text rule line → ⊥
   pub covers : (text : List ℕ) → ((rule : Fault) (line : ℕ) → HasRacyFault text rule line → ⊥) → (code : RacyParts) × IsRacyListing text code
   pub one_code : (text : List ℕ) (c d : RacyParts) → IsRacyListing text c → IsRacyListing text d → c ≡ d
+  pub one_fault : (text : List ℕ) (rule other : Fault) (line later : ℕ) → IsFirstRacyFault text rule line → IsFirstRacyFault text other later
+      → (rule ≡ other) × (line ≡ later)
 
 -- a code without exchanges has the listing that it has without this crate
 abbrev pub PlainListingsStay : Type 0

@@ -14,6 +14,6 @@ mod plain;
 mod reading;
 
 pub use exchanges::with_exchanges;
-pub use laws::plain_listings_stay;
+pub use laws::{plain_listings_stay, racy_faults_tell_listings};
 pub use plain::{Plain, plain_text};
 pub use reading::read_racy_listing;
