@@ -1,6 +1,6 @@
 -- The listing of a code with exchanges is read as it stands.
-use Rattle.std.proofs.Common.{◌≡◌, ◌∙◌, ◌⊎◌, inl, inr, ℕ, zero, suc, ◌+◌, ◌<◌, ◌≤◌, ◌==◌, ◌^◌, Bool, true, false, cond, nat_lt, List, [], ◌∷◌, ◌++◌, map, Option, Some, None}
-use Rattle.std.proofs.Common.{codes, bytes_eq, decimal, slice_get, length, get_or, drop, refl, sym, ap, subst, arith, append_assoc, append-nil, lt-ltb, get_or-drop, drop-drop}
+use Rattle.std.proofs.Common.{◌≡◌, ◌∙◌, ℕ, suc, ◌+◌, ◌<◌, ◌^◌, Bool, true, false, cond, nat_lt, List, [], ◌∷◌, ◌++◌, map, Option, Some, None}
+use Rattle.std.proofs.Common.{codes, bytes_eq, decimal, length, get_or, drop, refl, sym, ap, subst, arith, append_assoc, append-nil, lt-ltb, get_or-drop, drop-drop}
 use Rattle.std.specs.List.{flat_map, AllByRecursion}
 use Rattle.std.specs.Option.{option_map}
 use Rattle.std.proofs.Math.Bridge.{le_prop}
@@ -10,7 +10,7 @@ use Rattle.ppm_code.specs.declared.code.Procedure.{Procedure}
 use Rattle.ppm_code.specs.declared.instr.Instr.{Instr}
 use Rattle.ppm_code.specs.declared.instr.Instr.TheVariants.{Const, Move, Add, Sub, Mul, Div, Rem, Equal, NotEqual, Less, AtMost, Len, CutLeft, CutRight}
 use Rattle.ppm_code.specs.declared.instr.Instr.TheVariants.{LoadSlot, StoreCur, Give, Get, Put, BranchZero, BranchNonZero, Room, StoreNew, Ends}
-use Rattle.ppm_pieces.specs.Numbers.{is_numeral, value}
+use Rattle.ppm_pieces.specs.Numbers.{value}
 use Rattle.ppm_pieces.specs.Pieces.{split}
 use Rattle.ppm_pieces.proofs.NumberLemmas.{numeral-decimal, value-decimal}
 use Rattle.ppm_listing.specs.declared.keyword.Keyword.{Keyword}
@@ -19,13 +19,10 @@ use Rattle.ppm_listing.specs.declared.token.Token.{Token}
 use Rattle.ppm_listing.specs.declared.token.Token.TheVariants.{Register as RegisterToken}
 use Rattle.ppm_listing.specs.Tokens.{Line, line, line_text, keyword_text, token_text, operand_text}
 use Rattle.ppm_listing.specs.Listing.{number, instr_line, capsule_line, capsule_lines, procedure_line, procedure_lines, root_line, lines_of, listing_of, text_of}
-use Rattle.ppm_listing.specs.Correct.{Fits, LineFits, NumbersFit}
-use Rattle.ppm_listing.proofs.KeywordLemmas.{is_word, spelling}
+use Rattle.ppm_listing.specs.Correct.{Fits, LineFits}
+use Rattle.ppm_listing.proofs.KeywordLemmas.{spelling}
 use Rattle.ppm_listing.proofs.TokenLemmas.{word_of_token}
-use Rattle.ppm_listing_reader.specs.declared.listing_error.Fault.{Fault}
 use Rattle.ppm_listing_reader.specs.Forms.{register_with}
-use Rattle.ppm_listing_reader.specs.Correct.{HasFault, IsListing}
-use Rattle.ppm_listing_reader.proofs.NoFaultLemmas.{excludes}
 use Rattle.ppm_listing_reader.proofs.WrittenLemmas.{bytes_of}
 use Rattle.ppm_racy.specs.declared.instr.RacyInstr.{RacyInstr}
 use Rattle.ppm_racy.specs.declared.instr.RacyInstr.TheVariants.{Plain, Cam}
@@ -36,9 +33,9 @@ use Rattle.ppm_racy.specs.Code.{plain_capsule, plain_code}
 use Rattle.ppm_racy_listing.specs.Exchanges.{exchanged, exchanged_instrs, exchanged_capsules, exchanged_code}
 use Rattle.ppm_racy_listing.specs.Listing.{instr_text, capsules_text, racy_listing_of}
 use Rattle.ppm_racy_listing.specs.Plain.{CamLine, cam_with, cam_in, cam_line, register_in, put_or, plain_line, old_in, joined, plain_of_text, olds_of}
-use Rattle.ppm_racy_listing.specs.Correct.{HasRacyFault, OfPlain, OldOutOfRange, IsRacyListing}
-use Rattle.ppm_racy_listing.proofs.SplitLemmas.{IsFree, joined_at, joined_lines, joined-split, split-joined, free_append, free_of_word, split_words}
-use Rattle.ppm_racy_listing.proofs.LineLemmas.{IsRegister, cam_of, line_with, with_index, regrouped}
+use Rattle.ppm_racy_listing.specs.Correct.{IsRacyListing}
+use Rattle.ppm_racy_listing.proofs.SplitLemmas.{IsFree, joined_at, joined_lines, split-joined, free_append, free_of_word, split_words}
+use Rattle.ppm_racy_listing.proofs.LineLemmas.{IsRegister, line_with, with_index, regrouped}
 use Rattle.ppm_racy_listing.proofs.WholeLemmas.{text_by}
 use Rattle.ppm_racy_listing.proofs.CamLemmas.{other_with}
 use Rattle.ppm_racy_listing.proofs.TextLemmas.{IsSome}

@@ -1,8 +1,7 @@
 -- Which lines are exchanges, by their words.
-use Rattle.std.proofs.Common.{◌≡◌, ◌∙◌, ◌==◌, ℕ, Bool, true, false, cond, List, [], ◌∷◌, Option, Some, None, codes, bytes_eq, refl, sym, ap}
-use Rattle.std.proofs.lemmas.Bool.{both_ways}
+use Rattle.std.proofs.Common.{◌≡◌, ◌∙◌, ◌==◌, ℕ, Bool, true, false, cond, List, [], ◌∷◌, Option, Some, None, codes, bytes_eq, refl, ap}
 use Rattle.ppm_pieces.specs.Pieces.{in_front, split}
-use Rattle.ppm_racy_listing.specs.Plain.{CamLine, cam_with, cam_in, cam_line, register_in}
+use Rattle.ppm_racy_listing.specs.Plain.{cam_with, cam_in, cam_line, register_in}
 
 -- a line of six words or more, by its first five
 abbrev pub BeginsWith : (line keyword region index old new rest : List ℕ) → Type 0

@@ -1,7 +1,6 @@
 -- One answer at most.
-use Rattle.std.proofs.Common.{◌≡◌, ◌∙◌, ◌⊎◌, inl, inr, ℕ, zero, suc, ◌+◌, ◌<◌, ◌≤◌, List, [], ◌∷◌, ◌++◌, Option, Some, None, slice_get, refl, sym, ap, subst, arith}
+use Rattle.std.proofs.Common.{◌≡◌, ◌∙◌, inl, inr, ℕ, zero, suc, ◌+◌, ◌<◌, List, [], ◌∷◌, ◌++◌, Option, Some, None, slice_get, refl, sym, ap, subst, arith}
 use Rattle.std.specs.List.{AllByRecursion}
-use Rattle.ppm_code.specs.declared.code.CodeParts.{CodeParts}
 use Rattle.ppm_code.specs.Code.{IsCode}
 use Rattle.ppm_listing.specs.Correct.{NumbersFit}
 use Rattle.ppm_listing_reader.specs.declared.listing_error.Fault.{Fault}
@@ -17,7 +16,7 @@ use Rattle.ppm_racy_listing.proofs.ExchangeLemmas.{same_code}
 use Rattle.ppm_racy_listing.proofs.LineLemmas.{IsRegister}
 use Rattle.ppm_racy_listing.proofs.WholeLemmas.{text_is_racy}
 use Rattle.ppm_racy_listing.proofs.WrongLemmas.{all_registers}
-use Rattle.ppm_racy_listing.proofs.BackLemmas.{old_of, racy_olds, racy_read, code_same, olds_small}
+use Rattle.ppm_racy_listing.proofs.BackLemmas.{racy_olds, racy_read, code_same, olds_small}
 
 -- a fault is told by its number
 abbrev fault_numbered : ℕ → Fault
@@ -74,12 +73,14 @@ told law = record { excludes = excluded; covers = covered; one_code = one; one_f
     covered text none =
         let (code, is) = law.covers (plain_of_text text) (λ rule line h. none rule line (OfPlain rule line h)) in
         let small = all_registers (olds_of text) (λ at old e large. none OutOfRange (at + 1) (OldOutOfRange at old e large)) in
-        let same = same_code (olds_of text) code in
-        (exchanged_code (olds_of text) code, record {
-          code = subst IsCode (sym same) is.code;
-          fits = subst NumbersFit (sym same) is.fits;
-          same = text_is_racy text code is.same is.fits small;
-        })
+        let same = same_code (olds_of text) code in (
+          exchanged_code (olds_of text) code,
+          record {
+            code = subst IsCode (sym same) is.code;
+            fits = subst NumbersFit (sym same) is.fits;
+            same = text_is_racy text code is.same is.fits small;
+          },
+        )
 
     one : (text : List ℕ) (c d : RacyParts) → IsRacyListing text c → IsRacyListing text d → c ≡ d
     one text c d f g =

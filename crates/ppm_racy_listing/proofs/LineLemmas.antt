@@ -1,6 +1,6 @@
 -- A line with a put in place of an exchange is one of a put, and tells the exchange.
-use Rattle.std.proofs.Common.{◌≡◌, ◌∙◌, ℕ, ◌+◌, ◌<◌, ◌==◌, ◌&&◌, Bool, true, false, cond, nat_lt, List, [], ◌∷◌, ◌++◌, map, Option, Some, None, codes, bytes_eq}
-use Rattle.std.proofs.Common.{length, get_or, drop, decimal, refl, sym, ap, subst, arith, append_assoc, append-nil, eqb-true, lt-ltb}
+use Rattle.std.proofs.Common.{◌≡◌, ◌∙◌, ℕ, ◌<◌, ◌==◌, ◌&&◌, Bool, true, false, cond, nat_lt, List, [], ◌∷◌, ◌++◌, map, Option, Some, None, codes, bytes_eq}
+use Rattle.std.proofs.Common.{length, drop, decimal, refl, sym, ap, subst, arith, append_assoc, append-nil, eqb-true, lt-ltb}
 use Rattle.std.specs.Option.{option_map}
 use Rattle.std.specs.List.{flat_map, AllByRecursion}
 use Rattle.std.proofs.lemmas.Bool.{both_ways}
@@ -16,7 +16,7 @@ use Rattle.ppm_listing.specs.Tokens.{Line, line, line_text, keyword_text, token_
 use Rattle.ppm_listing.specs.Correct.{LineFits}
 use Rattle.ppm_listing.proofs.KeywordLemmas.{spelling, keyword_text_injective}
 use Rattle.ppm_listing_reader.specs.Forms.{register_with}
-use Rattle.ppm_listing_reader.proofs.WrittenLemmas.{bytes_of, split_lines}
+use Rattle.ppm_listing_reader.proofs.WrittenLemmas.{bytes_of}
 use Rattle.ppm_racy_listing.specs.Plain.{CamLine, cam_with, cam_in, cam_line, register_in, put_or, plain_line, old_in, joined}
 use Rattle.ppm_racy_listing.proofs.TextLemmas.{IsSome, some_piece}
 use Rattle.ppm_racy_listing.proofs.SplitLemmas.{IsFree, joined_at, joined_lines, joined-split, free_pieces, free_words, split-joined, free_append, split_words}
@@ -72,10 +72,16 @@ put_free : (s : ℕ) (p : List ℕ) (cam : CamLine) → IsCam p cam → IsFree s
 put_free s p cam is three space h =
     let words = subst (AllByRecursion (IsFree s)) is.words (free_words s 32 p h) in
     subst (IsFree s) (sym (put_joined p cam))
-    (free_append s (codes "put") (32 ∷ (cam.region ++ 32 ∷ (cam.index ++ 32 ∷ (cam.new ++ 32 ∷ cam.line)))) three (space,
-    free_append s cam.region (32 ∷ (cam.index ++ 32 ∷ (cam.new ++ 32 ∷ cam.line))) words.1.0 (space,
-    free_append s cam.index (32 ∷ (cam.new ++ 32 ∷ cam.line)) words.1.1.0 (space,
-    free_append s cam.new (32 ∷ cam.line) words.1.1.1.1.0 (space, words.1.1.1.1.1.0)))))
+    (free_append s (codes "put") (32 ∷ (cam.region ++ 32 ∷ (cam.index ++ 32 ∷ (cam.new ++ 32 ∷ cam.line)))) three (
+      space,
+      free_append s cam.region (32 ∷ (cam.index ++ 32 ∷ (cam.new ++ 32 ∷ cam.line))) words.1.0 (
+        space,
+        free_append s cam.index (32 ∷ (cam.new ++ 32 ∷ cam.line)) words.1.1.0 (
+          space,
+          free_append s cam.new (32 ∷ cam.line) words.1.1.1.1.0 (space, words.1.1.1.1.1.0),
+        ),
+      ),
+    ))
 
 plain_free : (p : List ℕ) → IsFree 10 p → IsFree 10 (plain_line p)
 plain_free p h = go (cam_line p) refl

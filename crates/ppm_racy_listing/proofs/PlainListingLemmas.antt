@@ -4,13 +4,12 @@ use Rattle.std.specs.Prelude.{map}
 use Rattle.std.specs.List.{flat_map}
 use Rattle.std.proofs.lemmas.Grind.{flat_map-append}
 use Rattle.ppm_code.specs.declared.code.Capsule.{Capsule}
-use Rattle.ppm_code.specs.declared.code.CodeParts.{CodeParts}
 use Rattle.ppm_code.specs.declared.instr.Instr.{Instr}
 use Rattle.ppm_listing.specs.Tokens.{line_text}
-use Rattle.ppm_listing.specs.Listing.{instr_line, capsule_line, capsule_lines, lines_of_capsule, listing_of, text_of}
+use Rattle.ppm_listing.specs.Listing.{instr_line, capsule_line, capsule_lines, lines_of_capsule, text_of}
 use Rattle.ppm_racy.specs.declared.instr.RacyInstr.TheVariants.{Plain}
 use Rattle.ppm_racy.specs.Code.{as_racy, racy_capsule}
-use Rattle.ppm_racy_listing.specs.Listing.{instr_text, capsule_text, capsules_text, head_lines, racy_listing_of}
+use Rattle.ppm_racy_listing.specs.Listing.{instr_text, capsule_text, capsules_text, head_lines}
 use Rattle.ppm_racy_listing.specs.Correct.{PlainListingsStay}
 
 instrs : (is : List Instr) → flat_map instr_text (map Plain is) ≡ text_of (map instr_line is)

@@ -1,5 +1,5 @@
 -- A text is the listing of the code with exchanges, line by line.
-use Rattle.std.proofs.Common.{◌≡◌, ◌∙◌, ℕ, zero, suc, ◌+◌, ◌<◌, Bool, true, false, List, [], ◌∷◌, ◌++◌, map, Option, Some, None}
+use Rattle.std.proofs.Common.{◌≡◌, ◌∙◌, ℕ, zero, suc, ◌+◌, false, List, [], ◌∷◌, ◌++◌, map, Option, Some, None}
 use Rattle.std.proofs.Common.{length, get_or, drop, refl, sym, ap, subst, arith, append_assoc}
 use Rattle.std.specs.List.{flat_map, AllByRecursion}
 use Rattle.std.proofs.lemmas.Bool.{both_ways}
@@ -17,7 +17,6 @@ use Rattle.ppm_listing.specs.Tokens.{Line, line, line_text}
 use Rattle.ppm_listing.specs.Listing.{number, instr_line, end_line, capsule_line, capsule_lines, procedure_line, procedure_lines, root_line, lines_of, listing_of, text_of}
 use Rattle.ppm_listing.specs.Correct.{LineFits, NumbersFit}
 use Rattle.ppm_listing_reader.proofs.WrittenLemmas.{bytes_of, split_lines}
-use Rattle.ppm_racy.specs.declared.code.RacyParts.{RacyParts}
 use Rattle.ppm_racy_listing.specs.Exchanges.{exchanged, exchanged_instrs, exchanged_capsules, exchanged_code}
 use Rattle.ppm_racy_listing.specs.Listing.{instr_text, capsules_text, racy_listing_of}
 use Rattle.ppm_racy_listing.specs.Plain.{CamLine, cam_line, put_or, plain_line, old_in, joined, plain_of_text, olds_of}

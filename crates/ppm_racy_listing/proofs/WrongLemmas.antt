@@ -1,6 +1,6 @@
 -- The first fault of a text with exchanges.
 use Rattle.std.proofs.Common.{◌≡◌, ◌∙◌, ◌⊎◌, inl, inr, ℕ, zero, suc, ◌+◌, ◌-◌, ◌^◌, ◌<◌, ◌≤◌, ◌==◌, min, Bool, true, false, ◌&&◌, ◌||◌, cond, nat_lt, nat_le}
-use Rattle.std.proofs.Common.{List, [], ◌∷◌, ◌++◌, map, length, Option, Some, None, slice_get, refl, sym, ap, subst, arith}
+use Rattle.std.proofs.Common.{List, [], ◌∷◌, map, length, Option, Some, None, slice_get, refl, sym, ap, subst, arith}
 use Rattle.std.proofs.Common.{ltb-true, ltb-false, leb-true, leb-false, eqb-true, eq-eqb, length-append}
 use Rattle.std.specs.List.{AllByRecursion}
 use Rattle.std.proofs.lemmas.Bool.{both_ways}
@@ -34,13 +34,16 @@ pub wrong_found : (n w : ℕ) (os : List (Option ℕ)) → first_wrong (min (n +
 wrong_found n w [] h = cc
 wrong_found n w (None ∷ os) h =
     let next : min (min (n + 1) most + 1) most ≡ min (n + 1 + 1) most = omega arith in
-    let (at, is, first) = wrong_found (n + 1) w os (ap (λ k. first_wrong k os) (sym next) ∙ h) in
-    (suc at, omega (arith, is), record {
-      old = first.old;
-      there = first.there;
-      large = first.large;
-      first = later_none os at first;
-    })
+    let (at, is, first) = wrong_found (n + 1) w os (ap (λ k. first_wrong k os) (sym next) ∙ h) in (
+      suc at,
+      omega (arith, is),
+      record {
+        old = first.old;
+        there = first.there;
+        large = first.large;
+        first = later_none os at first;
+      },
+    )
   where
     later_none : (os : List (Option ℕ)) (at : ℕ) → IsFirstWrong os at → (later other : ℕ) → slice_get (None ∷ os) later ≡ Some (Some other) → 64 ≤ other
         → suc at ≤ later

@@ -5,7 +5,6 @@ use Rattle.ppm_code.specs.declared.code.Capsule.{Capsule}
 use Rattle.ppm_code.specs.declared.code.CodeParts.{CodeParts}
 use Rattle.ppm_code.specs.declared.instr.Instr.{Instr}
 use Rattle.ppm_code.specs.declared.instr.Instr.TheVariants.{Put}
-use Rattle.ppm_code.specs.declared.register.Register.{Register}
 use Rattle.ppm_listing_reader.specs.Forms.{register_with}
 use Rattle.ppm_racy.specs.declared.code.RacyCapsule.{RacyCapsule}
 use Rattle.ppm_racy.specs.declared.code.RacyParts.{RacyParts}

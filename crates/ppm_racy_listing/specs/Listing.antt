@@ -1,5 +1,5 @@
 -- The listing of a code with exchanges.
-use Rattle.std.specs.Prelude.{ℕ, ◌+◌, pos, List, [], ◌∷◌, ◌++◌, codes}
+use Rattle.std.specs.Prelude.{ℕ, ◌+◌, List, [], ◌∷◌, ◌++◌, codes}
 use Rattle.std.specs.List.{flat_map}
 use Rattle.ppm_code.specs.declared.register.Register.{Register}
 use Rattle.ppm_listing.specs.declared.keyword.Keyword.TheVariants as keyword

@@ -2,7 +2,6 @@
 use Rattle.std.proofs.Common.{rules, ◌≡◌, ◌∙◌, ◌+◌, length, sym, ap, subst}
 use Rattle.ppm_code.specs.Code.{IsCode}
 use Rattle.ppm_racy.specs.Code.{plain_code}
-use Rattle.ppm_racy.specs.declared.code.RacyParts.{RacyParts}
 use Rattle.ppm_racy_listing.specs.Exchanges.{exchanged_capsules, exchanged_code}
 use Rattle.ppm_racy_listing.proofs.ExchangeLemmas.{same_code}
 use Rattle.ppm_racy_listing.proofs.exchanges.with_exchanges.Goals as goal

@@ -1,5 +1,5 @@
 -- A line more.
-use Rattle.std.proofs.Common.{rules, ◌≡◌, ◌∙◌, ◌++◌, ◌∷◌, [], ap, sym}
+use Rattle.std.proofs.Common.{rules, ◌≡◌, ◌∙◌, ◌++◌, ◌∷◌, [], ap}
 use Rattle.ppm_racy_listing.specs.Plain.{plain_line, old_in, plain_of_text, olds_of}
 use Rattle.ppm_racy_listing.proofs.TextLemmas.{text_step, olds_step}
 use Rattle.ppm_racy_listing.proofs.plain.plain_text.Goals as goal

@@ -1,5 +1,5 @@
 -- By the text with puts, and the first old register that is none.
-use Rattle.std.proofs.Common.{◌≡◌, ◌∙◌, None, Some, sym, ap, subst}
+use Rattle.std.proofs.Common.{◌≡◌, ◌∙◌, None, sym, ap, subst}
 use Rattle.ppm_code.specs.Code.{IsCode}
 use Rattle.ppm_listing_reader.specs.Correct.{IsRefusal}
 use Rattle.ppm_racy_listing.specs.Correct.{IsRacyRefusal}
