@@ -1,5 +1,7 @@
 -- Own words as they are stored and built.
 use Rattle.std.proofs.Common.{◌≡◌, ◌<◌, ℕ, zero, suc, ◌+◌, ◌==◌, Bool, true, false, cond, List, [], ◌∷◌, get_or, refl, sym, ap, ◌∙◌, arith, nat_lt}
+use Rattle.std.proofs.Common.{◌++◌, length, set, ne_eqb, eqb-true, eq-eqb, ltb-true, ltb-false, ◌≤◌}
+use Rattle.std.proofs.lemmas.List.{get_or-set_same, get_or-set_other}
 use Rattle.ppm_strands.specs.Capsule.{Memory, store}
 use Rattle.ppm_code.specs.declared.location.FrameWord.{FrameWord}
 use Rattle.ppm_code.specs.declared.location.FrameWord.TheVariants.{Slot, Value}
@@ -59,3 +61,31 @@ built_frame old new o slots frame shows is value block = record { frame = by; bl
         ap (λ (w : ℕ). cond (nat_lt j slots) w 0) (shows.block (frame + slot_at j) ∙ ap (λ (n : ℕ). get_or old.block.items n 0) (omega arith))
         ∙ sym (from_place old.block.items (frame + 6) slots j) ∙ ap (λ (ws : List ℕ). get_or ws j 0) (sym is)
     by Value = shows.block (frame + value_at) ∙ sym value
+
+-- a zero more is a word that was not there
+pub zero_more : (words : List ℕ) (at : ℕ) → get_or (words ++ 0 ∷ []) at 0 ≡ get_or words at 0
+zero_more [] zero = refl
+zero_more [] (suc at) = refl
+zero_more (w ∷ ws) zero = refl
+zero_more (w ∷ ws) (suc at) = zero_more ws at
+
+-- a word that is there is put
+pub one_put : (words : List ℕ) (place word : ℕ) → place < length words → (at : ℕ)
+    → get_or (set words place word) at 0 ≡ cond (at == place) word (get_or words at 0)
+one_put words place word less at = go (at == place) refl
+  where
+    go : (same : Bool) → (at == place) ≡ same → get_or (set words place word) at 0 ≡ cond same word (get_or words at 0)
+    go true e = ap (λ (n : ℕ). get_or (set words place word) n 0) (eqb-true at place e) ∙ get_or-set_same words place word 0 less
+    go false e = get_or-set_other words place at word 0 (λ same. other (sym e ∙ eq-eqb at place same))
+      where
+        other : false ≡ true → ⊥
+        other h = cc
+
+-- a word more from a place on
+pub slot_more : (words : List ℕ) (place n : ℕ) → slots_from words place (n + 1) ≡ slots_from words place n ++ get_or words (place + n) 0 ∷ []
+slot_more words place zero = ap (λ (k : ℕ). get_or words k 0 ∷ []) (omega arith)
+slot_more words place (suc n) =
+    let one : suc n + 1 ≡ suc (n + 1) = omega arith in
+    let place_is : place + 1 + n ≡ place + suc n = omega arith in
+    ap (slots_from words place) one
+    ∙ ap (λ (l : List ℕ). get_or words place 0 ∷ l) (slot_more words (place + 1) n ∙ ap (λ (k : ℕ). slots_from words (place + 1) n ++ get_or words k 0 ∷ []) place_is)
