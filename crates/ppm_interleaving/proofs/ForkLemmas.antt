@@ -54,8 +54,12 @@ get_front (x ∷ xs) ys zero less = refl
 get_front (x ∷ xs) ys (suc j) less = get_front xs ys j (omega arith)
 
 pub get_back : {X : Type 0} (xs ys : List X) (k : ℕ) → slice_get (xs ++ ys) (length xs + k) ≡ slice_get ys k
-get_back [] ys k = ap (slice_get ys) (omega arith)
-get_back (x ∷ xs) ys k = ap (slice_get (x ∷ (xs ++ ys))) (omega arith) ∙ get_back xs ys k
+get_back [] ys k =
+    let same : 0 + k ≡ k = omega arith in
+    ap (slice_get ys) same
+get_back (x ∷ xs) ys k =
+    let same : length (x ∷ xs) + k ≡ suc (length xs + k) = omega arith in
+    ap (slice_get (x ∷ (xs ++ ys))) same ∙ get_back xs ys k
 
 module _ (code : RacyParts) (array_words : ℕ) (root : FrameWord → ℕ) (arrays : Words) (h : List Moment) (who : ℕ) (fs : List (Frame OwnWord Place)) where
   -- a strand after the fork of another one, where it was there before

@@ -1,6 +1,7 @@
 -- Own words as they are stored and built.
 use Rattle.std.proofs.Common.{◌≡◌, ◌<◌, ℕ, zero, suc, ◌+◌, ◌==◌, Bool, true, false, cond, List, [], ◌∷◌, get_or, refl, sym, ap, ◌∙◌, arith, nat_lt}
-use Rattle.std.proofs.Common.{◌++◌, length, set, ne_eqb, eqb-true, eq-eqb, ltb-true, ltb-false, ◌≤◌}
+use Rattle.std.proofs.Common.{◌++◌, length, set, ne_eqb, eqb-true, eq-eqb, ltb-true, lt-ltb}
+use Rattle.std.specs.Cmp.{both_ways as same_tests}
 use Rattle.std.proofs.lemmas.List.{get_or-set_same, get_or-set_other}
 use Rattle.ppm_strands.specs.Capsule.{Memory, store}
 use Rattle.ppm_code.specs.declared.location.FrameWord.{FrameWord}
@@ -44,11 +45,25 @@ pub end_stored : (own : Own) (o : Memory OwnWord) (w : EndWord) (v : ℕ) → Sh
 end_stored own o w v shows = record { frame = λ k. shows.frame k; block = λ n. shows.block n }
 
 -- words from a place on, one by one
+less_suc : (i n : ℕ) → nat_lt (suc i) (suc n) ≡ nat_lt i n
+less_suc i n = same_tests (nat_lt (suc i) (suc n)) (nat_lt i n)
+    (λ e. lt-ltb i n (omega (arith, ltb-true (suc i) (suc n) e))) (λ e. lt-ltb (suc i) (suc n) (omega (arith, ltb-true i n e)))
+
+none_less : (i : ℕ) → nat_lt i 0 ≡ false
+none_less i = go (nat_lt i 0) refl
+  where
+    go : (t : Bool) → nat_lt i 0 ≡ t → t ≡ false
+    go true e = absurd (omega (arith, ltb-true i 0 e))
+    go false e = refl
+
 pub from_place : (words : List ℕ) (place count i : ℕ) → get_or (slots_from words place count) i 0 ≡ cond (nat_lt i count) (get_or words (place + i) 0) 0
-from_place words place zero i = refl
-from_place words place (suc n) zero = ap (λ (k : ℕ). get_or words k 0) (omega arith)
+from_place words place zero i = ap (λ (t : Bool). cond t (get_or words (place + i) 0) 0) (sym (none_less i))
+from_place words place (suc n) zero =
+    let here : place ≡ place + 0 = omega arith in
+    ap (λ (k : ℕ). get_or words k 0) here ∙ ap (λ (t : Bool). cond t (get_or words (place + 0) 0) 0) (sym (lt-ltb 0 (suc n) (omega arith)))
 from_place words place (suc n) (suc i) =
-    from_place words (place + 1) n i ∙ ap (λ (k : ℕ). cond (nat_lt i n) (get_or words k 0) 0) (omega arith)
+    let next : place + 1 + i ≡ place + suc i = omega arith in
+    from_place words (place + 1) n i ∙ (λ j. cond (sym (less_suc i n) j) (get_or words (next j) 0) 0)
 
 -- the frame of a procedure in the block
 pub built_frame : (old new : Own) (o : Memory OwnWord) (slots frame : ℕ) → ShowsOwn old o

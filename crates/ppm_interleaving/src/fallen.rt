@@ -36,7 +36,7 @@ fn first_fallen(changes: &[Change], words: &[u64]) -> Option<(usize, Change)>
 {
     let mut number: usize = 0;
     let mut left = changes;
-    while let [change, rest @ ..] = left {
+    while let Some((change, rest)) = left.split_first() {
         if !is_still(*change, words) {
             return Some((number, *change));
         }

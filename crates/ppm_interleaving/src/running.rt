@@ -79,7 +79,7 @@ impl Running {
     /// Asks for a change, and makes it.
     fn change(mut self, change: Change, words: &mut Vec<u64>) -> Result<Touched, NoMemory>
         requires { (change_of change).at < length words.old.items }
-        ensures { IfOk result (λ touched. AsksFor self.entry change words.old.items touched words.new.items) }
+        ensures { IfOk result (λ touched. AsksFor self change words.old.items touched words.new.items) }
     {
         let word = change.word();
         let was = words[word as usize];
@@ -102,7 +102,7 @@ impl Running {
     /// Stores a word at a location.
     fn store(mut self, location: Location, word: u64, words: &mut Vec<u64>) -> Result<Touched, NoMemory>
         requires { IsWithin (length words.old.items) location }
-        ensures { IfOk result (λ touched. StoresAt self.entry location word words.old.items touched words.new.items) }
+        ensures { IfOk result (λ touched. StoresAt self location word words.old.items touched words.new.items) }
     {
         match location {
             Location::Frame(frame_word) => {
@@ -127,8 +127,8 @@ impl Running {
     /// word, and this touch, or up to the end.
     pub(crate) fn turn(mut self, instrs: &[RacyInstr], words: &mut Vec<u64>) -> Result<Touched, NoMemory>
         ensures { IfOk result (λ touched. (code : RacyParts)
-            → instrs_of code self.entry.capsule ≡ instrs.now
-            → TurnsTo code (length words.old.items) self.entry words.old.items touched words.new.items) }
+            → instrs_of code self.capsule ≡ instrs.now
+            → TurnsTo code (length words.old.items) self words.old.items touched words.new.items) }
     {
         let stop = reach(instrs, words.len() as u64, self.at, &mut self.registers);
         self.at = stop.next;

@@ -5,6 +5,7 @@ use ppm_filled::{
     racing_code_is_of_the_code,
 };
 use ppm_racy::{faults_of_racy_paths_are_invisible, plain_codes_race_as_before};
+use ppm_racy_listing::{plain_listings_stay, racy_faults_tell_listings};
 use ppm_unseen::{
     calm_writes_stand, each_condition_is_needed, faults_are_invisible,
     racing_claims_are_restartable, runs_are_histories,
@@ -23,6 +24,8 @@ fn the_laws_of_races_are_called() {
     racing_code_is_of_the_code();
     plain_codes_race_as_before();
     faults_of_racy_paths_are_invisible();
+    plain_listings_stay();
+    racy_faults_tell_listings();
     clearing_meets_both();
     faults_of_clearing_are_invisible();
 }
