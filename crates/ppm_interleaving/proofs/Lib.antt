@@ -13,3 +13,4 @@ mod StartLemmas
 mod StepLemmas
 mod TurnLemmas
 mod WaitLemmas
+mod OpenLemmas

@@ -1,15 +1,16 @@
 //! What the end of a capsule opens, and how frames go on.
-ghost use Rattle.std.specs.Prelude.{◌≡◌, ◌∷◌, [], ◌<◌, ◌^◌, IfOk};
+ghost use Rattle.std.specs.Prelude.{◌≡◌, ◌∷◌, [], ◌<◌, ◌^◌, ℕ, IfOk, OnOk};
 ghost use Rattle.ppm_strands.specs.Capsule.{Memory};
-ghost use Rattle.ppm_strands.specs.Strand.{Frame};
 ghost use Rattle.ppm_code.specs.declared.code.CodeParts.{CodeParts};
 ghost use Rattle.ppm_code.specs.Sizes.{slots_of as slots_in_code};
-ghost use Rattle.ppm_code.specs.Strands.{entry_of as entry_in_code};
-ghost use Rattle.ppm_filled.specs.Racing.{At, OwnWord, Of, Place, beginning, block_in, exit_opens};
-ghost use Rattle.ppm_filled.specs.Racing.{rejoining, standing};
+ghost use Rattle.ppm_code.specs.Strands.{built as built_in, entry_of as entry_in_code, with_value};
+ghost use Rattle.ppm_code.specs.declared.location.FrameWord.{FrameWord};
+ghost use Rattle.ppm_filled.specs.Racing.{At, OwnWord, Of, beginning, block_in, exit_opens};
+ghost use Rattle.ppm_filled.specs.Racing.{rejoining, framed, frame_words_in};
 ghost use Rattle.ppm_racy.specs.Code.{plain_code};
 ghost use Rattle.ppm_interleaving.specs.Owns.{ShowsOwn};
-ghost use Rattle.ppm_interleaving.specs.Steps.{BeginsFrame, GoesOnAs, Opens, point_by, result_of};
+ghost use Rattle.ppm_interleaving.specs.Steps.{BeginsFrame, GoesOnAs, IsBegun, Opens, point_by};
+ghost use Rattle.ppm_interleaving.specs.Steps.{result_of};
 ghost use Rattle.ppm_interleaving.specs.declared.strand.Branches.TheVariants.{Callee, Both as BothBranches};
 use crate::own::Own;
 use crate::running::Running;
@@ -55,12 +56,17 @@ fn entry_of(code: &RacyCode, procedure: u32) -> u32
 
 /// The strand of a procedure, in a frame with these words.
 pub(crate) fn begun(alloc: Global, code: &RacyCode, procedure: u32, own: Own) -> Running
+    ensures { IsBegun (entry_in_code (plain_code code.now) procedure) own result }
 {
     Running::new(alloc, entry_of(code, procedure), own)
 }
 
 /// The strand of a procedure whose frame lies in the block that was built.
 fn branch(alloc: Global, code: &RacyCode, procedure: u32, frame: usize, own: &Own) -> Result<Running, NoMemory>
+    requires { frame < 2 ^ 40 }
+    ensures { IfOk result (λ branch. (o : Memory OwnWord) → ShowsOwn own.now o
+        → BeginsFrame branch (beginning (plain_code code.now) procedure
+            (built_in (slots_in_code (plain_code code.now) procedure) frame (block_in o)))) }
 {
     let built = own.built(alloc, slots_of(code, procedure), frame)?;
     Ok(begun(alloc, code, procedure, built))
@@ -68,6 +74,7 @@ fn branch(alloc: Global, code: &RacyCode, procedure: u32, frame: usize, own: &Ow
 
 /// A frame without the block that it has built.
 fn without_block(alloc: Global, own: Own) -> Own
+    ensures { (o : Memory OwnWord) → ShowsOwn own o → ShowsOwn result (framed (frame_words_in o)) }
 {
     Own {
         slots: own.slots,
@@ -129,6 +136,8 @@ pub(crate) fn open(alloc: Global, code: &RacyCode, own: Own, end: End, count: us
 
 /// Puts a value into a slot of a frame, if one is named.
 fn take_in(own: &mut Own, to: Option<u32>, value: u64) -> Result<(), NoMemory>
+    ensures { OnOk result ((words : FrameWord → ℕ) → ShowsOwn own.old (framed words)
+        → ShowsOwn own.new (framed (with_value to value words))) }
 {
     match to {
         Some(slot) => own.put_frame(FrameWord::Slot(slot), value),
@@ -144,7 +153,7 @@ pub(crate) fn go_on(alloc: Global, own: Own, capsule: u32, to: Option<u32>, fini
     match finish {
         Finish::Trapped(..) => Ok(Strand::Tells(finish)),
         Finish::Gave(value) => {
-            let mut own = own;
+            let mut own = without_block(alloc, own);
             take_in(&mut own, to, value)?;
             Ok(Strand::Running(Running::new(alloc, capsule, own)))
         }
@@ -167,7 +176,7 @@ pub(crate) fn join(
     match left {
         Finish::Trapped(..) => Ok(Strand::Tells(left)),
         Finish::Gave(value) => {
-            let mut own = own;
+            let mut own = without_block(alloc, own);
             take_in(&mut own, slots.0, value)?;
             go_on(alloc, own, capsule, slots.1, right)
         }
