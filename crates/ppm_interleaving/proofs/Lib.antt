@@ -7,6 +7,7 @@ mod FallenLemmas
 mod ForkLemmas
 mod MachineLemmas
 mod OwnLemmas
+mod ReachLemmas
 mod RunLemmas
 mod ShowLemmas
 mod StartLemmas

@@ -2,8 +2,6 @@
 use Rattle.std.proofs.Common.{◌≡◌, ◌∙◌, ℕ, ◌+◌, ◌==◌, Bool, true, false, cond, List, [], ◌∷◌, get_or, refl, sym, ap, subst, Option, Some, None, arith}
 use Rattle.ppm_strands.specs.Capsule.{Memory, store}
 use Rattle.ppm_strands.specs.Strand.{Frame}
-use Rattle.ppm_unseen.specs.Capsule.{Next as Opening, GoesOn, Forks, Closes}
-use Rattle.ppm_code.specs.declared.act.End.TheVariants.{Next, Finish, Trap, Call, Fork}
 use Rattle.ppm_code.specs.declared.code.CodeParts.{CodeParts}
 use Rattle.ppm_code.specs.declared.location.FrameWord.{FrameWord}
 use Rattle.ppm_code.specs.declared.location.FrameWord.TheVariants.{Slot, Value}

@@ -43,7 +43,7 @@ settled_more old new k settled since =
     (append-nil (old.settled.items ++ (old.since.items ++ k ∷ [])))
     ∙ ap (λ (ks : List _). record { all = ks; settled = ks }) (more_asked old.settled.items old.since.items k)
 
-same_asked : (old new : Running) → new.settled.items ≡ old.settled.items → new.since.items ≡ old.since.items → asked_by new ≡ asked_by old
+pub same_asked : (old new : Running) → new.settled.items ≡ old.settled.items → new.since.items ≡ old.since.items → asked_by new ≡ asked_by old
 same_asked old new settled since = λ i. record { all = reverse (changes_of (settled i ++ since i)); settled = reverse (changes_of (settled i)) }
 
 -- the strand before its touch, with the registers as they are then
@@ -65,7 +65,7 @@ module _ (code : RacyParts) (array_words : ℕ) where
   abbrev pub following : (old : Running) → ℕ → List ℕ → Racing OwnWord Exit
   following old next g = capsule_from (built (instrs_of code old.capsule)) array_words 0 next (instrs_of code old.capsule) g
 
-  same_state : (old new : Running) (next : ℕ) (g : List ℕ) (o : Memory OwnWord) → new.capsule ≡ old.capsule → new.at ≡ next → new.registers ≡ g
+  pub same_state : (old new : Running) (next : ℕ) (g : List ℕ) (o : Memory OwnWord) → new.capsule ≡ old.capsule → new.at ≡ next → new.registers ≡ g
       → under_way code array_words new o ≡ standing_at old.capsule next g o
   same_state old new next g o capsule at registers = λ i. standing_at (capsule i) (at i) (registers i) o
 
@@ -73,7 +73,7 @@ module _ (code : RacyParts) (array_words : ℕ) where
     abbrev pub s : System OwnWord Place Exit Result
     s = system code array_words root arrays
 
-    carried : {σ ρ τ υ : State OwnWord Place Exit} {a b c : Asked} → ρ ≡ σ → υ ≡ τ → c ≡ b → MovesUnseen s t σ τ a b → MovesUnseen s t ρ υ a c
+    pub carried : {σ ρ τ υ : State OwnWord Place Exit} {a b c : Asked} → ρ ≡ σ → υ ≡ τ → c ≡ b → MovesUnseen s t σ τ a b → MovesUnseen s t ρ υ a c
     carried {σ = σ} {τ = τ} {υ = υ} {a = a} {b = b} {c = c} p q r m =
         subst (λ (x : State OwnWord Place Exit). MovesUnseen s t x υ a c) (sym p)
         (subst (λ (x : State OwnWord Place Exit). MovesUnseen s t σ x a c) (sym q) (subst (λ (x : Asked). MovesUnseen s t σ τ a x) (sym r) m))
