@@ -1,11 +1,11 @@
 -- A machine at the beginning, and after a fault.
-use Rattle.std.proofs.Common.{◌≡◌, ◌<◌, ℕ, zero, suc, List, [], ◌∷◌, length, get_or, set, refl, sym, ap, ◌∙◌, subst, Option, Some, None}
+use Rattle.std.proofs.Common.{◌≡◌, ◌<◌, ℕ, zero, suc, List, [], ◌∷◌, length, get_or, set, refl, sym, ap, ◌∙◌, subst, Option, Some, None, Bool, cond, arith, ne_eqb}
 use Rattle.std.specs.Prelude.{slice_get}
 use Rattle.std.proofs.lemmas.List.{length-set}
 use Rattle.ppm_strands.specs.Tree.{Words}
 use Rattle.ppm_strands.specs.Capsule.{Memory}
 use Rattle.ppm_strands.specs.Strand.{Frame}
-use Rattle.ppm_unseen.specs.Run.{Deed, State, NotYet, UnderWay, Waits, IsOver, HasFinished, asked, nothing, begun}
+use Rattle.ppm_unseen.specs.Run.{Deed, State, NotYet, UnderWay, Waits, IsOver, HasFinished, asked, nothing, begun, numbered, begun_if_any}
 use Rattle.ppm_unseen.specs.Capsule.{Ends as Stops}
 use Rattle.ppm_code.specs.declared.location.FrameWord.{FrameWord}
 use Rattle.ppm_code.specs.declared.location.FrameWord.TheVariants.{Slot, Value}
@@ -63,7 +63,10 @@ module _ (code : RacyParts) (array_words : ℕ) (root : FrameWord → ℕ) (arra
       at : (j : ℕ) → ShowsStrand code array_words root arrays (slice_get (IsRunning r ∷ []) j) j []
       at zero = (begun (system code array_words root arrays) frame, Begins,
           (framed root, as_frame.own, begun_state code array_words root arrays r frame as_frame), sym (begun_asks r.capsule r.own r as_frame.begun))
-      at (suc j) = (NotYet, Begins, refl, refl)
+      at (suc j) =
+          let other : numbered 0 (frame ∷ []) (suc j) ≡ None = ap (λ (t : Bool). cond t (Some frame) None) (ne_eqb (suc j) 0 (λ e. omega (arith, e))) in
+          (begun_if_any (system code array_words root arrays) (numbered 0 (frame ∷ []) (suc j)), Begins,
+          ap (begun_if_any (system code array_words root arrays)) other, refl)
 
       none : (j : ℕ) (f : Finish) → finish_in (IsRunning r ∷ []) j ≡ Some f → ⊥
       none zero f is = cc
