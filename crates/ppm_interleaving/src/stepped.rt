@@ -1,5 +1,6 @@
 //! Steps of strands, one strand at a time.
-ghost use Rattle.std.specs.Prelude.{◌≡◌, ℕ, List, IfOk};
+ghost use Rattle.std.specs.Prelude.{◌≡◌, ℕ, List, IfOk, length};
+ghost use Rattle.ppm_interleaving.specs.Steps.{TurnsTo};
 ghost use Rattle.ppm_racy.specs.declared.code.RacyParts.{RacyParts};
 ghost use Rattle.ppm_interleaving.specs.declared.stepped.Stepped.TheVariants.{Goes};
 ghost use Rattle.ppm_interleaving.specs.declared.strand.Strand.TheVariants.{Running as IsRunning, Waiting as IsWaiting};
@@ -59,6 +60,16 @@ fn opened(opened: Opened) -> Stepped
     }
 }
 
+/// A turn of a strand under way, in its capsule of the code.
+fn turned(code: &RacyCode, running: Running, words: &mut Vec<u64>) -> Result<Touched, NoMemory>
+    ensures { IfOk result (λ touched. TurnsTo code.now (length words.old.items) running words.old.items touched words.new.items) }
+{
+    match code.capsule(running.capsule) {
+        Some(capsule) => running.turn(capsule.instrs.as_slice(), words),
+        None => running.turn(&[], words),
+    }
+}
+
 /// A step of a strand under way, beside the others.
 fn run(
     alloc: Global,
@@ -69,10 +80,7 @@ fn run(
 ) -> Result<Stepped, NoMemory>
     ensures { IfOk result (λ stepped. MakesStep code.now (IsRunning running) strands.now words.old.items stepped words.new.items) }
 {
-    let touched = match code.capsule(running.capsule) {
-        Some(capsule) => running.turn(capsule.instrs.as_slice(), words)?,
-        None => running.turn(&[], words)?,
-    };
+    let touched = turned(code, running, words)?;
     match touched {
         Touched::Goes(running) => Ok(Stepped::Goes(Strand::Running(running))),
         Touched::Changed {
