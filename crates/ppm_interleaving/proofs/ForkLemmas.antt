@@ -37,8 +37,8 @@ branch_at n zero (r ∷ rs) (f ∷ fs) b =
     Begins r f refl (ap (λ (t : Bool). cond t (Some f) (numbered (suc n) fs (n + 0))) (eq-eqb (n + 0) n (omega arith))) b.0
 branch_at n (suc k) (r ∷ rs) (f ∷ fs) b =
     let past : numbered n (f ∷ fs) (n + suc k) ≡ numbered (suc n) fs (suc n + k) =
-        ap (λ (t : Bool). cond t (Some f) (numbered (suc n) fs (n + suc k))) (ne_eqb (n + suc k) n (λ e. omega arith))
-        ∙ ap (numbered (suc n) fs) (omega arith) in
+    ap (λ (t : Bool). cond t (Some f) (numbered (suc n) fs (n + suc k))) (ne_eqb (n + suc k) n (λ e. omega arith))
+    ∙ ap (numbered (suc n) fs) (omega arith) in
     subst (BranchAt (slice_get (map IsRunning rs) k)) (sym past) (branch_at (suc n) k rs fs b.1)
 
 -- a strand that was there has none of these numbers

@@ -87,33 +87,42 @@ pub loads_turn : (code : RacyParts) (old new : Running) (next : ℕ) (g : List �
     ≡ reached (built (instrs_of code old.capsule)) (length words) (instrs_of code old.capsule) next (touch.Loads location d) g
     → new.capsule ≡ old.capsule → new.at ≡ next → new.registers ≡ slice_set g d.index (found_at old.own words location) → new.own ≡ old.own
     → new.settled.items ≡ old.settled.items → new.since.items ≡ old.since.items → TurnsTo code (length words) old words (Goes new) words
-loads_turn code old new next g words (OfTheFrame w) d left capsule at registers own settled since = (refl, λ root arrays t o shows same. (
-  o,
-  subst (λ x. ShowsOwn x o) (sym own) shows,
-  carried code (length words) root arrays t (ap (λ (c : Racing OwnWord Exit). UnderWay (At (at_capsule old.capsule)) c o) left)
-      (same_state code (length words) old new next (slice_set g d.index (o (OfFrame w))) o capsule at
-      (registers ∙ ap (slice_set g d.index) (sym (shows.frame w))))
-      (same_asked old new settled since)
-      (loads_frame code (length words) root arrays t (At (at_capsule old.capsule)) o w (λ v. following code (length words) old next (slice_set g d.index v))
-      (asked_by old)),
-))
-loads_turn code old new next g words (New n) d left capsule at registers own settled since = (refl, λ root arrays t o shows same. (
-  o,
-  subst (λ x. ShowsOwn x o) (sym own) shows,
-  carried code (length words) root arrays t (ap (λ (c : Racing OwnWord Exit). UnderWay (At (at_capsule old.capsule)) c o) left)
-      (same_state code (length words) old new next (slice_set g d.index (o (OfBlock n))) o capsule at
-      (registers ∙ ap (slice_set g d.index) (sym (shows.block n))))
-      (same_asked old new settled since)
-      (loads_block code (length words) root arrays t (At (at_capsule old.capsule)) o n (λ v. following code (length words) old next (slice_set g d.index v))
-      (asked_by old)),
-))
-loads_turn code old new next g words (Array x) d left capsule at registers own settled since = (refl, λ root arrays t o shows same. (
-  o,
-  subst (λ y. ShowsOwn y o) (sym own) shows,
-  carried code (length words) root arrays t (ap (λ (c : Racing OwnWord Exit). UnderWay (At (at_capsule old.capsule)) c o) left)
-      (same_state code (length words) old new next (slice_set g d.index (now (system code (length words) root arrays) t x)) o
-      capsule at (registers ∙ ap (slice_set g d.index) (sym (same x))))
-      (same_asked old new settled since)
-      (reads code (length words) root arrays t (At (at_capsule old.capsule)) o x (λ v. following code (length words) old next (slice_set g d.index v))
-      (asked_by old)),
-))
+loads_turn code old new next g words (OfTheFrame w) d left capsule at registers own settled since = (
+  refl,
+  λ root arrays t o shows same. (
+    o,
+    subst (λ x. ShowsOwn x o) (sym own) shows,
+    carried code (length words) root arrays t (ap (λ (c : Racing OwnWord Exit). UnderWay (At (at_capsule old.capsule)) c o) left)
+        (same_state code (length words) old new next (slice_set g d.index (o (OfFrame w))) o capsule at
+        (registers ∙ ap (slice_set g d.index) (sym (shows.frame w))))
+        (same_asked old new settled since)
+        (loads_frame code (length words) root arrays t (At (at_capsule old.capsule)) o w (λ v. following code (length words) old next (slice_set g d.index v))
+        (asked_by old)),
+  ),
+)
+loads_turn code old new next g words (New n) d left capsule at registers own settled since = (
+  refl,
+  λ root arrays t o shows same. (
+    o,
+    subst (λ x. ShowsOwn x o) (sym own) shows,
+    carried code (length words) root arrays t (ap (λ (c : Racing OwnWord Exit). UnderWay (At (at_capsule old.capsule)) c o) left)
+        (same_state code (length words) old new next (slice_set g d.index (o (OfBlock n))) o capsule at
+        (registers ∙ ap (slice_set g d.index) (sym (shows.block n))))
+        (same_asked old new settled since)
+        (loads_block code (length words) root arrays t (At (at_capsule old.capsule)) o n (λ v. following code (length words) old next (slice_set g d.index v))
+        (asked_by old)),
+  ),
+)
+loads_turn code old new next g words (Array x) d left capsule at registers own settled since = (
+  refl,
+  λ root arrays t o shows same. (
+    o,
+    subst (λ y. ShowsOwn y o) (sym own) shows,
+    carried code (length words) root arrays t (ap (λ (c : Racing OwnWord Exit). UnderWay (At (at_capsule old.capsule)) c o) left)
+        (same_state code (length words) old new next (slice_set g d.index (now (system code (length words) root arrays) t x)) o
+        capsule at (registers ∙ ap (slice_set g d.index) (sym (same x))))
+        (same_asked old new settled since)
+        (reads code (length words) root arrays t (At (at_capsule old.capsule)) o x (λ v. following code (length words) old next (slice_set g d.index v))
+        (asked_by old)),
+  ),
+)

@@ -23,7 +23,7 @@ use Rattle.ppm_interleaving.specs.declared.strand.Strand.TheVariants.{Running as
 use Rattle.ppm_interleaving.specs.Owns.{ShowsOwn}
 use Rattle.ppm_interleaving.specs.Steps.{Opens, TurnsTo, asked_by, under_way}
 use Rattle.ppm_interleaving.specs.Shows.{ShowsStrand, system}
-use Rattle.ppm_interleaving.specs.Stepping.{IsBeside, MakesStep, StepsTo, as_step}
+use Rattle.ppm_interleaving.specs.Stepping.{IsBeside, StepsTo, WordsAfter, as_step}
 use Rattle.ppm_interleaving.specs.Turns.{Moment, moment, deeds, ComesBy, Goes as GoesBy, Does as DoesBy, AsItIs, came}
 use Rattle.ppm_interleaving.proofs.EndLemmas.{ready_to_open, begun_state, begun_asks}
 
@@ -41,17 +41,23 @@ module _ (code : RacyParts) (array_words : ℕ) (root : FrameWord → ℕ) (arra
     pub goes : (new : Running) → TurnsTo code array_words old words (Goes new) after
         → ShowsStrand code array_words root arrays (Some (IsRunning new)) i (moment (Step i) None ∷ h)
     goes new to =
-        let m = to.1 root arrays (deeds h) shows.2.0 shows.2.1 beside.words in
-        (under_way code array_words new m.0, GoesBy at_old.0 (AsItIs m.2.no_end) m.2.step, (m.0, m.1, refl),
-        m.2.asks i (came (system code array_words root arrays) at_old.0) at_old.1)
+        let m = to.1 root arrays (deeds h) shows.2.0 shows.2.1 beside.words in (
+          under_way code array_words new m.0,
+          GoesBy at_old.0 (AsItIs m.2.no_end) m.2.step,
+          (m.0, m.1, refl),
+          m.2.asks i (came (system code array_words root arrays) at_old.0) at_old.1,
+        )
 
     pub changes : (new : Running) (word was is : ℕ) → TurnsTo code array_words old words (Changed new word was is) after
         → ShowsStrand code array_words root arrays (Some (IsRunning new)) i (moment (Step i) (Some (HasChanged i word is)) ∷ h)
     changes new word was is to =
         let m = to.3 root arrays (deeds h) shows.2.0 shows.2.1 beside.words in
-        let seen = m.1 i in
-        (under_way code array_words new shows.2.0, DoesBy at_old.0 (AsItIs seen.no_end) seen.step, (shows.2.0, m.0, refl),
-        seen.asks (came (system code array_words root arrays) at_old.0) at_old.1)
+        let seen = m.1 i in (
+          under_way code array_words new shows.2.0,
+          DoesBy at_old.0 (AsItIs seen.no_end) seen.step,
+          (shows.2.0, m.0, refl),
+          seen.asks (came (system code array_words root arrays) at_old.0) at_old.1,
+        )
 
     module _ (own : Own) (end : End) (to : TurnsTo code array_words old words (Ends own end) after) where
       -- it is at the end
@@ -62,22 +68,51 @@ module _ (code : RacyParts) (array_words : ℕ) (root : FrameWord → ℕ) (arra
           → StepsTo code array_words root arrays h i (IsRunning old) (as_step o)
       ends (opened.GoesOn r) opens =
           let ready = ready_to_open code array_words root arrays (At (at_capsule old.capsule)) (built (instrs_of code old.capsule)) end shows.2.0 in
-          let f = opens shows.2.0 (to.1 shows.2.0 shows.2.1).0 in
-          ((begun (system code array_words root arrays) f.0, GoesBy at_end.0 ready.ready (OpensNext (Of end) f.0 (ready.opens ∙ f.1)),
-          (f.0.own, f.2.own, begun_state code array_words root arrays r f.0 f.2), sym (begun_asks r.capsule r.own r f.2.begun)), refl)
+          let f = opens shows.2.0 (to.1 shows.2.0 shows.2.1).0 in (
+            (
+              begun (system code array_words root arrays) f.0,
+              GoesBy at_end.0 ready.ready (OpensNext (Of end) f.0 (ready.opens ∙ f.1)),
+              (f.0.own, f.2.own, begun_state code array_words root arrays r f.0 f.2),
+              sym (begun_asks r.capsule r.own r f.2.begun),
+            ),
+            refl,
+          )
       ends (opened.Calls r w) opens =
           let ready = ready_to_open code array_words root arrays (At (at_capsule old.capsule)) (built (instrs_of code old.capsule)) end shows.2.0 in
-          let f = opens shows.2.0 (to.1 shows.2.0 shows.2.1).0 in
-          (f.0, f.3, (Waits f.1 (count (system code array_words root arrays) (deeds h)) (f.0 ∷ []),
-          DoesBy at_end.0 ready.ready (Splits (Of end) (f.0 ∷ []) f.1 (ready.opens ∙ f.2)),
-          (f.1, f.0 ∷ [], f.4, ap (λ (n : ℕ). Waits f.1 n (f.0 ∷ [])) (beside.strand_count ∙ sym f.5)), refl), refl)
+          let f = opens shows.2.0 (to.1 shows.2.0 shows.2.1).0 in (
+            f.0,
+            f.3,
+            (
+              Waits f.1 (count (system code array_words root arrays) (deeds h)) (f.0 ∷ []),
+              DoesBy at_end.0 ready.ready (Splits (Of end) (f.0 ∷ []) f.1 (ready.opens ∙ f.2)),
+              (f.1, f.0 ∷ [], f.4, ap (λ (n : ℕ). Waits f.1 n (f.0 ∷ [])) (beside.strand_count ∙ sym f.5)),
+              refl,
+            ),
+            refl,
+          )
       ends (opened.Forks l r w) opens =
           let ready = ready_to_open code array_words root arrays (At (at_capsule old.capsule)) (built (instrs_of code old.capsule)) end shows.2.0 in
-          let f = opens shows.2.0 (to.1 shows.2.0 shows.2.1).0 in
-          (f.0, f.1, f.4, f.5, (Waits f.2 (count (system code array_words root arrays) (deeds h)) (f.0 ∷ f.1 ∷ []),
-          DoesBy at_end.0 ready.ready (Splits (Of end) (f.0 ∷ f.1 ∷ []) f.2 (ready.opens ∙ f.3)),
-          (f.2, f.0 ∷ f.1 ∷ [], f.6, ap (λ (n : ℕ). Waits f.2 n (f.0 ∷ f.1 ∷ [])) (beside.strand_count ∙ sym f.7)), refl), refl)
+          let f = opens shows.2.0 (to.1 shows.2.0 shows.2.1).0 in (
+            f.0,
+            f.1,
+            f.4,
+            f.5,
+            (
+              Waits f.2 (count (system code array_words root arrays) (deeds h)) (f.0 ∷ f.1 ∷ []),
+              DoesBy at_end.0 ready.ready (Splits (Of end) (f.0 ∷ f.1 ∷ []) f.2 (ready.opens ∙ f.3)),
+              (f.2, f.0 ∷ f.1 ∷ [], f.6, ap (λ (n : ℕ). Waits f.2 n (f.0 ∷ f.1 ∷ [])) (beside.strand_count ∙ sym f.7)),
+              refl,
+            ),
+            refl,
+          )
       ends (opened.Closes fin) opens =
           let ready = ready_to_open code array_words root arrays (At (at_capsule old.capsule)) (built (instrs_of code old.capsule)) end shows.2.0 in
           let is = opens shows.2.0 (to.1 shows.2.0 shows.2.1).0 in
           ((_, DoesBy at_end.0 ready.ready (Finishes (Of end) _ (ready.opens ∙ is)), refl, refl), refl)
+
+-- what an end opens changes no word
+pub words_opened : (words after : List ℕ) (o : Opened) → after ≡ words → WordsAfter words (as_step o) after
+words_opened words after (opened.GoesOn r) same = same
+words_opened words after (opened.Calls r w) same = same
+words_opened words after (opened.Forks l r w) same = same
+words_opened words after (opened.Closes f) same = same

@@ -61,12 +61,19 @@ module _ (code : RacyParts) (array_words : ℕ) (root : FrameWord → ℕ) (arra
       }
 
       at : (j : ℕ) → ShowsStrand code array_words root arrays (slice_get (IsRunning r ∷ []) j) j []
-      at zero = (begun (system code array_words root arrays) frame, Begins,
-          (framed root, as_frame.own, begun_state code array_words root arrays r frame as_frame), sym (begun_asks r.capsule r.own r as_frame.begun))
+      at zero = (
+        begun (system code array_words root arrays) frame,
+        Begins,
+        (framed root, as_frame.own, begun_state code array_words root arrays r frame as_frame),
+        sym (begun_asks r.capsule r.own r as_frame.begun),
+      )
       at (suc j) =
-          let other : numbered 0 (frame ∷ []) (suc j) ≡ None = ap (λ (t : Bool). cond t (Some frame) None) (ne_eqb (suc j) 0 (λ e. omega (arith, e))) in
-          (begun_if_any (system code array_words root arrays) (numbered 0 (frame ∷ []) (suc j)), Begins,
-          ap (begun_if_any (system code array_words root arrays)) other, refl)
+          let other : numbered 0 (frame ∷ []) (suc j) ≡ None = ap (λ (t : Bool). cond t (Some frame) None) (ne_eqb (suc j) 0 (λ e. omega (arith, e))) in (
+            begun_if_any (system code array_words root arrays) (numbered 0 (frame ∷ []) (suc j)),
+            Begins,
+            ap (begun_if_any (system code array_words root arrays)) other,
+            refl,
+          )
 
       none : (j : ℕ) (f : Finish) → finish_in (IsRunning r ∷ []) j ≡ Some f → ⊥
       none zero f is = cc
@@ -82,10 +89,16 @@ module _ (code : RacyParts) (array_words : ℕ) (root : FrameWord → ℕ) (arra
           begun = record { capsule = refl; at = begins.at; registers = begins.registers; own = refl; settled = begins.settled; since = begins.since };
           point = ap (λ (n : ℕ). At (at_capsule n)) (sym begins.capsule);
           own = subst (λ (own : Own). ShowsOwn own shows.2.0) (sym begins.own) shows.2.1;
-        } in
-        (_, Fails at, (shows.2.0, as_frame.own,
-        begun_state code array_words root arrays new (record { own = shows.2.0; point = At (at_capsule old.capsule) }) as_frame),
-        sym (begun_asks new.capsule new.own new as_frame.begun))
+        } in (
+          _,
+          Fails at,
+          (
+            shows.2.0,
+            as_frame.own,
+            begun_state code array_words root arrays new (record { own = shows.2.0; point = At (at_capsule old.capsule) }) as_frame,
+          ),
+          sym (begun_asks new.capsule new.own new as_frame.begun),
+        )
 
     -- of one that tells the trap of a branch, which begins that anew
     pub tells_again : (f : Finish) → ShowsStrand code array_words root arrays (Some (Tells f)) i h

@@ -90,15 +90,18 @@ module _ (code : RacyParts) (array_words : ℕ) where
     pub asks_goes : (k : Asking) (new : Running)
         → following old old.at old.registers ≡ Changes (change_of k).at (change_of k).by (following old next g)
         → AsksFor mid k words (Goes new) after → TurnsTo code array_words old words (Goes new) after
-    asks_goes k new left asks = (asks.1, λ root arrays t o shows same. (
-      o,
-      subst (λ own. ShowsOwn own o) (sym (asks.0.own ∙ before.own)) shows,
-      carried root arrays t (ap (λ (c : Racing OwnWord Exit). UnderWay (At (at_capsule old.capsule)) c o) left)
-      (same_state old new next g o (asks.0.capsule ∙ before.capsule) (asks.0.at ∙ before.at) (asks.0.registers ∙ before.registers))
-      (asked_more old new k (asks.2 ∙ before.settled) (asks.3 ∙ ap (λ (ks : List Asking). ks ++ k ∷ []) before.since))
-      (leaves code array_words root arrays t (At (at_capsule old.capsule)) o (change_of k).at (change_of k).by (following old next g) (asked_by old)
-      (ap (change_of k).by (same (change_of k).at) ∙ asks.4 ∙ sym (same (change_of k).at))),
-    ))
+    asks_goes k new left asks = (
+      asks.1,
+      λ root arrays t o shows same. (
+        o,
+        subst (λ own. ShowsOwn own o) (sym (asks.0.own ∙ before.own)) shows,
+        carried root arrays t (ap (λ (c : Racing OwnWord Exit). UnderWay (At (at_capsule old.capsule)) c o) left)
+            (same_state old new next g o (asks.0.capsule ∙ before.capsule) (asks.0.at ∙ before.at) (asks.0.registers ∙ before.registers))
+            (asked_more old new k (asks.2 ∙ before.settled) (asks.3 ∙ ap (λ (ks : List Asking). ks ++ k ∷ []) before.since))
+            (leaves code array_words root arrays t (At (at_capsule old.capsule)) o (change_of k).at (change_of k).by (following old next g) (asked_by old)
+            (ap (change_of k).by (same (change_of k).at) ∙ asks.4 ∙ sym (same (change_of k).at))),
+      ),
+    )
 
     pub asks_changes : (k : Asking) (new : Running) (word was is : ℕ)
         → following old old.at old.registers ≡ Changes (change_of k).at (change_of k).by (following old next g)
@@ -114,11 +117,11 @@ module _ (code : RacyParts) (array_words : ℕ) where
           let made : (change_of k).by (now (system code array_words root arrays) t (change_of k).at) ≡ is = ap (change_of k).by found ∙ sym asks.6 in (
             subst (λ own. ShowsOwn own o) (sym (asks.0.own ∙ before.own)) shows,
             λ me. carried_seen root arrays t (ap (λ (c : Racing OwnWord Exit). UnderWay (At (at_capsule old.capsule)) c o) left)
-            (λ i. HasChanged me (asks.4 i) (sym made i))
-            (same_state old new next g o (asks.0.capsule ∙ before.capsule) (asks.0.at ∙ before.at) (asks.0.registers ∙ before.registers))
-            (settled_more old new k (asks.2 ∙ (λ i. before.settled i ++ (before.since i ++ k ∷ []))) asks.3)
-            (alters code array_words root arrays t (At (at_capsule old.capsule)) o me (change_of k).at (change_of k).by (following old next g) (asked_by old)
-            (λ e. asks.7 (sym made ∙ e ∙ found))),
+                (λ i. HasChanged me (asks.4 i) (sym made i))
+                (same_state old new next g o (asks.0.capsule ∙ before.capsule) (asks.0.at ∙ before.at) (asks.0.registers ∙ before.registers))
+                (settled_more old new k (asks.2 ∙ (λ i. before.settled i ++ (before.since i ++ k ∷ []))) asks.3)
+                (alters code array_words root arrays t (At (at_capsule old.capsule)) o me (change_of k).at (change_of k).by (following old next g) (asked_by old)
+                (λ e. asks.7 (sym made ∙ e ∙ found))),
           ),
     )
 
@@ -126,23 +129,29 @@ module _ (code : RacyParts) (array_words : ℕ) where
     pub stores_frame : (w : FrameWord) (v : ℕ) (new : Running)
         → following old old.at old.registers ≡ Keeps (OfFrame w) v (following old next g)
         → StoresOwn mid (OfFrame w) v words (Goes new) after → TurnsTo code array_words old words (Goes new) after
-    stores_frame w v new left stores = (stores.5, λ root arrays t o shows same. (
-      store own_words o (OfFrame w) v,
-      stores.6 o (subst (λ own. ShowsOwn own o) (sym before.own) shows),
-      carried root arrays t (ap (λ (c : Racing OwnWord Exit). UnderWay (At (at_capsule old.capsule)) c o) left)
-      (same_state old new next g (store own_words o (OfFrame w) v) (stores.0 ∙ before.capsule) (stores.1 ∙ before.at) (stores.2 ∙ before.registers))
-      (same_asked old new (stores.3 ∙ before.settled) (stores.4 ∙ before.since))
-      (keeps_frame code array_words root arrays t (At (at_capsule old.capsule)) o w v (following old next g) (asked_by old)),
-    ))
+    stores_frame w v new left stores = (
+      stores.5,
+      λ root arrays t o shows same. (
+        store own_words o (OfFrame w) v,
+        stores.6 o (subst (λ own. ShowsOwn own o) (sym before.own) shows),
+        carried root arrays t (ap (λ (c : Racing OwnWord Exit). UnderWay (At (at_capsule old.capsule)) c o) left)
+            (same_state old new next g (store own_words o (OfFrame w) v) (stores.0 ∙ before.capsule) (stores.1 ∙ before.at) (stores.2 ∙ before.registers))
+            (same_asked old new (stores.3 ∙ before.settled) (stores.4 ∙ before.since))
+            (keeps_frame code array_words root arrays t (At (at_capsule old.capsule)) o w v (following old next g) (asked_by old)),
+      ),
+    )
 
     pub stores_block : (n : ℕ) (v : ℕ) (new : Running)
         → following old old.at old.registers ≡ Keeps (OfBlock n) v (following old next g)
         → StoresOwn mid (OfBlock n) v words (Goes new) after → TurnsTo code array_words old words (Goes new) after
-    stores_block n v new left stores = (stores.5, λ root arrays t o shows same. (
-      store own_words o (OfBlock n) v,
-      stores.6 o (subst (λ own. ShowsOwn own o) (sym before.own) shows),
-      carried root arrays t (ap (λ (c : Racing OwnWord Exit). UnderWay (At (at_capsule old.capsule)) c o) left)
-      (same_state old new next g (store own_words o (OfBlock n) v) (stores.0 ∙ before.capsule) (stores.1 ∙ before.at) (stores.2 ∙ before.registers))
-      (same_asked old new (stores.3 ∙ before.settled) (stores.4 ∙ before.since))
-      (keeps_block code array_words root arrays t (At (at_capsule old.capsule)) o n v (following old next g) (asked_by old)),
-    ))
+    stores_block n v new left stores = (
+      stores.5,
+      λ root arrays t o shows same. (
+        store own_words o (OfBlock n) v,
+        stores.6 o (subst (λ own. ShowsOwn own o) (sym before.own) shows),
+        carried root arrays t (ap (λ (c : Racing OwnWord Exit). UnderWay (At (at_capsule old.capsule)) c o) left)
+            (same_state old new next g (store own_words o (OfBlock n) v) (stores.0 ∙ before.capsule) (stores.1 ∙ before.at) (stores.2 ∙ before.registers))
+            (same_asked old new (stores.3 ∙ before.settled) (stores.4 ∙ before.since))
+            (keeps_block code array_words root arrays t (At (at_capsule old.capsule)) o n v (following old next g) (asked_by old)),
+      ),
+    )

@@ -27,13 +27,7 @@ impl Change {
     {
         match self {
             Change::Puts { value, .. } => value,
-            Change::Exchanges { old, new, .. } => {
-                if found == old {
-                    new
-                } else {
-                    found
-                }
-            }
+            Change::Exchanges { old, new, .. } => { if found == old { new } else { found } }
         }
     }
 }

@@ -12,6 +12,7 @@ ghost use Rattle.ppm_interleaving.specs.Owns.{ShowsOwn};
 ghost use Rattle.ppm_interleaving.specs.Steps.{BeginsFrame, GoesOnAs, IsBegun, Opens, point_by};
 ghost use Rattle.ppm_interleaving.specs.Steps.{result_of};
 ghost use Rattle.ppm_interleaving.specs.declared.strand.Branches.TheVariants.{Callee, Both as BothBranches};
+
 use crate::own::Own;
 use crate::running::Running;
 use crate::strand::{Branches, Strand, Waiting};
@@ -62,11 +63,17 @@ pub(crate) fn begun(alloc: Global, code: &RacyCode, procedure: u32, own: Own) ->
 }
 
 /// The strand of a procedure whose frame lies in the block that was built.
-fn branch(alloc: Global, code: &RacyCode, procedure: u32, frame: usize, own: &Own) -> Result<Running, NoMemory>
+fn branch(
+    alloc: Global,
+    code: &RacyCode,
+    procedure: u32,
+    frame: usize,
+    own: &Own,
+) -> Result<Running, NoMemory>
     requires { frame < 2 ^ 40 }
     ensures { IfOk result (λ branch. (o : Memory OwnWord) → ShowsOwn own.now o
         → BeginsFrame branch (beginning (plain_code code.now) procedure
-            (built_in (slots_in_code (plain_code code.now) procedure) frame (block_in o)))) }
+        (built_in (slots_in_code (plain_code code.now) procedure) frame (block_in o)))) }
 {
     let built = own.built(alloc, slots_of(code, procedure), frame)?;
     Ok(begun(alloc, code, procedure, built))
@@ -84,7 +91,13 @@ fn without_block(alloc: Global, own: Own) -> Own
 }
 
 /// What an end opens, where so many strands are there already.
-pub(crate) fn open(alloc: Global, code: &RacyCode, own: Own, end: End, count: usize) -> Result<Opened, NoMemory>
+pub(crate) fn open(
+    alloc: Global,
+    code: &RacyCode,
+    own: Own,
+    end: End,
+    count: usize,
+) -> Result<Opened, NoMemory>
     ensures { IfOk result (λ opened. (o : Memory OwnWord) → ShowsOwn own o
         → Opens code.now count opened (exit_opens (plain_code code.now) (Of end) o)) }
 {
@@ -146,7 +159,13 @@ fn take_in(own: &mut Own, to: Option<u32>, value: u64) -> Result<(), NoMemory>
 }
 
 /// How a frame goes on once its callee, or its right branch, is over.
-pub(crate) fn go_on(alloc: Global, own: Own, capsule: u32, to: Option<u32>, finish: Finish) -> Result<Strand, NoMemory>
+pub(crate) fn go_on(
+    alloc: Global,
+    own: Own,
+    capsule: u32,
+    to: Option<u32>,
+    finish: Finish,
+) -> Result<Strand, NoMemory>
     ensures { IfOk result (λ strand. (code : CodeParts) (o : Memory OwnWord) → ShowsOwn own o
         → GoesOnAs strand (rejoining code o (At (point_by capsule (Callee to))) (result_of finish ∷ []))) }
 {
@@ -171,7 +190,7 @@ pub(crate) fn join(
 ) -> Result<Strand, NoMemory>
     ensures { IfOk result (λ strand. (code : CodeParts) (o : Memory OwnWord) → ShowsOwn own o
         → GoesOnAs strand (rejoining code o (At (point_by capsule (BothBranches slots.0 slots.1)))
-            (result_of left ∷ result_of right ∷ []))) }
+        (result_of left ∷ result_of right ∷ []))) }
 {
     match left {
         Finish::Trapped(..) => Ok(Strand::Tells(left)),

@@ -5,6 +5,7 @@ ghost use Rattle.ppm_racy.specs.Capsules.{IsWithin};
 ghost use Rattle.ppm_racy.specs.Code.{instrs_of};
 ghost use Rattle.ppm_interleaving.specs.Changes.{change_of};
 ghost use Rattle.ppm_interleaving.specs.Steps.{AsksFor, IsBegun, StoresAt, TurnsTo, found_at};
+
 use crate::change::Change;
 use crate::own::Own;
 use ppm_code::{End, FrameWord, Location};
@@ -100,7 +101,12 @@ impl Running {
     }
 
     /// Stores a word at a location.
-    fn store(mut self, location: Location, word: u64, words: &mut Vec<u64>) -> Result<Touched, NoMemory>
+    fn store(
+        mut self,
+        location: Location,
+        word: u64,
+        words: &mut Vec<u64>,
+    ) -> Result<Touched, NoMemory>
         requires { IsWithin (length words.old.items) location }
         ensures { IfOk result (λ touched. StoresAt self location word words.old.items touched words.new.items) }
     {
@@ -125,7 +131,11 @@ impl Running {
 
     /// Makes a turn in a capsule of these instructions: register work up to the next touch of a
     /// word, and this touch, or up to the end.
-    pub(crate) fn turn(mut self, instrs: &[RacyInstr], words: &mut Vec<u64>) -> Result<Touched, NoMemory>
+    pub(crate) fn turn(
+        mut self,
+        instrs: &[RacyInstr],
+        words: &mut Vec<u64>,
+    ) -> Result<Touched, NoMemory>
         ensures { IfOk result (λ touched. (code : RacyParts)
             → instrs_of code self.capsule ≡ instrs.now
             → TurnsTo code (length words.old.items) self words.old.items touched words.new.items) }

@@ -7,7 +7,9 @@ use ppm_depth::Finish;
 #[derive(Clone, Copy, Debug, PartialEq, Eq)]
 pub enum Branches {
     /// One, which is the frame's callee.
-    Callee { to: Option<u32> },
+    Callee {
+        to: Option<u32>,
+    },
     /// Two.
     Both {
         left_to: Option<u32>,
