@@ -187,12 +187,12 @@ any_input = choice "input" ("source" ∷ "case" ∷ "saved" ∷ []) "source"
 abbrev pub explained : OptionRule
 explained = choice "input" ("source" ∷ "listing" ∷ "case" ∷ "saved" ∷ []) "source"
 
--- the plan that is explained, and the schedule: `-` says that it is not stated
+-- the plan that is explained, and the schedule: `unstated` says that there is none
 abbrev pub stated_plan : OptionRule
-stated_plan = text "plan" "-"
+stated_plan = text "plan" "unstated"
 
 abbrev pub stated_schedule : OptionRule
-stated_schedule = text "schedule" "-"
+stated_schedule = text "schedule" "unstated"
 
 -- ---- the commands
 

@@ -47,9 +47,9 @@ text_in _ text = None
 abbrev pub text_given : OptionRule → List Row → Option Text
 text_given o rows = option_and_then (text_in o.form) (first_of o.name rows)
 
--- the text, if the form takes it; `-` says that none is stated
+-- the text, if the form takes it; `unstated` says that there is none
 abbrev pub stated_in : Form → Text → Option (Option Text)
-stated_in form text = if bytes_eq text (codes "-") then Some None else option_map (λ t. Some t) (text_in form text)
+stated_in form text = if bytes_eq text (codes "unstated") then Some None else option_map (λ t. Some t) (text_in form text)
 
 -- the text of an option in the matches of its command, if it is stated there
 abbrev pub stated_given : OptionRule → List Row → Option (Option Text)

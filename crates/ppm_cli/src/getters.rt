@@ -90,7 +90,7 @@ fn free_text(alloc: Global, bytes: &[u8]) -> Result<Option<Items<u8>>, AllocErro
 }
 
 /// The bytes of an option whose value is any text that does not begin with a hyphen, if it is
-/// stated: `-` says that it is not.
+/// stated: `unstated` says that there is none.
 pub(crate) fn stated_of(
     alloc: Global,
     matches: &ArgMatches<'_>,
@@ -107,9 +107,9 @@ pub(crate) fn stated_of(
 
 /// Whether bytes say that nothing is stated.
 fn is_unstated(bytes: &[u8]) -> bool
-    ensures { result ≡ bytes_eq bytes.now (codes "-") }
+    ensures { result ≡ bytes_eq bytes.now (codes "unstated") }
 {
-    bytes == b"-".as_slice()
+    bytes == b"unstated".as_slice()
 }
 
 /// The text of these bytes, if it is stated.

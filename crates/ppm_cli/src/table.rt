@@ -331,13 +331,13 @@ pub(crate) const EXPLAINED: ChoiceOption = ChoiceOption {
 /// The plan that is explained.
 pub(crate) const PLAN: TextOption = TextOption {
     name: "plan",
-    default: "-",
+    default: "unstated",
 };
 
 /// The schedule that is explained.
 pub(crate) const STATED_SCHEDULE: TextOption = TextOption {
     name: "schedule",
-    default: "-",
+    default: "unstated",
 };
 
 /// The schedule of acts.

@@ -1,5 +1,5 @@
 -- The rows of `self`.
-use Rattle.std.proofs.Common.{◌≡◌, ◌⊎◌, ℕ, sym, subst, inl, inr}
+use Rattle.std.proofs.Common.{◌≡◌, ◌⊎◌, ℕ, List, sym, subst, inl, inr}
 use Rattle.ppm_ports.specs.Ports.{Gets}
 use Rattle.ppm_ports.specs.Outside.{KeepFronts, Outside, ToldLists}
 use Rattle.ppm_cli.specs.declared.example.SelfOptions.{SelfOptions}

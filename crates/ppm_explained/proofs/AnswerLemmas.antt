@@ -1,7 +1,5 @@
 -- A text has one answer where it is explained.
-use Rattle.std.proofs.Common.{◌≡◌, ℕ, ◌<◌, List, ◌++◌, length, Option, Some, None, refl, sym, ap, ◌∙◌, subst, arith}
-use Rattle.ppm_text.specs.Limits.{text_limit}
-use Rattle.ppm_listing_reader.specs.Limits.{listing_limit}
+use Rattle.std.proofs.Common.{◌≡◌, ℕ, List, ◌++◌, Option, Some, None, refl, sym, ap, ◌∙◌, subst, arith}
 use Rattle.ppm_listing_reader.specs.Correct.{FaultsTellListings}
 use Rattle.ppm_program.specs.Correct.{HaveOneAnswer as ProgramsAreOne}
 use Rattle.ppm_answers.specs.declared.answer.Answer.{Answer}

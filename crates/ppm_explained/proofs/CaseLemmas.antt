@@ -1,5 +1,5 @@
 -- A case that is refused has notes, and no two; and what stands after a text that is too long changes none.
-use Rattle.std.proofs.Common.{◌≡◌, ℕ, ◌<◌, ◌+◌, true, List, ◌++◌, length, refl, sym, ap, ◌∙◌, subst, arith}
+use Rattle.std.proofs.Common.{◌≡◌, ℕ, ◌<◌, true, List, ◌++◌, length, refl, sym, ◌∙◌, subst, arith}
 use Rattle.std.specs.Prelude.{nat_lt}
 use Rattle.std.proofs.lemmas.List.{length-append}
 use Rattle.ppm_code.specs.Free.{IsFree}
@@ -8,7 +8,6 @@ use Rattle.ppm_case.specs.Correct.{FaultsTellCases, HasCase}
 use Rattle.ppm_case.specs.Rules.{case_limit}
 use Rattle.ppm_case.specs.declared.case_error.CaseFault.TheVariants as faults
 use Rattle.ppm_saved_reader.specs.Rules.{saved_limit}
-use Rattle.ppm_answers.specs.declared.answer.Answer.TheVariants as answers
 use Rattle.ppm_answers.specs.declared.case.InputRefusal.{InputRefusal}
 use Rattle.ppm_answers.specs.declared.conflict.ListingRefusal.{ListingRefusal}
 use Rattle.ppm_answers.specs.declared.refused.Refused.{Refused}

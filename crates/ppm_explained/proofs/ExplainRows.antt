@@ -1,5 +1,6 @@
 -- The rows of `explain`.
-use Rattle.std.proofs.Common.{◌≡◌, ℕ, List, refl}
+use Rattle.std.proofs.Common.{◌≡◌, ℕ, List, refl, subst}
+use Rattle.ppm_ports.specs.Ports.{Port}
 use Rattle.ppm_ports.specs.Outside.{Ports}
 use Rattle.ppm_answers.specs.declared.answer.Answer.{Answer}
 use Rattle.ppm_answers.specs.declared.answer.Answer.TheVariants as answers
@@ -8,7 +9,7 @@ use Rattle.ppm_answers.specs.declared.refused.Refused.TheVariants as refused
 use Rattle.ppm_answers.specs.declared.status.Status.{Status}
 use Rattle.ppm_answers.specs.Statuses.{refused_status, status_of}
 use Rattle.ppm_answers.specs.Delivery.{IsWritten}
-use Rattle.ppm_answers.specs.Reading.{ReadHas, DeliversAnswer}
+use Rattle.ppm_answers.specs.Reading.{ReadHas, JudgingMay, DeliversAnswer}
 use Rattle.ppm_answers.proofs.Judged.{text_rows}
 use Rattle.ppm_answers.proofs.RowsLemmas.{shown}
 use Rattle.ppm_cli.specs.declared.explain.ExplainedText.{ExplainedText}
@@ -26,6 +27,11 @@ no_plan texts.Source text number h = h
 no_plan texts.Listing text number h = h
 no_plan texts.Case text number h = h.1
 no_plan texts.Saved text number h = h
+
+-- a limit is known by another name
+pub by_limit : (Has : List ℕ → Answer → Type 0) {m n : ℕ} (source : Port) (answer : Answer) → m ≡ n → JudgingMay m Has source answer
+    → JudgingMay n Has source answer
+by_limit Has source answer e h = subst (λ k. JudgingMay k Has source answer) e h
 
 module _ (kind : ExplainedText) (o : Ports) where
   -- the status of a refusal is one of those that say of notes

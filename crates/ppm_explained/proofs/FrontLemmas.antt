@@ -1,5 +1,5 @@
 -- A text that is too long is refused for that alone, and its notes say nothing of its bytes.
-use Rattle.std.proofs.Common.{◌≡◌, ◌<◌, ℕ, List, ◌++◌, length, refl, subst, arith}
+use Rattle.std.proofs.Common.{◌≡◌, ◌<◌, ℕ, List, ◌++◌, length, refl, arith}
 use Rattle.ppm_text.specs.declared.text_error.TextError.{TextError}
 use Rattle.ppm_text.specs.declared.text_error.TextError.TheVariants as text_error
 use Rattle.ppm_text.specs.Refusals as text

@@ -1,5 +1,5 @@
 -- A text that is no listing, or one with a conflict, has notes, and no two; and what stands after a text that is too long changes none.
-use Rattle.std.proofs.Common.{◌≡◌, ℕ, ◌<◌, ◌+◌, Bool, true, false, List, ◌++◌, length, refl, sym, ap, ◌∙◌, subst, arith}
+use Rattle.std.proofs.Common.{◌≡◌, ℕ, ◌<◌, true, List, ◌++◌, length, refl, sym, ap, ◌∙◌, arith}
 use Rattle.std.specs.Prelude.{nat_lt}
 use Rattle.std.proofs.lemmas.List.{length-append}
 use Rattle.ppm_code.specs.declared.code.CodeParts.{CodeParts}
@@ -7,19 +7,19 @@ use Rattle.ppm_listing_reader.specs.Limits.{listing_limit}
 use Rattle.ppm_listing_reader.specs.Correct.{FaultsTellListings, TooLong}
 use Rattle.ppm_listing_reader.specs.declared.listing_error.Fault.TheVariants as fault
 use Rattle.ppm_loading.specs.Telling.{line_at}
-use Rattle.ppm_answers.specs.declared.answer.Answer.TheVariants as answers
 use Rattle.ppm_answers.specs.declared.conflict.Conflict.{Conflict}
 use Rattle.ppm_answers.specs.declared.conflict.ListingRefusal.{ListingRefusal}
 use Rattle.ppm_answers.specs.declared.refused.Refused.{Refused}
 use Rattle.ppm_answers.specs.declared.refused.Refused.TheVariants as refused
 use Rattle.ppm_answers.specs.Refused.{refused_answer}
-use Rattle.ppm_commands.specs.Check.{CheckHas, IsAccepted as IsListingAccepted, IsConflicting}
+use Rattle.ppm_commands.specs.Check.{CheckHas, IsConflicting}
 use Rattle.ppm_explain.specs.Meanings.{note_text}
-use Rattle.ppm_notes.specs.Listings.{conflict_notes, fault_notes, listing_notes}
+use Rattle.ppm_notes.specs.Listings.{conflict_notes, listing_notes}
 use Rattle.ppm_notes.specs.Meanings.{long_listing}
 use Rattle.ppm_explained.specs.Texts.{AreConflictNotes, AreListingNotes}
 
-by_code : (text : List ℕ) (c : Conflict) → CodeParts → List ℕ
+-- the notes of a conflict, by the code
+abbrev pub by_code : (text : List ℕ) (c : Conflict) → CodeParts → List ℕ
 by_code text c code = conflict_notes text (line_at 0 code c.capsule c.read_at) (line_at 0 code c.capsule c.write_at)
 
 long : (n : ℕ) → listing_limit < n → nat_lt listing_limit n ≡ true

@@ -1,7 +1,7 @@
 -- A plan or a schedule has one answer where it is explained.
 use Rattle.std.proofs.Common.{◌≡◌, ◌⊎◌, ℕ, List, refl, sym, ap, ◌∙◌, inl, inr}
 use Rattle.ppm_plan.specs.declared.plan_error.PlanError.{PlanError}
-use Rattle.ppm_plan.specs.Correct.{HasOneAnswer, HaveOneAnswer as FormsHaveOne, SomeAccepted, SomeRefused}
+use Rattle.ppm_plan.specs.Correct.{HasOneAnswer, HaveOneAnswer as FormsHaveOne, SomeAccepted}
 use Rattle.ppm_plan.specs.Forms.{Form, plan_form, schedule_form}
 use Rattle.ppm_plan.specs.Refusals.{number_of}
 use Rattle.ppm_answers.specs.declared.answer.Answer.{Answer}
@@ -12,7 +12,7 @@ use Rattle.ppm_cli.specs.declared.explain.ExplainedOrders.{ExplainedOrders}
 use Rattle.ppm_cli.specs.declared.explain.ExplainedOrders.TheVariants as orders
 use Rattle.ppm_cli.specs.declared.explain.ExplainOptions.{ExplainOptions}
 use Rattle.ppm_notes.specs.Orders.{orders_notes}
-use Rattle.ppm_explained.specs.Orders.{AllHaveOneAnswer, AreOrdersExplained, HaveOneAnswer, IsDisorderly, IsOrderly, IsRefusedFor, OrdersHave, OrdersToldBy}
+use Rattle.ppm_explained.specs.Orders.{AllHaveOneAnswer, AreOrdersExplained, IsDisorderly, IsOrderly, IsRefusedFor, OrdersHave, OrdersToldBy}
 
 module _ {A : Type 0} (form : Form A) (law : HasOneAnswer form) (text : List ℕ) (p : ℕ) where
   form_apart : (e : PlanError) → SomeAccepted form text p → IsRefusedFor form p text e → ⊥

@@ -1,19 +1,18 @@
 -- The rows of `explain` of a plan or a schedule.
 use Rattle.std.proofs.Common.{◌≡◌, ◌⊎◌, ℕ, List, refl, inl, inr}
-use Rattle.ppm_ports.specs.Ports.{Fails, Holds, Port}
+use Rattle.ppm_ports.specs.Ports.{Fails, Port}
 use Rattle.ppm_ports.specs.Outside.{Ports}
 use Rattle.ppm_answers.specs.declared.answer.Answer.{Answer}
 use Rattle.ppm_answers.specs.declared.answer.Answer.TheVariants as answers
 use Rattle.ppm_answers.specs.declared.refused.Refused.TheVariants as refused
 use Rattle.ppm_answers.specs.declared.status.Status.{Status}
-use Rattle.ppm_answers.specs.declared.status.Status.TheVariants as statuses
 use Rattle.ppm_answers.specs.Statuses.{status_of}
 use Rattle.ppm_answers.specs.Delivery.{Delivers, IsWritten}
 use Rattle.ppm_answers.specs.Reading.{DeliversAnswer, IsUnread, TextMay}
 use Rattle.ppm_answers.specs.Texts.{IsFixed}
 use Rattle.ppm_answers.proofs.RowsLemmas.{AreCauses, rows, shown}
 use Rattle.ppm_cli.specs.declared.explain.ExplainOptions.{ExplainOptions}
-use Rattle.ppm_explained.specs.Orders.{AreToldWhy, HaveOneAnswer, HaveUnread, OrdersHave, OrdersMay, OrdersRows, OrdersSay}
+use Rattle.ppm_explained.specs.Orders.{HaveOneAnswer, HaveUnread, OrdersHave, OrdersMay, OrdersRows, OrdersSay}
 
 module _ (options : ExplainOptions) (text : List ℕ) where
   -- nothing is read with any answer

@@ -1,8 +1,8 @@
 -- A source that is refused has notes, and no two.
-use Rattle.std.proofs.Common.{◌≡◌, ◌⊎◌, ℕ, zero, suc, ◌<◌, ◌≤◌, Bool, true, false, List, [], ◌∷◌, ◌++◌, length, Some, None, refl, sym, ap, ◌∙◌, subst, inl, inr, arith}
+use Rattle.std.proofs.Common.{◌≡◌, ℕ, suc, ◌<◌, ◌≤◌, Bool, true, false, List, [], ◌∷◌, ◌++◌, length, Some, None, refl, sym, ap, ◌∙◌, subst, arith}
 use Rattle.std.proofs.Common.{append-nil}
-use Rattle.std.specs.Prelude.{◌↔◌, nat_lt, slice_index_or}
-use Rattle.std.specs.List.{All, AllPairs, filter}
+use Rattle.std.specs.Prelude.{nat_lt, slice_index_or}
+use Rattle.std.specs.List.{AllPairs, filter}
 use Rattle.ppm_text.specs.declared.token.Token.{Token}
 use Rattle.ppm_text.proofs.LexingLemmas.{one_lexing}
 use Rattle.ppm_grammar.specs.Rows.{In, first, later}
@@ -78,33 +78,34 @@ abbrev Below : Terminal → Terminal → Type 0
 Below x y = terminal_number x < terminal_number y
 
 -- what is in a list that is above a kind is above it
-above : (x y : Terminal) (ys : List Terminal) → ((k : ℕ) (d : Terminal) → k < length ys → Below x (slice_index_or ys k d)) → In y ys → Below x y
-above x y (y ∷ ys) h first = h 0 y (omega arith)
-above x y (z ∷ ys) h (later i) = above x y ys (λ k d less. h (suc k) d (omega (arith, less))) i
+above : (x : Terminal) {y : Terminal} {ys : List Terminal} → ((k : ℕ) (d : Terminal) → k < length ys → Below x (slice_index_or ys k d))
+    → In y ys → Below x y
+above x {y = y} h first = h 0 y (omega arith)
+above x {y = y} h (later {xs = zs} i) = above x {y = y} {ys = zs} (λ k d less. h (suc k) d (omega (arith, less))) i
 
 -- the others of an ordered list
-above_first : (x y : Terminal) (xs : List Terminal) → AllPairs Below (x ∷ xs) → In y xs → Below x y
-above_first x y xs o i = above x y xs (λ k d less. o 0 (suc k) d (omega arith) (omega (arith, less))) i
+above_first : (x : Terminal) {y : Terminal} (xs : List Terminal) → AllPairs Below (x ∷ xs) → In y xs → Below x y
+above_first x {y = y} xs o i = above x {y = y} {ys = xs} (λ k d less. o 0 (suc k) d (omega arith) (omega (arith, less))) i
 
 tail_of : (x : Terminal) (xs : List Terminal) → AllPairs Below (x ∷ xs) → AllPairs Below xs
 tail_of x xs o i j d less below = o (suc i) (suc j) d (omega (arith, less)) (omega (arith, below))
 
 -- two ordered lists with the same elements have the same first
-heads : (x y : Terminal) (xs ys : List Terminal) → AllPairs Below (x ∷ xs) → AllPairs Below (y ∷ ys) → In x (y ∷ ys) → In y (x ∷ xs) → x ≡ y
-heads x x xs ys o p first j = refl
-heads x x xs ys o p (later i) first = refl
-heads x y xs ys o p (later i) (later j) =
-    let a = above_first y x ys p i in
-    let b = above_first x y xs o j in
+heads : {x y : Terminal} {xs ys : List Terminal} → AllPairs Below (x ∷ xs) → AllPairs Below (y ∷ ys) → In x (y ∷ ys) → In y (x ∷ xs) → x ≡ y
+heads o p first j = refl
+heads o p (later i) first = refl
+heads {x = x} {y = y} {xs = xs} {ys = ys} o p (later i) (later j) =
+    let a : Below y x = above_first y ys p i in
+    let b : Below x y = above_first x xs o j in
     absurd (omega (arith, a, b))
 
 -- what is behind the first of one is behind that of the other
-behind : (x y k : Terminal) (xs ys : List Terminal) → x ≡ y → AllPairs Below (x ∷ xs) → In k xs → In k (y ∷ ys) → In k ys
-behind x y y xs ys e o i first =
-    let a = above_first x y xs o i in
+behind : {x y k : Terminal} {xs ys : List Terminal} → x ≡ y → AllPairs Below (x ∷ xs) → In k xs → In k (y ∷ ys) → In k ys
+behind {x = x} {y = y} {xs = xs} e o i first =
+    let a : Below x y = above_first x xs o i in
     let same = ap terminal_number e in
     absurd (omega (arith, a, same))
-behind x y k xs ys e o i (later j) = j
+behind e o i (later j) = j
 
 one_list : (xs ys : List Terminal) → AllPairs Below xs → AllPairs Below ys → ((k : Terminal) → In k xs → In k ys) → ((k : Terminal) → In k ys → In k xs)
     → xs ≡ ys
@@ -112,9 +113,9 @@ one_list [] [] o p to from = refl
 one_list [] (y ∷ ys) o p to from = elim (from y first) [ ]
 one_list (x ∷ xs) [] o p to from = elim (to x first) [ ]
 one_list (x ∷ xs) (y ∷ ys) o p to from =
-    let e = heads x y xs ys o p (to x first) (from y first) in
-    let rest = one_list xs ys (tail_of x xs o) (tail_of y ys p) (λ k i. behind x y k xs ys e o i (to k (later i)))
-    (λ k i. behind y x k ys xs (sym e) p i (from k (later i))) in
+    let e : x ≡ y = heads o p (to x first) (from y first) in
+    let rest = one_list xs ys (tail_of x xs o) (tail_of y ys p) (λ k i. behind e o i (to k (later i)))
+    (λ k i. behind (sym e) p i (from k (later i))) in
     ap (λ z. z ∷ xs) e ∙ ap (λ zs. y ∷ zs) rest
 
 -- a kind that can stand there by one list can by another

@@ -1,5 +1,5 @@
 -- `explain` of a plan or a schedule: what it says of one, when it may give each answer, and what follows from each status.
-use Rattle.std.specs.Prelude.{◌≡◌, ◌++◌, ℕ, true, List, ⊤}
+use Rattle.std.specs.Prelude.{◌≡◌, ◌++◌, ℕ, true, List}
 use Rattle.ppm_ports.specs.Ports.{Port, Gets}
 use Rattle.ppm_ports.specs.Outside.{Ports}
 use Rattle.ppm_plan.specs.declared.plan_error.PlanError.{PlanError}

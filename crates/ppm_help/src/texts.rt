@@ -81,7 +81,7 @@ pub(crate) fn meaning_of(command: &str, option: &str) -> &'static str {
         "acts" => acts_of(command),
         "runs" => "acts of these that are drawn; with 0 all are taken",
         "schedule" => schedule_of(command),
-        "plan" => "to be explained, as 0@5s,1@9h; - is none",
+        "plan" => "to be explained, as 0@5s,1@9h",
         "takeover" => takeover_of(command),
         "idle" => "one that rests makes no more acts, or sleeps",
         "form" => "lines, events for a viewer of traces, or a picture",
@@ -96,7 +96,7 @@ pub(crate) fn meaning_of(command: &str, option: &str) -> &'static str {
 /// What the schedule of a command is.
 fn schedule_of(command: &str) -> &'static str {
     match command {
-        "explain" => "to be explained, as 0*9,1>0,1!h; - is none",
+        "explain" => "to be explained, as 0*9,1>0,1!h",
         _ => "as 0*9,1>0,1!h: acts, a victim, a hard fault",
     }
 }

@@ -1,7 +1,7 @@
 -- The pieces of some bytes, and the capsules above a line, one after another.
-use Rattle.std.proofs.Common.{◌≡◌, ◌≤◌, ◌<◌, ℕ, zero, suc, ◌+◌, ◌-◌, Bool, true, false, List, [], ◌∷◌, Option, Some, None, refl, ap, arith}
-use Rattle.ppm_pieces.specs.Pieces.{halves_of, split}
-use Rattle.ppm_notes.specs.Words.{after_half, after_pieces, begins_capsule, capsules_in, one_if}
+use Rattle.std.proofs.Common.{◌≡◌, ◌≤◌, ℕ, zero, suc, ◌+◌, ◌-◌, Bool, true, false, List, [], ◌∷◌, Some, None, refl, arith}
+use Rattle.ppm_pieces.specs.Pieces.{halves_of}
+use Rattle.ppm_notes.specs.Words.{after_pieces, begins_capsule, capsules_in, one_if}
 
 -- behind one piece one piece fewer is in front
 pub next_piece : (s n : ℕ) (bytes : List ℕ) (p : List ℕ × List ℕ) → halves_of s bytes ≡ Some p → (n ≡ 0 → ⊥)

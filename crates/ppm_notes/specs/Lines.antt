@@ -1,5 +1,5 @@
 -- What is said of a case or a saved text that is refused, after the line of the refusal.
-use Rattle.std.specs.Prelude.{ℕ, ◌==◌, if◌then◌else◌, nat_lt, Bool, true, false, List, [], ◌∷◌, ◌++◌, length, codes}
+use Rattle.std.specs.Prelude.{ℕ, ◌+◌, ◌==◌, if◌then◌else◌, nat_lt, Bool, List, [], ◌∷◌, ◌++◌, length, codes}
 use Rattle.std.specs.Str.{bytes_eq}
 use Rattle.ppm_pieces.specs.Pieces.{split}
 use Rattle.ppm_case.specs.Rules.{case_limit}

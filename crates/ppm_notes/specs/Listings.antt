@@ -1,10 +1,9 @@
 -- What is said of the text of a listing that is refused, after the line of the refusal.
-use Rattle.std.specs.Prelude.{ℕ, suc, ◌+◌, ◌-◌, ◌==◌, if◌then◌else◌, nat_lt, List, [], ◌++◌, length, codes, decimal, Option, Some, None}
+use Rattle.std.specs.Prelude.{ℕ, ◌+◌, ◌-◌, ◌==◌, if◌then◌else◌, nat_lt, List, [], ◌∷◌, ◌++◌, length, codes, decimal, Option, Some, None}
 use Rattle.ppm_pieces.specs.Pieces.{split}
 use Rattle.ppm_listing.specs.declared.keyword.Keyword.{Keyword}
 use Rattle.ppm_listing.specs.Tokens.{keyword_text}
 use Rattle.ppm_listing_reader.specs.declared.form.Sort.{Sort}
-use Rattle.ppm_listing_reader.specs.declared.token.Token.{Token}
 use Rattle.ppm_listing_reader.specs.Limits.{listing_limit}
 use Rattle.ppm_listing_reader.specs.Forms.{sorts}
 use Rattle.ppm_answers.specs.declared.conflict.ListingRefusal.{ListingRefusal}

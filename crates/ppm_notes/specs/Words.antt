@@ -1,5 +1,5 @@
 -- The words of a line of a listing, and what could stand in place of one.
-use Rattle.std.specs.Prelude.{ℕ, zero, suc, ◌+◌, ◌-◌, if◌then◌else◌, Bool, true, false, List, [], ◌∷◌, ◌++◌, length, map, codes, decimal, Option, Some, None}
+use Rattle.std.specs.Prelude.{ℕ, zero, suc, ◌+◌, ◌-◌, Bool, true, false, List, [], ◌∷◌, ◌++◌, length, map, codes, decimal, Option, Some, None}
 use Rattle.std.specs.Str.{bytes_eq}
 use Rattle.ppm_pieces.specs.Pieces.{halves_of, split}
 use Rattle.ppm_listing.specs.declared.keyword.Keyword.{Keyword}

@@ -3,7 +3,7 @@ ghost use Rattle.std.specs.Prelude.{◌≡◌, ◌++◌, ◌+◌, IfOk, OnOk, op
 ghost use Rattle.ppm_notes.specs.Listings.{conflict_notes as notes_of_conflict, count_in, fault_line};
 ghost use Rattle.ppm_notes.specs.Listings.{fault_notes as notes_of_fault, stop_count};
 ghost use Rattle.ppm_notes.specs.Listings.{listing_notes as notes_of_listing, row_text, rule_notes};
-ghost use Rattle.ppm_notes.specs.Listings.{spot_of, stop_notes, stop_words, wanted_in};
+ghost use Rattle.ppm_notes.specs.Listings.{spot_of, stop_notes, stop_text, stop_words, wanted_in};
 
 use crate::form::push_form;
 use crate::meaning::{conflict_words, listing_meaning, long_words, push_note};
@@ -26,7 +26,7 @@ fn push_spot(
     rest: Option<&[u8]>,
 ) -> Result<(), NoMemory>
     ensures { OnOk result (text.new.items
-        ≡ text.old.items ++ spot_of listing.now line (option_map (λ r. r.now) rest)) }
+        ≡ text.old.items ++ spot_of listing.now line (option_map (λ r. r.now) rest.entry)) }
 {
     let bytes = line_bytes(listing, line as usize);
     push_marked(text, line as usize, bytes, column(bytes, rest))?;
@@ -78,6 +78,23 @@ fn stop_in(
     }
 }
 
+/// Appends what stands in a line after some words, with a mark under it, and what could stand there.
+fn push_stop_text(
+    text: &mut Vec<u8>,
+    listing: &[u8],
+    line: u32,
+    rest: Option<&[u8]>,
+    expected: &[u8],
+) -> Result<(), NoMemory>
+    ensures { OnOk result (text.new.items
+        ≡ text.old.items ++ stop_text listing.now line (option_map (λ r. r.now) rest.entry) expected.now) }
+{
+    push_spot(text, listing, line, rest)?;
+    push_word(text, "expected: ")?;
+    text.extend_from_slice(expected)?;
+    push_word(text, "\n")
+}
+
 /// Appends the first word of a line that may not stand there, and what could in its place.
 fn push_stop(
     alloc: Global,
@@ -92,10 +109,7 @@ fn push_stop(
     let at = (line as usize).saturating_sub(above);
     let capsules = capsules_above(listing, line.saturating_sub(1));
     let (count, words) = stop_in(alloc, at, capsules, lead(at, capsules, bytes), bytes)?;
-    push_spot(text, listing, line, after_words(bytes, count))?;
-    push_word(text, "expected: ")?;
-    text.extend_from_slice(&words)?;
-    push_word(text, "\n")
+    push_stop_text(text, listing, line, after_words(bytes, count), &words)
 }
 
 /// Appends a line that breaks another rule, and its form.

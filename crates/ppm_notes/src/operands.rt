@@ -236,16 +236,23 @@ pub(crate) fn fitting(wanted: &[Wanted], tokens: &[Token]) -> usize
     ensures value { result ≡ fitting_in wanted.now tokens.now }
     ensures few { result ≤ length wanted.now }
 {
-    match (wanted.split_first(), tokens.split_first()) {
-        (Some((first, others)), Some((token, rest))) => {
-            if fits(*first, *token) {
-                fitting(others, rest) + 1
-            } else {
-                0
+    let mut ahead = wanted;
+    let mut left = tokens;
+    let mut count = 0;
+    'words: while let Some((first, others)) = ahead.split_first() {
+        match left.split_first() {
+            None => return count,
+            Some((token, rest)) => {
+                if !fits(*first, *token) {
+                    return count;
+                }
+                ahead = others;
+                left = rest;
+                count += 1;
             }
         }
-        (Some(_), None) | (None, Some(_)) | (None, None) => 0,
     }
+    count
 }
 
 /// What is said of the end of a line after so many words: that of the root may end after one.

@@ -1,5 +1,5 @@
 //! What is said of a plan or a schedule that is refused.
-ghost use Rattle.std.specs.Prelude.{◌≡◌, ◌++◌, ◌-◌, IfOk, OnOk, option_map};
+ghost use Rattle.std.specs.Prelude.{◌≡◌, ◌++◌, ◌-◌, IfOk, OnOk, decimal, option_map};
 ghost use Rattle.ppm_explain.specs.Meanings.{note_text};
 ghost use Rattle.ppm_notes.specs.Orders.{item_meaning as item_words, item_notes, item_text};
 ghost use Rattle.ppm_notes.specs.Orders.{killed_meaning, many_meaning, orders_notes as notes_of_orders};
@@ -16,7 +16,7 @@ use std::alloc::Global;
 
 /// An item: what stands in front of the next comma.
 fn item(rest: Option<&[u8]>) -> &[u8]
-    ensures { result.now ≡ item_text (option_map (λ r. r.now) rest) }
+    ensures { result.now ≡ item_text (option_map (λ r. r.now) rest.entry) }
 {
     match rest {
         Some(rest) => first_piece(rest, b','),
@@ -54,14 +54,34 @@ fn item_meaning(orders: ExplainedOrders) -> &'static str
     }
 }
 
+/// The number of the last of so many processors, which count from 0.
+fn last_processor(processors: u32) -> u64
+    ensures { result ≡ processors - 1 }
+{
+    u64::from(processors.saturating_sub(1))
+}
+
+/// Appends a note that ends in a number.
+fn push_counted_note(notes: &mut Vec<u8>, words: &str, number: u64) -> Result<(), NoMemory>
+    ensures { OnOk result (notes.new.items
+        ≡ notes.old.items ++ note_text (words.now ++ decimal number)) }
+{
+    push_word(notes, "note: ")?;
+    push_word(notes, words)?;
+    push_number(notes, number)?;
+    push_word(notes, "\n")
+}
+
 /// Appends which processors there are.
 fn push_processors(notes: &mut Vec<u8>, processors: u32) -> Result<(), NoMemory>
     ensures { OnOk result (notes.new.items
         ≡ notes.old.items ++ note_text (processors_meaning processors)) }
 {
-    push_word(notes, "note: processors and victims are 0 to ")?;
-    push_number(notes, u64::from(processors.saturating_sub(1)))?;
-    push_word(notes, "\n")
+    push_counted_note(
+        notes,
+        "processors and victims are 0 to ",
+        last_processor(processors),
+    )
 }
 
 /// What is said of too many items.

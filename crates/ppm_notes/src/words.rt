@@ -80,7 +80,7 @@ pub(crate) fn operand_tokens(alloc: Global, line: &[u8]) -> Result<Vec<Token>, N
 
 /// The column of what a line has after some words, from 1; that of its end where it has nothing.
 pub(crate) fn column(line: &[u8], rest: Option<&[u8]>) -> usize
-    ensures { result ≡ column_in line.now (option_map (λ r. r.now) rest) }
+    ensures { result ≡ column_in line.now (option_map (λ r. r.now) rest.entry) }
 {
     match rest {
         Some(rest) => line.len().saturating_sub(rest.len()) + 1,
@@ -154,7 +154,7 @@ pub(crate) fn push_thing(
     rest: Option<&[u8]>,
 ) -> Result<(), NoMemory>
     ensures { OnOk result (text.new.items
-        ≡ text.old.items ++ thing_text is_last (option_map (λ r. r.now) rest)) }
+        ≡ text.old.items ++ thing_text is_last (option_map (λ r. r.now) rest.entry)) }
 {
     match rest {
         Some(rest) => push_some_word(text, first_word(rest)),

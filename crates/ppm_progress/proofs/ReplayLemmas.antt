@@ -61,7 +61,7 @@ victim_there processors c j stated false some among = some
 victim_there processors c j None true some among = mod_below (c + 1 + j) processors some
 victim_there processors c j (Some v) true some among = among
 
-turn_there : (processors : ℕ) → 0 < processors → (w : Course) (act : ScheduledAct) → IsActAmong processors act → IsTurnAmong processors (turn_of processors w act)
+pub turn_there : (processors : ℕ) → 0 < processors → (w : Course) (act : ScheduledAct) → IsActAmong processors act → IsTurnAmong processors (turn_of processors w act)
 turn_there processors some w (scheduled.Step c stated) among = record {
   processor = among.0;
   act = victim_there processors c (loads_of w c) stated (seeks w c) some among.1;
@@ -84,20 +84,20 @@ all_spare processors [] all = tt
 all_spare processors (due ∷ dues) all = (step_spares processors due all.0, all_spare processors dues all.1)
 
 -- the acts that are due
-abbrev acts_due : List Due → List ScheduledAct
+abbrev pub acts_due : List Due → List ScheduledAct
 acts_due dues = map act_of dues
 
-acts_listed : (acts : List ScheduledAct) → acts_due (map Listed acts) ≡ acts
+pub acts_listed : (acts : List ScheduledAct) → acts_due (map Listed acts) ≡ acts
 acts_listed [] = refl
 acts_listed (act ∷ acts) = ap (λ (l : List ScheduledAct). act ∷ l) (acts_listed acts)
 
 -- rounds have no faults
-rounds_whole : (processors : ℕ) (dues : List Due) → AllByRecursion (IsStepDue processors) dues → faults_of (acts_due dues) ≡ 0
+pub rounds_whole : (processors : ℕ) (dues : List Due) → AllByRecursion (IsStepDue processors) dues → faults_of (acts_due dues) ≡ 0
 rounds_whole processors [] all = refl
 rounds_whole processors (InRound c ∷ dues) all = rounds_whole processors dues all.1
 rounds_whole processors (Listed act ∷ dues) all = absurd all.0
 
-faults_both : (first more : List ScheduledAct) → faults_of (first ++ more) ≡ faults_of first + faults_of more
+pub faults_both : (first more : List ScheduledAct) → faults_of (first ++ more) ≡ faults_of first + faults_of more
 faults_both [] more = let none : faults_of [] ≡ 0 = refl in omega (arith, none)
 faults_both (scheduled.Step c stated ∷ first) more = faults_both first more
 faults_both (scheduled.Fails c fault ∷ first) more =
@@ -106,7 +106,7 @@ faults_both (scheduled.Fails c fault ∷ first) more =
     let part : faults_of (scheduled.Fails c fault ∷ first) ≡ 1 + faults_of first = refl in
     omega (arith, rest, whole, part)
 
-map_both : (first more : List Due) → acts_due (first ++ more) ≡ acts_due first ++ acts_due more
+pub map_both : (first more : List Due) → acts_due (first ++ more) ≡ acts_due first ++ acts_due more
 map_both [] more = refl
 map_both (due ∷ first) more = ap (λ (l : List ScheduledAct). act_of due ∷ l) (map_both first more)
 

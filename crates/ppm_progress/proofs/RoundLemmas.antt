@@ -135,7 +135,7 @@ module _ (code : CodeParts) (input : List NamedArray) (s : Shape) (keeper : ℕ)
   abbrev pub HaveTurns : (a n least : ℕ) → List Turn → Type 0
   HaveTurns a n least turns = (c : ℕ) → a ≤ c → c < a + n → least ≤ turns_of c turns
 
-  step_made : (a : ℕ) (w : Course) → 0 < w.left → finish_at s w.state ≡ 0 → is_done_at (stand_of w.state a) ≡ false → Makes s code w (InRound a)
+  pub step_made : (a : ℕ) (w : Course) → 0 < w.left → finish_at s w.state ≡ 0 → is_done_at (stand_of w.state a) ≡ false → Makes s code w (InRound a)
   step_made a w left unset live = elim (made_or_not s code w (InRound a)) [
     | inl m ↦ m
     | inr k ↦

@@ -1,7 +1,6 @@
--- A replay without hard faults ends where acts and room are enough: the finish word is set, and no other cause of it is left than an outcome.
-use Rattle.std.proofs.Common.{◌≡◌, ◌≢◌, ◌≤◌, ◌<◌, ℕ, List, [], ◌∷◌, inl, inr, sym, subst, arith}
+-- A replay ends where acts and room are enough: the finish word is set, and no other cause of it is left than an outcome.
+use Rattle.std.proofs.Common.{◌≡◌, ◌≢◌, ◌≤◌, ◌<◌, ◌∙◌, ℕ, List, [], ◌∷◌, inl, inr, sym, subst, arith}
 use Rattle.std.specs.List.{AllByRecursion}
-use Rattle.std.proofs.lemmas.Bool.{cases_lt}
 use Rattle.ppm_strands.specs.Calm.{Calm}
 use Rattle.ppm_strands.specs.Run.{End as CapsuleEnd}
 use Rattle.ppm_words.specs.declared.named_array.NamedArray.{NamedArray}
@@ -31,8 +30,8 @@ use Rattle.ppm_following.specs.Followed.{followed}
 use Rattle.ppm_frames.specs.Seen.{arrays_at}
 use Rattle.ppm_frames.specs.Views.{view}
 use Rattle.ppm_kept.specs.Running.{IsFair, strands}
-use Rattle.ppm_progress.specs.Enough.{enough_acts}
-use Rattle.ppm_progress.specs.Replays.{ReplaysEnd}
+use Rattle.ppm_progress.specs.Enough.{enough_acts, enough_acts_by_places}
+use Rattle.ppm_progress.specs.Replays.{ReplaysEnd, ReplaysEndByPlaces}
 use Rattle.ppm_answers.specs.declared.answer.Answer.{Answer}
 use Rattle.ppm_answers.specs.declared.answer.Answer.TheVariants as answers
 use Rattle.ppm_answers.specs.declared.status.Status.{Status}
@@ -47,7 +46,7 @@ use Rattle.ppm_replay_command.specs.CaseReplayRows.{ReplayCaseRows}
 use Rattle.ppm_replay_command.specs.CaseReplays.{ReplayCaseHas}
 use Rattle.ppm_replay_command.specs.ReplayRows.{ReplayRows}
 use Rattle.ppm_outcomes.specs.CodeReplays.{ReplaysAreAsCode}
-use Rattle.ppm_replay_command.specs.CompleteReplays.{NeedsMoreActs, NoneIsHard, ReplayIsEnough, ReplayEnds, CaseReplayEnds}
+use Rattle.ppm_replay_command.specs.CompleteReplays.{ActsAreEnough, NeedsMoreActs, ReplayIsEnough, ReplayEnds, CaseReplayEnds}
 use Rattle.ppm_replay_command.specs.ReplayLaws.{CaseReplaysComplete, IsReplayEnd, ReplaysComplete, ReplaysOfCodeComplete, UnfinishedNeedMore}
 use Rattle.ppm_replay_command.specs.ReplayLaws.{UnfinishedProgramsNeedMore}
 use Rattle.ppm_outcomes.specs.ProgramsAsCode.{ProgramsAreAsCode}
@@ -59,10 +58,10 @@ use Rattle.ppm_outcomes.proofs.ReplayLemmas.{of_code}
 use Rattle.ppm_replay_command.proofs.ActsAmong.{acts_among}
 use Rattle.ppm_replay_command.proofs.UnfinishedLemmas.{unfinished_has}
 
-module _ (shows : ImagesShowTheRun) (law : ReplaysEnd) (options : ReplayOptions) (schedule : List ℕ) (items : List ScheduleItem)
-    (accepted : IsAccepted schedule_form schedule options.processors items) (spares : NoneIsHard items) (code : CodeParts) (input : List NamedArray)
+module _ (shows : ImagesShowTheRun) (law : ReplaysEnd) (places : ReplaysEndByPlaces) (options : ReplayOptions) (schedule : List ℕ)
+    (items : List ScheduleItem) (accepted : IsAccepted schedule_form schedule options.processors items) (code : CodeParts) (input : List NamedArray)
     (may : MayRun code input) (end : CapsuleEnd Result) (comes : ComesTo code input end)
-    (enough : enough_acts (acts_of items) options.processors end.counts.capsules ≤ options.turns) where
+    (enough : ActsAreEnough options items end.counts.capsules) where
   -- the finish word is set after the replay
   set : (keeper : ℕ) (m : Situation) → OpensRun (sizes_of options) code input keeper m → finish_in (followed m items options.turns) ≢ 0
   set keeper m b =
@@ -80,25 +79,29 @@ module _ (shows : ImagesShowTheRun) (law : ReplaysEnd) (options : ReplayOptions)
       let ends = ends_as (sym shown.strands) (sym shown.root) (sym shown.arrays) end comes in
       let named = acts_among options.processors 1 items accepted.obeyed.there in
       let there = subst (λ (n : ℕ). AllByRecursion (λ item. IsActAmong n item.act) items) (sym b.sized.processors) named in
-      let acts = subst (λ (n : ℕ). enough_acts (acts_of items) n end.counts.capsules ≤ options.turns) (sym b.sized.processors) enough in
       subst (λ (x : Situation). finish_in (followed x items options.turns) ≢ 0) (sym b.loads)
-      (law code input s keeper b.image fair opened calm items there spares end ends options.turns acts)
+      (elim enough [
+        | inl plain ↦
+            let acts = subst (λ (n : ℕ). enough_acts (acts_of items) n end.counts.capsules ≤ options.turns) (sym b.sized.processors) plain.1 in
+            law code input s keeper b.image fair opened calm items there plain.0 end ends options.turns acts
+        | inr by ↦
+            let acts = subst (λ (n : ℕ). enough_acts_by_places (acts_of items) n end.counts.capsules ≤ options.turns) (sym b.sized.processors) by.1 in
+            let lives = subst (λ (n : ℕ). accepted.keeper < n) (sym b.sized.processors) accepted.obeyed.below in
+            places code input s keeper b.image (b.sized.takeover ∙ by.0) fair opened calm items there accepted.keeper lives accepted.obeyed.kept.spared end ends
+            options.turns acts
+      ])
 
 -- so one that is unfinished had too few acts
-pub unfinished_need_more : ImagesShowTheRun → ReplaysEnd → UnfinishedNeedMore
-unfinished_need_more shows law options are schedule items accepted code input may acts h spares end comes =
-    elim (cases_lt options.turns (enough_acts (acts_of items) options.processors end.counts.capsules)) [
-      | inl few ↦ few
-      | inr enough ↦
-          absurd (set shows law options schedule items accepted spares code input may end comes enough h.keeper h.start h.opens
-          (unfinished_has options items code input acts h))
-    ]
+pub unfinished_need_more : ImagesShowTheRun → ReplaysEnd → ReplaysEndByPlaces → UnfinishedNeedMore
+unfinished_need_more shows law places options are schedule items accepted code input may acts h end comes enough =
+    set shows law places options schedule items accepted code input may end comes enough h.keeper h.start h.opens
+    (unfinished_has options items code input acts h)
 
 module _ (few : UnfinishedNeedMore) (law : ReplaysAreAsCode) (options : ReplayOptions) (are : AreReplayed options) (schedule : List ℕ)
-    (items : List ScheduleItem) (accepted : IsAccepted schedule_form schedule options.processors items) (spares : NoneIsHard items) (code : CodeParts)
+    (items : List ScheduleItem) (accepted : IsAccepted schedule_form schedule options.processors items) (code : CodeParts)
     (input : List NamedArray) (may : MayRun code input) (enough : ReplayIsEnough options items code input) where
   not_few : NeedsMoreActs options items code input → ⊥
-  not_few needs = let more = needs spares enough.end enough.comes in let some = enough.for_acts in omega (arith, more, some)
+  not_few needs = needs enough.end enough.comes enough.for_acts
 
   not_little : CodeNeedsMoreRoom code input options.room → ⊥
   not_little needs = let more = needs enough.end enough.comes in let some = enough.for_room in omega (arith, more, some)
@@ -114,8 +117,8 @@ module _ (few : UnfinishedNeedMore) (law : ReplaysAreAsCode) (options : ReplayOp
 
 -- this holds with all options, schedules and sound codes
 pub replays_of_code_complete : UnfinishedNeedMore → ReplaysAreAsCode → ReplaysOfCodeComplete
-replays_of_code_complete few law options are schedule items accepted spares code input may enough a h =
-    ends_of few law options are schedule items accepted spares code input may enough a h
+replays_of_code_complete few law options are schedule items accepted code input may enough a h =
+    ends_of few law options are schedule items accepted code input may enough a h
 
 pub programs_need_more : UnfinishedNeedMore → ProgramsAreAsCode → UnfinishedProgramsNeedMore
 programs_need_more few programs options are schedule items accepted text t has acts h =
@@ -129,7 +132,7 @@ pub record Laws : Type 0 where
   pub plans : PlansHaveOneAnswer
 
 module _ (laws : Laws) (options : ReplayOptions) (are : AreReplayed options) (schedule : List ℕ) (items : List ScheduleItem)
-    (accepted : IsAccepted schedule_form schedule options.processors items) (spares : NoneIsHard items) (text : List ℕ) (t : ProgramTree)
+    (accepted : IsAccepted schedule_form schedule options.processors items) (text : List ℕ) (t : ProgramTree)
     (has : HasProgram text t) (enough : ReplayIsEnough options items (code_of t) (initial_arrays t)) where
   -- the text has one program, and the schedule one list of items
   by_program : (a : Answer) (others : List ScheduleItem) → IsAccepted schedule_form schedule options.processors others → (u : ProgramTree) → HasProgram text u
@@ -137,7 +140,7 @@ module _ (laws : Laws) (options : ReplayOptions) (are : AreReplayed options) (sc
   by_program a others also u other h =
       let with_items = subst (λ (x : List ScheduleItem). CodeHas options x (code_of u) (initial_arrays u) a)
       (laws.plans.schedules.items schedule others items also.has accepted.has) h in
-      laws.of_code options are schedule items accepted spares (code_of t) (initial_arrays t) (laws.programs text t has).may enough a
+      laws.of_code options are schedule items accepted (code_of t) (initial_arrays t) (laws.programs text t has).may enough a
       (subst (λ (x : ProgramTree). CodeHas options items (code_of x) (initial_arrays x) a) ((laws.texts text).program u t other has) with_items)
 
   program_ends : (a : Answer) → ReplayHas options schedule text a → IsReplayEnd a
@@ -147,11 +150,11 @@ module _ (laws : Laws) (options : ReplayOptions) (are : AreReplayed options) (sc
   program_ends a h = by_program a h.items h.accepted h.has.0 h.has.1 h.has.2
 
 pub replays_complete : Laws → ReplaysComplete
-replays_complete laws options are schedule items accepted spares text t has enough a h =
-    program_ends laws options are schedule items accepted spares text t has enough a h
+replays_complete laws options are schedule items accepted text t has enough a h =
+    program_ends laws options are schedule items accepted text t has enough a h
 
 module _ (law : ReplaysOfCodeComplete) (texts : FaultsTellCases) (plans : PlansHaveOneAnswer) (options : ReplayOptions) (are : AreReplayed options)
-    (schedule : List ℕ) (items : List ScheduleItem) (accepted : IsAccepted schedule_form schedule options.processors items) (spares : NoneIsHard items)
+    (schedule : List ℕ) (items : List ScheduleItem) (accepted : IsAccepted schedule_form schedule options.processors items)
     (text : List ℕ) (code : CodeParts) (input : List NamedArray) (is : IsCaseOf text code input) (sound : IsSound code input)
     (enough : ReplayIsEnough options items code input) where
   -- the text is of one case, and the schedule has one list of items
@@ -161,7 +164,7 @@ module _ (law : ReplaysOfCodeComplete) (texts : FaultsTellCases) (plans : PlansH
       let same = texts.one_case text c code l input other is in
       let with_items = subst (λ (x : List ScheduleItem). CodeHas options x c l a)
       (plans.schedules.items schedule others items also.has accepted.has) h in
-      law options are schedule items accepted spares code input (may_run text code input is sound) enough a
+      law options are schedule items accepted code input (may_run text code input is sound) enough a
       (subst (λ (x : CodeParts). CodeHas options items x input a) same.0
       (subst (λ (x : List NamedArray). CodeHas options items c x a) same.1 with_items))
 
@@ -173,8 +176,8 @@ module _ (law : ReplaysOfCodeComplete) (texts : FaultsTellCases) (plans : PlansH
   case_ends a h = by_case a h.items h.accepted h.has.code h.has.input h.has.is h.has.has
 
 pub case_replays_complete : ReplaysOfCodeComplete → FaultsTellCases → PlansHaveOneAnswer → CaseReplaysComplete
-case_replays_complete law texts plans options are schedule items accepted spares text code input is sound enough a h =
-    case_ends law texts plans options are schedule items accepted spares text code input is sound enough a h
+case_replays_complete law texts plans options are schedule items accepted text code input is sound enough a h =
+    case_ends law texts plans options are schedule items accepted text code input is sound enough a h
 
 -- what is known to end is written with the status of an end
 ended : (status : Status) (answer : Answer) → IsReplayEnd answer → status ≡ status_of answer → IsOneOf status (statuses.Ended ∷ statuses.Trapped ∷ [])
@@ -188,9 +191,9 @@ module _ (options : ReplayOptions) (are : AreReplayed options) (schedule : List 
   replay_ends more complete rows = record {
     unfinished = λ w.
         more options are schedule w.read.2.items w.read.2.accepted w.read.0 w.read.2.has.0 w.read.2.has.1 options.turns w.read.2.has.2;
-    completes = λ items accepted spares all e t has enough well.
+    completes = λ items accepted all e t has enough well.
         let k = rows.rows.rows.known all e well in
-        ended status k.0 (complete options are schedule items accepted spares all t has enough k.0 k.1) k.2.own;
+        ended status k.0 (complete options are schedule items accepted all t has enough k.0 k.1) k.2.own;
   }
 
   -- and from those of a case
@@ -199,7 +202,7 @@ module _ (options : ReplayOptions) (are : AreReplayed options) (schedule : List 
     unfinished = λ w sound.
         let h = w.read.2.has in
         more options are schedule w.read.2.items w.read.2.accepted h.code h.input (may_run w.read.0 h.code h.input h.is sound) options.turns h.has;
-    completes = λ items accepted spares all e code input is sound enough well.
+    completes = λ items accepted all e code input is sound enough well.
         let k = rows.rows.rows.known all e well in
-        ended status k.0 (complete options are schedule items accepted spares all code input is sound enough k.0 k.1) k.2.own;
+        ended status k.0 (complete options are schedule items accepted all code input is sound enough k.0 k.1) k.2.own;
   }

@@ -87,9 +87,9 @@ module _ (options : ReplayOptions) (are : AreReplayed options) (schedule : List 
     unfinished = λ w.
         let r = w.replays.read.2 in
         more options are schedule r.items r.accepted w.replays.read.0 r.has.0 r.has.1 options.turns r.has.2.has;
-    completes = λ items accepted spares all e t has enough well.
+    completes = λ items accepted all e t has enough well.
         let k = rows.rows.rows.known all e well in
-        ended options schedule all status k.0 k.1 (λ b h. complete options are schedule items accepted spares all t has enough b h) k.2.own;
+        ended options schedule all status k.0 k.1 (λ b h. complete options are schedule items accepted all t has enough b h) k.2.own;
   }
 
   -- and from those of a case
@@ -100,8 +100,8 @@ module _ (options : ReplayOptions) (are : AreReplayed options) (schedule : List 
         let r = w.replays.read.2 in
         more options are schedule r.items r.accepted r.has.code r.has.input (may_run w.replays.read.0 r.has.code r.has.input r.has.is sound) options.turns
         r.has.has.has;
-    completes = λ items accepted spares all e code input is sound enough well.
+    completes = λ items accepted all e code input is sound enough well.
         let k = rows.rows.rows.known all e well in
         ended_case options schedule all status k.0 k.1
-        (λ b h. complete options are schedule items accepted spares all code input is sound enough b h) k.2.own;
+        (λ b h. complete options are schedule items accepted all code input is sound enough b h) k.2.own;
   }

@@ -1,4 +1,4 @@
--- Laws of replays without hard faults: unfinished ones need more acts, and with acts and room enough each ends.
+-- Laws of replays: unfinished ones need more acts, and with acts and room enough each ends.
 use Rattle.std.specs.Prelude.{ℕ, List}
 use Rattle.ppm_words.specs.declared.named_array.NamedArray.{NamedArray}
 use Rattle.ppm_code.specs.declared.code.CodeParts.{CodeParts}
@@ -18,10 +18,10 @@ use Rattle.ppm_cli.specs.Words.{AreReplayed}
 use Rattle.ppm_outcomes.specs.AsCode.{MayRun}
 use Rattle.ppm_replay_command.specs.CaseReplays.{ReplayCaseHas}
 use Rattle.ppm_outcomes.specs.Replays.{CodeHas, ProgramHas, ReplayHas}
-use Rattle.ppm_replay_command.specs.CompleteReplays.{NoneIsHard, NeedsMoreActs, ReplayIsEnough}
+use Rattle.ppm_replay_command.specs.CompleteReplays.{NeedsMoreActs, ReplayIsEnough}
 
--- with options in their ranges, and a schedule that is accepted: the replay of a sound code that is unfinished needs more acts, if its schedule has no
--- hard fault; of a text's program likewise
+-- with options in their ranges, and a schedule that is accepted: the replay of a sound code that is unfinished needs more acts; of a text's program
+-- likewise
 abbrev pub UnfinishedNeedMore : Type 0
 UnfinishedNeedMore = (options : ReplayOptions) → AreReplayed options
     → (schedule : List ℕ) (items : List ScheduleItem) → IsAccepted schedule_form schedule options.processors items
@@ -40,24 +40,24 @@ IsReplayEnd (answers.EndedWith arrays tally) = Unit {0}
 IsReplayEnd (answers.TrappedWith trap line tally) = Unit {0}
 IsReplayEnd answer = ⊥
 
--- with options in their ranges, and a schedule that is accepted and has no hard fault: where that is enough for a sound code, its replay ends
+-- with options in their ranges, and a schedule that is accepted: where that is enough for a sound code, its replay ends
 abbrev pub ReplaysOfCodeComplete : Type 0
 ReplaysOfCodeComplete = (options : ReplayOptions) → AreReplayed options
-    → (schedule : List ℕ) (items : List ScheduleItem) → IsAccepted schedule_form schedule options.processors items → NoneIsHard items
+    → (schedule : List ℕ) (items : List ScheduleItem) → IsAccepted schedule_form schedule options.processors items
     → (code : CodeParts) (input : List NamedArray) → MayRun code input → ReplayIsEnough options items code input
     → (answer : Answer) → CodeHas options items code input answer → IsReplayEnd answer
 
 -- so where it is enough for a text's program, each answer of the text is that its replay ended
 abbrev pub ReplaysComplete : Type 0
 ReplaysComplete = (options : ReplayOptions) → AreReplayed options
-    → (schedule : List ℕ) (items : List ScheduleItem) → IsAccepted schedule_form schedule options.processors items → NoneIsHard items
+    → (schedule : List ℕ) (items : List ScheduleItem) → IsAccepted schedule_form schedule options.processors items
     → (text : List ℕ) (t : ProgramTree) → HasProgram text t → ReplayIsEnough options items (code_of t) (initial_arrays t)
     → (answer : Answer) → ReplayHas options schedule text answer → IsReplayEnd answer
 
 -- and so where it is enough for a text's sound case
 abbrev pub CaseReplaysComplete : Type 0
 CaseReplaysComplete = (options : ReplayOptions) → AreReplayed options
-    → (schedule : List ℕ) (items : List ScheduleItem) → IsAccepted schedule_form schedule options.processors items → NoneIsHard items
+    → (schedule : List ℕ) (items : List ScheduleItem) → IsAccepted schedule_form schedule options.processors items
     → (text : List ℕ) (code : CodeParts) (input : List NamedArray) → IsCaseOf text code input → IsSound code input
     → ReplayIsEnough options items code input
     → (answer : Answer) → ReplayCaseHas options schedule text answer → IsReplayEnd answer

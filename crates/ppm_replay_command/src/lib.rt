@@ -7,8 +7,8 @@
 //! (`specs/CaseReplays`), and always return. What follows from each status: `specs/ReplayRows`,
 //! `specs/CaseReplayRows`. `counted_replay_command` and `counted_replay_case_command` deliver that,
 //! and what is counted in the run (`specs/CountedReplays`, `specs/CountedCases`,
-//! `specs/CountedReplayRows`, `specs/CountedCaseRows`). Without hard faults, and with acts and room
-//! enough, a replay ends (`specs/CompleteReplays`, `specs/ReplayLaws`).
+//! `specs/CountedReplayRows`, `specs/CountedCaseRows`). With acts and room enough a replay ends, by
+//! places or without hard faults (`specs/CompleteReplays`, `specs/ReplayLaws`).
 //! Stands on `ppm_following`, `ppm_orders`, `ppm_outcomes`, `ppm_trace`, `ppm_progress` and
 //! `ppm_answers`; `ppm_top` calls it. The schedules and the counts are this project's.
 #![tactic(auto)]

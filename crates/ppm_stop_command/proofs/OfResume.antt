@@ -91,7 +91,7 @@ module _ (laws : ResumeLaws) (options : ResumeOptions) (before now : ToldLists) 
   program_needs_turns c h made =
       resumed_needs_turns laws.legs laws.comes code input its.may z (by_code left) options before now items c h made
 
-  program_breaks : (place : ℕ) (h : Resumed (answers.Broken place)) 
+  program_breaks : (place : ℕ) (h : Resumed (answers.Broken place))
       → 2 ^ 34 + 2 ^ 28 < worked_in_all left.start (legs_with left h.start.state.words) h.run.turns
   program_breaks place h = resumed_breaks laws.legs laws.comes code input its.may z (by_code left) options before now items place h
 

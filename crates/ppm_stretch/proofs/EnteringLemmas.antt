@@ -7,6 +7,7 @@ use Rattle.ppm_cells.specs.declared.shape.Shape.{Shape}
 use Rattle.ppm_code.specs.declared.code.Capsule.{Capsule}
 use Rattle.ppm_code.specs.declared.code.CodeParts.{CodeParts}
 use Rattle.ppm_step.specs.declared.row.Seat.{Seat}
+use Rattle.ppm_step.specs.declared.turn.Next.{Next}
 use Rattle.ppm_step.specs.declared.turn.Next.TheVariants.{Work, Look, Seek}
 use Rattle.ppm_step.specs.Standings.{IsAt, IsWithin, IsDone, enters, at_finish}
 use Rattle.ppm_step.specs.Locals.{IsHeaderOf}
@@ -21,11 +22,11 @@ use Rattle.ppm_table.specs.Run.{stands_by, deeds_in, deed_by, seen, Mine, IsSeat
 use Rattle.ppm_stretch.specs.Steady.{Goes}
 use Rattle.ppm_stretch.proofs.SteadyLemmas.{goes_one, running_lives}
 
-pub seeks_no : (kind : RestartKind) (frame copy : ℕ) → kind ≡ Run frame copy → before_kind kind ≢ Seek
-seeks_no kind frame copy is e = let x : Look ≡ Seek = sym (ap before_kind is) ∙ e in cc
+pub seeks_no : (kind : RestartKind) → before_kind kind ≡ Look → before_kind kind ≢ Seek
+seeks_no kind is e = let x : Look ≡ Seek = sym is ∙ e in cc
 
-pub works_not : (s : Shape) (code : CodeParts) (kind : RestartKind) (frame copy : ℕ) → kind ≡ Run frame copy → is_work_next s code (before_kind kind) ≡ false
-works_not s code kind frame copy is = ap (λ (k : RestartKind). is_work_next s code (before_kind k)) is
+pub works_not : (s : Shape) (code : CodeParts) (kind : RestartKind) → before_kind kind ≡ Look → is_work_next s code (before_kind kind) ≡ false
+works_not s code kind is = ap (λ (n : Next). is_work_next s code n) is
 
 pub works : (s : Shape) (code : CodeParts) (kind : RestartKind) (frame copy : ℕ) → kind ≡ Run frame copy → is_work_next s code (step_of kind) ≡ true
 works s code kind frame copy is = ap (λ (k : RestartKind). is_work_next s code (step_of k)) is
@@ -52,11 +53,11 @@ header_lives s code seat header found h none e =
     sym (h.begins_with code) ∙ sym (ap (λ (n : ℕ). at_finish s code seat.own seat.place (Some seat.restart) n) none) ∙ e in cc
 
 -- the load of the finish word is a look
-pub finish_goes : (k : Opening) (seat : Seat) (frame copy : ℕ) (me me' : Mine) (found : ℕ) → seat.restart.kind ≡ Run frame copy → 0 < k.shape.processors
+pub finish_goes : (k : Opening) (seat : Seat) (me me' : Mine) (found : ℕ) → before_kind seat.restart.kind ≡ Look → 0 < k.shape.processors
     → IsAt seat.place (Some seat.restart) ≡ stands_by k seat.own (deeds_in me.0) → IsSeat seat.own me → me' ≡ (seen me.0 (deed_by (Loads 0) found), me.1) → Goes k seat.own me me' 1 0 1 false
-finish_goes k seat frame copy me me' found kind some at sits made =
-    goes_one k seat.own false me me' (Loads 0) found (IsAt seat.place (Some seat.restart)) at sits (λ e. cc) refl (seeks_no seat.restart.kind frame copy kind) some refl tt
-    (works_not k.shape k.code seat.restart.kind frame copy kind) made
+finish_goes k seat me me' found looks some at sits made =
+    goes_one k seat.own false me me' (Loads 0) found (IsAt seat.place (Some seat.restart)) at sits (λ e. cc) refl (seeks_no seat.restart.kind looks) some refl tt
+    (works_not k.shape k.code seat.restart.kind looks) made
 
 -- that of the header is work
 pub header_goes : (k : Opening) (seat : Seat) (frame copy header : ℕ) (me me' : Mine) (found : ℕ) → seat.restart.kind ≡ Run frame copy → header ≡ frame + 2 + copy → 0 < k.shape.processors

@@ -11,6 +11,8 @@ pub mod SteadyLemmas
 mod EnteringLemmas
 mod RoundLemmas
 mod RowLemmas
+mod SeatedLemmas
 mod EndingLemmas
 mod AskingLemmas
 mod WaitingLemmas
+mod SchedulingLemmas

@@ -4,6 +4,8 @@ ghost use Rattle.std.specs.Prelude.{◌≡◌, ◌≤◌, ◌<◌, slice_get, If
 ghost use Rattle.ppm_cells.specs.Cells.{word_count};
 ghost use Rattle.ppm_cells.specs.declared.restart.RestartKind.TheVariants.{Run};
 ghost use Rattle.ppm_step.specs.Locals.{IsHeaderOf};
+ghost use Rattle.ppm_step.specs.State.{before_kind};
+ghost use Rattle.ppm_step.specs.declared.turn.Next.TheVariants.{Look};
 ghost use Rattle.ppm_code.specs.declared.act.End.TheVariants.{Next};
 ghost use Rattle.ppm_step.specs.Facts.{IsHome, IsSeat as IsPlace};
 ghost use Rattle.ppm_step.specs.Frames.{Rest, ending};
@@ -26,7 +28,7 @@ use ppm_step::{Home, Running, Seat as Place, Stage, Want};
 use ppm_table::{Found, View, Words, tell};
 use ppm_widths::set_to_0;
 
-/// Loads the finish word, before a capsule of a frame whose header is at this address.
+/// Loads the finish word, before the row of a place that doesn't seek work.
 #[inline(always)]
 pub(crate) fn load_finish<W: Watch>(
     words: &Words,
@@ -35,12 +37,11 @@ pub(crate) fn load_finish<W: Watch>(
     mine: &mut Seat<(), View>,
     watch: &mut W,
     place: &Place,
-    header: u32,
 ) -> Found
     requires table { IsAtCode mine.old.table_id words.now.shared.table_id words.now.shared.key shape.now code.now }
     requires sits { IsSeat place.now.own mine.old.me }
     requires place { place.now.own < shape.now.processors }
-    requires header { IsHeaderOf shape.now place.now header }
+    requires looks { before_kind place.now.restart.kind ≡ Look }
     requires stands { StandsBefore words.now.shared.key place.now mine.old.me }
     ensures table { mine.new.table_id ≡ mine.old.table_id }
     ensures refused { result.fine ≡ false → KeepsList (W.told watch.old) (W.told watch.new) }
@@ -50,7 +51,7 @@ pub(crate) fn load_finish<W: Watch>(
     ensures stands { stands_by words.now.shared.key place.now.own (deeds_in mine.new.me.0)
         ≡ at_finish shape.now code.now place.now.own place.now.place (Some place.now.restart) result.word }
 {
-    let _ = (shape.slots, header);
+    let _ = shape.slots;
     let _ = code.parts().root;
     tell(words, shape, mine, watch, place.place, Want::Loads(0))
 }
@@ -192,7 +193,7 @@ pub(crate) fn begin<W: Watch>(
     ensures begun { HasBegun W.told words.now.shared.key shape.now code.now place.now frame copy mine.old.me mine.new.me watch.old watch.new result }
 {
     let _ = (frame, copy);
-    let finish = load_finish(words, shape, code, mine, watch, place, header);
+    let finish = load_finish(words, shape, code, mine, watch, place);
     if finish.word != 0 {
         return if finish.fine {
             Begun::Over

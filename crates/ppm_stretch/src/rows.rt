@@ -17,12 +17,14 @@ ghost use Rattle.ppm_stretch.specs.Steady.{Moves, Refuses, is_exchange, looks_be
 use crate::asking::fills;
 use crate::frames::{ends, rounds};
 use crate::refusing::give_way;
-use crate::way::{NONE, OneStep, REFUSED, Steps, row};
+use crate::scheduling::{MOST_OF_A_ROW, has_row, rows_along};
+use crate::seated::Seated;
+use crate::way::{NONE, OneStep, REFUSED, Steps, looks_behind, one_of, row};
 use atomic_table::Seat;
 use ppm_cells::{RestartKind, Shape};
 use ppm_code::{Code, Step};
 use ppm_ports::Watch;
-use ppm_step::{Local, Next, Point, Row, Stage, Stand, Then, Want};
+use ppm_step::{Local, Next, Point, Row, Seat as Place, Stage, Stand, Then, Want};
 use ppm_table::{Processor, Shared, View, Words, tell};
 
 /// Whether a victim is due for the coming step.
@@ -129,6 +131,18 @@ fn frame_steps<W: Watch>(
                 return rounds(
                     local, words, mine, watch, shape, code, widths, place, restart, most,
                 );
+            }
+            if has_row(restart.kind) && most >= MOST_OF_A_ROW {
+                let memory = Seated {
+                    words,
+                    shape: *shape,
+                };
+                let seat = Place {
+                    own: local.own,
+                    place,
+                    restart,
+                };
+                return rows_along(local, &memory, mine, watch, code, &seat, most);
             }
         }
     }
@@ -338,23 +352,6 @@ pub(crate) fn steps_along<W: Watch>(
         work += more.work;
     }
     row(made, work, looks, exchanged)
-}
-
-/// Whether one of them holds.
-#[inline(always)]
-fn one_of(first: bool, second: bool) -> bool
-    ensures { result ≡ (first || second) }
-{
-    first || second
-}
-
-/// How many looks there are with these, since the last work.
-#[inline(always)]
-fn looks_behind(before: u64, work: u64, looks: u64) -> u64
-    requires { before + looks < 2 ^ 64 }
-    ensures { result ≡ looks_behind before work looks }
-{
-    if work == 0 { before + looks } else { looks }
 }
 
 /// Makes steps of a processor in a row, at most so many, up to one for which something is to be

@@ -1,5 +1,6 @@
 //! What comes of the steps of a capsule, and of steps in a row.
-ghost use Rattle.std.specs.Prelude.{◌≡◌, false};
+ghost use Rattle.std.specs.Prelude.{◌≡◌, ◌<◌, ◌+◌, ◌^◌, ◌||◌, false};
+ghost use Rattle.ppm_stretch.specs.Steady.{looks_behind};
 
 use ppm_cells::Restart;
 use ppm_code::Reached;
@@ -122,6 +123,28 @@ pub struct Circuit {
     pub end: RoundEnd,
 }
 
+/// How the row of a restart of work ended, with the load of the finish word before it.
+#[derive(Clone, Copy, Debug, PartialEq, Eq)]
+pub enum RowEnd {
+    /// The place goes on with this restart.
+    Installed(Restart),
+    /// It has met broken words.
+    Broken,
+    /// The finish word was set: the processor is done.
+    Over,
+    /// The watcher refused; whether the processor is still to take a step.
+    Refused(bool),
+}
+
+/// A row of work: so many steps of work after the load of the finish word, whether one was a
+/// compare-and-modify, and how it ended.
+#[derive(Clone, Copy, Debug, PartialEq, Eq)]
+pub struct Rowed {
+    pub work: u64,
+    pub exchanged: bool,
+    pub end: RowEnd,
+}
+
 /// What came of one step.
 #[derive(Clone, Copy, Debug, PartialEq, Eq)]
 pub struct OneStep {
@@ -178,4 +201,21 @@ pub(crate) fn row(made: u64, work: u64, looks: u64, exchanged: bool) -> Steps
         exchanged,
         refused: false,
     }
+}
+
+/// How many looks there are with these, since the last work.
+#[inline(always)]
+pub(crate) fn looks_behind(before: u64, work: u64, looks: u64) -> u64
+    requires { before + looks < 2 ^ 64 }
+    ensures { result ≡ looks_behind before work looks }
+{
+    if work == 0 { before + looks } else { looks }
+}
+
+/// Whether one of them holds.
+#[inline(always)]
+pub(crate) fn one_of(first: bool, second: bool) -> bool
+    ensures { result ≡ (first || second) }
+{
+    first || second
 }

@@ -15,3 +15,4 @@ pub mod AskedLemmas
 mod Orders
 pub mod TellingLemmas
 pub mod SaidLemmas
+pub mod MovesLemmas

@@ -4,3 +4,4 @@ pub mod Events
 pub mod Telling
 pub mod Shown
 pub mod Closed
+pub mod Moves

@@ -67,7 +67,7 @@ use Rattle.ppm_takeover.proofs.SoonRuns.{tended_moments, tended_held}
 use Rattle.ppm_takeover.proofs.CarriedRuns.{IsTended, all_tended, tended_then, raised_by, nothing_is_lost_over_legs}
 
 -- tags of so many places
-tags_rise : (n : ℕ) (m k : Spot → Word) → ((v : ℕ) → v < n → tag (m (Holder v)) ≤ tag (k (Holder v))) → holder_tags n m ≤ holder_tags n k
+pub tags_rise : (n : ℕ) (m k : Spot → Word) → ((v : ℕ) → v < n → tag (m (Holder v)) ≤ tag (k (Holder v))) → holder_tags n m ≤ holder_tags n k
 tags_rise zero m k each = let a : holder_tags zero m ≡ 0 = refl in let b : holder_tags zero k ≡ 0 = refl in omega (arith, a, b)
 tags_rise (suc n) m k each =
     let rest = tags_rise n m k (λ v lt. each v (omega (arith, lt))) in
@@ -76,7 +76,7 @@ tags_rise (suc n) m k each =
     let b : holder_tags (suc n) k ≡ tag (k (Holder n)) + holder_tags n k = refl in
     omega (arith, rest, one, a, b)
 
-tags_rise_at : (n p : ℕ) (m k : Spot → Word) → ((v : ℕ) → v < n → tag (m (Holder v)) ≤ tag (k (Holder v))) → p < n
+pub tags_rise_at : (n p : ℕ) (m k : Spot → Word) → ((v : ℕ) → v < n → tag (m (Holder v)) ≤ tag (k (Holder v))) → p < n
     → tag (m (Holder p)) < tag (k (Holder p)) → holder_tags n m < holder_tags n k
 tags_rise_at zero p m k each lt up = absurd (omega (arith, lt))
 tags_rise_at (suc n) p m k each lt up =
@@ -106,7 +106,7 @@ tags_most (suc n) k m each =
     omega (arith, rest, one, a, b)
 
 -- a standing before the load of a holder word
-seeks_is : (x : Standing) → seeks_holder x ≡ true → (seat : Seat) × (x ≡ IsWithin seat (Now (Load SeekHolder)))
+pub seeks_is : (x : Standing) → seeks_holder x ≡ true → (seat : Seat) × (x ≡ IsWithin seat (Now (Load SeekHolder)))
 seeks_is (IsWithin seat (Now (Load SeekHolder))) e = (seat, refl)
 seeks_is x e = absurd (true≢false (sym e))
 
@@ -274,7 +274,7 @@ seek_not_at_work m p k (inl work) seeks = true≢false (sym work ∙ ap is_work 
 seek_not_at_work m p k (inr steals) seeks = subst (λ (x : RestartKind). Steals m p x steals.0) seeks steals.1
 
 -- products of numbers of legs and processors
-no_legs : (n : ℕ) → n * 0 ≡ 0
+pub no_legs : (n : ℕ) → n * 0 ≡ 0
 no_legs n = grind arith
 
 one_leg : (n k : ℕ) → n * (k + 1) ≡ n * k + n
@@ -302,7 +302,7 @@ module _ (code : CodeParts) (input : List NamedArray) (s : Shape) (keeper : ℕ)
   abbrev Over : List Turn → Type 0
   Over turns = finish_at s (at turns) ≢ 0
 
-  set_on : (first more : List Turn) → Over first → Over (first ++ more)
+  pub set_on : (first more : List Turn) → Over first → Over (first ++ more)
   set_on first more set unset = set (sym (finish_stays s code fair.code_is words first more set) ∙ unset)
 
   abbrev raised : ℕ
@@ -322,7 +322,7 @@ module _ (code : CodeParts) (input : List NamedArray) (s : Shape) (keeper : ℕ)
   tended_at : (turns : List Turn) → Among turns → (t : Skeleton) × IsTendedAt turns t
   tended_at turns among = tended_then code input s keeper im places fair opens calm legs are_legs turns among
 
-  moments_at : (first more : List Turn) → Among first → Among more → AreMoments s code fair root arrays (at first) more
+  pub moments_at : (first more : List Turn) → Among first → Among more → AreMoments s code fair root arrays (at first) more
   moments_at first more a b =
       let now = tended_at first a in
       tended_moments s code places fair root arrays raised words first (at first) refl _ _ _ now.0 now.1 more b
@@ -352,17 +352,17 @@ module _ (code : CodeParts) (input : List NamedArray) (s : Shape) (keeper : ℕ)
   abbrev next_of_all : (first more : List Turn) → at (first ++ more) ≡ after s code (at first) more
   next_of_all first more = in_two s code (opening words s.processors) first more
 
-  tags_after : (first more : List Turn) → Among first → Among more → (v : ℕ) → tag_at first v ≤ tag_at (first ++ more) v
+  pub tags_after : (first more : List Turn) → Among first → Among more → (v : ℕ) → tag_at first v ≤ tag_at (first ++ more) v
   tags_after first more a b v =
       let up = tags_on (at first) more (moments_at first more a b) b v in
       let is = ap (λ (z : RunState). tag (spots.view s z.words (Holder v))) (next_of_all first more) in
       omega (arith, up, is)
 
-  sum_after : (first more : List Turn) → Among first → Among more → sum first ≤ sum (first ++ more)
+  pub sum_after : (first more : List Turn) → Among first → Among more → sum first ≤ sum (first ++ more)
   sum_after first more a b =
       tags_rise s.processors (spots.view s (at first).words) (spots.view s (at (first ++ more)).words) (λ v lt. tags_after first more a b v)
 
-  sum_most : (turns : List Turn) → Among turns → sum turns ≤ s.processors * (raised + s.processors)
+  pub sum_most : (turns : List Turn) → Among turns → sum turns ≤ s.processors * (raised + s.processors)
   sum_most turns among =
       let now = tended_at turns among in
       tags_most s.processors (raised + s.processors) (spots.view s (at turns).words) (λ v lt.
@@ -451,13 +451,13 @@ module _ (code : CodeParts) (input : List NamedArray) (s : Shape) (keeper : ℕ)
   abbrev potential : List Turn → ℕ
   potential turns = work_in s code start turns + sum turns
 
-  grows : (first more : List Turn) → Among first → Among more → potential first ≤ potential (first ++ more)
+  pub grows : (first more : List Turn) → Among first → Among more → potential first ≤ potential (first ++ more)
   grows first more a b =
       let one = work_both s code start first more in
       let two = sum_after first more a b in
       omega (arith, one, two)
 
-  lap_grows : (first lap : List Turn) → Among first → Among lap → IsLap s code (at first) lap
+  pub lap_grows : (first lap : List Turn) → Among first → Among lap → IsLap s code (at first) lap
       → (1 + potential first ≤ potential (first ++ lap)) ⊎ Over (first ++ lap)
   lap_grows first lap a b is =
       let two = sum_after first lap a b in
@@ -507,7 +507,7 @@ module _ (code : CodeParts) (input : List NamedArray) (s : Shape) (keeper : ℕ)
   ]
 
 -- a number of legs and processors that is low
-no_legs_few : (s : Shape) → (s.processors + 1) * (length {A = Leg} [] + 1) < 2 ^ 58
+pub no_legs_few : (s : Shape) → (s.processors + 1) * (length {A = Leg} [] + 1) < 2 ^ 58
 no_legs_few s =
     let whole = one_leg (s.processors + 1) 0 in
     let none = no_legs (s.processors + 1) in

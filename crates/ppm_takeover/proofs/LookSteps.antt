@@ -1,10 +1,10 @@
 -- A processor that takes steps loads a holder word as it seeks work within sixteen of its own steps; or it makes a work turn, or moves to a place that
 -- it has taken over, or the finish word is set.
-use Rattle.std.proofs.Common.{◌≡◌, ◌≢◌, ◌⊎◌, ◌≤◌, ◌<◌, ◌+◌, ◌==◌, if◌then◌else◌, ℕ, zero, suc, Bool, true, false, List, [], ◌∷◌, ◌++◌, Option, Some, None}
+use Rattle.std.proofs.Common.{◌≡◌, ◌≢◌, ◌⊎◌, ◌≤◌, ◌<◌, ◌+◌, if◌then◌else◌, ℕ, zero, suc, Bool, true, false, List, [], ◌∷◌, ◌++◌, Option, Some, None}
 use Rattle.std.proofs.Common.{inl, inr, refl, sym, ap, ◌∙◌, subst, arith}
 use Rattle.std.specs.List.{AllByRecursion}
 use Rattle.std.specs.Prelude.{nat_lt, slice_get, slice_set}
-use Rattle.std.proofs.lemmas.Bool.{cases_Bool, cases_eq, eq-eqb, ne_eqb, true≢false}
+use Rattle.std.proofs.lemmas.Bool.{cases_eq, eq-eqb, ne_eqb, true≢false}
 use Rattle.ppm_strands.specs.Tree.{Words, Tree}
 use Rattle.ppm_cells.proofs.CellLemmas.{few_words}
 use Rattle.ppm_cells.specs.Memory.{read, write as store}
@@ -14,7 +14,6 @@ use Rattle.ppm_cells.specs.declared.restart.Restart.{Restart}
 use Rattle.ppm_cells.specs.declared.restart.RestartKind.{RestartKind}
 use Rattle.ppm_cells.specs.declared.restart.RestartKind.TheVariants.{Run, Bump, Push1, Push2, Unwind, Arrive, Join, Pop1, Pop2, Seek, Steal, Check, Take, Take2}
 use Rattle.ppm_cells.specs.declared.shape.Shape.{Shape}
-use Rattle.ppm_cells.specs.declared.shape.Takeover.{Takeover}
 use Rattle.ppm_cells.specs.declared.shape.Takeover.TheVariants.{ByPlaces}
 use Rattle.ppm_strands.specs.Strand.{Frame}
 use Rattle.ppm_code.specs.Strands.{Point, Result}
@@ -22,10 +21,10 @@ use Rattle.ppm_code.specs.declared.code.CodeParts.{CodeParts}
 use Rattle.ppm_code.specs.declared.location.FrameWord.{FrameWord}
 use Rattle.ppm_step.specs.Among.{IsTurnAmong}
 use Rattle.ppm_step.specs.Laws.{reached, finish_at}
-use Rattle.ppm_step.specs.Rows.{with_kind, by_places, row_of}
+use Rattle.ppm_step.specs.Rows.{row_of}
 use Rattle.ppm_step.specs.Standings.{Standing, IsLost, IsPlaced, IsAt, IsWithin, IsRunning, IsBroken, IsDone, row_is_there, then_is_there}
 use Rattle.ppm_step.specs.Standings.{within_if, stands_then, stands, begins_if, placed, at_finish, begun}
-use Rattle.ppm_step.specs.State.{State as RunState, stand_in, stand_of, acts, happens, after, along, work_of, is_done_at, is_work, seeks_holder}
+use Rattle.ppm_step.specs.State.{State as RunState, stand_in, stand_of, acts, happens, is_done_at, is_work, seeks_holder}
 use Rattle.ppm_step.specs.There.{restart_is_there}
 use Rattle.ppm_step.proofs.ThereLemmas.{restart_fits}
 use Rattle.ppm_step.specs.declared.row.Row.{Row}
@@ -38,7 +37,6 @@ use Rattle.ppm_step.specs.declared.turn.Act.TheVariants.{Step}
 use Rattle.ppm_step.specs.declared.turn.Turn.{Turn}
 use Rattle.ppm_tickets.specs.Saw.{IsStrand, Sees}
 use Rattle.ppm_tickets.specs.View as spots
-use Rattle.ppm_tickets.specs.Words.{Word, Spot, has}
 use Rattle.ppm_kept.specs.Running.{IsFair}
 use Rattle.ppm_paces.specs.Costs.{IsLook}
 use Rattle.ppm_tickets.proofs.StepLemmas.{stand_own}

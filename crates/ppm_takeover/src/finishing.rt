@@ -1,4 +1,5 @@
-//! That runs by places with hard faults end, shown by calls that do nothing.
+//! That runs and replays by places with hard faults end, shown by calls that do nothing.
+ghost use Rattle.ppm_progress.specs.Replays.{ReplaysEndByPlaces};
 ghost use Rattle.ppm_takeover.specs.Laps.{LapsHaveWorkOrTakeover, LegsEndByPlaces, RunsEndByPlaces};
 
 /// With takeover by places, hard faults among the turns: a run from an image of a sound code whose
@@ -12,4 +13,11 @@ pub fn runs_end_by_places()
     ensures laps { LapsHaveWorkOrTakeover }
     ensures law { RunsEndByPlaces }
     ensures legs { LegsEndByPlaces }
+{}
+
+/// With takeover by places the replay of a schedule that spares some processor, from an image of a
+/// sound code whose depth-first run ends, is over after so many acts: those of its list, and then
+/// 17 (P + 2) rounds for each lap, where there are P processors. Hard faults may be among them.
+pub fn replays_end_by_places()
+    ensures law { ReplaysEndByPlaces }
 {}

@@ -114,7 +114,7 @@ row_quits told plan limits k own me me' w w' most n pace victims o g within clea
     let few = r.few in
     let mid = told_of_deeds plan limits k own (deeds_in r.before.0) in
     let one = one_shown k.shape k.code own (stands_by k own (deeds_in r.before.0)) r.last.deeds r.last.count in
-    let grown = grows_along plan limits k own (told w) (told r.watch) me r.before pace victims r.made r.work r.looks o first r.moves.shows in
+    let grown = grows_along plan limits k own (told w) r.mid me r.before pace victims r.made r.work r.looks o first r.moves.shows in
     record {
       obeyed = deeds_in g.behind.0;
       obeys = so_far plan limits k own (deeds_in g.behind.0) _
@@ -125,7 +125,7 @@ row_quits told plan limits k own me me' w w' most n pace victims o g within clea
       up_to = inl (told_along plan limits k own r.before g.behind _ 1 _ _
           (follows_along plan limits k own me r.before pace victims r.made _ _ n o first (omega (arith, few, within)) clear) r.last
           ∙ ap (λ (l : List Event). mid ++ l) one.1);
-      grows = λ list e. kept_list (told r.watch) (told w') (list ++ mid) r.keeps (grown list e);
+      grows = λ list e. kept_list r.mid (told w') (list ++ mid) r.keeps (grown list e);
     }
   where
     by : (behind : Mine) (lives : Bool) → Lives k own behind lives → Quits behind me' lives → GaveUp k own (deeds_in behind.0) (deeds_in me'.0)

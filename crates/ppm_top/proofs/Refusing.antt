@@ -98,6 +98,7 @@ no_command (Some (commands.Serial options)) o (answers.Explained r notes) h e = 
 no_command (Some commands.Code) o (answers.Explained r notes) h e = absurd h.2
 no_command (Some commands.CodeCase) o (answers.Explained r notes) h e = absurd h.2
 no_command (Some commands.Check) o (answers.Explained r notes) h e = absurd h.2
+no_command (Some commands.CheckRacing) o (answers.Explained r notes) h e = absurd h.2
 no_command (Some commands.Show) o (answers.Explained r notes) h e = absurd h.2
 no_command (Some (commands.Explain text)) o (answers.Explained r notes) h e =
     let p = delivered.is_plan r e in

@@ -29,6 +29,7 @@ use ppm_replay_command::{
 };
 use ppm_stop_command::{case_stops_have_one_answer, stops_have_one_answer, stops_leave_states};
 use ppm_sweep_command::{case_sweeps_have_one_answer, sweeps_are_as_code, sweeps_have_one_answer};
+use ppm_takeover::replays_end_by_places;
 use ppm_trace_command::{case_traces_have_one_answer, traces_have_one_answer};
 
 /// What the crates of the commands show of every text: all laws on which the rows of `ppm` rest.
@@ -39,6 +40,7 @@ pub fn program_laws()
     runs_have_one_answer();
     runs_are_as_programs();
     runs_complete();
+    replays_end_by_places();
     replays_of_code_complete();
     replays_complete();
     examples_sum_up();

@@ -2,6 +2,7 @@ use Rattle.std.proofs.Common.{◌≡◌, Bool, true, false, not, ap, sym, ◌∙
 use Rattle.std.specs.Prelude.{Some, slice_get}
 use Rattle.ppm_cells.specs.declared.restart.RestartKind.{RestartKind}
 use Rattle.ppm_step.specs.Standings.{enters}
+use Rattle.ppm_step.specs.State.{before_kind}
 use Rattle.ppm_stretch.proofs.EnteringLemmas.{enters_lives, finish_is_over, header_lives}
 use Rattle.ppm_stretch.proofs.SteadyLemmas.{moves_then, refuses_one, refuses_then}
 use Rattle.ppm_stretch.proofs.entering.begin.Goals as goal
@@ -13,6 +14,9 @@ fine_is false e = cc
 fine_not : (b : Bool) → not b ≡ true → b ≡ false
 fine_not true e = cc
 fine_not false e = refl
+
+pub load_finish-finish-requires-clause-looks : goal.load_finish-finish-requires-clause-looks
+load_finish-finish-requires-clause-looks g c κs within = ap before_kind c.requires.kind
 
 pub returns-then-number-clause-begun : goal.returns-then-number-clause-begun
 returns-then-number-clause-begun g c = (

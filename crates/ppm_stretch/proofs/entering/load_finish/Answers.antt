@@ -15,15 +15,13 @@ returns-clause-sits_on g c = sits_more c.args.place.now.own c.args.mine.now.me c
 
 pub returns-clause-goes : goal.returns-clause-goes
 returns-clause-goes g c =
-    let header = c.requires.header in
-    finish_goes c.args.words.now.shared.key c.args.place.now header.frame header.copy c.args.mine.now.me c.tell.new.seat.me c.tell.result.word header.kind
+    finish_goes c.args.words.now.shared.key c.args.place.now c.args.mine.now.me c.tell.new.seat.me c.tell.result.word c.requires.looks
     (subst (λ (t : Shape). 0 < t.processors) (sym c.requires.table.1) (omega (arith, c.requires.place))) (sym c.requires.stands) c.requires.sits c.tell.ensures.told
 
 pub returns-clause-moves : goal.returns-clause-moves
 returns-clause-moves g c = λ fine.
-    let header = c.requires.header in
     record {
-      goes = finish_goes c.args.words.now.shared.key c.args.place.now header.frame header.copy c.args.mine.now.me c.tell.new.seat.me c.tell.result.word header.kind
+      goes = finish_goes c.args.words.now.shared.key c.args.place.now c.args.mine.now.me c.tell.new.seat.me c.tell.result.word c.requires.looks
           (subst (λ (t : Shape). 0 < t.processors) (sym c.requires.table.1) (omega (arith, c.requires.place))) (sym c.requires.stands) c.requires.sits c.tell.ensures.told;
       shows = c.tell.ensures.shows fine c.args.place.now.own c.requires.sits (ap place_of c.requires.stands);
     }

@@ -1,0 +1,4 @@
+pub mod MakingLemmas
+pub mod LoadLemmas
+pub mod EndLemmas
+pub mod RowLemmas

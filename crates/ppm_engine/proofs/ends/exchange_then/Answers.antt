@@ -1,0 +1,36 @@
+use Rattle.std.proofs.Common.{Result, Some}
+use Rattle.ppm_engine.specs.declared.memory.Stop.{Stop}
+use Rattle.ppm_engine.specs.Steps.{Came}
+use Rattle.ppm_cells.specs.Restart.{IsRestart}
+use Rattle.ppm_cells.specs.declared.restart.Restart.{Restart}
+use Rattle.ppm_step.specs.Standings.{IsAt}
+use Rattle.ppm_engine.proofs.MakingLemmas.{exit_by}
+use Rattle.ppm_engine.proofs.ends.exchange_then.Goals as goal
+
+pub exchange-requires-clause-stands : goal.exchange-requires-clause-stands
+exchange-requires-clause-stands g c κs within =
+    (c.requires.stands.0, c.args.next, c.requires.stands.1)
+
+pub install-requires-clause-stands : goal.install-requires-clause-stands
+install-requires-clause-stands g c κs within =
+    (c.requires.stands.0, (c.in_ok-exchange.ensures.came c.requires.stands.0 c.args.next c.requires.stands.1).1)
+
+pub returns-in_err-exchange-clause-came : goal.returns-in_err-exchange-clause-came
+returns-in_err-exchange-clause-came g c = λ first l.
+    let m = c.args.memory.now in
+    let s = g.M.Memory.shape m in
+    let code = g.M.Memory.code m in
+    let place = c.args.seat.now in
+    let led = g.M.Memory.led m place.own in
+    exit_by (λ (r : Result Restart Stop). Came led first (g.M.Memory.refused m place.own) (g.M.Memory.over m) place.place c.exchange.new.own
+    (g.W.Watch.told c.exchange.new.watch) c.exchange.new.tally IsRestart (λ restart. IsAt place.place (Some restart)) r) _ _ c.from_residual.ensures.1
+    (c.in_err-exchange.ensures.came first c.args.next l)
+
+pub returns-clause-came : goal.returns-clause-came
+returns-clause-came g c = λ first l.
+    let m = c.args.memory.now in
+    let s = g.M.Memory.shape m in
+    let code = g.M.Memory.code m in
+    let place = c.args.seat.now in
+    let led = g.M.Memory.led m place.own in
+    c.install.ensures.came first ((c.in_ok-exchange.ensures.came first c.args.next l).1)

@@ -1,0 +1,36 @@
+use Rattle.std.proofs.Common.{Result, Some}
+use Rattle.ppm_engine.specs.declared.memory.Stop.{Stop}
+use Rattle.ppm_engine.specs.Steps.{Came}
+use Rattle.ppm_cells.specs.Restart.{IsRestart}
+use Rattle.ppm_cells.specs.declared.restart.Restart.{Restart}
+use Rattle.ppm_step.specs.Standings.{IsAt}
+use Rattle.ppm_engine.proofs.MakingLemmas.{exit_by}
+use Rattle.ppm_engine.proofs.ends.store_then.Goals as goal
+
+pub store-requires-clause-stands : goal.store-requires-clause-stands
+store-requires-clause-stands g c κs within =
+    (c.requires.stands.0, c.args.next, c.requires.stands.1)
+
+pub install-requires-clause-stands : goal.install-requires-clause-stands
+install-requires-clause-stands g c κs within =
+    (c.requires.stands.0, (c.in_ok-store.ensures.came c.requires.stands.0 c.args.next c.requires.stands.1).1)
+
+pub returns-in_err-store-clause-came : goal.returns-in_err-store-clause-came
+returns-in_err-store-clause-came g c = λ first l.
+    let m = c.args.memory.now in
+    let s = g.M.Memory.shape m in
+    let code = g.M.Memory.code m in
+    let place = c.args.seat.now in
+    let led = g.M.Memory.led m place.own in
+    exit_by (λ (r : Result Restart Stop). Came led first (g.M.Memory.refused m place.own) (g.M.Memory.over m) place.place c.store.new.own
+    (g.W.Watch.told c.store.new.watch) c.store.new.tally IsRestart (λ restart. IsAt place.place (Some restart)) r) _ _ c.from_residual.ensures.1
+    (c.in_err-store.ensures.came first c.args.next l)
+
+pub returns-clause-came : goal.returns-clause-came
+returns-clause-came g c = λ first l.
+    let m = c.args.memory.now in
+    let s = g.M.Memory.shape m in
+    let code = g.M.Memory.code m in
+    let place = c.args.seat.now in
+    let led = g.M.Memory.led m place.own in
+    c.install.ensures.came first ((c.in_ok-store.ensures.came first c.args.next l).1)

@@ -1,0 +1,61 @@
+use Rattle.std.proofs.Common.{Result, Some, ap, sym, ◌∙◌}
+use Rattle.ppm_step.specs.declared.row.Row.{Row}
+use Rattle.ppm_step.specs.Standings.{stands}
+use Rattle.ppm_cells.specs.declared.link.LinkKind.TheVariants.{Branch}
+use Rattle.ppm_step.specs.Rows.{unwound}
+use Rattle.ppm_engine.proofs.RowLemmas.{goes_by_outcome}
+use Rattle.ppm_cells.specs.declared.cell.Cell.{Cell}
+use Rattle.ppm_cells.specs.declared.restart.RestartKind.TheVariants.{Arrive}
+use Rattle.ppm_step.specs.declared.content.Content.TheVariants.{AFinish}
+use Rattle.ppm_step.specs.declared.row.Row.TheVariants.{Store}
+use Rattle.ppm_step.specs.Rows.{with_kind}
+use Rattle.ppm_engine.specs.declared.memory.Stop.{Stop}
+use Rattle.ppm_engine.specs.Steps.{Came}
+use Rattle.ppm_cells.specs.Restart.{IsRestart}
+use Rattle.ppm_cells.specs.declared.restart.Restart.{Restart}
+use Rattle.ppm_step.specs.Standings.{IsAt}
+use Rattle.ppm_engine.proofs.MakingLemmas.{exit_by, moved}
+use Rattle.ppm_engine.proofs.unwind.come_to.Goals as goal
+
+pub returns-in_err-outcome-clause-came : goal.returns-in_err-outcome-clause-came
+returns-in_err-outcome-clause-came g c = λ first l.
+    let m = c.args.memory.now in
+    let s = g.M.Memory.shape m in
+    let code = g.M.Memory.code m in
+    let place = c.args.seat.now in
+    let led = g.M.Memory.led m place.own in
+    let arm = c.args.arm in
+    exit_by (λ (r : Result Restart Stop). Came led first (g.M.Memory.refused m place.own) (g.M.Memory.over m) place.place c.load_outcome.new.own
+    (g.W.Watch.told c.load_outcome.new.watch) c.load_outcome.new.tally IsRestart (λ restart. IsAt place.place (Some restart)) r) _ _
+    c.from_residual.ensures.1
+    (c.in_err-outcome.ensures.came first l)
+
+pub store_then-requires-clause-stands : goal.store_then-requires-clause-stands
+store_then-requires-clause-stands g c κs within =
+    let m = c.args.memory.now in
+    let s = g.M.Memory.shape m in
+    let code = g.M.Memory.code m in
+    let place = c.args.seat.now in
+    let led = g.M.Memory.led m place.own in
+    let arm = c.args.arm in (
+      c.requires.stands.0,
+      moved led c.requires.stands.0
+          (ap (λ (r : Row). stands s code place r) (goes_by_outcome c.in_ok-outcome.outcome (unwound place c.args.frame (Branch arm.side arm.block))
+          (c.in_ok-outcome.ensures.came c.requires.stands.0 c.requires.stands.1).0.1 ∙ ap (λ (cell : Cell). Store cell (AFinish c.in_ok-outcome.outcome)
+          (with_kind place (Arrive arm.block arm.side))) (sym c.outcome_cell.ensures)))
+          ((c.in_ok-outcome.ensures.came c.requires.stands.0 c.requires.stands.1).1),
+    )
+
+pub returns-clause-came : goal.returns-clause-came
+returns-clause-came g c = λ first l.
+    let m = c.args.memory.now in
+    let s = g.M.Memory.shape m in
+    let code = g.M.Memory.code m in
+    let place = c.args.seat.now in
+    let led = g.M.Memory.led m place.own in
+    let arm = c.args.arm in
+    c.store_then.ensures.came first
+    (moved led first (ap (λ (r : Row). stands s code place r)
+    (goes_by_outcome c.in_ok-outcome.outcome (unwound place c.args.frame (Branch arm.side arm.block)) (c.in_ok-outcome.ensures.came first l).0.1 ∙ ap
+    (λ (cell : Cell). Store cell (AFinish c.in_ok-outcome.outcome) (with_kind place (Arrive arm.block arm.side))) (sym c.outcome_cell.ensures)))
+    ((c.in_ok-outcome.ensures.came first l).1))

@@ -1,0 +1,58 @@
+//! The row of a restart of work, whole.
+ghost use Rattle.std.specs.Prelude.{◌≡◌, ◌<◌, ◌≤◌, ◌+◌, ℕ, Some};
+ghost use Rattle.ppm_cells.specs.Restart.{IsRestart};
+ghost use Rattle.ppm_cells.specs.declared.restart.Restart.{Restart};
+ghost use Rattle.ppm_engine.specs.Memory.{Spot};
+ghost use Rattle.ppm_engine.specs.Steps.{Came, HasRow, IsWorking, Led};
+ghost use Rattle.ppm_step.specs.Rows.{row_of};
+ghost use Rattle.ppm_step.specs.Standings.{IsAt, stands};
+
+use crate::join::{arrive, join};
+use crate::memory::{Memory, Stop};
+use crate::pop::{pop1, pop2};
+use crate::push::{bump, push1, push2};
+use crate::tally::Tally;
+use crate::unwind::unwind;
+use ppm_cells::{Restart, RestartKind};
+use ppm_ports::Watch;
+use ppm_step::Seat;
+
+/// Makes the row of a restart of work that isn't a frame's, after the load of the finish word: the
+/// restart with which the place goes on.
+#[inline(always)]
+pub fn make_row<M: Memory, W: Watch>(
+    memory: &M,
+    own: &mut M::Own,
+    watch: &mut W,
+    tally: &mut Tally,
+    seat: &Seat,
+) -> Result<Restart, Stop>
+    requires seat { IsWorking (M.shape memory.now) seat.now }
+    requires kind { HasRow seat.now.restart.kind }
+    requires few { tally.old.made < 16 }
+    requires stands { (first : Spot M.Own) × Led (M.led memory.now seat.now.own) first own.old (W.told watch.old) tally.old
+        (stands (M.shape memory.now) (M.code memory.now) seat.now (row_of (M.shape memory.now) seat.now seat.now.restart.kind)) }
+    ensures few { tally.new.made ≤ tally.old.made + 12 }
+    ensures came { (first : Spot M.Own) → Led (M.led memory.now seat.now.own) first own.old (W.told watch.old) tally.old
+        (stands (M.shape memory.now) (M.code memory.now) seat.now (row_of (M.shape memory.now) seat.now seat.now.restart.kind))
+        → Came (M.led memory.now seat.now.own) first (M.refused memory.now seat.now.own) (M.over memory.now)
+        seat.now.place own.new (W.told watch.new) tally.new
+        IsRestart (λ restart. IsAt seat.now.place (Some restart)) result }
+{
+    match seat.restart.kind {
+        RestartKind::Bump { block } => bump(memory, own, watch, tally, seat, block),
+        RestartKind::Push1 { block } => push1(memory, own, watch, tally, seat, block),
+        RestartKind::Push2 { block } => push2(memory, own, watch, tally, seat, block),
+        RestartKind::Unwind { frame } => unwind(memory, own, watch, tally, seat, frame),
+        RestartKind::Arrive { block, side } => arrive(memory, own, watch, tally, seat, block, side),
+        RestartKind::Join { block, side } => join(memory, own, watch, tally, seat, block, side),
+        RestartKind::Pop1 => pop1(memory, own, watch, tally, seat),
+        RestartKind::Pop2 { block } => pop2(memory, own, watch, tally, seat, block),
+        RestartKind::Run { .. }
+        | RestartKind::Seek
+        | RestartKind::Steal { .. }
+        | RestartKind::Check { .. }
+        | RestartKind::Take { .. }
+        | RestartKind::Take2 { .. } => unreachable!(),
+    }
+}

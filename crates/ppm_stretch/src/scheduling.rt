@@ -1,0 +1,231 @@
+//! The rows of work of the scheduler, each made whole on the words of a table.
+ghost use Rattle.std.specs.Prelude.{◌≡◌, ◌≤◌, ◌<◌, ◌+◌, ◌^◌, ◌||◌, true, Some};
+ghost use Rattle.ppm_cells.specs.Restart.{IsRestart};
+ghost use Rattle.ppm_engine.specs.Steps.{HasRow};
+ghost use Rattle.ppm_step.specs.Facts.{IsSeat as IsPlace};
+ghost use Rattle.ppm_step.specs.Locals.{IsLocal, standing_of};
+ghost use Rattle.ppm_step.specs.Rows.{row_of};
+ghost use Rattle.ppm_step.specs.Standings.{stands};
+ghost use Rattle.ppm_table.specs.Run.{stands_by, deeds_in, IsAtCode, IsSeat};
+ghost use Rattle.ppm_stretch.specs.Entering.{StandsBefore};
+ghost use Rattle.ppm_stretch.specs.Rows.{Makes, GivesUpIfRefused};
+ghost use Rattle.ppm_stretch.specs.Scheduling.{HasRowed, HasWorked, end_by};
+ghost use Rattle.ppm_stretch.specs.Steady.{looks_behind};
+
+use crate::entering::load_finish;
+use crate::refusing::withdraw;
+use crate::seated::Seated;
+use crate::way::{NONE, REFUSED, RowEnd, Rowed, Steps, looks_behind, one_of};
+use atomic_table::Seat;
+use ppm_cells::{Restart, RestartKind};
+use ppm_code::Code;
+use ppm_core::{wait_at, wait_broken};
+use ppm_engine::{Stop, Tally, make_row};
+use ppm_ports::Watch;
+use ppm_step::{Local, Seat as Place, Stand, restart_there};
+use ppm_table::View;
+
+/// The most steps that a row of work has, with the load of the finish word.
+pub(crate) const MOST_OF_A_ROW: u64 = 16;
+
+/// Whether a restart is one of work that isn't a frame's.
+#[inline(always)]
+pub(crate) fn has_row(kind: RestartKind) -> bool
+    ensures { result ≡ true → HasRow kind }
+{
+    match kind {
+        RestartKind::Bump { .. } => true,
+        RestartKind::Push1 { .. } => true,
+        RestartKind::Push2 { .. } => true,
+        RestartKind::Unwind { .. } => true,
+        RestartKind::Arrive { .. } => true,
+        RestartKind::Join { .. } => true,
+        RestartKind::Pop1 => true,
+        RestartKind::Pop2 { .. } => true,
+        RestartKind::Run { .. } => false,
+        RestartKind::Seek => false,
+        RestartKind::Steal { .. } => false,
+        RestartKind::Check { .. } => false,
+        RestartKind::Take { .. } => false,
+        RestartKind::Take2 { .. } => false,
+    }
+}
+
+/// How a row ends, by what came of its steps.
+#[inline(always)]
+fn end_by(made: Result<Restart, Stop>) -> RowEnd
+    ensures { result ≡ end_by made }
+{
+    match made {
+        Ok(restart) => RowEnd::Installed(restart),
+        Err(stop) => match stop {
+            Stop::Broken => RowEnd::Broken,
+            Stop::Over => RowEnd::Over,
+            Stop::Refused => RowEnd::Refused(true),
+        },
+    }
+}
+
+/// Makes the steps of a row after the load of the finish word.
+#[inline(always)]
+fn work_at<W: Watch>(
+    memory: &Seated<'_>,
+    mine: &mut Seat<(), View>,
+    watch: &mut W,
+    code: &Code,
+    place: &Place,
+) -> Rowed
+    requires table { IsAtCode mine.old.table_id memory.now.words.now.shared.table_id memory.now.words.now.shared.key memory.now.shape code.now }
+    requires sits { IsSeat place.now.own mine.old.me }
+    requires seat { IsPlace memory.now.shape place.now × HasRow place.now.restart.kind }
+    requires stands { stands_by memory.now.words.now.shared.key place.now.own (deeds_in mine.old.me.0)
+        ≡ stands memory.now.shape code.now place.now (row_of memory.now.shape place.now place.now.restart.kind) }
+    ensures table { (mine.new.table_id ≡ mine.old.table_id) × (result.work ≤ 12) }
+    ensures worked { HasWorked W.told memory.now.words.now.shared.key place.now mine.old.me mine.new.me watch.old watch.new
+        result.work result.exchanged result.end }
+{
+    let _ = code.parts().root;
+    let mut tally = Tally {
+        made: 0,
+        exchanged: false,
+    };
+    let made = make_row(memory, mine, watch, &mut tally, place);
+    Rowed {
+        work: tally.made,
+        exchanged: tally.exchanged,
+        end: end_by(made),
+    }
+}
+
+/// Makes the row of a restart of work.
+#[inline(always)]
+fn row_at<W: Watch>(
+    memory: &Seated<'_>,
+    mine: &mut Seat<(), View>,
+    watch: &mut W,
+    code: &Code,
+    place: &Place,
+) -> Rowed
+    requires table { IsAtCode mine.old.table_id memory.now.words.now.shared.table_id memory.now.words.now.shared.key memory.now.shape code.now }
+    requires sits { IsSeat place.now.own mine.old.me }
+    requires seat { (place.now.own < memory.now.shape.processors) × (place.now.place < memory.now.shape.processors)
+        × IsRestart place.now.restart × HasRow place.now.restart.kind }
+    requires stands { StandsBefore memory.now.words.now.shared.key place.now mine.old.me }
+    ensures table { (mine.new.table_id ≡ mine.old.table_id) × (result.work ≤ 12) }
+    ensures rowed { HasRowed W.told memory.now.words.now.shared.key place.now mine.old.me mine.new.me watch.old watch.new
+        result.work result.exchanged result.end }
+{
+    let finish = load_finish(memory.words, &memory.shape, code, mine, watch, place);
+    if finish.word != 0 {
+        if finish.fine {
+            return Rowed {
+                work: 0,
+                exchanged: false,
+                end: RowEnd::Over,
+            };
+        }
+        return Rowed {
+            work: 0,
+            exchanged: false,
+            end: RowEnd::Refused(false),
+        };
+    }
+    if !finish.fine {
+        return Rowed {
+            work: 0,
+            exchanged: false,
+            end: RowEnd::Refused(true),
+        };
+    }
+    if !restart_there(&memory.shape, place.restart) {
+        return Rowed {
+            work: 0,
+            exchanged: false,
+            end: RowEnd::Broken,
+        };
+    }
+    work_at(memory, mine, watch, code, place)
+}
+
+/// These steps, and then those of a row.
+#[inline(always)]
+fn with_row(steps: Steps, rowed: Rowed) -> Steps
+    requires few { (steps.made + 13 < 2 ^ 64) × (steps.work ≤ steps.made) × (steps.looks ≤ steps.made) × (rowed.work ≤ 12) }
+    ensures { result ≡ record {
+      made = steps.made + (rowed.work + 1);
+      work = steps.work + rowed.work;
+      looks = looks_behind steps.looks rowed.work (looks_behind 1 rowed.work 0);
+      exchanged = (steps.exchanged || rowed.exchanged);
+      refused = steps.refused;
+    } }
+{
+    let last = looks_behind(1, rowed.work, 0);
+    Steps {
+        made: steps.made + (rowed.work + 1),
+        work: steps.work + rowed.work,
+        looks: looks_behind(steps.looks, rowed.work, last),
+        exchanged: one_of(steps.exchanged, rowed.exchanged),
+        refused: steps.refused,
+    }
+}
+
+/// Makes the rows of work with which the place goes on, one after the other, at most so many steps.
+pub(crate) fn rows_along<W: Watch>(
+    local: &mut Local,
+    memory: &Seated<'_>,
+    mine: &mut Seat<(), View>,
+    watch: &mut W,
+    code: &Code,
+    from: &Place,
+    most: u64,
+) -> Steps
+    requires table { IsAtCode mine.old.table_id memory.now.words.now.shared.table_id memory.now.words.now.shared.key memory.now.shape code.now }
+    requires sits { IsSeat local.old.own mine.old.me }
+    requires seat { (from.now.own ≡ local.old.own) × (local.old.own < memory.now.shape.processors)
+        × (from.now.place < memory.now.shape.processors) × IsRestart from.now.restart }
+    requires stands { StandsBefore memory.now.words.now.shared.key from.now mine.old.me }
+    ensures table { (mine.new.table_id ≡ mine.old.table_id) × IsSeat local.old.own mine.new.me }
+    ensures few { (result.made ≤ most) × (result.work ≤ result.made) × (result.looks ≤ result.made) }
+    ensures makes { Makes W.told memory.now.words.now.shared.key local.old.own mine.old.me mine.new.me watch.old watch.new result }
+    ensures stops { GivesUpIfRefused W.told memory.now.words.now.shared.key local.old.own mine.old.me mine.new.me watch.old watch.new most result }
+    ensures stands_on { standing_of memory.now.shape code.now local.new ≡ stands_by memory.now.words.now.shared.key local.old.own (deeds_in mine.new.me.0) }
+    ensures holds { IsLocal memory.now.shape code.now local.new × (local.new.own ≡ local.old.own) }
+{
+    // As in `rounds`.
+    let seated = *memory;
+    let own = local.own;
+    let place = from.place;
+    let mut at = from.restart;
+    let mut so_far = NONE;
+    while most - so_far.made >= MOST_OF_A_ROW {
+        if !has_row(at.kind) {
+            wait_at(local, &memory.shape, code, place, at);
+            return so_far;
+        }
+        let seat = Place {
+            own,
+            place,
+            restart: at,
+        };
+        let rowed = row_at(&seated, mine, watch, code, &seat);
+        if let RowEnd::Refused(lives) = rowed.end {
+            withdraw(local, memory.words, mine, &memory.shape, code, lives);
+            return REFUSED;
+        }
+        so_far = with_row(so_far, rowed);
+        match rowed.end {
+            RowEnd::Installed(next) => at = next,
+            RowEnd::Broken => {
+                wait_broken(local, &memory.shape, code, place);
+                return so_far;
+            }
+            RowEnd::Over => {
+                local.stand = Stand::Done;
+                return so_far;
+            }
+            RowEnd::Refused(_) => unreachable!(),
+        }
+    }
+    wait_at(local, &memory.shape, code, place, at);
+    so_far
+}
