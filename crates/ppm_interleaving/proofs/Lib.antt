@@ -6,7 +6,9 @@ mod EndLemmas
 mod FallenLemmas
 mod ForkLemmas
 mod MachineLemmas
+mod OpenLemmas
 mod OwnLemmas
+mod PutLemmas
 mod ReachLemmas
 mod RunLemmas
 mod ShowLemmas
@@ -14,4 +16,3 @@ mod StartLemmas
 mod StepLemmas
 mod TurnLemmas
 mod WaitLemmas
-mod OpenLemmas

@@ -11,7 +11,7 @@ use Rattle.ppm_code.specs.Strands.{Result}
 use Rattle.ppm_depth.specs.declared.frame.Finish.{Finish}
 use Rattle.ppm_filled.specs.Racing.{OwnWord, Place}
 use Rattle.ppm_racy.specs.declared.code.RacyParts.{RacyParts}
-use Rattle.ppm_interleaving.specs.declared.deed.Turn.TheVariants.{Step}
+use Rattle.ppm_interleaving.specs.declared.deed.Turn.{Turn}
 use Rattle.ppm_interleaving.specs.declared.machine.Machine.{Machine}
 use Rattle.ppm_interleaving.specs.declared.strand.Strand.{Strand}
 use Rattle.ppm_interleaving.specs.Steps.{result_of}
@@ -76,14 +76,14 @@ module _ (code : RacyParts) (array_words : ℕ) (root : FrameWord → ℕ) (arra
           absurd (none_is_not_some a.0 (sym not_over ∙ ap (finish_in old.strands.items) e ∙ a.1))
 
   -- one strand alone is put back: the others are where they were, along what others saw of its turn
-  pub put_one : (d : Option (Deed OwnWord Place Result)) (new : Machine) (x : Strand) → IsBack old.strands.items new.strands.items i x
+  pub put_one : (turn : Turn) (d : Option (Deed OwnWord Place Result)) (new : Machine) (x : Strand) → IsBack old.strands.items new.strands.items i x
       → length new.strands.items ≡ length old.strands.items
-      → ShowsStrand code array_words root arrays (Some x) i (moment (Step i) d ∷ h)
-      → ((found : Option Strand) (j : ℕ) → (i ≡ j → ⊥) → ShowsStrand code array_words root arrays found j h → ShowsStrand code array_words root arrays found j (moment (Step i) d ∷ h))
-      → ((y : ℕ) → now (system code array_words root arrays) (deeds (moment (Step i) d ∷ h)) y ≡ get_or new.words.items y 0) → length new.words.items ≡ array_words
-      → count (system code array_words root arrays) (deeds (moment (Step i) d ∷ h)) ≡ count (system code array_words root arrays) (deeds h)
-      → FinishesAre (finish_in new.strands.items) (deeds (moment (Step i) d ∷ h)) → Shows code array_words root arrays (moment (Step i) d ∷ h) new
-  put_one d new x back same_length here others words word_count same_count finishes = record {
+      → ShowsStrand code array_words root arrays (Some x) i (moment turn d ∷ h)
+      → ((found : Option Strand) (j : ℕ) → (i ≡ j → ⊥) → ShowsStrand code array_words root arrays found j h → ShowsStrand code array_words root arrays found j (moment turn d ∷ h))
+      → ((y : ℕ) → now (system code array_words root arrays) (deeds (moment turn d ∷ h)) y ≡ get_or new.words.items y 0) → length new.words.items ≡ array_words
+      → count (system code array_words root arrays) (deeds (moment turn d ∷ h)) ≡ count (system code array_words root arrays) (deeds h)
+      → FinishesAre (finish_in new.strands.items) (deeds (moment turn d ∷ h)) → Shows code array_words root arrays (moment turn d ∷ h) new
+  put_one turn d new x back same_length here others words word_count same_count finishes = record {
     words = words;
     word_count = word_count;
     strand_count = same_count ∙ shows.strand_count ∙ sym same_length;
@@ -91,12 +91,12 @@ module _ (code : RacyParts) (array_words : ℕ) (root : FrameWord → ℕ) (arra
     finishes = finishes;
   }
     where
-      at : (j : ℕ) → Same i j → ShowsStrand code array_words root arrays (slice_get new.strands.items j) j (moment (Step i) d ∷ h)
+      at : (j : ℕ) → Same i j → ShowsStrand code array_words root arrays (slice_get new.strands.items j) j (moment turn d ∷ h)
       at j (One e) =
-          subst (λ (k : ℕ). ShowsStrand code array_words root arrays (slice_get new.strands.items k) k (moment (Step i) d ∷ h)) e
-          (subst (λ found. ShowsStrand code array_words root arrays found i (moment (Step i) d ∷ h)) (sym back.there) here)
+          subst (λ (k : ℕ). ShowsStrand code array_words root arrays (slice_get new.strands.items k) k (moment turn d ∷ h)) e
+          (subst (λ found. ShowsStrand code array_words root arrays found i (moment turn d ∷ h)) (sym back.there) here)
       at j (Two other) =
-          subst (λ found. ShowsStrand code array_words root arrays found j (moment (Step i) d ∷ h)) (sym (back.elsewhere j other))
+          subst (λ found. ShowsStrand code array_words root arrays found j (moment turn d ∷ h)) (sym (back.elsewhere j other))
           (others (slice_get old.strands.items j) j other (shows.strands j))
 
   -- where it is over as before, so are all

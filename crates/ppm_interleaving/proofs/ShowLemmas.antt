@@ -87,7 +87,7 @@ module _ (code : RacyParts) (array_words : ℕ) (root : FrameWord → ℕ) (arra
   sees_fork x j who fs other shows = sees (Some x) j who (HasForked who fs) refl other (λ σ there. by_fork x j (HasForked who fs) σ there) shows
 
   -- a strand that isn't there yet
-  not_yet : (j : ℕ) → ShowsStrand code array_words root arrays None j h → (c : ComesBy s j h NotYet) × (asked (came s c) ≡ nothing)
+  pub not_yet : (j : ℕ) → ShowsStrand code array_words root arrays None j h → (c : ComesBy s j h NotYet) × (asked (came s c) ≡ nothing)
   not_yet j shows = subst (λ (σ : State OwnWord Place Exit). (c : ComesBy s j h σ) × (asked (came s c) ≡ nothing)) shows.2 (shows.1, shows.3)
 
   -- a branch begins

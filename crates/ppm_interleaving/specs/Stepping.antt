@@ -10,7 +10,7 @@ use Rattle.ppm_filled.specs.Racing.{OwnWord, Place}
 use Rattle.ppm_racy.specs.declared.code.RacyParts.{RacyParts}
 use Rattle.ppm_interleaving.specs.declared.deed.Deed.{Deed as Told}
 use Rattle.ppm_interleaving.specs.declared.deed.Deed.TheVariants as told
-use Rattle.ppm_interleaving.specs.declared.deed.Turn.TheVariants.{Step}
+use Rattle.ppm_interleaving.specs.declared.deed.Turn.TheVariants.{Step, Fault}
 use Rattle.ppm_interleaving.specs.declared.ending.Opened.{Opened}
 use Rattle.ppm_interleaving.specs.declared.ending.Opened.TheVariants as opened
 use Rattle.ppm_interleaving.specs.declared.stepped.Stepped.{Stepped}
@@ -60,6 +60,12 @@ MakesStep code strand strands words stepped after = WordsAfter words stepped aft
     × ((root : FrameWord → ℕ) (arrays : Words) (h : List Moment) (i : ℕ)
     → IsBeside code (length words) root arrays (deeds h) words strands → ShowsStrand code (length words) root arrays (Some strand) i h
     → StepsTo code (length words) root arrays h i strand stepped)
+
+-- a soft fault befalls a strand, in any run in which it is
+abbrev pub FailsTo : (old new : Strand) → Type 0
+FailsTo old new = (finish_of (Some new) ≡ finish_of (Some old))
+    × ((code : RacyParts) (array_words : ℕ) (root : FrameWord → ℕ) (arrays : Words) (h : List Moment) (i : ℕ)
+    → ShowsStrand code array_words root arrays (Some old) i h → ShowsStrand code array_words root arrays (Some new) i (moment (Fault i) None ∷ h))
 
 -- the strand with a number is put back after its step, with the branches that it forked; and what is told of that
 abbrev pub PutsBack : (strands : List Strand) → (i : ℕ) → Stepped → Option Told → (after : List Strand) → Type 0

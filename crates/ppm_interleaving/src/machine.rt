@@ -13,7 +13,7 @@ ghost use Rattle.ppm_interleaving.specs.Owns.{AreRootWords};
 use crate::deed::{Deed, Turn};
 use crate::ending::begun;
 use crate::own::Own;
-use crate::stepped::{Stepped, finish_among, step};
+use crate::stepped::{Stepped, failed, finish_among, step};
 use crate::strand::Strand;
 use ppm_depth::Finish;
 use ppm_racy::RacyCode;
@@ -125,12 +125,7 @@ impl Machine {
             → MakesTurn code (length self.old.words.items) root arrays (Fault strand) None self.old self.new }
     {
         let taken = self.take(strand);
-        self.strands[strand] = match taken {
-            Strand::Running(running) => Strand::Running(running.failed(alloc)),
-            Strand::Waiting(waiting) => Strand::Waiting(waiting),
-            Strand::Tells(finish) => Strand::Tells(finish),
-            Strand::Over(finish) => Strand::Over(finish),
-        };
+        self.strands[strand] = failed(alloc, taken);
     }
 
     /// Makes a turn, and tells what others see of it. A turn of a strand that isn't forked yet,

@@ -5,7 +5,7 @@ ghost use Rattle.ppm_racy.specs.declared.code.RacyParts.{RacyParts};
 ghost use Rattle.ppm_interleaving.specs.declared.stepped.Stepped.TheVariants.{Goes};
 ghost use Rattle.ppm_interleaving.specs.declared.strand.Strand.TheVariants.{Running as IsRunning, Waiting as IsWaiting};
 ghost use Rattle.ppm_interleaving.specs.Shows.{finish_in};
-ghost use Rattle.ppm_interleaving.specs.Stepping.{MakesStep, as_step};
+ghost use Rattle.ppm_interleaving.specs.Stepping.{FailsTo, MakesStep, as_step};
 
 use crate::ending::{Opened, go_on, join, open};
 use crate::running::{Running, Touched};
@@ -143,5 +143,17 @@ pub(crate) fn step(
         Strand::Waiting(waiting) => Ok(Stepped::Goes(wait(alloc, waiting, strands)?)),
         Strand::Tells(finish) => Ok(Stepped::Closes(finish)),
         Strand::Over(finish) => Ok(Stepped::Goes(Strand::Over(finish))),
+    }
+}
+
+/// Where a strand is after a soft fault.
+pub(crate) fn failed(alloc: Global, strand: Strand) -> Strand
+    ensures { FailsTo strand result }
+{
+    match strand {
+        Strand::Running(running) => Strand::Running(running.failed(alloc)),
+        Strand::Waiting(waiting) => Strand::Waiting(waiting),
+        Strand::Tells(finish) => Strand::Tells(finish),
+        Strand::Over(finish) => Strand::Over(finish),
     }
 }
