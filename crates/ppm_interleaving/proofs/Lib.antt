@@ -6,6 +6,7 @@ mod EndLemmas
 mod FallenLemmas
 mod ForkLemmas
 mod MachineLemmas
+mod OnceLemmas
 mod OpenLemmas
 mod OwnLemmas
 mod PutLemmas
