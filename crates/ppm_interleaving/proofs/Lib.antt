@@ -7,6 +7,7 @@ mod FallenLemmas
 mod ForkLemmas
 mod MachineLemmas
 mod OnceLemmas
+mod OneRunLemmas
 mod OpenLemmas
 mod OwnLemmas
 mod PutLemmas

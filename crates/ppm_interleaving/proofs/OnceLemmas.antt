@@ -11,7 +11,7 @@ use Rattle.ppm_code.specs.Strands.{Result}
 use Rattle.ppm_filled.specs.Racing.{OwnWord, Place, Exit}
 use Rattle.ppm_interleaving.specs.declared.deed.Turn.{Turn}
 use Rattle.ppm_interleaving.specs.declared.deed.Turn.TheVariants.{Step, Fault}
-use Rattle.ppm_interleaving.specs.Turns.{Moment, moment, deeds, with_deed, strand_of, is_storing, is_under_way, IsStill, once_seen}
+use Rattle.ppm_interleaving.specs.Turns.{Moment, moment, deeds, with_deed, strand_of, is_storing, is_under_way, IsDoneBy, IsStill, once_seen}
 use Rattle.ppm_interleaving.specs.Turns.{ComesBy, Begins, Others, Goes, Does, Passes, Fails, Spared, KeepsUpTo, Here, Before, Ready, AsItIs, AtEnd}
 use Rattle.ppm_interleaving.specs.Turns.{came, made_ready, kept_up, with_faults}
 
@@ -50,7 +50,7 @@ one_outcome t once n (f ∷ fs) (o ∷ os) (p ∷ ps) left right =
 
 module _ (s : System OwnWord Place Exit Result) where
   -- the stores of an end, by what is left of its capsule
-  abbrev KeptIs : Racing OwnWord Exit → Memory OwnWord → Exit → Memory OwnWord → Type 0
+  abbrev pub KeptIs : Racing OwnWord Exit → Memory OwnWord → Exit → Memory OwnWord → Type 0
   KeptIs (Stops d) o e p = (e ≡ d) × (p ≡ o)
   KeptIs (Keeps x v rest) o e p = KeptIs rest (store s.code.names o x v) e p
   KeptIs (LoadsOwn x go) o e p = ⊥
@@ -69,11 +69,11 @@ module _ (s : System OwnWord Place Exit Result) where
   kept_once (Changes x g rest) o p q e d left right = absurd left
 
   -- what a turn begins with
-  abbrev EndsIn : State OwnWord Place Exit → State OwnWord Place Exit → Type 0
+  abbrev pub EndsIn : State OwnWord Place Exit → State OwnWord Place Exit → Type 0
   EndsIn (UnderWay k rest o) ρ = (e : Exit) × (p : Memory OwnWord) × KeptIs rest o e p × (ρ ≡ UnderWay k (Stops e) p)
   EndsIn σ ρ = ⊥
 
-  abbrev ReadyIs : State OwnWord Place Exit → State OwnWord Place Exit → Type 0
+  abbrev pub ReadyIs : State OwnWord Place Exit → State OwnWord Place Exit → Type 0
   ReadyIs σ ρ = ((is_storing σ ≡ false) × (ρ ≡ σ)) ⊎ ((is_storing σ ≡ true) × EndsIn σ ρ)
 
   ready_is : {σ ρ : State OwnWord Place Exit} → Ready s σ ρ → ReadyIs σ ρ
@@ -95,13 +95,13 @@ module _ (s : System OwnWord Place Exit Result) where
   ready_once σ ρ τ (inr left) (inr right) = end_once σ ρ τ left.1 right.1
 
   -- what an end comes to, by what it opens
-  abbrev OpensTo : (me : ℕ) → List (Deed OwnWord Place Result) → Next OwnWord Place Result → Outcome → Type 0
+  abbrev pub OpensTo : (me : ℕ) → List (Deed OwnWord Place Result) → Next OwnWord Place Result → Outcome → Type 0
   OpensTo me t (GoesOn f) r = r ≡ outcome None (begun s f) nothing
   OpensTo me t (Forks fs g) r = r ≡ outcome (Some (HasForked me fs)) (Waits g (count s t) fs) nothing
   OpensTo me t (Closes result) r = r ≡ outcome (Some (IsFinished me result)) IsOver nothing
 
   -- what a step comes to, by where the strand is
-  abbrev MovesTo : (me : ℕ) → List (Deed OwnWord Place Result) → State OwnWord Place Exit → Asked → Outcome → Type 0
+  abbrev pub MovesTo : (me : ℕ) → List (Deed OwnWord Place Result) → State OwnWord Place Exit → Asked → Outcome → Type 0
   MovesTo me t NotYet a r = ⊥
   MovesTo me t IsOver a r = ⊥
   MovesTo me t (Waits g n fs) a r = (os : List Result) × HaveFinished n fs os t × (r ≡ outcome None (begun s (s.code.rejoin g os)) nothing)
@@ -173,7 +173,7 @@ module _ (s : System OwnWord Place Exit Result) where
     ready_asks c (AtEnd there up) = kept_asks c up
 
     -- what a turn of the strand itself comes to: a step, or none; a fault, or it is spared
-    abbrev Makes : List (Deed OwnWord Place Result) → Standing → Turn → Outcome → Type 0
+    abbrev pub Makes : List (Deed OwnWord Place Result) → Standing → Turn → Outcome → Type 0
     Makes t b (Step i) r = ((ρ : State OwnWord Place Exit) × ReadyIs b.state ρ × MovesTo me t ρ b.asks r)
         ⊎ (IsStill s t b.state × (r ≡ outcome None b.state b.asks))
     Makes t b (Fault i) r = ((k : Place) × (rest : Racing OwnWord Exit) × (o : Memory OwnWord) × (b.state ≡ UnderWay k rest o)
@@ -199,7 +199,7 @@ module _ (s : System OwnWord Place Exit Result) where
     own_or o (Waits g n fs) = o
     own_or o IsOver = o
 
-    makes_once : (t : List (Deed OwnWord Place Result)) → AreOverOnce t → (b : Standing) (turn : Turn) (q r : Outcome) → Makes t b turn q → Makes t b turn r → q ≡ r
+    pub makes_once : (t : List (Deed OwnWord Place Result)) → AreOverOnce t → (b : Standing) (turn : Turn) (q r : Outcome) → Makes t b turn q → Makes t b turn r → q ≡ r
     makes_once t once b (Step i) q r (inl left) (inl right) =
         moves_once me t once right.0 b.asks q r
         (subst (λ (ρ : State OwnWord Place Exit). MovesTo me t ρ b.asks q) (ready_once b.state left.0 right.0 left.1 right.1) left.2) right.2
@@ -216,24 +216,24 @@ module _ (s : System OwnWord Place Exit Result) where
     makes_once t once b (Fault i) q r (inr left) (inr right) = left.1 ∙ sym right.1
 
     -- the last turn, of another strand or its own
-    abbrev IsLast : Moment → List Moment → Standing → Standing → Type 0
-    IsLast m h b e = ((strand_of m.turn ≡ me → ⊥) × (e ≡ standing (once_seen s me (deeds h) m.deed b.state) b.asks))
+    abbrev pub IsLast : Moment → List Moment → Standing → Standing → Type 0
+    IsLast m h b e = ((strand_of m.turn ≡ me → ⊥) × (e ≡ standing (once_seen s me (deeds h) m.deed b.state) b.asks) × IsDoneBy (strand_of m.turn) m.deed)
         ⊎ ((strand_of m.turn ≡ me) × Makes (deeds h) b m.turn (outcome m.deed e.state e.asks))
 
-    record Last (m : Moment) (h : List Moment) (e : Standing) : Type 0 where
-      state : State OwnWord Place Exit
-      comes : ComesBy s me h state
-      turn : IsLast m h (standing state (asked (came s comes))) e
+    pub record Last (m : Moment) (h : List Moment) (e : Standing) : Type 0 where
+      pub state : State OwnWord Place Exit
+      pub comes : ComesBy s me h state
+      pub turn : IsLast m h (standing state (asked (came s comes))) e
 
     -- how it comes along moments
-    abbrev View : List Moment → Standing → Type 0
+    abbrev pub View : List Moment → Standing → Type 0
     View [] e = e ≡ standing (begun_if_any s (numbered 0 s.start me)) nothing
     View (m ∷ h) e = Last m h e
 
-    view : {h : List Moment} {σ : State OwnWord Place Exit} (c : ComesBy s me h σ) → View h (standing σ (asked (came s c)))
+    pub view : {h : List Moment} {σ : State OwnWord Place Exit} (c : ComesBy s me h σ) → View h (standing σ (asked (came s c)))
     view Begins = refl
-    view (Others {σ = σ} turn None other done c) = record { state = σ; comes = c; turn = inl (other, refl) }
-    view (Others {σ = σ} turn (Some d) other done c) = record { state = σ; comes = c; turn = inl (other, refl) }
+    view (Others {σ = σ} turn None other done c) = record { state = σ; comes = c; turn = inl (other, refl, done) }
+    view (Others {σ = σ} turn (Some d) other done c) = record { state = σ; comes = c; turn = inl (other, refl, done) }
     view (Goes {h = h} {σ = σ} {ρ = ρ} {τ = τ} c ready step) = record {
       state = σ;
       comes = c;

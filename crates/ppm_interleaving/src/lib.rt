@@ -23,7 +23,7 @@ mod strand;
 pub use change::Change;
 pub use deed::{Deed, Turn};
 pub use fallen::Fallen;
-pub use laws::falls_refute;
+pub use laws::{falls_refute, schedules_have_one_run};
 pub use machine::Machine;
 pub use own::Own;
 pub use running::Running;
