@@ -1,5 +1,5 @@
 -- A strand that comes along turns without faults comes along their deeds without faults, and its capsules have asked for the same.
-use Rattle.std.proofs.Common.{◌≡◌, ℕ, List, [], ◌∷◌, Some, None, refl, sym, ap, ◌∙◌, subst}
+use Rattle.std.proofs.Common.{◌≡◌, ℕ, List, ◌∷◌, Some, None, refl, sym, ap, ◌∙◌, subst}
 use Rattle.ppm_strands.specs.Capsule.{Memory}
 use Rattle.ppm_unseen.specs.Capsule.{Capsule as Racing, Ends as Stops}
 use Rattle.ppm_unseen.specs.Run.{System, Deed, State, UnderWay, AllStill, Asked, asked, change, now}

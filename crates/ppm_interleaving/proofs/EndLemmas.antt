@@ -1,13 +1,12 @@
 -- The end of a capsule: what it stores first, and how frames begin.
-use Rattle.std.proofs.Common.{◌≡◌, ℕ, true, false, List, [], ◌∷◌, ◌++◌, reverse, refl, sym, ap, ◌∙◌, replicate}
+use Rattle.std.proofs.Common.{◌≡◌, ℕ, List, [], ◌∷◌, ◌++◌, reverse, refl, sym, ap, ◌∙◌, replicate}
 use Rattle.ppm_strands.specs.Tree.{Words}
 use Rattle.ppm_strands.specs.Capsule.{Memory, store}
 use Rattle.ppm_strands.specs.Strand.{Frame}
 use Rattle.ppm_unseen.specs.Capsule.{Ends as Stops}
-use Rattle.ppm_unseen.specs.Run.{System, State, UnderWay, begun, nothing}
+use Rattle.ppm_unseen.specs.Run.{UnderWay, begun, nothing}
 use Rattle.ppm_code.specs.declared.act.End.{End}
 use Rattle.ppm_code.specs.declared.act.End.TheVariants.{Next, Finish, Trap, Call, Fork}
-use Rattle.ppm_code.specs.declared.code.CodeParts.{CodeParts}
 use Rattle.ppm_code.specs.declared.location.FrameWord.{FrameWord}
 use Rattle.ppm_code.specs.Strands.{Result, at_capsule}
 use Rattle.ppm_filled.specs.Racing.{OwnWord, OfEnd, OfTrap, OfCall, OfFork, own_words, Place, At, HasTrapped, Exit, Of, Tells as Telling, ending, dropping, exit_opens}

@@ -1,5 +1,5 @@
 -- A strand comes along moments in one way: to one state, with one list of changes that its capsule has asked for.
-use Rattle.std.proofs.Common.{◌≡◌, ◌⊎◌, inl, inr, ℕ, suc, Bool, true, false, List, [], ◌∷◌, Option, Some, None, refl, sym, ap, ◌∙◌, subst}
+use Rattle.std.proofs.Common.{◌≡◌, ◌⊎◌, inl, inr, ℕ, suc, true, false, List, [], ◌∷◌, Option, Some, None, refl, sym, ap, ◌∙◌, subst}
 use Rattle.ppm_strands.specs.Capsule.{Memory, store}
 use Rattle.ppm_strands.specs.Strand.{Frame}
 use Rattle.ppm_unseen.specs.Capsule.{Capsule as Racing, Loads as LoadsOwn, Keeps, Reads as ReadsWord, Changes, Ends as Stops, Next, GoesOn, Forks, Closes}
@@ -11,7 +11,7 @@ use Rattle.ppm_code.specs.Strands.{Result}
 use Rattle.ppm_filled.specs.Racing.{OwnWord, Place, Exit}
 use Rattle.ppm_interleaving.specs.declared.deed.Turn.{Turn}
 use Rattle.ppm_interleaving.specs.declared.deed.Turn.TheVariants.{Step, Fault}
-use Rattle.ppm_interleaving.specs.Turns.{Moment, moment, deeds, with_deed, strand_of, is_storing, is_under_way, IsDoneBy, IsStill, once_seen}
+use Rattle.ppm_interleaving.specs.Turns.{Moment, deeds, with_deed, strand_of, is_storing, is_under_way, IsDoneBy, IsStill, once_seen}
 use Rattle.ppm_interleaving.specs.Turns.{ComesBy, Begins, Others, Goes, Does, Passes, Fails, Spared, KeepsUpTo, Here, Before, Ready, AsItIs, AtEnd}
 use Rattle.ppm_interleaving.specs.Turns.{came, made_ready, kept_up, with_faults}
 
@@ -237,14 +237,28 @@ module _ (s : System OwnWord Place Exit Result) where
     view (Goes {h = h} {σ = σ} {ρ = ρ} {τ = τ} c ready step) = record {
       state = σ;
       comes = c;
-      turn = inr (refl, inl (ρ, ready_is ready, subst (λ (a : Asked). MovesTo me (deeds h) ρ a (outcome None τ (asked (GoesUnseen (made_ready s (came s c) ready) (with_faults s step)))))
-          (ready_asks (came s c) ready) (moves_unseen (made_ready s (came s c) ready) step)));
+      turn = inr (
+        refl,
+        inl (
+          ρ,
+          ready_is ready,
+          subst (λ (a : Asked). MovesTo me (deeds h) ρ a (outcome None τ (asked (GoesUnseen (made_ready s (came s c) ready) (with_faults s step)))))
+              (ready_asks (came s c) ready) (moves_unseen (made_ready s (came s c) ready) step),
+        ),
+      );
     }
     view (Does {h = h} {σ = σ} {ρ = ρ} {τ = τ} {d = d} c ready deed) = record {
       state = σ;
       comes = c;
-      turn = inr (refl, inl (ρ, ready_is ready, subst (λ (a : Asked). MovesTo me (deeds h) ρ a (outcome (Some d) τ (asked (DoesSeen (made_ready s (came s c) ready) deed))))
-          (ready_asks (came s c) ready) (moves_seen (made_ready s (came s c) ready) deed)));
+      turn = inr (
+        refl,
+        inl (
+          ρ,
+          ready_is ready,
+          subst (λ (a : Asked). MovesTo me (deeds h) ρ a (outcome (Some d) τ (asked (DoesSeen (made_ready s (came s c) ready) deed))))
+              (ready_asks (came s c) ready) (moves_seen (made_ready s (came s c) ready) deed),
+        ),
+      );
     }
     view (Passes {σ = σ} c still) = record { state = σ; comes = c; turn = inr (refl, inr (still, refl)) }
     view (Fails {k = k} {rest = rest} {o = o} c) = record { state = UnderWay k rest o; comes = c; turn = inr (refl, inl (k, rest, o, refl, refl)) }

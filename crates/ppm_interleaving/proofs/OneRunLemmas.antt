@@ -1,15 +1,15 @@
 -- A schedule has one run: turn by turn it is the strand whose turn it is that determines the deed.
-use Rattle.std.proofs.Common.{◌≡◌, ◌⊎◌, inl, inr, ℕ, List, [], ◌∷◌, Option, Some, None, refl, sym, ap, ◌∙◌, subst}
+use Rattle.std.proofs.Common.{◌≡◌, inl, inr, ℕ, List, [], ◌∷◌, Option, Some, None, refl, sym, ap, ◌∙◌, subst}
 use Rattle.ppm_strands.specs.Capsule.{Memory}
 use Rattle.ppm_strands.specs.Strand.{Frame}
 use Rattle.ppm_unseen.specs.Capsule.{Capsule as Racing, Loads as LoadsOwn, Keeps, Reads as ReadsWord, Changes, Ends as Stops, Next, GoesOn, Forks, Closes}
-use Rattle.ppm_unseen.specs.Run.{System, Deed, doer, State, NotYet, UnderWay, Waits, IsOver, HasFinished, Asked, asked}
+use Rattle.ppm_unseen.specs.Run.{System, Deed, State, NotYet, UnderWay, Waits, IsOver, HasFinished, Asked, asked}
 use Rattle.ppm_unseen.specs.Run.{Changed as HasChanged, Forked as HasForked, Finished as IsFinished}
 use Rattle.ppm_code.specs.Strands.{Result}
 use Rattle.ppm_filled.specs.Racing.{OwnWord, Place, Exit}
 use Rattle.ppm_interleaving.specs.declared.deed.Turn.{Turn}
 use Rattle.ppm_interleaving.specs.declared.deed.Turn.TheVariants.{Step, Fault}
-use Rattle.ppm_interleaving.specs.Turns.{Moment, turns, deeds, with_deed, strand_of, IsDoneBy, is_under_way, once_seen, ComesBy, came, IsRun, SchedulesHaveOneRun}
+use Rattle.ppm_interleaving.specs.Turns.{Moment, turns, deeds, with_deed, strand_of, IsDoneBy, once_seen, ComesBy, came, IsRun, SchedulesHaveOneRun}
 use Rattle.ppm_interleaving.proofs.OnceLemmas.{AreOverOnce, Outcome, outcome, Standing, standing, IsLast, Last, Makes, makes_once, MovesTo, OpensTo, ReadyIs, view, comes_once}
 
 -- the outcome of a deed, if it closes a strand

@@ -1,15 +1,13 @@
 -- What ends open, and how frames go on, by the words that are shown.
-use Rattle.std.proofs.Common.{◌≡◌, ◌∙◌, ℕ, ◌+◌, ◌==◌, Bool, true, false, cond, List, [], ◌∷◌, get_or, refl, sym, ap, subst, Option, Some, None, arith}
+use Rattle.std.proofs.Common.{◌≡◌, ◌∙◌, ℕ, List, [], ◌∷◌, get_or, refl, sym, ap, subst, Option, Some, None}
 use Rattle.ppm_strands.specs.Capsule.{Memory, store}
-use Rattle.ppm_strands.specs.Strand.{Frame}
 use Rattle.ppm_code.specs.declared.code.CodeParts.{CodeParts}
 use Rattle.ppm_code.specs.declared.location.FrameWord.{FrameWord}
 use Rattle.ppm_code.specs.declared.location.FrameWord.TheVariants.{Slot, Value}
-use Rattle.ppm_code.specs.Strands.{Gave, Trapped, Point, at_capsule, with_value, built, entry_of}
-use Rattle.ppm_code.specs.Sizes.{slots_of}
+use Rattle.ppm_code.specs.Strands.{Gave, Trapped, at_capsule, with_value}
 use Rattle.ppm_depth.specs.declared.frame.Finish.{Finish}
 use Rattle.ppm_depth.specs.declared.frame.Finish.TheVariants as finish
-use Rattle.ppm_filled.specs.Racing.{OwnWord, OfFrame, OfBlock, own_words, Place, At, HasTrapped, framed, frame_words_in, block_in, standing, beginning, rejoining}
+use Rattle.ppm_filled.specs.Racing.{OwnWord, OfFrame, own_words, At, HasTrapped, framed, frame_words_in, standing, rejoining}
 use Rattle.ppm_interleaving.specs.declared.own.Own.{Own}
 use Rattle.ppm_interleaving.specs.declared.running.Running.{Running}
 use Rattle.ppm_interleaving.specs.declared.strand.Branches.TheVariants.{Callee, Both}

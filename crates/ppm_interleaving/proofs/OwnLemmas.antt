@@ -1,6 +1,6 @@
 -- Own words as they are stored and built.
 use Rattle.std.proofs.Common.{◌≡◌, ◌<◌, ℕ, zero, suc, ◌+◌, ◌==◌, Bool, true, false, cond, List, [], ◌∷◌, get_or, refl, sym, ap, ◌∙◌, arith, nat_lt}
-use Rattle.std.proofs.Common.{◌++◌, length, set, ne_eqb, eqb-true, eq-eqb, ltb-true, lt-ltb}
+use Rattle.std.proofs.Common.{◌++◌, length, set, eqb-true, eq-eqb, ltb-true, lt-ltb}
 use Rattle.std.specs.Cmp.{both_ways as same_tests}
 use Rattle.std.proofs.lemmas.List.{get_or-set_same, get_or-set_other}
 use Rattle.ppm_strands.specs.Capsule.{Memory, store}

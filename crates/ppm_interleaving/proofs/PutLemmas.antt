@@ -1,5 +1,5 @@
 -- What a step comes to is put back, and the machine shows the run with that turn: case by case.
-use Rattle.std.proofs.Common.{◌≡◌, ◌⊎◌, inl, inr, Ok, Err, IfOk, OnOk, Result as Answer, ◌<◌, ◌≤◌, ℕ, zero, suc, ◌+◌, ◌==◌, Bool, true, false, cond, List, [], ◌∷◌, ◌++◌, length, map, get_or, set, is_some, refl, sym, ap, ◌∙◌, subst, Option, Some, None, arith, length-append}
+use Rattle.std.proofs.Common.{◌≡◌, inl, inr, Ok, Err, IfOk, OnOk, Result as Answer, ◌<◌, ◌≤◌, ℕ, zero, suc, ◌+◌, ◌==◌, true, false, cond, List, [], ◌∷◌, ◌++◌, length, map, get_or, set, is_some, refl, sym, ap, ◌∙◌, subst, Option, Some, None, arith, length-append}
 use Rattle.std.specs.Prelude.{slice_get}
 use Rattle.std.proofs.lemmas.List.{length-set}
 use Rattle.std.proofs.lemmas.Option.{slice_get_past}
@@ -14,7 +14,6 @@ use Rattle.ppm_depth.specs.declared.frame.Finish.{Finish}
 use Rattle.ppm_filled.specs.Racing.{OwnWord, Place, Exit}
 use Rattle.ppm_racy.specs.declared.code.RacyParts.{RacyParts}
 use Rattle.ppm_interleaving.specs.declared.deed.Deed.{Deed as Told}
-use Rattle.ppm_interleaving.specs.declared.deed.Deed.TheVariants as told
 use Rattle.ppm_interleaving.specs.declared.deed.Turn.{Turn}
 use Rattle.ppm_interleaving.specs.declared.deed.Turn.TheVariants.{Step, Fault}
 use Rattle.ppm_interleaving.specs.declared.machine.Machine.{Machine}
@@ -26,7 +25,7 @@ use Rattle.ppm_interleaving.specs.declared.strand.Strand.{Strand}
 use Rattle.ppm_interleaving.specs.declared.strand.Strand.TheVariants.{Running as IsRunning, Waiting as IsWaiting, Tells, Over}
 use Rattle.ppm_interleaving.specs.Steps.{IsBegun, result_of}
 use Rattle.ppm_interleaving.specs.Shows.{FinishesAre, IsTold, MakesTurn, Shows, ShowsStrand, finish_in, finish_of, system}
-use Rattle.ppm_interleaving.specs.Stepping.{FailsTo, IsBeside, MakesStep, PutsBack, StepsTo, WordsAfter}
+use Rattle.ppm_interleaving.specs.Stepping.{FailsTo, MakesStep, PutsBack, StepsTo}
 use Rattle.ppm_interleaving.specs.Turns.{Moment, moment, deeds, strand_of, Passes, ComesBy, came}
 use Rattle.ppm_interleaving.proofs.ShowLemmas.{not_yet, rests, sees_change, sees_finish}
 use Rattle.ppm_interleaving.proofs.StartLemmas.{fails, spared, tells_again}

@@ -1,17 +1,13 @@
 -- A turn of a strand under way, by the touch that its register work comes to.
-use Rattle.std.proofs.Common.{◌≡◌, ℕ, ◌<◌, List, [], ◌∷◌, length, get_or, set, refl, sym, ap, ◌∙◌, subst, slice_set, Result as Answer, Ok, Err, IfOk}
+use Rattle.std.proofs.Common.{◌≡◌, ℕ, ◌<◌, List, length, refl, sym, ap, ◌∙◌, subst, slice_set, Result as Answer, Ok, Err, IfOk}
 use Rattle.std.proofs.lemmas.List.{length-set}
-use Rattle.ppm_strands.specs.Tree.{Words}
-use Rattle.ppm_strands.specs.Capsule.{Memory}
-use Rattle.ppm_strands.specs.Ahead.{put}
-use Rattle.ppm_unseen.specs.Capsule.{Capsule as Racing, Loads as LoadsOwn, Reads as Finds, Changes}
-use Rattle.ppm_unseen.specs.Run.{Deed, State, UnderWay, now}
-use Rattle.ppm_code.specs.declared.location.FrameWord.{FrameWord}
+use Rattle.ppm_unseen.specs.Capsule.{Capsule as Racing, Changes}
+use Rattle.ppm_unseen.specs.Run.{UnderWay, now}
 use Rattle.ppm_code.specs.declared.location.Location.{Location}
 use Rattle.ppm_code.specs.declared.location.Location.TheVariants.{Frame as OfTheFrame, New, Array}
 use Rattle.ppm_code.specs.declared.register.Register.{Register}
-use Rattle.ppm_code.specs.Strands.{Result, at_capsule}
-use Rattle.ppm_filled.specs.Racing.{OwnWord, OfFrame, OfBlock, Place, At, Exit}
+use Rattle.ppm_code.specs.Strands.{at_capsule}
+use Rattle.ppm_filled.specs.Racing.{OwnWord, OfFrame, OfBlock, At, Exit}
 use Rattle.ppm_racy.specs.declared.code.RacyParts.{RacyParts}
 use Rattle.ppm_racy.specs.declared.instr.RacyInstr.{RacyInstr}
 use Rattle.ppm_racy.specs.declared.touch.Touch.{Touch}
@@ -25,7 +21,7 @@ use Rattle.ppm_interleaving.specs.declared.running.Touched.{Touched}
 use Rattle.ppm_interleaving.specs.declared.running.Touched.TheVariants.{Goes, Changed, Ends}
 use Rattle.ppm_interleaving.specs.Changes.{change_of}
 use Rattle.ppm_interleaving.specs.Owns.{ShowsOwn}
-use Rattle.ppm_interleaving.specs.Steps.{AsksFor, StoresAt, TurnsTo, found_at, asked_by, under_way}
+use Rattle.ppm_interleaving.specs.Steps.{AsksFor, StoresAt, TurnsTo, found_at, asked_by}
 use Rattle.ppm_interleaving.specs.Shows.{system}
 use Rattle.ppm_interleaving.proofs.OwnLemmas.{one_put}
 use Rattle.ppm_interleaving.proofs.StepLemmas.{loads_frame, loads_block, reads}

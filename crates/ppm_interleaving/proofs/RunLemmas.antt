@@ -1,13 +1,12 @@
 -- A strand under way makes its step, in any run in which it is.
-use Rattle.std.proofs.Common.{◌≡◌, ℕ, List, [], ◌∷◌, length, get_or, refl, sym, ap, ◌∙◌, subst, Some, None}
+use Rattle.std.proofs.Common.{◌≡◌, ℕ, List, [], ◌∷◌, length, refl, sym, ap, ◌∙◌, subst, Some, None}
 use Rattle.ppm_strands.specs.Tree.{Words}
 use Rattle.ppm_strands.specs.Capsule.{Memory}
-use Rattle.ppm_strands.specs.Strand.{Frame}
-use Rattle.ppm_unseen.specs.Run.{System, Deed, State, UnderWay, Waits, Opens as OpensNext, Splits, Finishes, Changed as HasChanged, Forked as HasForked, Finished as IsFinished}
+use Rattle.ppm_unseen.specs.Run.{State, UnderWay, Waits, Opens as OpensNext, Splits, Finishes, Changed as HasChanged}
 use Rattle.ppm_unseen.specs.Run.{Asked, asked, begun, count}
 use Rattle.ppm_code.specs.declared.act.End.{End}
 use Rattle.ppm_code.specs.declared.location.FrameWord.{FrameWord}
-use Rattle.ppm_code.specs.Strands.{Result, at_capsule}
+use Rattle.ppm_code.specs.Strands.{at_capsule}
 use Rattle.ppm_filled.specs.Racing.{OwnWord, Place, At, Exit, Of, ending, exit_opens}
 use Rattle.ppm_racy.specs.declared.code.RacyParts.{RacyParts}
 use Rattle.ppm_racy.specs.Capsules.{built}

@@ -1,7 +1,6 @@
 -- A machine after a turn shows the run with that turn.
-use Rattle.std.proofs.Common.{◌≡◌, ◌<◌, ◌≤◌, ℕ, zero, suc, ◌+◌, ◌==◌, Bool, true, false, List, [], ◌∷◌, ◌++◌, length, set, refl, sym, ap, ◌∙◌, subst, Option, Some, None, inl, inr, arith}
+use Rattle.std.proofs.Common.{◌≡◌, ◌<◌, ℕ, zero, suc, List, [], ◌∷◌, length, set, refl, sym, ap, ◌∙◌, subst, Option, Some, None, arith}
 use Rattle.std.specs.Prelude.{slice_get}
-use Rattle.std.proofs.lemmas.Bool.{eq-eqb, eqb-true}
 use Rattle.ppm_strands.specs.Tree.{Words}
 use Rattle.ppm_strands.specs.Strand.{Frame}
 use Rattle.ppm_unseen.specs.Run.{System, Deed, doer, State, NotYet, UnderWay, Waits, IsOver, numbered, begun_if_any, once_done, count, asked, nothing}
@@ -15,9 +14,9 @@ use Rattle.ppm_interleaving.specs.declared.deed.Turn.TheVariants.{Step}
 use Rattle.ppm_interleaving.specs.declared.running.Running.{Running}
 use Rattle.ppm_interleaving.specs.declared.strand.Strand.{Strand}
 use Rattle.ppm_interleaving.specs.declared.strand.Strand.TheVariants.{Running as IsRunning, Waiting as IsWaiting, Tells, Over}
-use Rattle.ppm_interleaving.specs.Steps.{BeginsFrame, asked_by}
+use Rattle.ppm_interleaving.specs.Steps.{BeginsFrame}
 use Rattle.ppm_interleaving.specs.Shows.{ShowsState, ShowsStrand, system}
-use Rattle.ppm_interleaving.specs.Turns.{Moment, moment, deeds, ComesBy, Others, came, once_seen, strand_of}
+use Rattle.ppm_interleaving.specs.Turns.{Moment, moment, deeds, ComesBy, Others, came, strand_of}
 use Rattle.ppm_interleaving.proofs.EndLemmas.{begun_state, begun_asks}
 
 -- a strand that was put back, and the others

@@ -1,17 +1,14 @@
 -- A machine at the beginning, and after a fault.
-use Rattle.std.proofs.Common.{◌≡◌, ◌<◌, ℕ, zero, suc, List, [], ◌∷◌, length, get_or, set, refl, sym, ap, ◌∙◌, subst, Option, Some, None, Bool, cond, arith, ne_eqb}
+use Rattle.std.proofs.Common.{◌≡◌, ℕ, zero, suc, List, [], ◌∷◌, length, get_or, refl, sym, ap, ◌∙◌, subst, Option, Some, None, Bool, cond, arith, ne_eqb}
 use Rattle.std.specs.Prelude.{slice_get}
-use Rattle.std.proofs.lemmas.List.{length-set}
 use Rattle.ppm_strands.specs.Tree.{Words}
-use Rattle.ppm_strands.specs.Capsule.{Memory}
 use Rattle.ppm_strands.specs.Strand.{Frame}
-use Rattle.ppm_unseen.specs.Run.{Deed, State, NotYet, UnderWay, Waits, IsOver, HasFinished, asked, nothing, begun, numbered, begun_if_any}
-use Rattle.ppm_unseen.specs.Capsule.{Ends as Stops}
+use Rattle.ppm_unseen.specs.Run.{State, begun, numbered, begun_if_any}
 use Rattle.ppm_code.specs.declared.location.FrameWord.{FrameWord}
 use Rattle.ppm_code.specs.declared.location.FrameWord.TheVariants.{Slot, Value}
-use Rattle.ppm_code.specs.Strands.{Result, at_capsule, entry_of}
+use Rattle.ppm_code.specs.Strands.{at_capsule, entry_of}
 use Rattle.ppm_depth.specs.declared.frame.Finish.{Finish}
-use Rattle.ppm_filled.specs.Racing.{OwnWord, OfFrame, Place, At, HasTrapped, Exit, Tells as Telling, beginning, framed}
+use Rattle.ppm_filled.specs.Racing.{OwnWord, OfFrame, Place, At, Exit, beginning, framed}
 use Rattle.ppm_racy.specs.declared.code.RacyParts.{RacyParts}
 use Rattle.ppm_racy.specs.Code.{plain_code}
 use Rattle.ppm_interleaving.specs.declared.deed.Turn.TheVariants.{Fault}
@@ -21,9 +18,9 @@ use Rattle.ppm_interleaving.specs.declared.running.Running.{Running}
 use Rattle.ppm_interleaving.specs.declared.strand.Strand.{Strand}
 use Rattle.ppm_interleaving.specs.declared.strand.Strand.TheVariants.{Running as IsRunning, Waiting as IsWaiting, Tells, Over}
 use Rattle.ppm_interleaving.specs.Owns.{AreRootWords, ShowsOwn, frame_word_in}
-use Rattle.ppm_interleaving.specs.Steps.{IsBegun, BeginsFrame, result_of}
-use Rattle.ppm_interleaving.specs.Shows.{FinishesAre, Shows, ShowsStrand, finish_in, system}
-use Rattle.ppm_interleaving.specs.Turns.{Moment, moment, ComesBy, Begins, Fails, Spared, came, is_under_way}
+use Rattle.ppm_interleaving.specs.Steps.{IsBegun, BeginsFrame}
+use Rattle.ppm_interleaving.specs.Shows.{Shows, ShowsStrand, finish_in, system}
+use Rattle.ppm_interleaving.specs.Turns.{Moment, moment, ComesBy, Begins, Fails, Spared, is_under_way}
 use Rattle.ppm_interleaving.proofs.EndLemmas.{begun_state, begun_asks}
 
 -- the words of the root's frame

@@ -1,10 +1,10 @@
 -- A strand under way makes a step of the model.
-use Rattle.std.proofs.Common.{◌≡◌, ◌<◌, ℕ, ◌+◌, Bool, true, false, cond, List, [], ◌∷◌, ◌++◌, length, get_or, refl, sym, ap, ◌∙◌, subst, reverse, map, slice_set}
+use Rattle.std.proofs.Common.{◌≡◌, ℕ, List, ◌∷◌, refl, ap}
 use Rattle.ppm_strands.specs.Tree.{Words}
 use Rattle.ppm_strands.specs.Capsule.{Memory, store}
 use Rattle.ppm_unseen.specs.Capsule.{Capsule as Racing, Loads as LoadsOwn, Keeps, Reads as Finds, Changes}
-use Rattle.ppm_unseen.specs.Run.{System, Deed, State, UnderWay, Unseen, Takes, Stores, Finds as FindsWord, Leaves, Seen, Alters, Changed as HasChanged, Change as Asking}
-use Rattle.ppm_unseen.specs.Run.{Asked, asked, change, now}
+use Rattle.ppm_unseen.specs.Run.{Deed, UnderWay, Takes, Stores, Finds as FindsWord, Leaves, Alters, Changed as HasChanged, Change as Asking}
+use Rattle.ppm_unseen.specs.Run.{Asked, change, now}
 use Rattle.ppm_code.specs.declared.location.FrameWord.{FrameWord}
 use Rattle.ppm_code.specs.Strands.{Result}
 use Rattle.ppm_filled.specs.Racing.{OwnWord, OfFrame, OfBlock, own_words, Place, Exit}

@@ -1,19 +1,17 @@
 -- A frame that waits makes its step: it goes on once its branches are over, and passes its turn before.
-use Rattle.std.proofs.Common.{◌≡◌, ◌<◌, ℕ, zero, suc, ◌+◌, List, [], ◌∷◌, length, refl, sym, ap, ◌∙◌, subst, Option, Some, None, arith}
+use Rattle.std.proofs.Common.{◌≡◌, ◌<◌, ℕ, zero, suc, List, [], ◌∷◌, length, refl, sym, ap, ◌∙◌, subst, Option, Some, None, arith}
 use Rattle.ppm_strands.specs.Capsule.{Memory}
 use Rattle.ppm_strands.specs.Tree.{Words}
 use Rattle.ppm_strands.specs.Strand.{Frame}
-use Rattle.ppm_unseen.specs.Run.{Deed, State, UnderWay, Waits, IsOver, Joins, Finishes, Finished as IsFinished, HasFinished, HaveFinished, begun, Asked, asked, nothing}
-use Rattle.ppm_unseen.specs.Capsule.{Ends as Stops}
+use Rattle.ppm_unseen.specs.Run.{Deed, State, Waits, IsOver, Joins, Finishes, HasFinished, HaveFinished, begun, asked, nothing}
 use Rattle.ppm_code.specs.declared.code.CodeParts.{CodeParts}
 use Rattle.ppm_code.specs.declared.location.FrameWord.{FrameWord}
 use Rattle.ppm_code.specs.Strands.{Result}
 use Rattle.ppm_depth.specs.declared.frame.Finish.{Finish}
-use Rattle.ppm_filled.specs.Racing.{OwnWord, Place, At, HasTrapped, Exit, Tells as Telling, rejoining}
+use Rattle.ppm_filled.specs.Racing.{OwnWord, Place, At, Exit, Tells as Telling, rejoining}
 use Rattle.ppm_racy.specs.declared.code.RacyParts.{RacyParts}
 use Rattle.ppm_racy.specs.Code.{plain_code}
 use Rattle.ppm_interleaving.specs.declared.deed.Turn.TheVariants.{Step}
-use Rattle.ppm_interleaving.specs.declared.own.Own.{Own}
 use Rattle.ppm_interleaving.specs.declared.stepped.Stepped.TheVariants.{Goes, Closes}
 use Rattle.ppm_interleaving.specs.declared.strand.Branches.TheVariants.{Callee, Both}
 use Rattle.ppm_interleaving.specs.declared.strand.Waiting.{Waiting}
@@ -22,8 +20,8 @@ use Rattle.ppm_interleaving.specs.declared.strand.Strand.TheVariants.{Running, W
 use Rattle.ppm_interleaving.specs.Owns.{ShowsOwn}
 use Rattle.ppm_interleaving.specs.Steps.{GoesOnAs, branch_count, point_by, result_of}
 use Rattle.ppm_interleaving.specs.Shows.{FinishesAre, ShowsStrand, ShowsState, asked_in, finish_in, finish_of, system}
-use Rattle.ppm_interleaving.specs.Stepping.{IsBeside, MakesStep}
-use Rattle.ppm_interleaving.specs.Turns.{Moment, moment, deeds, ComesBy, Goes as GoesBy, Does as DoesBy, Passes, AsItIs, IsStill, came}
+use Rattle.ppm_interleaving.specs.Stepping.{MakesStep}
+use Rattle.ppm_interleaving.specs.Turns.{Moment, moment, deeds, ComesBy, Goes as GoesBy, Does as DoesBy, Passes, AsItIs, came}
 use Rattle.ppm_interleaving.proofs.EndLemmas.{begun_state, begun_asks, telling_state}
 
 module _ (code : RacyParts) (array_words : ℕ) (root : FrameWord → ℕ) (arrays : Words) (h : List Moment) (i : ℕ) where
@@ -113,7 +111,7 @@ module _ (w : Waiting) (strands : List Strand) where
     λ root arrays h i beside shows.
         let frame = shows.2.0 in
         let goes_so = subst (λ (p : Place). GoesOnAs x (rejoining (plain_code code) frame.own p os)) (sym shows.2.2.point)
-            (goes (plain_code code) frame.own shows.2.2.own) in (
+        (goes (plain_code code) frame.own shows.2.2.own) in (
           joins code (length words) root arrays h i w shows x os (over shows.2.1 (deeds h) shows.2.2.branches beside.finishes) goes_so,
           under_way_still x (rejoining (plain_code code) frame.own frame.point os) goes_so,
         ),

@@ -1,5 +1,5 @@
 -- What turns of strands come to, one by one.
-use Rattle.std.specs.Prelude.{◌≡◌, ℕ, false, List, [], ◌∷◌, ◌++◌, length, get_or, set, reverse, replicate, Option, Some, None}
+use Rattle.std.specs.Prelude.{◌≡◌, ℕ, false, List, [], ◌∷◌, ◌++◌, length, get_or, set, reverse, replicate, None}
 use Rattle.ppm_strands.specs.Tree.{Words}
 use Rattle.ppm_strands.specs.Ahead.{put}
 use Rattle.ppm_strands.specs.Capsule.{Memory, store}

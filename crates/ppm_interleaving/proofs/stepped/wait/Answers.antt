@@ -1,5 +1,5 @@
 -- A frame goes on once its branches are over.
-use Rattle.std.proofs.Common.{rules, ◌≡◌, ◌∙◌, ◌+◌, ◌<◌, length, ℕ, suc, Option, Some, None, ap, sym, arith}
+use Rattle.std.proofs.Common.{rules, ◌≡◌, ◌∙◌, suc, ap, sym}
 use Rattle.ppm_interleaving.specs.Shows.{finish_in}
 use Rattle.ppm_interleaving.proofs.ReachLemmas.{if_ok}
 use Rattle.ppm_interleaving.proofs.WaitLemmas.{after_callee, after_both, before_callee, before_left, before_right, is_there}

@@ -1,5 +1,5 @@
 -- The strand is taken out, and is put back at the beginning of its capsule.
-use Rattle.std.proofs.Common.{rules, ◌≡◌, set, ap, refl}
+use Rattle.std.proofs.Common.{set, ap}
 use Rattle.ppm_depth.specs.declared.frame.Finish.TheVariants.{Gave}
 use Rattle.ppm_interleaving.specs.declared.strand.Strand.TheVariants.{Tells}
 use Rattle.ppm_interleaving.proofs.PutLemmas.{fails_back}

@@ -1,5 +1,5 @@
 -- By the strands that were looked at.
-use Rattle.std.proofs.Common.{rules, ◌≡◌, ◌≤◌, length, Some}
+use Rattle.std.proofs.Common.{rules, ◌≡◌, Some}
 use Rattle.std.specs.Prelude.{slice_get}
 use Rattle.ppm_interleaving.specs.Changes.{AreStill, IsFirstNotStill}
 use Rattle.ppm_interleaving.specs.Shows.{settled_in}

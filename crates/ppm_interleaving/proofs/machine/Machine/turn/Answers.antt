@@ -1,6 +1,5 @@
 -- By whether the strand is there.
 use Rattle.std.proofs.Common.{rules, ◌≡◌, true, is_some, length, sym, subst, refl, None}
-use Rattle.ppm_interleaving.specs.declared.deed.Turn.TheVariants.{Step, Fault}
 use Rattle.ppm_interleaving.specs.Shows.{MakesTurn, finish_in}
 use Rattle.ppm_interleaving.proofs.ReachLemmas.{if_ok}
 use Rattle.ppm_interleaving.proofs.PutLemmas.{steps_absent, steps_over, fails_absent, what_is}
