@@ -4,7 +4,7 @@
 //! settled falls (`specs/Falls`).
 //! Contract: a machine shows the one run of its schedule, and `Machine::fallen` answers exactly
 //! what does not stand then (`specs/Shows`).
-//! Stands on `ppm_racy`; the command `strands` is to stand on it.
+//! Stands on `ppm_racy`, and on `ppm_depth` for how strands are over; no command calls it yet.
 //! After the capsules with compare-and-modify of Blelloch et al., SPAA 2018; the conditions are
 //! this project's.
 #![tactic(auto)]
