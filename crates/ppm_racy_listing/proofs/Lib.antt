@@ -1,6 +1,8 @@
--- How the reader is to be shown: with puts in place of exchanges a text is a listing, line by line
--- (`ppm_listing_reader`); a line that was an exchange is a put there, so its instruction is one
--- (`ExchangeLemmas`), and the text is the listing of the code with these exchanges.
+-- How the reader is shown: with puts in place of exchanges a text is a listing, line by line
+-- (`ppm_listing_reader`); a line that was an exchange is a put there, and tells it (`LineLemmas`), so
+-- the text is the listing of the code with these exchanges (`WholeLemmas`). The first fault is that
+-- of the text with puts, or an old register before it (`WrongLemmas`). Back, the listing of a code is
+-- read as it stands (`BackLemmas`).
 
 mod CamLemmas
 mod ExchangeLemmas

@@ -8,8 +8,8 @@
 //! their premise does.
 //! Stands on `ppm_strands`, its tests of listings on `ppm_depth` and
 //! `ppm_listing_reader`, those of laws on the crates of the theorem and on `ppm_trace`; no crate
-//! stands on it. The tests of `ppm_code` and `ppm_racy` are here, since a crate with tests is
-//! proved twice. The instances are this project's.
+//! stands on it. The tests of `ppm_code`, `ppm_racy` and `ppm_interleaving` are here, since a crate
+//! with tests is proved twice. The instances are this project's.
 #![tactic(auto)]
 
 pub mod clears;
@@ -29,6 +29,8 @@ pub mod races;
 mod racy_tests;
 pub mod sample;
 pub mod stops;
+#[cfg(test)]
+mod strand_tests;
 #[cfg(test)]
 mod tests;
 #[cfg(test)]
