@@ -1,6 +1,6 @@
 -- A processor that lives never bids for a place that it holds already, and a place to which it has still to go has no message of it. So each turn
 -- leaves it, and who has taken over no place comes to take one over by a new bid alone.
-use Rattle.std.proofs.Common.{◌≡◌, ◌≢◌, ◌⊎◌, ◌<◌, ◌+◌, ◌==◌, if◌then◌else◌, ℕ, zero, suc, Bool, true, false, List, Option, Some, None, inl, inr, refl}
+use Rattle.std.proofs.Common.{◌≡◌, ◌≢◌, ◌⊎◌, ◌≤◌, ◌<◌, ◌+◌, ◌==◌, if◌then◌else◌, ℕ, zero, suc, Bool, true, false, List, Option, Some, None, inl, inr, refl}
 use Rattle.std.proofs.Common.{sym, ap, ◌∙◌, subst, arith}
 use Rattle.std.specs.Prelude.{nat_lt, slice_get, slice_set, ◌^◌}
 use Rattle.std.proofs.lemmas.Bool.{cases_eq, eq-eqb, lt-ltb, true≢false}
@@ -45,7 +45,7 @@ use Rattle.ppm_step.specs.declared.turn.Act.TheVariants.{Step, Soft, Hard, Quit}
 use Rattle.ppm_step.specs.declared.turn.Turn.{Turn}
 use Rattle.ppm_tickets.specs.Homes.{Home}
 use Rattle.ppm_tickets.specs.Lawful.{IsAlive, IsDead, Names, Dooms, tag}
-use Rattle.ppm_tickets.specs.Saw.{IsStrand, Sees}
+use Rattle.ppm_tickets.specs.Saw.{IsStrand, Sees, IsBidThere}
 use Rattle.ppm_tickets.specs.View as spots
 use Rattle.ppm_tickets.specs.View.{content_by}
 use Rattle.ppm_tickets.specs.Words.{Word, Number, Spot, Bid, Holder, Carry, Dead}
@@ -63,18 +63,18 @@ use Rattle.ppm_progress.proofs.MomentLemmas.{number_of}
 use Rattle.ppm_progress.proofs.RestartLemmas.{restart_goes_on}
 use Rattle.ppm_progress.proofs.SpotLemmas.{Made, alive_was, carry_goes, bid_goes, holder_goes}
 use Rattle.ppm_progress.proofs.WriteLemmas.{Gives, MovesTo, StoresAt, Wrote, turn_wrote}
-use Rattle.ppm_takeover.specs.Lost.{BidsFor, TookOver}
+use Rattle.ppm_takeover.specs.Lost.{BidsFor, IsBidder, TookOver}
 use Rattle.ppm_takeover.proofs.AimRows.{seek_row, move_row, BidsSo, bids_so}
 use Rattle.ppm_takeover.proofs.MoveRows.{moves_after_bid}
 use Rattle.ppm_takeover.proofs.StandRows.{names_content, stores_no_bid}
 
--- where a row that seeks work leads: the place for which it is about to bid is not held by its processor
+-- where a row that seeks work leads: the place for which it is about to bid is not held by its processor, and it doesn't look yet whether a bid stands
 abbrev pub Clear : (Spot → Word) → (o : ℕ) → Then → Type 0
 Clear m o (Load SeekHolder) = Unit {0}
 Clear m o (Load (SeekDead v h)) = Names (m (Holder v)) o → ⊥
 Clear m o (Load (SeekTop v)) = Unit {0}
 Clear m o (Load (SeekEntry v i)) = Unit {0}
-Clear m o (Install re) = (p : ℕ) → BidsFor re.kind p → Names (m (Holder p)) o → ⊥
+Clear m o (Install re) = ((p : ℕ) → BidsFor re.kind p → Names (m (Holder p)) o → ⊥) × (IsBidder re.kind → ⊥)
 Clear m o Again = Unit {0}
 Clear m o Broken = Unit {0}
 Clear m o _ = ⊥
@@ -91,13 +91,37 @@ abbrev pub AimsClearAt : (Spot → Word) → (o : ℕ) → Standing → Type 0
 AimsClearAt m o (IsWithin seat row) = AimsClear m o seat row
 AimsClearAt m o x = Unit {0}
 
--- a place that bids and has a message of one that lives is held by it, and no processor has still to go to a place that has a message of it
+-- the message of place p stands for place w, or may come to do so
+abbrev pub MayStand : (Spot → Word) → (p w : ℕ) → Type 0
+MayStand m p w = (m (Bid p) ≡ m (Holder w)) ⊎ (tag (m (Holder w)) < tag (m (Bid p)))
+
+-- A place of a processor that lives is held by it. A place that bids does so for a place that is there, with a message that isn't of the processor of
+-- that place, and whose tag is the next one at most. If the message is of one that lives, and may stand, then that one holds the place that bids, and
+-- has still to go to no place that has such a message. After a renewal there may be messages of others, but they come too late.
 pub record AreApart (s : Shape) (state : RunState) : Type 0 where
   pub rows : (o : ℕ) → AimsClearAt (spots.view s state.words) o (stand_of state o)
+  pub home : (v : ℕ) → IsAlive (spots.view s state.words) v → Names (spots.view s state.words (Holder v)) v
+  pub late : (p w : ℕ) → BidsFor (spots.kinds s state.words p) w
+      → (w < s.processors) × (tag (spots.view s state.words (Bid p)) < tag (spots.view s state.words (Holder w)) + 2)
+  pub away : (p w : ℕ) → BidsFor (spots.kinds s state.words p) w → Names (spots.view s state.words (Bid p)) w → ⊥
   pub own : (p c w : ℕ) → IsAlive (spots.view s state.words) c → BidsFor (spots.kinds s state.words p) w → Names (spots.view s state.words (Bid p)) c
-      → Names (spots.view s state.words (Holder p)) c
+      → MayStand (spots.view s state.words) p w → Names (spots.view s state.words (Holder p)) c
   pub apart : (c v w : ℕ) → IsAlive (spots.view s state.words) c → TookOver (spots.view s state.words) (spots.kinds s state.words) c v
-      → Names (spots.view s state.words (Holder v)) c → BidsFor (spots.kinds s state.words v) w → Names (spots.view s state.words (Bid v)) c → ⊥
+      → Names (spots.view s state.words (Holder v)) c → BidsFor (spots.kinds s state.words v) w → Names (spots.view s state.words (Bid v)) c
+      → MayStand (spots.view s state.words) v w → ⊥
+
+-- a place that is about to bid: its message has the next tag at most
+dooms_late : (s : Shape) (m : Spot → Word) (p w : ℕ) (k : RestartKind) → BidsFor k w → (IsBidder k → ⊥) → Dooms m p k → IsBidThere s k
+    → (w < s.processors) × (tag (m (Bid p)) < tag (m (Holder w)) + 2)
+dooms_late s m p w (Take v h) bids_ new doom there = (
+  subst (λ (z : ℕ). z < s.processors) bids_ there,
+  let told = ap tag doom.2 in
+      let low = doom.3 in
+      let same = ap (λ (z : ℕ). tag (m (Holder z))) bids_ in
+      omega (arith, told, low, same),
+)
+dooms_late s m p w (Take2 v) bids_ new doom there = absurd (new tt)
+dooms_late s m p w _ bids_ new doom there = absurd bids_
 
 -- where no more places are held
 clear_on : (m n : Spot → Word) (o : ℕ) → ((p : ℕ) → Names (n (Holder p)) o → Names (m (Holder p)) o) → (next : Then) → Clear m o next → Clear n o next
@@ -105,7 +129,7 @@ clear_on m n o back (Load SeekHolder) a = tt
 clear_on m n o back (Load (SeekDead v h)) a = λ names. a (back v names)
 clear_on m n o back (Load (SeekTop v)) a = tt
 clear_on m n o back (Load (SeekEntry v i)) a = tt
-clear_on m n o back (Install re) a = λ p bids_ names. a p bids_ (back p names)
+clear_on m n o back (Install re) a = (λ p bids_ names. a.0 p bids_ (back p names), a.1)
 clear_on m n o back Again a = tt
 clear_on m n o back Broken a = tt
 clear_on m n o back _ a = absurd a
@@ -142,7 +166,7 @@ module _ (s : Shape) (plain : s.takeover ≡ ByPlaces) (m : Spot → Word) (seat
   dead_clear v h free (ANumber n) = by (n == 1)
     where
       rise : (y : Bool) → Leads (bids seat v h y)
-      rise true = λ p is names. free (subst (λ (q : ℕ). Names (m (Holder q)) o) (sym is) names)
+      rise true = (λ p is names. free (subst (λ (q : ℕ). Names (m (Holder q)) o) (sym is) names), λ z. z)
       rise false = tt
 
       by : (y : Bool) → Leads (if y then bids seat v h (nat_lt (h.tag + 1) (2 ^ 58)) else Now (Load (SeekTop v)))
@@ -179,7 +203,7 @@ module _ (s : Shape) (plain : s.takeover ≡ ByPlaces) (m : Spot → Word) (seat
   entry_clear : (v i : ℕ) (w : Content) → Leads (on_entry w (seek_entry s seat v i))
   entry_clear v i (AnEntry (entries.Empty t)) = tt
   entry_clear v i (AnEntry (entries.Local t x)) = local_clear s.takeover plain v i (entries.Local t x)
-  entry_clear v i (AnEntry (entries.Job t x)) = λ p a. absurd a
+  entry_clear v i (AnEntry (entries.Job t x)) = (λ p a. absurd a, λ z. z)
   entry_clear v i (AnEntry (entries.Taken t x)) = passes_clear s.takeover plain v i
   entry_clear v i (ANumber x) = tt
   entry_clear v i (AHolder x) = tt
@@ -381,6 +405,24 @@ module _ (s : Shape) (code : CodeParts) (plain : s.takeover ≡ ByPlaces) (fair 
     | inr bid ↦ absurd (alive (made_dead p bid d names))
   ]
 
+  tags_up : (v : ℕ) → tag (m (Holder v)) ≤ tag (n (Holder v))
+  tags_up v = elim (holder_now v) [
+    | inl same ↦ let e = ap tag same in omega (arith, e)
+    | inr made ↦ let old = ap tag made.old_is in let new = ap tag made.new_is in omega (arith, old, new)
+  ]
+
+  -- a message that may stand after the turn might do so before
+  might_stand : (p v : ℕ) → n (Bid p) ≡ m (Bid p) → MayStand n p v → MayStand m p v
+  might_stand p v bid (inl stands) = elim (holder_now v) [
+    | inl same ↦ inl (sym bid ∙ stands ∙ same)
+    | inr made ↦
+        let old = ap tag made.old_is in
+        let new = ap tag made.new_is in
+        let is = ap tag (sym bid ∙ stands) in
+        inr (omega (arith, old, new, is))
+  ]
+  might_stand p v bid (inr up) = let rise = tags_up v in let is = ap tag bid in inr (omega (arith, up, rise, is))
+
   -- rows
   module _ (seat : Seat) (row : Row) (e : x ≡ IsWithin seat row) (kind : seat.restart.kind ≡ Seek) where
     none_made : (p : ℕ) → Made s ws x now p → ⊥
@@ -490,9 +532,10 @@ module _ (s : Shape) (code : CodeParts) (plain : s.takeover ≡ ByPlaces) (fair 
     place : seat.place ≡ p
     bids : BidsFor re.kind v
     so : BidsSo seat.restart.kind v
+    now_is : K' p ≡ re.kind
 
-  given : (act : Act) (y : Standing) (p : ℕ) (re : Restart) (v : ℕ) → x ≡ y → Gives act y p re → BidsFor re.kind v → Given p v
-  given (Step u) (IsWithin seat (Now (Install r))) p re v e gives bids_ =
+  given : (act : Act) (y : Standing) (p : ℕ) (re : Restart) (v : ℕ) → x ≡ y → Gives act y p re → BidsFor re.kind v → K' p ≡ re.kind → Given p v
+  given (Step u) (IsWithin seat (Now (Install r))) p re v e gives bids_ is =
       let mine : BidsFor r.kind v = subst (λ (z : Restart). BidsFor z.kind v) (sym gives.1) bids_ in
       record {
         seat = seat;
@@ -501,18 +544,19 @@ module _ (s : Shape) (code : CodeParts) (plain : s.takeover ≡ ByPlaces) (fair 
         place = gives.0;
         bids = mine;
         so = bids_so s plain M seat.own seat.place seat.restart.bottom r seat.restart.kind (in_row seat (Now (Install r)) e).seen v mine;
+        now_is = is ∙ ap (λ (z : Restart). z.kind) (sym gives.1);
       }
-  given (Step u) (IsWithin seat (Now (Fork r))) p re v e gives bids_ = absurd (subst (λ (z : Restart). BidsFor z.kind v) (sym gives.1) bids_)
-  given (Step u) (IsWithin seat (Now (Begin r f b))) p re v e gives bids_ = absurd (subst (λ (z : Restart). BidsFor z.kind v) (sym gives.1) bids_)
-  given (Step u) (IsRunning seat (Installs kind)) p re v e gives bids_ =
+  given (Step u) (IsWithin seat (Now (Fork r))) p re v e gives bids_ is = absurd (subst (λ (z : Restart). BidsFor z.kind v) (sym gives.1) bids_)
+  given (Step u) (IsWithin seat (Now (Begin r f b))) p re v e gives bids_ is = absurd (subst (λ (z : Restart). BidsFor z.kind v) (sym gives.1) bids_)
+  given (Step u) (IsRunning seat (Installs kind)) p re v e gives bids_ is =
       let sees = subst (Sees s m K (spots.bottoms s ws) c) e (run.lawful.1.sees c) in
       absurd (strand_not kind v sees.2 (subst (λ (z : Restart). BidsFor z.kind v) (sym gives.1) bids_))
-  given act _ p re v e gives bids_ = absurd gives
+  given act _ p re v e gives bids_ is = absurd gives
 
   bids_now : (p v : ℕ) → BidsFor (K' p) v → BidsFor (K p) v ⊎ Given p v
   bids_now p v bids_ = elim (restart_goes_on s code ws run.lawful.0 turn.act x now wrote p) [
     | inl same ↦ inl (subst (λ (z : Restart). BidsFor z.kind v) same bids_)
-    | inr new ↦ inr (given turn.act x p new.0 v refl new.1 (subst (λ (z : Restart). BidsFor z.kind v) new.2 bids_))
+    | inr new ↦ inr (given turn.act x p new.0 v refl new.1 (subst (λ (z : Restart). BidsFor z.kind v) new.2 bids_) (ap (λ (z : Restart). z.kind) new.2))
   ]
 
   -- the message of a place that bids stays as it is
@@ -561,6 +605,13 @@ module _ (s : Shape) (code : CodeParts) (plain : s.takeover ≡ ByPlaces) (fair 
 
     take_bids : (d : ℕ) → g.seat.restart.kind ≡ Take v d → BidsFor (K p) v
     take_bids d e = subst (λ (k : RestartKind). BidsFor k v) (sym (given_kind ∙ e)) refl
+
+    -- where it seeks work the message is its own
+    told_own : g.seat.restart.kind ≡ Seek → Names (m (Bid p)) c
+    told_own seek =
+        let a = seek_row s plain M g.seat (Now (Install g.re)) seek given_in.seen v g.bids in
+        let there = subst (λ (z : ℕ). Names (m (Bid z)) g.seat.own) g.place a in
+        subst (Names (m (Bid p))) given_in.sits.own there
 
   -- who moves had taken the place over
   pub record HasMoved (d q : ℕ) : Type 0 where
@@ -614,7 +665,7 @@ module _ (s : Shape) (code : CodeParts) (plain : s.takeover ≡ ByPlaces) (fair 
         elim g.so [
           | inl seek ↦
               let mine = subst (Names (m (Holder v))) own (subst (λ (w : Word). Names w d) same names) in
-              absurd (here_clear g.seat (Now (Install g.re)) g.at seek v g.bids mine)
+              absurd ((here_clear g.seat (Now (Install g.re)) g.at seek).0 v g.bids mine)
           | inr take ↦ had_so at (take_bids q v g take.0 take.1) (given_bid q v g) same
         ]
 
@@ -639,55 +690,100 @@ module _ (s : Shape) (code : CodeParts) (plain : s.takeover ≡ ByPlaces) (fair 
     moved_not moved = elim (bids_now q v took.bids) [
       | inl bids_ ↦
           let told = subst (λ (w : Word). Names w d) (bid_kept q v bids_) (subst (λ (w : Word). Names w d) (sym took.stands) names) in
-          was.apart d q v (lived d alive) moved.took moved.names bids_ told
+          was.apart d q v (lived d alive) moved.took moved.names bids_ told (might_stand q v (bid_kept q v bids_) (inl took.stands))
       | inr g ↦
           let own = names_one (m (Holder q)) d c moved.names (given_holds q v g) in
           let at = ap number_of (sym moved.took.carried ∙ subst (λ (o : ℕ). m (Carry o) ≡ Number q) (sym own) (given_carry q v g)) in
           let bids_ = subst (λ (z : ℕ). BidsFor (K z) q) at moved.took.bids in
           let told = subst (λ (w : Word). Names w d) (given_bid q v g) (subst (λ (w : Word). Names w d) (sym took.stands) names) in
           was.apart d q q (lived d alive) moved.took moved.names bids_ told
+          (inl (subst (λ (z : ℕ). m (Bid z) ≡ m (Holder q)) at moved.took.stands))
     ]
 
-  own_now : (p d w : ℕ) → IsAlive n d → BidsFor (K' p) w → Names (n (Bid p)) d → Names (n (Holder p)) d
-  own_now p d w alive bids_ told = elim (bids_now p w bids_) [
-    | inl still ↦ held still (subst (λ (z : Word). Names z d) (bid_kept p w still) told)
+  own_now : (p d w : ℕ) → IsAlive n d → BidsFor (K' p) w → Names (n (Bid p)) d → MayStand n p w → Names (n (Holder p)) d
+  own_now p d w alive bids_ told may = elim (bids_now p w bids_) [
+    | inl still ↦ held still (subst (λ (z : Word). Names z d) (bid_kept p w still) told) (might_stand p w (bid_kept p w still) may)
     | inr g ↦
         let told_ = subst (λ (z : Word). Names z d) (given_bid p w g) told in
         elim g.so [
-          | inr take ↦ held (take_bids p w g take.0 take.1) told_
+          | inr take ↦ held (take_bids p w g take.0 take.1) told_ (might_stand p w (given_bid p w g) may)
           | inl seek ↦
-              let a = seek_row s plain M g.seat (Now (Install g.re)) seek (given_in p w g).seen w g.bids in
-              let mine = subst (λ (z : ℕ). Names (m (Bid z)) g.seat.own) g.place a in
-              let own : d ≡ c = names_one (m (Bid p)) d g.seat.own told_ mine ∙ (given_in p w g).sits.own in
+              let own : d ≡ c = names_one (m (Bid p)) d c told_ (told_own p w g seek) in
               holds_on p d (lived d alive) (subst (Names (m (Holder p))) (sym own) (given_holds p w g))
         ]
   ]
     where
-      held : BidsFor (K p) w → Names (m (Bid p)) d → Names (n (Holder p)) d
-      held b told = holds_on p d (lived d alive) (was.own p d w (lived d alive) b told)
+      held : BidsFor (K p) w → Names (m (Bid p)) d → MayStand m p w → Names (n (Holder p)) d
+      held b told may = holds_on p d (lived d alive) (was.own p d w (lived d alive) b told may)
 
-  apart_now : (d v w : ℕ) → IsAlive n d → TookOver n K' d v → Names (n (Holder v)) d → BidsFor (K' v) w → Names (n (Bid v)) d → ⊥
-  apart_now d v w alive took names bids_ told = elim (took_was d v alive took names) [
+  home_now : (v : ℕ) → IsAlive n v → Names (n (Holder v)) v
+  home_now v alive = holds_on v v (lived v alive) (was.home v (lived v alive))
+
+  abbrev IsLate : (p w : ℕ) → Type 0
+  IsLate p w = (w < s.processors) × (tag (n (Bid p)) < tag (n (Holder w)) + 2)
+
+  late_now : ((p : ℕ) → Dooms n p (K' p)) → ((p : ℕ) → IsBidThere s (K' p)) → (p w : ℕ) → BidsFor (K' p) w → IsLate p w
+  late_now doomed there p w bids_ = elim (bids_now p w bids_) [
+    | inl still ↦ had still (bid_kept p w still)
+    | inr g ↦ elim g.so [
+      | inr take ↦ had (take_bids p w g take.0 take.1) (given_bid p w g)
+      | inl seek ↦
+          dooms_late s n p w g.re.kind g.bids (here_clear g.seat (Now (Install g.re)) g.at seek).1 (subst (Dooms n p) g.now_is (doomed p))
+          (subst (IsBidThere s) g.now_is (there p))
+    ]
+  ]
+    where
+      had : BidsFor (K p) w → n (Bid p) ≡ m (Bid p) → IsLate p w
+      had b same =
+          let low = was.late p w b in
+          (low.0, let was_ = low.1 in let up = tags_up w in let is = ap tag same in omega (arith, was_, up, is))
+
+  away_now : (p w : ℕ) → BidsFor (K' p) w → Names (n (Bid p)) w → ⊥
+  away_now p w bids_ told = elim (bids_now p w bids_) [
+    | inl still ↦ was.away p w still (subst (λ (z : Word). Names z w) (bid_kept p w still) told)
+    | inr g ↦
+        let told_ = subst (λ (z : Word). Names z w) (given_bid p w g) told in
+        elim g.so [
+          | inr take ↦ was.away p w (take_bids p w g take.0 take.1) told_
+          | inl seek ↦
+              let own : w ≡ c = names_one (m (Bid p)) w c told_ (told_own p w g seek) in
+              let mine = subst (λ (z : ℕ). Names (m (Holder z)) c) (sym own) (was.home c (given_alive p w g)) in
+              (here_clear g.seat (Now (Install g.re)) g.at seek).0 w g.bids mine
+        ]
+  ]
+
+  apart_now : (d v w : ℕ) → IsAlive n d → TookOver n K' d v → Names (n (Holder v)) d → BidsFor (K' v) w → Names (n (Bid v)) d → MayStand n v w → ⊥
+  apart_now d v w alive took names bids_ told may = elim (took_was d v alive took names) [
     | inr (inl moved) ↦ moved_not d v alive took names moved
     | inr (inr made) ↦ elim (bids_now v w bids_) [
       | inr g ↦ given_unmade v w g v made
       | inl still ↦
-          let own = was.own v d w (lived d alive) still (subst (λ (z : Word). Names z d) (bid_kept v w still) told) in
+          let kept = bid_kept v w still in
+          let own = was.own v d w (lived d alive) still (subst (λ (z : Word). Names z d) kept told) (might_stand v w kept may) in
           lived d alive (made_dead v made d own)
     ]
     | inl had ↦ elim (bids_now v w bids_) [
       | inl still ↦
-          was.apart d v w (lived d alive) had.took had.names still (subst (λ (z : Word). Names z d) (bid_kept v w still) told)
+          let kept = bid_kept v w still in
+          was.apart d v w (lived d alive) had.took had.names still (subst (λ (z : Word). Names z d) kept told) (might_stand v w kept may)
       | inr g ↦
           let own = names_one (m (Holder v)) d c had.names (given_holds v w g) in
           let at = ap number_of (sym had.took.carried ∙ subst (λ (o : ℕ). m (Carry o) ≡ Number v) (sym own) (given_carry v w g)) in
           let b = subst (λ (z : ℕ). BidsFor (K z) v) at had.took.bids in
-          was.apart d v v (lived d alive) had.took had.names b (subst (λ (z : Word). Names z d) (given_bid v w g) told)
+          let stands = subst (λ (z : ℕ). m (Bid z) ≡ m (Holder v)) at had.took.stands in
+          was.apart d v v (lived d alive) had.took had.names b (subst (λ (z : Word). Names z d) (given_bid v w g) told) (inl stands)
     ]
   ]
 
-  pub apart_after : AreApart s (happens s code state turn)
-  apart_after = record { rows = rows_now; own = own_now; apart = apart_now }
+  pub apart_after : ((p : ℕ) → Dooms n p (K' p)) → ((p : ℕ) → IsBidThere s (K' p)) → AreApart s (happens s code state turn)
+  apart_after doomed there = record {
+    rows = rows_now;
+    home = home_now;
+    late = late_now doomed there;
+    away = away_now;
+    own = own_now;
+    apart = apart_now;
+  }
 
   -- who has taken over no place has done so after the turn by a bid alone
   pub settled_on : (d : ℕ) → IsAlive n d → IsSettled s state d → ((v : ℕ) → Made s ws x now v → ⊥) → IsSettled s (happens s code state turn) d
@@ -717,5 +813,5 @@ module _ (s : Shape) (code : CodeParts) (plain : s.takeover ≡ ByPlaces) (fair 
         let at : moved.took.from ≡ r = sym from ∙ had.same ∙ there in
         let b = subst (λ (z : ℕ). BidsFor (K z) r) at moved.took.bids in
         let told = subst (λ (z : Word). Names z c) (sym (ap (λ (z : ℕ). m (Bid z)) (sym at) ∙ moved.took.stands)) moved.names in
-        was.apart c r r (lived c alive) moved.took moved.names b told
+        was.apart c r r (lived c alive) moved.took moved.names b told (inl (subst (λ (z : ℕ). m (Bid z) ≡ m (Holder r)) at moved.took.stands))
   ]

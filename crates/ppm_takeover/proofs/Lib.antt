@@ -6,8 +6,9 @@
 -- Of seventeen steps one is a look, a work turn or a move (`LookSteps`).
 --
 -- Rounds of a replay are laps. A row that seeks work bids for no place that its processor holds, and what rows have seen of bids is `AimRows`. So a
--- processor to which no place that it took over is left has none until it bids anew, and none where it has just moved (`AimTurns`). Thus in turns in which
--- nobody works and no place has a new holder it looks within 17 of its steps, again and again (`SettleRuns`). Its looks are counted, and each names the
+-- processor to which no place that it took over is left has none until it bids anew, and none where it has just moved (`AimTurns`). Words that come back
+-- keep messages, but none of them may stand (`ApartRuns`); so these laws hold over legs too, and those of runs from an image are those without legs. Thus
+-- in turns in which nobody works and no place has a new holder it looks within 17 of its steps, again and again (`SettleRuns`). Its looks are counted, and each names the
 -- place after the one before (`LoadCounts`). In n rounds each processor that isn't done has n turns; so in 17 (P + 2) rounds one that is spared looks at
 -- each place and bids for those that were left, or somebody gained (`RoundLaps`). Both gains are bounded (`PlacesReplays`).
 
@@ -25,6 +26,7 @@ pub mod LapRuns
 pub mod LookSteps
 pub mod AimRows
 pub mod AimTurns
+pub mod ApartRuns
 pub mod SettleRuns
 pub mod LoadCounts
 pub mod RoundLaps

@@ -2,6 +2,7 @@
 use Rattle.std.proofs.Common.{◌≡◌, ◌≢◌, ◌⊎◌, ◌≤◌, ◌<◌, ◌+◌, ◌*◌, ◌-◌, ◌||◌, ℕ, zero, suc, Bool, true, false, List, [], ◌∷◌, ◌++◌, length}
 use Rattle.std.proofs.Common.{inl, inr, refl, sym, ap, ◌∙◌, subst, arith}
 use Rattle.std.specs.List.{AllByRecursion, list_any}
+use Rattle.std.specs.Prelude.{◌^◌}
 use Rattle.std.proofs.lemmas.Bool.{eq-eqb, true≢false}
 use Rattle.std.proofs.lemmas.List.{append_assoc, length-map}
 use Rattle.ppm_strands.specs.Calm.{Calm}
@@ -23,8 +24,8 @@ use Rattle.ppm_plan.specs.declared.schedule_item.ScheduledAct.{ScheduledAct}
 use Rattle.ppm_plan.specs.declared.schedule_item.ScheduledAct.TheVariants as scheduled
 use Rattle.ppm_plan.specs.declared.schedule_item.ScheduleItem.{ScheduleItem}
 use Rattle.ppm_step.specs.Among.{IsTurnAmong}
-use Rattle.ppm_step.specs.Laws.{reached, finish_at}
-use Rattle.ppm_step.specs.State.{State as RunState, opening}
+use Rattle.ppm_step.specs.Laws.{finish_at}
+use Rattle.ppm_step.specs.State.{State as RunState, along}
 use Rattle.ppm_step.specs.declared.turn.Act.TheVariants.{Step, Soft, Hard}
 use Rattle.ppm_step.specs.declared.turn.Turn.{Turn}
 use Rattle.ppm_choice.specs.Course.{Due, Listed, Course, act_of, processor_of, victim_of, turn_of, seeks, loads_of, behind_all, turns_of as turns_due}
@@ -37,15 +38,18 @@ use Rattle.ppm_tickets.specs.View as spots
 use Rattle.ppm_frames.specs.Views.{view}
 use Rattle.ppm_frames.specs.Seen.{arrays_at}
 use Rattle.ppm_kept.specs.Running.{IsFair, strands}
-use Rattle.ppm_runs.specs.Work.{work_in, undone_in}
-use Rattle.ppm_runs.proofs.HeirWork.{work_is_bounded}
-use Rattle.ppm_progress.specs.Enough.{faults_of, lap_rounds, enough_acts_by_places}
+use Rattle.ppm_runs.specs.Legs.{Leg, state_then, AreLegs, last_state, work_then, strikes_then, all_work, all_strikes}
+use Rattle.ppm_runs.specs.Work.{work_in, undone_in, strikes_in}
+use Rattle.ppm_runs.proofs.BoundLemmas.{undone_is}
+use Rattle.ppm_runs.proofs.LegWork.{work_over_legs}
+use Rattle.ppm_progress.specs.Enough.{faults_of, lap_rounds}
 use Rattle.ppm_progress.specs.Replays.{ReplaysEndByPlaces}
 use Rattle.ppm_progress.proofs.ListLemmas.{both, front, work_both}
 use Rattle.ppm_progress.proofs.ReplayLemmas.{turn_there, acts_due, acts_listed, rounds_whole, faults_both, map_both, undone_few}
 use Rattle.ppm_progress.proofs.RoundLemmas.{IsStepDue, rounds_due, rounds_add, rounds_long, turns_all, turns_few}
 use Rattle.ppm_takeover.specs.Laps.{holder_tags}
-use Rattle.ppm_takeover.proofs.LapRuns.{no_legs, no_legs_few, sum_after, sum_most}
+use Rattle.ppm_takeover.specs.Replays.{laps_over_legs, enough_acts_over_legs, LegsReplaysEndByPlaces}
+use Rattle.ppm_takeover.proofs.LapRuns.{no_legs_few, sum_after, sum_most}
 use Rattle.ppm_takeover.proofs.RoundLaps.{among_due, spared_due, steps_few, From, from_on, lap_gains}
 use Rattle.ppm_takeover.proofs.SettleRuns.{Spares, set_later}
 
@@ -91,9 +95,13 @@ items_leave processors c most (item ∷ items) all e =
     ((all.0, (two.0, act_few processors item.act most all.0)), items_leave processors c most items all.1 two.1)
 
 module _ (code : CodeParts) (input : List NamedArray) (s : Shape) (keeper : ℕ) (im : Image) (places : s.takeover ≡ ByPlaces) (fair : IsFair code)
-    (opens : Opens code input s keeper im) (calm : Calm (strands s code) (root_strand code input) (arrays_at (view s im.words))) where
+    (opens : Opens code input s keeper im) (calm : Calm (strands s code) (root_strand code input) (arrays_at (view s im.words)))
+    (legs : List Leg) (are_legs : AreLegs s code im.words legs) (fewer : (s.processors + 1) * (length legs + 1) < 2 ^ 58) where
   abbrev start : RunState
-  start = opening im.words s.processors
+  start = state_then s code im.words legs
+
+  abbrev at : List Turn → RunState
+  at turns = last_state s code im.words legs turns
 
   abbrev p : ℕ
   p = s.processors
@@ -102,19 +110,19 @@ module _ (code : CodeParts) (input : List NamedArray) (s : Shape) (keeper : ℕ)
   Among turns = AllByRecursion (IsTurnAmong s.processors) turns
 
   abbrev Over : List Turn → Type 0
-  Over turns = finish_at s (reached s code im.words turns) ≢ 0
+  Over turns = finish_at s (at turns) ≢ 0
 
   abbrev Reaches : (turns : ℕ) → Course → List Turn → Type 0
-  Reaches turns w first = From code input s keeper im places fair opens calm turns w first
+  Reaches turns w first = From code input s keeper im places fair opens calm legs are_legs fewer turns w first
 
   -- work turns, and tags of holders
   abbrev gained : List Turn → ℕ
-  gained l = work_in s code start l + holder_tags s.processors (spots.view s (reached s code im.words l).words)
+  gained l = work_in s code start l + holder_tags s.processors (spots.view s (at l).words)
 
   grows : (first more : List Turn) → Among first → Among more → gained first ≤ gained (first ++ more)
   grows first more a b =
       let works = work_both s code start first more in
-      let up = sum_after code input s keeper im places fair opens calm [] tt (no_legs_few s) first more a b in
+      let up = sum_after code input s keeper im places fair opens calm legs are_legs fewer first more a b in
       omega (arith, works, up)
 
   module _ (c : ℕ) (there : c < s.processors) where
@@ -126,7 +134,7 @@ module _ (code : CodeParts) (input : List NamedArray) (s : Shape) (keeper : ℕ)
     laps_gain zero turns w first from among spared left =
         let dues = rounds s.processors (lap_rounds s.processors * zero) in
         let due = rounds_due s.processors (lap_rounds s.processors * zero) in
-        let up = grows first (turns_due s code w dues) among (among_due code input s keeper im places fair opens calm dues due w) in
+        let up = grows first (turns_due s code w dues) among (among_due code input s keeper im places fair opens calm legs are_legs fewer dues due w) in
         inl (omega (arith, up))
     laps_gain (suc n) turns w first from among spared left =
         let r = lap_rounds s.processors in
@@ -139,16 +147,16 @@ module _ (code : CodeParts) (input : List NamedArray) (s : Shape) (keeper : ℕ)
         ap (λ (l : List Due). first ++ turns_due s code w l) split ∙ ap (λ (l : List Turn). first ++ l) (turns_of_both s code w lap (rounds p (r * n)))
         ∙ sym (append_assoc first one rest) in
         let due = rounds_due p r in
-        let among_one = among_due code input s keeper im places fair opens calm lap due w in
-        let spared_one = spared_due code input s keeper im places fair opens calm c there lap due w in
+        let among_one = among_due code input s keeper im places fair opens calm legs are_legs fewer lap due w in
+        let spared_one = spared_due code input s keeper im places fair opens calm legs are_legs fewer c there lap due w in
         let product = more_laps (r * p) n in
         let few : length one ≤ r * p = let x = turns_few s code lap w in let y = rounds_long p r in omega (arith, x, y) in
-        let fewer : r * p * n ≤ next.left = let is = left_at s code w lap in omega (arith, left, product, is, few) in
-        elim (lap_gains code input s keeper im places fair opens calm c there turns w first from among spared (omega (arith, left, product))) [
-          | inr set ↦ inr (subst Over (sym whole) (set_later code input s keeper im places fair opens calm (first ++ one) rest set))
+        let rest_left : r * p * n ≤ next.left = let is = left_at s code w lap in omega (arith, left, product, is, few) in
+        elim (lap_gains code input s keeper im places fair opens calm legs are_legs fewer c there turns w first from among spared (omega (arith, left, product))) [
+          | inr set ↦ inr (subst Over (sym whole) (set_later code input s keeper im places fair opens calm legs are_legs fewer (first ++ one) rest set))
           | inl gain ↦
-              elim (laps_gain n turns next (first ++ one) (from_on code input s keeper im places fair opens calm turns w first lap (steps_few s lap due) from)
-              (both (IsTurnAmong s.processors) first one among among_one) (both (Spares c) first one spared spared_one) fewer) [
+              elim (laps_gain n turns next (first ++ one) (from_on code input s keeper im places fair opens calm legs are_legs fewer turns w first lap (steps_few s lap due) from)
+              (both (IsTurnAmong s.processors) first one among among_one) (both (Spares c) first one spared spared_one) rest_left) [
                 | inr set ↦ inr (subst Over (sym whole) set)
                 | inl more ↦ let same = ap gained whole in inl (omega (arith, gain, more, same))
               ]
@@ -157,9 +165,9 @@ module _ (code : CodeParts) (input : List NamedArray) (s : Shape) (keeper : ℕ)
     module _ (items : List ScheduleItem) (named : AllByRecursion (λ item. IsActAmong s.processors item.act) items)
         (spared : is_killed schedule_form c items ≡ false) (end : End Result)
         (ends : Ends (strands s code) (root_strand code input) (arrays_at (view s im.words)) end) (turns : ℕ)
-        (enough : enough_acts_by_places (acts_of items) s.processors end.counts.capsules ≤ turns) where
+        (enough : enough_acts_over_legs (acts_of items) s.processors end.counts.capsules (strikes_then s code im.words legs) (length legs) ≤ turns) where
       abbrev count : ℕ
-      count = 218 * end.counts.capsules + 171 * faults_of (acts_of items) + 7 + s.processors * s.processors
+      count = laps_over_legs (faults_of (acts_of items)) s.processors end.counts.capsules (strikes_then s code im.words legs) (length legs)
 
       abbrev r : ℕ
       r = lap_rounds s.processors
@@ -210,25 +218,29 @@ module _ (code : CodeParts) (input : List NamedArray) (s : Shape) (keeper : ℕ)
       among_main =
           subst Among (sym main_is)
           (both (IsTurnAmong s.processors) first (turns_due s code after_list laps) among_first
-          (among_due code input s keeper im places fair opens calm laps laps_due after_list))
+          (among_due code input s keeper im places fair opens calm legs are_legs fewer laps laps_due after_list))
 
-      few_undone : undone_in s code start main ≤ faults_of (acts_of items)
-      few_undone =
+      few_struck : strikes_in s code start main ≤ faults_of (acts_of items)
+      few_struck =
           let few : undone_in s code start main ≤ faults_of (acts_due (list ++ laps)) = undone_few s code (list ++ laps) w in
+          let same : undone_in s code start main ≡ strikes_in s code start main =
+          ap (λ (f : RunState → Turn → List ℕ). length (along s code f start main)) (undone_is s places) in
           let sum = ap faults_of (map_both list laps) ∙ faults_both (acts_due list) (acts_due laps) in
           let none = rounds_whole s.processors laps laps_due in
           let acts = ap faults_of (acts_listed (acts_of items)) in
-          omega (arith, few, sum, none, acts)
+          omega (arith, few, same, sum, none, acts)
 
-      most_gained : gained main ≤ 218 * end.counts.capsules + 171 * faults_of (acts_of items) + 6 + s.processors * s.processors
+      most_gained : gained main < count
       most_gained =
-          let work = work_is_bounded code input s keeper im fair opens calm main among_main end ends in
-          let undone = few_undone in
-          let tags = sum_most code input s keeper im places fair opens calm [] tt (no_legs_few s) main among_main in
-          let none = no_legs (p + 1) in
-          let zero_ : (p + 1) * 0 + p ≡ p = omega (arith, none) in
-          let same : p * ((p + 1) * 0 + p) ≡ p * p = ap (λ (z : ℕ). p * z) zero_ in
-          omega (arith, work, undone, tags, same)
+          let work = work_over_legs code input s keeper im places fair opens calm legs are_legs main among_main end ends in
+          let whole : all_work s code im.words legs main ≡ work_then s code im.words legs + work_in s code start main = refl in
+          let all : all_strikes s code im.words legs main ≡ strikes_then s code im.words legs + strikes_in s code start main = refl in
+          let struck = few_struck in
+          let tags : holder_tags s.processors (spots.view s (at main).words) ≤ s.processors * ((s.processors + 1) * length legs + s.processors) =
+          sum_most code input s keeper im places fair opens calm legs are_legs fewer main among_main in
+          let is : count ≡ 218 * end.counts.capsules + 171 * (strikes_then s code im.words legs + faults_of (acts_of items))
+          + 172 * (s.processors * length legs) + 7 + s.processors * ((s.processors + 1) * length legs + s.processors) = refl in
+          omega (arith, work, whole, all, struck, tags, is)
 
       main_over : Over main
       main_over =
@@ -242,8 +254,7 @@ module _ (code : CodeParts) (input : List NamedArray) (s : Shape) (keeper : ℕ)
             | inl grown ↦
                 let most = most_gained in
                 let same = ap gained main_is in
-                let is : count ≡ 218 * end.counts.capsules + 171 * faults_of (acts_of items) + 7 + s.processors * s.processors = refl in
-                absurd (omega (arith, grown, most, same, is))
+                absurd (omega (arith, grown, most, same))
           ]
 
       -- the list and the laps, and the rounds after them
@@ -257,8 +268,19 @@ module _ (code : CodeParts) (input : List NamedArray) (s : Shape) (keeper : ℕ)
           ap (λ (n : ℕ). list ++ rounds p n) is ∙ ap (λ (l : List Due). list ++ l) (rounds_add p (r * count) rest)
           ∙ sym (append_assoc list laps (rounds p rest)) in
           let split = ap (turns_due s code w) dues_split ∙ turns_of_both s code w (list ++ laps) (rounds p rest) in
-          subst Over (sym split) (set_later code input s keeper im places fair opens calm main _ main_over)
+          subst Over (sym split) (set_later code input s keeper im places fair opens calm legs are_legs fewer main _ main_over)
+
+pub legs_replays_end_by_places : LegsReplaysEndByPlaces
+legs_replays_end_by_places code input s keeper im places fair opens calm legs are_legs fewer items named spared lt spares end ends turns enough =
+    replay_over code input s keeper im places fair opens calm legs are_legs fewer spared lt items named spares end ends turns enough
+
+-- from an image as many are enough
+no_legs_enough : (a p c f : ℕ) → a + lap_rounds p * p * (218 * c + 171 * (0 + f) + 172 * (p * 0) + 7 + p * ((p + 1) * 0 + p))
+    ≡ a + lap_rounds p * p * (218 * c + 171 * f + 7 + p * p)
+no_legs_enough a p c f = grind arith
 
 pub replays_end_by_places : ReplaysEndByPlaces
 replays_end_by_places code input s keeper im places fair opens calm items named spared lt spares end ends turns enough =
-    replay_over code input s keeper im places fair opens calm spared lt items named spares end ends turns enough
+    let same = no_legs_enough (length (acts_of items)) s.processors end.counts.capsules (faults_of (acts_of items)) in
+    let enough_ : enough_acts_over_legs (acts_of items) s.processors end.counts.capsules 0 0 ≤ turns = subst (λ (n : ℕ). n ≤ turns) (sym same) enough in
+    replay_over code input s keeper im places fair opens calm [] tt (no_legs_few s) spared lt items named spares end ends turns enough_

@@ -3,6 +3,7 @@
 use Rattle.std.proofs.Common.{◌≡◌, ◌≢◌, ◌⊎◌, ◌≤◌, ◌<◌, ◌+◌, ◌*◌, ◌%◌, if◌then◌else◌, ℕ, zero, suc, Bool, true, false, List, [], ◌∷◌, ◌++◌, length}
 use Rattle.std.proofs.Common.{None, inl, inr, refl, sym, ap, ◌∙◌, subst, arith}
 use Rattle.std.specs.List.{AllByRecursion}
+use Rattle.std.specs.Prelude.{◌^◌}
 use Rattle.std.proofs.lemmas.Bool.{cases_Bool, cases_eq, cases_lt, eq-eqb}
 use Rattle.std.proofs.lemmas.Bool.Decides.{eqb_tells}
 use Rattle.std.proofs.lemmas.List.{append_assoc}
@@ -21,8 +22,8 @@ use Rattle.ppm_layout.specs.Root.{root_strand}
 use Rattle.ppm_layout.specs.declared.images.Image.{Image}
 use Rattle.ppm_plan.specs.declared.schedule_item.ScheduledAct.TheVariants as scheduled
 use Rattle.ppm_step.specs.Among.{IsTurnAmong}
-use Rattle.ppm_step.specs.Laws.{reached, finish_at}
-use Rattle.ppm_step.specs.State.{State as RunState, stand_of, acts, happens, after, opening, is_done_at, seeks_holder}
+use Rattle.ppm_step.specs.Laws.{finish_at}
+use Rattle.ppm_step.specs.State.{State as RunState, stand_of, acts, happens, after, is_done_at, seeks_holder}
 use Rattle.ppm_step.specs.declared.turn.Act.{Act}
 use Rattle.ppm_step.specs.declared.turn.Act.TheVariants.{Step}
 use Rattle.ppm_step.specs.declared.turn.Turn.{Turn}
@@ -38,6 +39,7 @@ use Rattle.ppm_tickets.specs.View as spots
 use Rattle.ppm_frames.specs.Views.{view}
 use Rattle.ppm_frames.specs.Seen.{arrays_at}
 use Rattle.ppm_kept.specs.Running.{IsFair, strands}
+use Rattle.ppm_runs.specs.Legs.{Leg, state_then, AreLegs, last_state}
 use Rattle.ppm_runs.specs.Work.{work_in}
 use Rattle.ppm_runs.proofs.JoinLemmas.{stand_else}
 use Rattle.ppm_runs.proofs.WholeLemmas.{in_two}
@@ -51,7 +53,7 @@ use Rattle.ppm_progress.proofs.SoonLemmas.{step_is}
 use Rattle.ppm_progress.proofs.UnhurtRuns.{done_is}
 use Rattle.ppm_takeover.specs.Laps.{LooksAt, TakesPart, IsLap, holder_tags}
 use Rattle.ppm_takeover.proofs.AimTurns.{IsSettled}
-use Rattle.ppm_takeover.proofs.LapRuns.{no_legs_few, sum_after, lap_grows}
+use Rattle.ppm_takeover.proofs.LapRuns.{sum_after, lap_grows}
 use Rattle.ppm_takeover.proofs.LoadCounts.{named, IsLoad, Load, loads_both, find_load, look_counts}
 use Rattle.ppm_takeover.proofs.SettleRuns.{Spares, steps_spare, moment, one_more, going_or, set_later, IsQuiet, quiet_front, quiet_back, settles, looks_again}
 
@@ -77,7 +79,8 @@ steps_few s (due ∷ dues) all = (one due all.0, steps_few s dues all.1)
     one _ is = absurd is
 
 module _ (code : CodeParts) (input : List NamedArray) (s : Shape) (keeper : ℕ) (im : Image) (places : s.takeover ≡ ByPlaces) (fair : IsFair code)
-    (opens : Opens code input s keeper im) (calm : Calm (strands s code) (root_strand code input) (arrays_at (view s im.words))) where
+    (opens : Opens code input s keeper im) (calm : Calm (strands s code) (root_strand code input) (arrays_at (view s im.words)))
+    (legs : List Leg) (are_legs : AreLegs s code im.words legs) (fewer : (s.processors + 1) * (length legs + 1) < 2 ^ 58) where
   abbrev root : Tree (Frame FrameWord Point) Result
   root = root_strand code input
 
@@ -85,7 +88,7 @@ module _ (code : CodeParts) (input : List NamedArray) (s : Shape) (keeper : ℕ)
   arrays = arrays_at (view s im.words)
 
   abbrev start : RunState
-  start = opening im.words s.processors
+  start = state_then s code im.words legs
 
   abbrev p : ℕ
   p = s.processors
@@ -94,19 +97,19 @@ module _ (code : CodeParts) (input : List NamedArray) (s : Shape) (keeper : ℕ)
   Among turns = AllByRecursion (IsTurnAmong s.processors) turns
 
   abbrev at : List Turn → RunState
-  at turns = reached s code im.words turns
+  at turns = last_state s code im.words legs turns
 
   abbrev Over : List Turn → Type 0
   Over turns = finish_at s (at turns) ≢ 0
 
   abbrev Quiet : (first more : List Turn) → Type 0
-  Quiet first more = IsQuiet code input s keeper im places fair opens calm first more
+  Quiet first more = IsQuiet code input s keeper im places fair opens calm legs are_legs fewer first more
 
   abbrev Lead : List Turn → Course → Type 0
   Lead first w = w.state ≡ at first
 
   later : (first more : List Turn) → Over first → Over (first ++ more)
-  later first more set = set_later code input s keeper im places fair opens calm first more set
+  later first more set = set_later code input s keeper im places fair opens calm legs are_legs fewer first more set
 
   lead_on : (first : List Turn) (w : Course) (dues : List Due) → Lead first w → Lead (first ++ turns_due s code w dues) (behind_all s code w dues)
   lead_on first w dues lead =
@@ -174,7 +177,7 @@ module _ (code : CodeParts) (input : List NamedArray) (s : Shape) (keeper : ℕ)
         inl (ap is_done_at (stand_else s code (at first) turn.processor d turn.act (stand_of (at first) turn.processor) (λ z. ne (sym z))) ∙ going)
     | inl own ↦
         let act = step_is turn.act (step own) in
-        let now = moment code input s keeper im places fair opens calm first among in
+        let now = moment code input s keeper im places fair opens calm legs are_legs fewer first among in
         let place = now.advancing.run.halves.lawful.1.holding.carried d in
         let on : IsOn s code fair root arrays d place.0 (at first) = record { moment = now; going = going; carried = place.1 } in
         let same : happens s code (at first) turn ≡ acts s code (at first) d (Step act.0) (stand_of (at first) d) =
@@ -190,7 +193,7 @@ module _ (code : CodeParts) (input : List NamedArray) (s : Shape) (keeper : ℕ)
       → is_done_at (stand_of (at first) d) ≡ false → (is_done_at (stand_of (after s code (at first) more) d) ≡ false) ⊎ Over (first ++ more)
   going_on [] first d there among all steps_ going = inl going
   going_on (turn ∷ more) first d there among all steps_ going =
-      let is = one_more code input s keeper im places fair opens calm first turn in
+      let is = one_more code input s keeper im places fair opens calm legs are_legs fewer first turn in
       let whole = append_assoc first (turn ∷ []) more in
       elim (one_going first turn d there among steps_.0 going) [
         | inr set ↦ inr (subst Over whole (later (first ++ turn ∷ []) more (λ z. set (sym (ap (finish_at s) is) ∙ z))))
@@ -315,7 +318,7 @@ module _ (code : CodeParts) (input : List NamedArray) (s : Shape) (keeper : ℕ)
       due17 = rounds_due s.processors 17
 
       live : is_done_at (stand_of w.state c) ≡ false
-      live = elim (going_or code input s keeper im places fair opens calm first among c there spared) [
+      live = elim (going_or code input s keeper im places fair opens calm legs are_legs fewer first among c there spared) [
         | inl going ↦ ap (λ (z : RunState). is_done_at (stand_of z c)) lead ∙ going
         | inr set ↦ absurd (later first turns set quiet.unset)
       ]
@@ -328,12 +331,12 @@ module _ (code : CodeParts) (input : List NamedArray) (s : Shape) (keeper : ℕ)
 
       settled17 : IsSettled s (at (first ++ turns)) c
       settled17 =
-          settles code input s keeper im places fair opens calm c there first turns among (among_due (rounds s.processors 17) due17 w) spared
+          settles code input s keeper im places fair opens calm legs are_legs fewer c there first turns among (among_due (rounds s.processors 17) due17 w) spared
           (steps_only s code c (rounds s.processors 17) due17 w) quiet seventeen
 
       look17 : IsSettled s (at first) c → (1 ≤ loads_made s code c (at first) turns) × IsSettled s (at (first ++ turns)) c
       look17 settled =
-          let a = looks_again code input s keeper im places fair opens calm c there first turns among (among_due (rounds s.processors 17) due17 w) spared
+          let a = looks_again code input s keeper im places fair opens calm legs are_legs fewer c there first turns among (among_due (rounds s.processors 17) due17 w) spared
           (steps_only s code c (rounds s.processors 17) due17 w) quiet seventeen settled in
           (look_counts s code c 16 (at first) turns a.0, a.1)
 
@@ -355,8 +358,8 @@ module _ (code : CodeParts) (input : List NamedArray) (s : Shape) (keeper : ℕ)
         let among_one = among_due seven due w in
         let among_rest = among_due (rounds p (17 * k)) (rounds_due p (17 * k)) next in
         let quiet_ = subst (Quiet first) whole quiet in
-        let quiet_one = quiet_front code input s keeper im places fair opens calm first one rest among among_one among_rest quiet_ in
-        let quiet_rest = quiet_back code input s keeper im places fair opens calm first one rest among among_one among_rest quiet_ in
+        let quiet_one = quiet_front code input s keeper im places fair opens calm legs are_legs fewer first one rest among among_one among_rest quiet_ in
+        let quiet_rest = quiet_back code input s keeper im places fair opens calm legs are_legs fewer first one rest among among_one among_rest quiet_ in
         let product : 17 * suc k * p ≡ 17 * p + 17 * k * p = seventeen_more k p in
         let look = look17 w first lead among spared (omega (arith, left, product)) quiet_one settled in
         let few : length one ≤ 17 * p = let a = turns_few s code seven w in let b = rounds_long p 17 in omega (arith, a, b) in
@@ -444,16 +447,16 @@ module _ (code : CodeParts) (input : List NamedArray) (s : Shape) (keeper : ℕ)
       quiet_all = subst (Quiet first) lap_is quiet
 
       quiet_a : Quiet first a
-      quiet_a = quiet_front code input s keeper im places fair opens calm first a (m ++ z) among among_a among_mz quiet_all
+      quiet_a = quiet_front code input s keeper im places fair opens calm legs are_legs fewer first a (m ++ z) among among_a among_mz quiet_all
 
       quiet_mz : Quiet (first ++ a) (m ++ z)
-      quiet_mz = quiet_back code input s keeper im places fair opens calm first a (m ++ z) among among_a among_mz quiet_all
+      quiet_mz = quiet_back code input s keeper im places fair opens calm legs are_legs fewer first a (m ++ z) among among_a among_mz quiet_all
 
       quiet_m : Quiet (first ++ a) m
-      quiet_m = quiet_front code input s keeper im places fair opens calm (first ++ a) m z among_fa among_m among_z quiet_mz
+      quiet_m = quiet_front code input s keeper im places fair opens calm legs are_legs fewer (first ++ a) m z among_fa among_m among_z quiet_mz
 
       quiet_z : Quiet ((first ++ a) ++ m) z
-      quiet_z = quiet_back code input s keeper im places fair opens calm (first ++ a) m z among_fa among_m among_z quiet_mz
+      quiet_z = quiet_back code input s keeper im places fair opens calm legs are_legs fewer (first ++ a) m z among_fa among_m among_z quiet_mz
 
       left_a : 17 * s.processors ≤ w.left
       left_a = let parts_ = lap_parts s.processors in omega (arith, left, parts_)
@@ -572,7 +575,7 @@ module _ (code : CodeParts) (input : List NamedArray) (s : Shape) (keeper : ℕ)
       lap_gains =
           let among_lap = among_due (rounds s.processors (lap_rounds s.processors)) due_ w in
           let works = work_both s code start first lap_ in
-          let up = sum_after code input s keeper im places fair opens calm [] tt (no_legs_few s) first lap_ among among_lap in
+          let up = sum_after code input s keeper im places fair opens calm legs are_legs fewer first lap_ among among_lap in
           elim (eqb_tells (finish_at s (at (first ++ lap_))) 0) [
             | inr set ↦ inr set.1
             | inl unset ↦ elim (cases_eq (work_in s code (at first) lap_) 0) [
@@ -587,7 +590,7 @@ module _ (code : CodeParts) (input : List NamedArray) (s : Shape) (keeper : ℕ)
                           part = part unset.1;
                           looks = λ v gone. looked_at turns w first from among spared left quiet v gone.there;
                         } in
-                        lap_grows code input s keeper im places fair opens calm [] tt (no_legs_few s) first lap_ among among_lap is
+                        lap_grows code input s keeper im places fair opens calm legs are_legs fewer first lap_ among among_lap is
                   ]
             ]
           ]

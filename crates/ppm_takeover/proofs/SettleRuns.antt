@@ -1,20 +1,16 @@
 -- In a stretch of turns in which nobody works and no place has a new holder a processor that takes steps has soon no place to go to, and then looks
 -- again and again.
-use Rattle.std.proofs.Common.{◌≡◌, ◌≢◌, ◌⊎◌, ◌≤◌, ◌<◌, ◌==◌, if◌then◌else◌, ℕ, zero, suc, Bool, true, false, List, [], ◌∷◌, ◌++◌, length, inl, inr, refl}
-use Rattle.std.proofs.Common.{sym, ap, ◌∙◌, subst, arith, replicate, length-append}
+use Rattle.std.proofs.Common.{◌≡◌, ◌≢◌, ◌⊎◌, ◌≤◌, ◌<◌, ◌+◌, ◌*◌, ◌==◌, if◌then◌else◌, ℕ, zero, suc, Bool, true, false, List, [], ◌∷◌, ◌++◌, length, inl, inr, refl}
+use Rattle.std.proofs.Common.{sym, ap, ◌∙◌, subst, arith, length-append}
 use Rattle.std.specs.List.{AllByRecursion}
-use Rattle.std.specs.Prelude.{nat_lt, slice_get}
-use Rattle.std.proofs.lemmas.Bool.{cases_Bool, cases_eq, eq-eqb, ltb-true, true≢false}
+use Rattle.std.specs.Prelude.{◌^◌}
+use Rattle.std.proofs.lemmas.Bool.{cases_Bool, eq-eqb, true≢false}
 use Rattle.std.proofs.lemmas.Bool.Decides.{eqb_tells}
 use Rattle.std.proofs.lemmas.List.{append_assoc}
 use Rattle.ppm_strands.specs.Tree.{Words, Tree}
 use Rattle.ppm_strands.specs.Calm.{Calm}
 use Rattle.ppm_words.specs.declared.named_array.NamedArray.{NamedArray}
-use Rattle.ppm_cells.specs.Memory.{read}
-use Rattle.ppm_cells.specs.Restart.{restart_of}
-use Rattle.ppm_cells.specs.declared.cell.Cell.TheVariants.{RestartWord}
 use Rattle.ppm_cells.specs.declared.holder.Holder.{Holder as AHold}
-use Rattle.ppm_cells.specs.declared.restart.Restart.{Restart}
 use Rattle.ppm_cells.specs.declared.restart.RestartKind.{RestartKind}
 use Rattle.ppm_cells.specs.declared.restart.RestartKind.TheVariants.{Run, Bump, Push1, Push2, Unwind, Arrive, Join, Pop1, Pop2, Seek, Steal, Check, Take, Take2}
 use Rattle.ppm_cells.specs.declared.shape.Shape.{Shape}
@@ -26,12 +22,11 @@ use Rattle.ppm_code.specs.declared.location.FrameWord.{FrameWord}
 use Rattle.ppm_layout.specs.Correct.{Opens}
 use Rattle.ppm_layout.specs.Root.{root_strand}
 use Rattle.ppm_layout.specs.declared.images.Image.{Image}
-use Rattle.ppm_layout.proofs.ValueLemmas.{stands_for}
 use Rattle.ppm_step.specs.Among.{IsTurnAmong}
-use Rattle.ppm_step.specs.Laws.{reached, finish_at}
+use Rattle.ppm_step.specs.Laws.{finish_at}
 use Rattle.ppm_step.specs.Rows.{seek_by, found_at}
-use Rattle.ppm_step.specs.Standings.{Standing, IsLost, IsWithin}
-use Rattle.ppm_step.specs.State.{State as RunState, stand_in, stand_of, happens, after, along, opening, is_done_at, is_step, is_work, is_work_next, is_work_turn}
+use Rattle.ppm_step.specs.Standings.{Standing, IsWithin}
+use Rattle.ppm_step.specs.State.{State as RunState, stand_of, happens, after, along, is_done_at, is_step, is_work, is_work_next, is_work_turn}
 use Rattle.ppm_step.specs.State.{work_of}
 use Rattle.ppm_step.specs.declared.content.Content.TheVariants.{AHolder}
 use Rattle.ppm_step.specs.declared.row.Point.TheVariants.{SeekHolder}
@@ -47,15 +42,13 @@ use Rattle.ppm_step.proofs.FinishLemmas.{done_has_cause}
 use Rattle.ppm_tickets.specs.Lawful.{IsAlive, tag}
 use Rattle.ppm_tickets.specs.Saw.{Sees, IsBidThere}
 use Rattle.ppm_tickets.specs.View as spots
-use Rattle.ppm_tickets.specs.Words.{Word, Spot, Holder}
-use Rattle.ppm_tickets.proofs.ActLemmas.{restart_is}
-use Rattle.ppm_tickets.proofs.ViewLemmas.{if_false}
+use Rattle.ppm_tickets.specs.Words.{Holder}
 use Rattle.ppm_frames.specs.Views.{view}
 use Rattle.ppm_frames.specs.Seen.{arrays_at}
 use Rattle.ppm_frames.specs.Skeletons.{Skeleton}
 use Rattle.ppm_kept.specs.Running.{IsFair, strands}
 use Rattle.ppm_paces.specs.Costs.{IsLook}
-use Rattle.ppm_runs.specs.Legs.{all_homes, all_forked, all_taken}
+use Rattle.ppm_runs.specs.Legs.{Leg, words_then, state_then, AreLegs, last_state, all_homes, all_forked, all_taken}
 use Rattle.ppm_runs.specs.Work.{work_in}
 use Rattle.ppm_runs.proofs.WholeLemmas.{in_two}
 use Rattle.ppm_progress.specs.Soon.{turns_of, StepsOnly}
@@ -71,8 +64,9 @@ use Rattle.ppm_takeover.specs.Short.{LooksAtMost}
 use Rattle.ppm_takeover.proofs.LookRows.{look_row}
 use Rattle.ppm_takeover.proofs.CarriedRuns.{IsTended, tended_then, raised_by}
 use Rattle.ppm_takeover.proofs.SoonRuns.{moment_of, looks_come_soon}
-use Rattle.ppm_takeover.proofs.LapRuns.{tags_rise_at, seeks_is, no_legs_few, set_on, tags_after, sum_after}
-use Rattle.ppm_takeover.proofs.AimTurns.{AimsClearAt, AreApart, IsSettled, moves, apart_after, settled_on, moved_settles}
+use Rattle.ppm_takeover.proofs.LapRuns.{tags_rise_at, seeks_is, set_on, tags_after, sum_after}
+use Rattle.ppm_takeover.proofs.AimTurns.{AreApart, IsSettled, moves, settled_on, moved_settles}
+use Rattle.ppm_takeover.proofs.ApartRuns.{apart_then}
 
 -- the turn is no hard fault of processor c
 abbrev pub Spares : (c : ℕ) → Turn → Type 0
@@ -138,7 +132,8 @@ moving_is (IsWithin seat (Now (Move r))) a = (seat, r, refl)
 moving_is _ a = absurd a
 
 module _ (code : CodeParts) (input : List NamedArray) (s : Shape) (keeper : ℕ) (im : Image) (places : s.takeover ≡ ByPlaces) (fair : IsFair code)
-    (opens : Opens code input s keeper im) (calm : Calm (strands s code) (root_strand code input) (arrays_at (view s im.words))) where
+    (opens : Opens code input s keeper im) (calm : Calm (strands s code) (root_strand code input) (arrays_at (view s im.words)))
+    (legs : List Leg) (are_legs : AreLegs s code im.words legs) (fewer : (s.processors + 1) * (length legs + 1) < 2 ^ 58) where
   abbrev root : Tree (Frame FrameWord Point) Result
   root = root_strand code input
 
@@ -146,13 +141,16 @@ module _ (code : CodeParts) (input : List NamedArray) (s : Shape) (keeper : ℕ)
   arrays = arrays_at (view s im.words)
 
   abbrev start : RunState
-  start = opening im.words s.processors
+  start = state_then s code im.words legs
+
+  abbrev words : List ℕ
+  words = words_then s code im.words legs
 
   abbrev Among : List Turn → Type 0
   Among turns = AllByRecursion (IsTurnAmong s.processors) turns
 
   abbrev pub at : List Turn → RunState
-  at turns = reached s code im.words turns
+  at turns = last_state s code im.words legs turns
 
   abbrev pub Over : List Turn → Type 0
   Over turns = finish_at s (at turns) ≢ 0
@@ -161,66 +159,24 @@ module _ (code : CodeParts) (input : List NamedArray) (s : Shape) (keeper : ℕ)
   sum turns = holder_tags s.processors (spots.view s (at turns).words)
 
   abbrev raised : ℕ
-  raised = raised_by code input s keeper im places fair opens calm []
+  raised = raised_by code input s keeper im places fair opens calm legs
 
   abbrev IsTendedAt : List Turn → Skeleton → Type 0
   IsTendedAt turns t =
-      IsTended s code places fair root arrays raised im.words (at turns) (all_homes s code im.words [] turns) (all_forked s code im.words [] turns)
-      (all_taken s code im.words [] turns) t
+      IsTended s code places fair root arrays raised words (at turns) (all_homes s code im.words legs turns) (all_forked s code im.words legs turns)
+      (all_taken s code im.words legs turns) t
 
   tended : (turns : List Turn) → Among turns → (t : Skeleton) × IsTendedAt turns t
-  tended turns among = tended_then code input s keeper im places fair opens calm [] tt turns among
+  tended turns among = tended_then code input s keeper im places fair opens calm legs are_legs turns among
 
   pub moment : (turns : List Turn) → Among turns → IsMoment s code fair root arrays (at turns)
-  moment turns among = let a = tended turns among in moment_of s code places fair root arrays raised im.words (at turns) _ _ _ a.0 a.1
+  moment turns among = let a = tended turns among in moment_of s code places fair root arrays raised words (at turns) _ _ _ a.0 a.1
 
   pub one_more : (first : List Turn) (turn : Turn) → at (first ++ turn ∷ []) ≡ happens s code (at first) turn
   one_more first turn = in_two s code start first (turn ∷ [])
 
-  -- where a run opens no place bids
-  no_bid : (p v : ℕ) → BidsFor (spots.kinds s im.words p) v → ⊥
-  no_bid p v bids = by (nat_lt p s.processors) refl
-    where
-      some : p < s.processors → ⊥
-      some lt = elim (cases_eq p keeper) [
-        | inl same ↦
-            let keeps = ap (λ (n : ℕ). restart_of (read s im.words (RestartWord n))) same ∙ (stands_for code input s keeper im opens).runs in
-            subst (λ (x : Restart). BidsFor x.kind v) (restart_is s im.words p lt ∙ ap spots.restart_or keeps) bids
-        | inr ne ↦
-            subst (λ (x : Restart). BidsFor x.kind v)
-            (restart_is s im.words p lt ∙ ap spots.restart_or ((stands_for code input s keeper im opens).seeks p lt ne)) bids
-      ]
-
-      by : (y : Bool) → nat_lt p s.processors ≡ y → ⊥
-      by true e = some (ltb-true p s.processors e)
-      by false e =
-          subst (λ (x : Restart). BidsFor x.kind v)
-          (if_false (nat_lt p s.processors) (spots.restart_or (restart_of (read s im.words (RestartWord p)))) spots.seeking e) bids
-
-  lost_clear : (m : Spot → Word) (o k q : ℕ) → AimsClearAt m o (stand_in (slice_get (replicate k IsLost) q))
-  lost_clear m o zero q = tt
-  lost_clear m o (suc k) zero = tt
-  lost_clear m o (suc k) (suc q) = lost_clear m o k q
-
-  first_apart : AreApart s start
-  first_apart = record {
-    rows = λ o. lost_clear (spots.view s im.words) o s.processors o;
-    own = λ p c w alive bids told. absurd (no_bid p w bids);
-    apart = λ c v w alive took names bids told. no_bid v w bids;
-  }
-
-  apart_on : (more first : List Turn) → Among first → Among more → AreApart s (at first) → AreApart s (after s code (at first) more)
-  apart_on [] first a b apart = apart
-  apart_on (turn ∷ more) first a b apart =
-      let now = tended first a in
-      let run = now.1.advancing.run in
-      let next = apart_after s code places fair root arrays (at first) _ _ _ [] now.0 run.halves run.joint.agrees turn b.0 apart in
-      let is = one_more first turn in
-      subst (λ (z : RunState). AreApart s (after s code z more)) is
-      (apart_on more (first ++ turn ∷ []) (both (IsTurnAmong s.processors) first (turn ∷ []) a (b.0, tt)) b.1 (subst (AreApart s) (sym is) next))
-
   apart_at : (turns : List Turn) → Among turns → AreApart s (at turns)
-  apart_at turns among = apart_on turns [] tt among first_apart
+  apart_at turns among = apart_then code input s keeper im places fair opens calm legs are_legs turns among
 
   -- who is spared takes steps, or the finish word is set
   pub going_or : (turns : List Turn) → Among turns → (c : ℕ) → c < s.processors → AllByRecursion (Spares c) turns
@@ -230,14 +186,14 @@ module _ (code : CodeParts) (input : List NamedArray) (s : Shape) (keeper : ℕ)
     | inl done ↦
         let stand = done_is (stand_of (at turns) c) done in
         let fit = (moment [] tt).advancing.run.halves.lawful.0 in
-        elim (done_has_cause s code fair.code_is im.words turns c fit there stand) [
+        elim (done_has_cause s code fair.code_is words turns c fit there stand) [
           | inl struck ↦ absurd (spared_struck struck.first struck.more c (subst (AllByRecursion (Spares c)) struck.turns_are spared))
           | inr set ↦ inr set
         ]
   ]
 
   pub set_later : (first more : List Turn) → Over first → Over (first ++ more)
-  set_later first more set = set_on code input s keeper im places fair opens calm [] tt (no_legs_few s) first more set
+  set_later first more set = set_on code input s keeper im places fair opens calm legs are_legs fewer first more set
 
   -- nobody works in these turns, no place has a new holder, and the finish word is 0 after them
   pub record IsQuiet (first more : List Turn) : Type 0 where
@@ -246,7 +202,7 @@ module _ (code : CodeParts) (input : List NamedArray) (s : Shape) (keeper : ℕ)
     pub flat : sum (first ++ more) ≤ sum first
 
   sums : (first more : List Turn) → Among first → Among more → sum first ≤ sum (first ++ more)
-  sums first more a b = sum_after code input s keeper im places fair opens calm [] tt (no_legs_few s) first more a b
+  sums first more a b = sum_after code input s keeper im places fair opens calm legs are_legs fewer first more a b
 
   pub quiet_front : (first a b : List Turn) → Among first → Among a → Among b → IsQuiet first (a ++ b) → IsQuiet first a
   quiet_front first a b among_first among_a among_b quiet =
@@ -292,7 +248,7 @@ module _ (code : CodeParts) (input : List NamedArray) (s : Shape) (keeper : ℕ)
       let n = spots.view s (at (first ++ turn ∷ [])).words in
       let now = ap (λ (z : RunState). tag (spots.view s z.words (Holder v))) (one_more first turn) in
       let up = tags_rise_at s.processors v (spots.view s (at first).words) n
-      (λ w lt. tags_after code input s keeper im places fair opens calm [] tt (no_legs_few s) first (turn ∷ []) a (b, tt) w) there
+      (λ w lt. tags_after code input s keeper im places fair opens calm legs are_legs fewer first (turn ∷ []) a (b, tt) w) there
       (omega (arith, was, is, now)) in
       let flat = quiet.flat in
       omega (arith, up, flat)
@@ -331,7 +287,7 @@ module _ (code : CodeParts) (input : List NamedArray) (s : Shape) (keeper : ℕ)
     ]
 
     soon : 17 ≤ turns_of c more → StepsFrom s code IsLooking c 16 (at first) more ⊎ StepsFrom s code IsMoving c 16 (at first) more
-    soon many = elim (looks_come_soon code input s keeper im places fair opens calm [] tt first more a b c there going steps many) [
+    soon many = elim (looks_come_soon code input s keeper im places fair opens calm legs are_legs first more a b c there going steps many) [
       | inl look ↦ inl look
       | inr (inl move) ↦ inr move
       | inr (inr (inl found)) ↦

@@ -1,6 +1,7 @@
 //! That runs and replays by places with hard faults end, shown by calls that do nothing.
 ghost use Rattle.ppm_progress.specs.Replays.{ReplaysEndByPlaces};
 ghost use Rattle.ppm_takeover.specs.Laps.{LapsHaveWorkOrTakeover, LegsEndByPlaces, RunsEndByPlaces};
+ghost use Rattle.ppm_takeover.specs.Replays.{LegsReplaysEndByPlaces};
 
 /// With takeover by places, hard faults among the turns: a run from an image of a sound code whose
 /// depth-first run ends is over after so many laps: 218 for each capsule of that run, 171 for each
@@ -20,4 +21,11 @@ pub fn runs_end_by_places()
 /// 17 (P + 2) rounds for each lap, where there are P processors. Hard faults may be among them.
 pub fn replays_end_by_places()
     ensures law { ReplaysEndByPlaces }
+{}
+
+/// So it is from the words with which fresh processors go on after legs, with more laps: for each
+/// fault that struck a row in a leg before, for what fresh processors do again, and for the tags
+/// that holder words had as they came back.
+pub fn legs_replayed_end_by_places()
+    ensures law { LegsReplaysEndByPlaces }
 {}

@@ -5,8 +5,8 @@ use ppm_progress::{
     single_facts_allow_stuck_pieces, somebody_works, something_is_ready, work_turns_come_soon,
 };
 use ppm_takeover::{
-    looks_are_short, nothing_is_lost, replays_end_by_places, runs_end_by_places,
-    work_turns_come_soon_by_places,
+    legs_replayed_end_by_places, looks_are_short, nothing_is_lost, replays_end_by_places,
+    runs_end_by_places, work_turns_come_soon_by_places,
 };
 
 #[test]
@@ -30,4 +30,5 @@ fn the_laws_of_takeover_are_called() {
     looks_are_short();
     runs_end_by_places();
     replays_end_by_places();
+    legs_replayed_end_by_places();
 }
