@@ -8,7 +8,8 @@
 //! `specs/CaseReplayRows`. `counted_replay_command` and `counted_replay_case_command` deliver that,
 //! and what is counted in the run (`specs/CountedReplays`, `specs/CountedCases`,
 //! `specs/CountedReplayRows`, `specs/CountedCaseRows`). With acts and room enough a replay ends, by
-//! places or without hard faults (`specs/CompleteReplays`, `specs/ReplayLaws`).
+//! places or without hard faults (`specs/CompleteReplays`, `specs/ReplayLaws`). These laws have one
+//! on replays by places for a premise, which `ppm_top` has from `ppm_takeover`.
 //! Stands on `ppm_following`, `ppm_orders`, `ppm_outcomes`, `ppm_trace`, `ppm_progress` and
 //! `ppm_answers`; `ppm_top` calls it. The schedules and the counts are this project's.
 #![tactic(auto)]
