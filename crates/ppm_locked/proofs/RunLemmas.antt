@@ -174,24 +174,25 @@ module _ (first : Situation) (most : ℕ) (turns : List Turn) (spent : List ℕ)
             (All-from_recursion (IsTurnAmong first.shape.processors) (done ∷ []) (record { processor = within; act = among_done (made == most) first.shape.processors (next_of (stand_of here.state processor)) act (omega (arith, within)) asked }, tt));
         few = λ own.
             let less : works ≡ true → (processor == own) ≡ true → spent_by first own turns < most =
-                λ w same.
-                let there = equal processor own same in
-                let below = unequal made most (subst (λ n. n ≤ most) (sym is) (run.few processor)) (has_left (made == most) refl w) in
-                subst (λ n. spent_by first n turns < most) there (subst (λ n. n < most) is below) in
+            λ w same.
+            let there = equal processor own same in
+            let below = unequal made most (subst (λ n. n ≤ most) (sym is) (run.few processor)) (has_left (made == most) refl w) in
+            subst (λ n. spent_by first n turns < most) there (subst (λ n. n < most) is below) in
             subst (λ n. n ≤ most) (sym (spent_more first turns done own)) (limit most (spent_by first own turns) works (processor == own) (run.few own) less);
         quits = λ at own e. quits_at at own (get_pushed turns at done (quit_of own) e);
       }
-      where
-        le_of_lt : (a b : ℕ) → a < b → a ≤ b
-        le_of_lt a b h = omega (arith, h)
-        quits_at : (at own : ℕ) → (slice_get turns at ≡ Some (quit_of own)) ⊎ ((at ≡ length turns) × (done ≡ quit_of own)) → spent_by first own (take at longer) ≡ most
-        quits_at at own (inl old) = ap (spent_by first own) (take-append-le at turns (done ∷ []) (le_of_lt at (length turns) (slice_get_within turns at (quit_of own) old))) ∙ run.quits at own old
-        quits_at at own (inr p) =
-            ap (λ k. spent_by first own (take k longer)) p.0
-            ∙ ap (spent_by first own) (take-append_seam turns (done ∷ []))
-            ∙ ap (λ k. spent_by first k turns) (sym (ap (λ t. t.processor) p.1))
-            ∙ sym (counted.each processor within)
-            ∙ equal made most (quits_spent (made == most) (next_of (stand_of here.state processor)) act (ap (λ t. t.act) p.1))
+    where
+      le_of_lt : (a b : ℕ) → a < b → a ≤ b
+      le_of_lt a b h = omega (arith, h)
+
+      quits_at : (at own : ℕ) → (slice_get turns at ≡ Some (quit_of own)) ⊎ ((at ≡ length turns) × (done ≡ quit_of own)) → spent_by first own (take at longer) ≡ most
+      quits_at at own (inl old) = ap (spent_by first own) (take-append-le at turns (done ∷ []) (le_of_lt at (length turns) (slice_get_within turns at (quit_of own) old))) ∙ run.quits at own old
+      quits_at at own (inr p) =
+          ap (λ k. spent_by first own (take k longer)) p.0
+          ∙ ap (spent_by first own) (take-append_seam turns (done ∷ []))
+          ∙ ap (λ k. spent_by first k turns) (sym (ap (λ t. t.processor) p.1))
+          ∙ sym (counted.each processor within)
+          ∙ equal made most (quits_spent (made == most) (next_of (stand_of here.state processor)) act (ap (λ t. t.act) p.1))
 
   pub counts_go_on : processor < first.shape.processors → IsCounted first spent turns
       → IsCounted first (if works then set spent processor (made + 1) else spent) longer
@@ -212,7 +213,7 @@ goes_on first most m spent processor act n counts within asked (turns, (run, cou
     let at_here : IsRun first most turns here = subst (λ x. IsRun first most turns x) run.comes run in
     let n_is = comes ∙ ap (λ x. turned x (turn_done most x (get_or spent processor 0) processor act)) run.comes in
     let counts_is = counts_are
-        ∙ ap (λ x. if is_work_turn (turn_done most x (get_or spent processor 0) processor act).act (stand_of x.state processor) then set spent processor (get_or spent processor 0 + 1) else spent) run.comes in
+    ∙ ap (λ x. if is_work_turn (turn_done most x (get_or spent processor 0) processor act).act (stand_of x.state processor) then set spent processor (get_or spent processor 0 + 1) else spent) run.comes in
     let longer = turns ++ turn_done most here (get_or spent processor 0) processor act ∷ [] in (
       longer,
       (
@@ -249,7 +250,7 @@ pub turn_is : (most : ℕ) (m : Situation) (made processor : ℕ) (act : Act) (o
 turn_is most m made processor act own read limit next does own_is read_is limit_is next_is does_is =
     let coming : next ≡ next_of (stand_of m.state processor) = next_is ∙ ap (λ k. next_of (stand_of m.state k)) own_is in
     let act_is : does ≡ act_done (made == most) (next_of (stand_of m.state processor)) act =
-        does_is ∙ ap (λ k. act_done (k == limit) next act) read_is ∙ ap (λ k. act_done (made == k) next act) limit_is ∙ ap (λ n. act_done (made == most) n act) coming in
+    does_is ∙ ap (λ k. act_done (k == limit) next act) read_is ∙ ap (λ k. act_done (made == k) next act) limit_is ∙ ap (λ n. act_done (made == most) n act) coming in
     λ i. record { processor = own_is i; act = act_is i }
 
 -- what a turn counts as work
@@ -278,6 +279,6 @@ keeps first most m spent processor act n counts turn work own read within asked 
     goes_on first most m spent processor act n counts within asked has
     (comes ∙ ap (turned m) turn_is)
     (counts_are
-      ∙ ap (λ (b : Bool). if b then set spent own (read + 1) else spent) (work_is ∙ ap (λ t. is_work_turn t.act (stand_of m.state t.processor)) turn_is)
-      ∙ ap (λ k. if is_work_turn (turn_done most m (get_or spent processor 0) processor act).act (stand_of m.state processor) then set spent k (read + 1) else spent) own_is
-      ∙ ap (λ k. if is_work_turn (turn_done most m (get_or spent processor 0) processor act).act (stand_of m.state processor) then set spent processor (k + 1) else spent) read_is)
+    ∙ ap (λ (b : Bool). if b then set spent own (read + 1) else spent) (work_is ∙ ap (λ t. is_work_turn t.act (stand_of m.state t.processor)) turn_is)
+    ∙ ap (λ k. if is_work_turn (turn_done most m (get_or spent processor 0) processor act).act (stand_of m.state processor) then set spent k (read + 1) else spent) own_is
+    ∙ ap (λ k. if is_work_turn (turn_done most m (get_or spent processor 0) processor act).act (stand_of m.state processor) then set spent processor (k + 1) else spent) read_is)

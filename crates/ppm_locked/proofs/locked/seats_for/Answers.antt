@@ -11,7 +11,7 @@ loop-own-preserved g c =
       omega (arith, c.split_off-share.ensures.parts_left, c.loop-own.invariant.0),
       omega (arith, c.split_off-share.ensures.amount_left, c.loop-own.invariant.1),
       c.in_ok-push.ensures.items
-      ∙ ap (λ (xs : List Seated). xs ++ c.new.result ∷ []) c.loop-own.invariant.2
-      ∙ ap (λ x. map unused (range_with_len 0 own) ++ x ∷ []) c.new.ensures
-      ∙ sym (map-range_with_len_more unused 0 own own next),
+          ∙ ap (λ (xs : List Seated). xs ++ c.new.result ∷ []) c.loop-own.invariant.2
+          ∙ ap (λ x. map unused (range_with_len 0 own) ++ x ∷ []) c.new.ensures
+          ∙ sym (map-range_with_len_more unused 0 own own next),
     )
