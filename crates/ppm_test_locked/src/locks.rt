@@ -19,6 +19,7 @@ use std::thread::Threads;
 
 /// A seat whose processor has made its steps: how many of them were told to be work, and whether it
 /// is done.
+#[derive(Drop)]
 struct Back<L: Keeping> {
     seat: Seat<L>,
     work: u64,
