@@ -1,8 +1,7 @@
-use Rattle.std.proofs.Common.{◌≡◌, ◌∙◌, ◌+◌, ◌<◌, if◌then◌else◌, Bool, get_or, length, set, sym, ap, subst}
+use Rattle.std.proofs.Common.{◌∙◌, ◌+◌, ◌<◌, if◌then◌else◌, Bool, get_or, length, set, sym, ap, subst}
 use Rattle.std.proofs.lemmas.Grind.{get_or_default_zero}
 use Rattle.ppm_core.specs.Machine.{seen}
 use Rattle.ppm_step.specs.declared.turn.Turn.{Turn}
-use Rattle.ppm_locked.specs.Held.{turn_done}
 use Rattle.ppm_locked.proofs.RunLemmas.{turn_is, books, keeps}
 use Rattle.ppm_locked.proofs.held.Held.turn.Goals as goal
 use Rattle.ppm_locked.proofs.held.Held.turn.Goals.{then-told, else-told}
