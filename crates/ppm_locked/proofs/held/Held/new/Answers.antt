@@ -1,0 +1,13 @@
+use Rattle.std.proofs.Common.{◌∙◌, sym}
+use Rattle.ppm_core.specs.Machine.{seen}
+use Rattle.ppm_locked.proofs.RunLemmas.{begins}
+use Rattle.ppm_locked.proofs.held.Held.new.Goals as goal
+
+pub invariant_of-result : goal.invariant_of-result
+invariant_of-result g c = (
+  begins g.L.Keeping.first g.L.Keeping.most (seen c.args.machine) c.args.spent.items c.requires.first.0 c.requires.spent,
+  c.requires.most,
+  c.requires.books.0 ∙ sym c.requires.first.1,
+  c.requires.books.1.0,
+  c.requires.books.1.1,
+)

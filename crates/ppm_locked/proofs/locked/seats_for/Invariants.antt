@@ -1,0 +1,7 @@
+use Rattle.std.proofs.Common.{◌≡◌, ◌+◌, map}
+use Rattle.std.specs.List.{range_with_len}
+use Rattle.ppm_locked.specs.Held.{unused}
+use Rattle.ppm_locked.proofs.locked.seats_for.Given as goal
+
+abbrev pub invariant-loop-own : goal.invariant-loop-own
+invariant-loop-own g l = (l.rest.parts + l.own ≡ l.fn.rest.parts) × (l.rest.amount ≡ 0) × (l.seats.items ≡ map unused (range_with_len 0 l.own))

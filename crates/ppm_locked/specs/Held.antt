@@ -1,0 +1,107 @@
+-- What stands behind a lock: the words and processors after one run from an opening, of which each work turn is booked.
+use Rattle.std.specs.Prelude.{◌≡◌, ◌==◌, ◌+◌, ◌≤◌, ◌<◌, if◌then◌else◌, ℕ, Bool, true, false, List, [], length, get_or, take, Some, slice_get}
+use Rattle.std.specs.List.{All, sum_by}
+use Rattle.std.proofs.Common.{arith}
+use Rattle.ppm_cells.specs.Limits.{IsWithinLimits}
+use Rattle.ppm_cells.specs.declared.shape.Takeover.TheVariants.{ByPlaces}
+use Rattle.ppm_step.specs.declared.turn.Act.{Act}
+use Rattle.ppm_step.specs.declared.turn.Act.TheVariants.{Step, Soft, Hard, Quit}
+use Rattle.ppm_step.specs.declared.turn.Next.{Next}
+use Rattle.ppm_step.specs.declared.turn.Turn.{Turn}
+use Rattle.ppm_step.specs.declared.turn.Why.TheVariants.{Turns, Watch}
+use Rattle.ppm_step.specs.Among.{IsTurnAmong}
+use Rattle.ppm_step.specs.State.{along, is_work_next, next_of, stand_of, work_of}
+use Rattle.ppm_core.specs.Machine.{Holding}
+use Rattle.ppm_core.specs.Situation.{Situation, run_on}
+
+-- how many work turns a processor makes in a list of turns from an opening
+abbrev pub spent_by : Situation → (processor : ℕ) → List Turn → ℕ
+spent_by first processor turns = sum_by (λ own. if own == processor then 1 else 0) (along first.shape first.code work_of first.state turns)
+
+-- a processor quits, since its turns are spent
+abbrev pub quit_of : (processor : ℕ) → Turn
+quit_of processor = record { processor = processor; act = Quit Turns }
+
+-- each such quit stands behind so many work turns of its processor
+abbrev pub QuitWhenSpent : (most : ℕ) → Situation → List Turn → Type 0
+QuitWhenSpent most first turns =
+    (before processor : ℕ) → slice_get turns before ≡ Some (quit_of processor) → spent_by first processor (take before turns) ≡ most
+
+-- one run from an opening came to this. Its turns name processors of the machine alone, no processor has made more than so many work turns
+-- in it, and none quits before its turns are spent
+pub record IsRun (first : Situation) (most : ℕ) (turns : List Turn) (m : Situation) : Type 0 where
+  pub comes : m ≡ run_on first turns
+  pub among : All (IsTurnAmong first.shape.processors) turns
+  pub few : (processor : ℕ) → spent_by first processor turns ≤ most
+  pub quits : QuitWhenSpent most first turns
+
+-- some such run did
+abbrev pub HasRun : Situation → (most : ℕ) → Situation → Type 0
+HasRun first most m = (turns : List Turn) × IsRun first most turns m
+
+-- and these are the work turns that each processor has made in it
+pub record IsCounted (first : Situation) (spent : List ℕ) (turns : List Turn) : Type 0 where
+  pub count : length spent ≡ first.shape.processors
+  pub each : (processor : ℕ) → processor < first.shape.processors → get_or spent processor 0 ≡ spent_by first processor turns
+
+abbrev pub HasCountedRun : Situation → (most : ℕ) → Situation → (spent : List ℕ) → Type 0
+HasCountedRun first most m spent = (turns : List Turn) × (IsRun first most turns m × IsCounted first spent turns)
+
+-- what stands under the lock: a machine, and the work turns that each processor has made
+pub record Kept : Type 0 where
+  pub machine : Holding
+  pub spent : List ℕ
+
+-- the act that is done where one is asked: a work turn, where the turns are spent, is the quit, and the quit before that is a step
+abbrev pub act_done : (is_spent : Bool) → Next → Act → Act
+act_done true next (Step victim) = if is_work_next next then Quit Turns else Step victim
+act_done false next (Step victim) = Step victim
+act_done is_spent next Soft = Soft
+act_done is_spent next Hard = Hard
+act_done true next (Quit Turns) = Quit Turns
+act_done false next (Quit Turns) = Step 0
+act_done is_spent next (Quit Watch) = Quit Watch
+
+-- the turn that a processor makes, which has made so many work turns, where it is asked for an act
+abbrev pub turn_done : (most : ℕ) → (m : Situation) → (made processor : ℕ) → Act → Turn
+turn_done most m made processor act = record {
+  processor = processor;
+  act = act_done (made == most) (next_of (stand_of m.state processor)) act;
+}
+
+-- a seat: its processor, and the work turns that are booked for it
+pub record Seated : Type 0 where
+  pub processor : ℕ
+  pub made : ℕ
+
+abbrev pub unused : (processor : ℕ) → Seated
+unused processor = record { processor = processor; made = 0 }
+
+-- behind a turn, which was work or wasn't
+abbrev pub booked : Seated → (work : Bool) → Seated
+booked seat work = record { processor = seat.processor; made = seat.made + (if work then 1 else 0) }
+
+-- the least sizes are within the limits
+abbrev pub small : IsWithinLimits 1 64 2 0
+small = record {
+  processors_least = omega arith;
+  processors_most = omega arith;
+  room_least = omega arith;
+  pools_most = omega arith;
+  slots_least = omega arith;
+  slots_most = omega arith;
+  arrays_most = omega arith;
+}
+
+-- a machine with one processor, no code and no words, for a type that stands for no lock yet
+abbrev pub nothing : Situation
+nothing = record {
+  shape = record { processors = 1; room = 64; slots = 2; arrays = 0; takeover = ByPlaces; within = small };
+  code = record { root = 0; arrays = []; procedures = []; capsules = [] };
+  array_lengths = [];
+  state = record { words = []; stand = [] };
+  forks = 0;
+  takes = 0;
+  work = 0;
+  turns = 0;
+}

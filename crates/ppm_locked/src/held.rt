@@ -1,0 +1,176 @@
+//! What stands under the lock.
+ghost use Rattle.std.specs.Prelude.{◌≡◌, ◌+◌, ◌<◌, ◌==◌, ℕ, get_or, replicate, vec_len};
+ghost use Rattle.std.specs.List.{sum_by};
+ghost use Rattle.ppm_core.specs.Acts.{IsActAmong};
+ghost use Rattle.ppm_core.specs.Machine.{seen};
+ghost use Rattle.ppm_core.specs.Situation.{Situation, turned};
+ghost use Rattle.ppm_step.specs.Told.{told_of};
+ghost use Rattle.ppm_locked.specs.Held.{HasCountedRun, HasRun, act_done, booked, nothing, turn_done};
+
+use crate::seat::Seat;
+use ppm_core::{Act, Machine, Next, Told, Turn, Why};
+use std::marker::{Brand, Model};
+use std::sync::Wait;
+use std::sync::ledger::{Book, Ledger, Share};
+
+/// After so many turns a machine makes no more.
+const TURN_LIMIT: u64 = 1 << 62;
+
+/// Which machine stands behind a lock: each lock has a type for it, which also names the ledger in
+/// which the work turns are booked.
+pub trait Keeping: Ledger {
+    /// The machine before its first turn.
+    ghost first: { Situation };
+
+    /// The work turns that each processor may make.
+    ghost most: { ℕ };
+
+    /// The parts of the ledger.
+    ghost all: { ℕ };
+}
+
+impl Keeping for Brand {
+    ghost first = { nothing };
+
+    ghost most = { 0 };
+
+    ghost all = { 0 };
+}
+
+/// A machine some run has come to, what each of its processors has spent in that run, the book of
+/// all work turns, and the parts of the ledger that no seat has.
+#[derive(Drop)]
+pub(crate) struct Held<L: Keeping> {
+    machine: Machine,
+    most: u64,
+    spent: Vec<u64>,
+    book: Book<L>,
+    rest: Share<L>,
+}
+
+impl<L: Keeping> Model for Held<L> {
+    ghost use Rattle.std.specs.Prelude.{◌≡◌, ◌+◌};
+    ghost use Rattle.ppm_core.specs.Machine.{seen};
+    ghost use Rattle.ppm_locked.specs.Held.{HasCountedRun, Kept};
+
+    ghost Value = { Kept };
+
+    ghost view = { λ h. record { machine = h.machine; spent = h.spent.items } };
+
+    ghost invariant = { λ h. HasCountedRun L.first L.most (seen h.machine) h.spent.items × (h.most ≡ L.most) × (h.book.total ≡ h.machine.work)
+        × (h.rest.parts + L.first.shape.processors ≡ L.all) × (h.rest.amount ≡ 0) };
+}
+
+/// Never comes back.
+fn wait_for_good<R: Wait>(rt: &R)
+    ensures { ⊥ }
+{
+    for _ in rt.forever() {
+        continue;
+    }
+    unreachable!()
+}
+
+/// The act that is done where this one is asked.
+fn act_done(is_spent: bool, next: Next, act: Act) -> Act
+    ensures { result ≡ act_done is_spent next act }
+{
+    match act {
+        Act::Step { victim } => if is_spent {
+            match next {
+                Next::Work => Act::Quit(Why::Turns),
+                Next::Look | Next::Seek | Next::Done => Act::Step { victim },
+            }
+        } else {
+            Act::Step { victim }
+        },
+        Act::Soft => Act::Soft,
+        Act::Hard => Act::Hard,
+        Act::Quit(Why::Turns) => if is_spent {
+            Act::Quit(Why::Turns)
+        } else {
+            Act::Step { victim: 0 }
+        },
+        Act::Quit(Why::Watch) => Act::Quit(Why::Watch),
+    }
+}
+
+/// All that is booked for some seats.
+fn gather<L: Keeping>(all: &mut Share<L>, mut seats: Vec<Seat<L>>)
+    ensures parts { all.new.parts ≡ all.old.parts + vec_len seats }
+    ensures amount { all.new.amount ≡ all.old.amount + sum_by (λ seat. seat.made) seats.items }
+{
+    if let Some(seat) = seats.pop() {
+        all.merge(seat.into_share());
+        gather(all, seats);
+    }
+}
+
+impl<L: Keeping> Held<L> {
+    /// A machine before its first turn, of which nothing is booked.
+    pub(crate) fn new(
+        machine: Machine,
+        most: u64,
+        spent: Vec<u64>,
+        book: Book<L>,
+        rest: Share<L>,
+    ) -> Held<L>
+        requires first { (seen machine ≡ L.first) × (machine.work ≡ 0) }
+        requires most { most ≡ L.most }
+        requires spent { spent.items ≡ replicate L.first.shape.processors 0 }
+        requires books { (book.total ≡ 0) × ((rest.parts + L.first.shape.processors ≡ L.all) × (rest.amount ≡ 0)) }
+    {
+        Held {
+            machine,
+            most,
+            spent,
+            book,
+            rest,
+        }
+    }
+
+    /// One turn of a seat's processor, which is booked for the seat where it is work. Where the
+    /// processor has made all its work turns and the act would be one more it quits, and a quit for
+    /// spent turns that is asked before is a step. Behind 2^62 turns the call never comes back.
+    pub(crate) fn turn<R: Wait>(&mut self, rt: &R, seat: &mut Seat<L>, act: Act) -> Told
+        requires { IsActAmong L.first.shape.processors act }
+        ensures machine { seen self.new.machine ≡ turned (seen self.old.machine)
+            (turn_done L.most (seen self.old.machine) (get_or self.old.spent seat.old.processor 0) seat.old.processor act) }
+        ensures told { result ≡ told_of self.old.machine.shape self.old.machine.code (seen self.old.machine).state
+            (turn_done L.most (seen self.old.machine) (get_or self.old.spent seat.old.processor 0) seat.old.processor act) }
+        ensures seat { seat.new ≡ booked seat.old result.work }
+    {
+        if self.machine.turns() >= TURN_LIMIT {
+            wait_for_good(rt);
+        }
+        let processor = seat.processor();
+        let made = self.spent[processor as usize];
+        let next = self.machine.next(processor);
+        let act = act_done(made == self.most, next, act);
+        let told = self.machine.turn(Turn { processor, act });
+        if told.work {
+            self.spent[processor as usize] = made + 1;
+        }
+        seat.book(&mut self.book, told.work);
+        told
+    }
+
+    /// The machine, once all seats are back.
+    pub(crate) fn into_machine(self, seats: Vec<Seat<L>>) -> Machine
+        requires seats { vec_len seats ≡ L.first.shape.processors }
+        requires ledger { L.all ≡ L.parts }
+        ensures run { HasRun L.first L.most (seen result) }
+        ensures work { result.work ≡ sum_by (λ seat. seat.made) seats.items }
+    {
+        let Held {
+            machine,
+            most: _,
+            spent: _,
+            mut book,
+            mut rest,
+        } = self;
+        gather(&mut rest, seats);
+        book.audit(&mut rest);
+        machine
+    }
+}

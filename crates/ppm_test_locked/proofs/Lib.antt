@@ -1,0 +1,1 @@
+-- How the trials are shown: the ghost members of a lock are those of the image and the ledger that it is loaded with.
