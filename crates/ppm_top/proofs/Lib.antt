@@ -4,6 +4,7 @@ pub mod OfRams
 pub mod OfSweeps
 pub mod OfTraces
 pub mod OfCounts
+pub mod SavedEndLemmas
 pub mod OfLegs
 pub mod Refusing
 pub mod OfAll

@@ -1,6 +1,6 @@
 -- The rows of the program: those of each command, and those that all commands share.
 use Rattle.std.proofs.Common.{◌≡◌, ◌⊎◌, ℕ, List, [], ◌∷◌, Option, Some, None}
-use Rattle.std.proofs.Common.{refl, sym, ◌∙◌, subst, inl, inr}
+use Rattle.std.proofs.Common.{sym, ◌∙◌, subst, inl, inr}
 use Rattle.ppm_ports.specs.Ports.{Fails, Holds}
 use Rattle.ppm_ports.specs.Outside.{Outside, ports_of}
 use Rattle.ppm_text.specs.Limits.{text_limit}
@@ -17,10 +17,6 @@ use Rattle.ppm_cli.specs.declared.command.Command.{Command}
 use Rattle.ppm_cli.specs.declared.command.Command.TheVariants as commands
 use Rattle.ppm_cli.specs.declared.example.SelfOptions.{SelfOptions}
 use Rattle.ppm_cli.specs.declared.explain.ExplainOptions.{ExplainOptions}
-use Rattle.ppm_cli.specs.declared.replay.ReplayOptions.{ReplayOptions}
-use Rattle.ppm_cli.specs.declared.resume.ResumeOptions.{ResumeOptions}
-use Rattle.ppm_cli.specs.declared.run.RunOptions.{RunOptions}
-use Rattle.ppm_cli.specs.declared.stop.StopOptions.{StopOptions}
 use Rattle.ppm_cli.specs.Words.{command_of}
 use Rattle.ppm_cli.proofs.RangeLemmas.{is_in_range}
 use Rattle.ppm_commands.specs.Case.{CaseReads}
@@ -45,7 +41,6 @@ use Rattle.ppm_commands.proofs.SerialRows.{serial_rows}
 use Rattle.ppm_commands.proofs.ShowRows.{show_rows}
 use Rattle.ppm_plan.specs.Forms.{Form, plan_form, schedule_form}
 use Rattle.ppm_loading.specs.Planned.{PlannedMay}
-use Rattle.ppm_loading.specs.MachineRows.{RefusesPlan}
 use Rattle.ppm_replay_command.specs.CaseReplays.{TextHas as ReplayCaseTextHas}
 use Rattle.ppm_driver.specs.CaseRuns.{TextHas as RunCaseTextHas}
 use Rattle.ppm_stop_command.specs.CaseStops.{TextReads as StopCaseTextReads}
@@ -56,7 +51,6 @@ use Rattle.ppm_replay_command.specs.CountedReplays.{TextHas as CountedTextHas}
 use Rattle.ppm_driver.specs.RamRuns.{TextHas as RamTextHas}
 use Rattle.ppm_outcomes.specs.Replays.{TextHas as ReplayTextHas}
 use Rattle.ppm_outcomes.specs.Resumes.{TextHas as ResumeTextHas}
-use Rattle.ppm_stop_command.specs.ResumeRows.{RefusesPlan as RefusesResumed}
 use Rattle.ppm_outcomes.specs.Runs.{TextHas as RunTextHas}
 use Rattle.ppm_outcomes.specs.Stops.{TextReads as StopTextReads}
 use Rattle.ppm_sweep_command.specs.Sweeps.{TextHas as SweepTextHas}
@@ -72,7 +66,7 @@ use Rattle.ppm_driver.proofs.OfRun as of_run
 use Rattle.ppm_stop_command.proofs.StoppedLemmas.{saved_left}
 use Rattle.ppm_saved_reader.specs.Rules.{saved_limit}
 use Rattle.ppm_loading.proofs.PlannedLemmas as planned
-use Rattle.ppm_answers.specs.Reading.{IsUnread, JudgingMay, DeliversAnswer, Answers}
+use Rattle.ppm_answers.specs.Reading.{JudgingMay, DeliversAnswer, Answers}
 use Rattle.ppm_answers.proofs.Delivered.{of_answers}
 use Rattle.ppm_answers.specs.Rows.{IsOneOf}
 use Rattle.ppm_top.specs.Causes.{NoCommandMay, CommandMay, CommandTells, IsAnswered}

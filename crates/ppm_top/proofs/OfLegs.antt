@@ -22,6 +22,7 @@ use Rattle.ppm_legs.proofs.OfSavedTrace.{trace_rows}
 use Rattle.ppm_top.specs.Causes.{CommandMay, CommandTells, IsAnswered}
 use Rattle.ppm_top.specs.Laws.{ProgramLaws}
 use Rattle.ppm_top.specs.Rows.{ReplaysSavedByWords, StopsSavedByWords, TracesSavedByWords}
+use Rattle.ppm_top.proofs.SavedEndLemmas.{saved_replay_ends}
 
 module _ (laws : ProgramLaws) (words : List (List ℕ)) (o : Outside) (status : Status) (a : IsAnswered words o status) where
   -- what was delivered of the command that the words give
@@ -50,6 +51,7 @@ module _ (laws : ProgramLaws) (words : List (List ℕ)) (o : Outside) (status : 
   replays_saved options schedule e = (
     is_in_range words (commands.ReplaySaved options schedule) e,
     replay_rows laws.resumes options schedule (ports_of o) status (delivered (commands.ReplaySaved options schedule) e) laws.saved_replays,
+    saved_replay_ends laws.unfinished_saved options schedule (ports_of o) status,
   )
 
   -- status 3 comes of its schedule alone

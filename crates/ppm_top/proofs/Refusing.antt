@@ -18,7 +18,6 @@ use Rattle.ppm_cli.specs.Words.{command_of}
 use Rattle.ppm_cli.proofs.RangeLemmas.{is_in_range}
 use Rattle.ppm_plan.specs.Forms.{plan_form, schedule_form}
 use Rattle.ppm_loading.specs.MachineRows.{RefusesPlan}
-use Rattle.ppm_stop_command.specs.ResumeRows.{RefusesPlan as RefusesResumed}
 use Rattle.ppm_driver.proofs.OfExample as of_example
 use Rattle.ppm_replay_command.proofs.OfReplay as of_replay
 use Rattle.ppm_stop_command.proofs.OfResume as of_resume

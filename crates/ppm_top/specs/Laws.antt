@@ -41,6 +41,7 @@ use Rattle.ppm_legs.specs.SavedReplays.{HaveOneAnswer as SavedReplaysHaveOneAnsw
 use Rattle.ppm_legs.specs.SavedStops.{HaveOneAnswer as SavedStopsHaveOneAnswer}
 use Rattle.ppm_legs.specs.SavedTraces.{HaveOneAnswer as SavedTracesHaveOneAnswer}
 use Rattle.ppm_replay_command.specs.ReplayLaws.{CaseReplaysComplete, ReplaysComplete, UnfinishedNeedMore, UnfinishedProgramsNeedMore}
+use Rattle.ppm_top.specs.SavedReplayEnds.{UnfinishedSavedNeedMore}
 
 -- what the crates of the commands show of every text
 pub record ProgramLaws : Type 0 where
@@ -50,6 +51,7 @@ pub record ProgramLaws : Type 0 where
   pub complete : RunsComplete
   pub unfinished : UnfinishedProgramsNeedMore
   pub unfinished_codes : UnfinishedNeedMore
+  pub unfinished_saved : UnfinishedSavedNeedMore
   pub complete_replays : ReplaysComplete
   pub complete_cases : CaseReplaysComplete
   pub sums : ExamplesSumUp

@@ -62,6 +62,7 @@ use Rattle.ppm_legs.specs.SavedStopRows.{SavedStopRows}
 use Rattle.ppm_legs.specs.SavedTraceRows.{SavedTraceRows}
 use Rattle.ppm_plan.specs.Forms.{plan_form, schedule_form}
 use Rattle.ppm_top.specs.Orders.{Orders, plan_of, saved_schedule_of, schedule_of}
+use Rattle.ppm_top.specs.SavedReplayEnds.{SavedReplayEnds}
 
 -- the rows of `run` hold where the words ask for a run, with these options, which are in their ranges, and this plan
 abbrev pub RunsByWords : List (List ℕ) → Outside → Status → Type 0
@@ -205,10 +206,10 @@ abbrev pub StopsSavedByWords : List (List ℕ) → Outside → Status → Type 0
 StopsSavedByWords words o status = (options : StopSavedOptions) (schedule : List ℕ) → command_of words ≡ Some (commands.StopSaved options schedule) →
     AreSavedStopped options × SavedStopRows options schedule (ports_of o) status
 
--- those of `replay` of a saved text where they ask for that, with these options, which are in their ranges, and this schedule
+-- those of `replay` of a saved text where they ask for that, with these options, which are in their ranges, and this schedule; and when it ends
 abbrev pub ReplaysSavedByWords : List (List ℕ) → Outside → Status → Type 0
 ReplaysSavedByWords words o status = (options : ReplaySavedOptions) (schedule : List ℕ) → command_of words ≡ Some (commands.ReplaySaved options schedule)
-    → AreSavedReplayed options × SavedReplayRows options schedule (ports_of o) status
+    → AreSavedReplayed options × SavedReplayRows options schedule (ports_of o) status × SavedReplayEnds options schedule (ports_of o) status
 
 -- those of `trace` of a saved text where they ask for that, with these options, which are in their ranges, and this schedule
 abbrev pub TracesSavedByWords : List (List ℕ) → Outside → Status → Type 0

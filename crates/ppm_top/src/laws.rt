@@ -19,6 +19,7 @@ use ppm_legs::{
     saved_replays_have_one_answer, saved_stops_have_one_answer, saved_traces_have_one_answer,
     stops_go_on_chains,
 };
+use ppm_opening::images_begin_the_depth_first_run;
 use ppm_outcomes::{programs_are_as_code, replays_are_as_code, resume_laws, runs_are_as_programs};
 use ppm_plan::have_one_answer as plans_have_one_answer;
 use ppm_ram::texts_are_of_rams;
@@ -29,7 +30,7 @@ use ppm_replay_command::{
 };
 use ppm_stop_command::{case_stops_have_one_answer, stops_have_one_answer, stops_leave_states};
 use ppm_sweep_command::{case_sweeps_have_one_answer, sweeps_are_as_code, sweeps_have_one_answer};
-use ppm_takeover::replays_end_by_places;
+use ppm_takeover::{legs_replayed_end_by_places, replays_end_by_places};
 use ppm_trace_command::{case_traces_have_one_answer, traces_have_one_answer};
 
 /// What the crates of the commands show of every text: all laws on which the rows of `ppm` rest.
@@ -41,6 +42,8 @@ pub fn program_laws()
     runs_are_as_programs();
     runs_complete();
     replays_end_by_places();
+    legs_replayed_end_by_places();
+    images_begin_the_depth_first_run();
     replays_of_code_complete();
     replays_complete();
     examples_sum_up();

@@ -1,3 +1,4 @@
+use Rattle.ppm_top.proofs.SavedEndLemmas.{unfinished_saved_need_more}
 use Rattle.ppm_top.proofs.laws.program_laws.Goals as goal
 
 -- each is one of a crate below
@@ -10,6 +11,8 @@ returns c = record {
     complete = c.runs_complete.ensures.law;
     unfinished = c.replays_complete.ensures.few c.replays_end_by_places.ensures.law;
     unfinished_codes = c.replays_of_code_complete.ensures.few c.replays_end_by_places.ensures.law;
+    unfinished_saved = unfinished_saved_need_more c.images_begin_the_depth_first_run.ensures.shown c.legs_replayed_end_by_places.ensures.law
+        c.resume_laws.ensures.law.comes;
     complete_replays = c.replays_complete.ensures.law c.replays_end_by_places.ensures.law;
     complete_cases = c.replays_complete.ensures.cases c.replays_end_by_places.ensures.law;
     sums = c.examples_sum_up.ensures.law;
