@@ -6,7 +6,7 @@ use Rattle.ppm_stretch.specs.Scheduling.{HasRowed}
 use Rattle.ppm_stretch.specs.Steady.{Lives}
 use Rattle.ppm_stretch.proofs.SteadyLemmas.{refuses_both}
 use Rattle.ppm_stretch.proofs.SchedulingLemmas.{none_stops, rows_after, sum_few}
-use Rattle.ppm_stretch.proofs.scheduling.rows_along.Goals as goal
+use Rattle.ppm_stretch.proofs.scheduling.work_along.Goals as goal
 
 pub loop-so_far-preserved : goal.loop-so_far-preserved
 loop-so_far-preserved g c =

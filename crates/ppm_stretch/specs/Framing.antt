@@ -1,0 +1,23 @@
+-- Capsules of a frame, with the block that one asks for and the stores of its end.
+use Rattle.std.specs.Prelude.{false, ◌≡◌, ℕ, List, Option, Some}
+use Rattle.ppm_cells.specs.Restart.{IsRestart}
+use Rattle.ppm_cells.specs.declared.shape.Shape.{Shape}
+use Rattle.ppm_code.specs.declared.code.CodeParts.{CodeParts}
+use Rattle.ppm_words.specs.declared.event.Event.{Event}
+use Rattle.ppm_step.specs.declared.local.Local.{Local}
+use Rattle.ppm_step.specs.Locals.{IsLocal, standing_of}
+use Rattle.ppm_step.specs.Standings.{IsAt}
+use Rattle.ppm_table.specs.declared.view.Opening.{Opening}
+use Rattle.ppm_table.specs.Run.{stands_by, deeds_in, Mine}
+use Rattle.ppm_stretch.specs.declared.way.FrameEnd.{FrameEnd}
+use Rattle.ppm_stretch.specs.declared.way.FrameEnd.TheVariants.{Installed, Stands, Refused}
+use Rattle.ppm_stretch.specs.Steady.{Moves, Refuses}
+
+module _ {W : Type 0} (told : W → Option (List Event)) where
+  -- what came of them, where at most so many steps were to be made
+  abbrev pub HasFramed : Opening → Shape → CodeParts → (own place : ℕ) → Mine → Mine → W → W → Local → (most made work looks : ℕ) → FrameEnd → Type 0
+  HasFramed k s code own place me me' w w' local most made work looks (Installed restart) =
+      Moves told k own me me' w w' made work looks false × (stands_by k own (deeds_in me'.0) ≡ IsAt place (Some restart)) × IsRestart restart
+  HasFramed k s code own place me me' w w' local most made work looks Stands =
+      Moves told k own me me' w w' made work looks false × (standing_of s code local ≡ stands_by k own (deeds_in me'.0)) × IsLocal s code local
+  HasFramed k s code own place me me' w w' local most made work looks (Refused lives) = Refuses told k own me me' w w' lives most
