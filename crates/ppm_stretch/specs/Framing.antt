@@ -1,8 +1,11 @@
 -- Capsules of a frame, with the block that one asks for and the stores of its end.
-use Rattle.std.specs.Prelude.{false, ◌≡◌, ℕ, List, Option, Some}
+use Rattle.std.specs.Prelude.{true, false, ◌≡◌, ℕ, Bool, List, Option, Some}
 use Rattle.ppm_cells.specs.Restart.{IsRestart}
 use Rattle.ppm_cells.specs.declared.shape.Shape.{Shape}
 use Rattle.ppm_code.specs.declared.code.CodeParts.{CodeParts}
+use Rattle.ppm_code.specs.declared.act.End.TheVariants as ends
+use Rattle.ppm_code.specs.declared.work.Reached.{Reached}
+use Rattle.ppm_code.specs.declared.work.Reached.TheVariants.{AtEnd, Before}
 use Rattle.ppm_words.specs.declared.event.Event.{Event}
 use Rattle.ppm_step.specs.declared.local.Local.{Local}
 use Rattle.ppm_step.specs.Locals.{IsLocal, standing_of}
@@ -11,6 +14,8 @@ use Rattle.ppm_table.specs.declared.view.Opening.{Opening}
 use Rattle.ppm_table.specs.Run.{stands_by, deeds_in, Mine}
 use Rattle.ppm_stretch.specs.declared.way.FrameEnd.{FrameEnd}
 use Rattle.ppm_stretch.specs.declared.way.FrameEnd.TheVariants.{Installed, Stands, Refused}
+use Rattle.ppm_stretch.specs.declared.way.Halt.{Halt}
+use Rattle.ppm_stretch.specs.declared.way.Halt.TheVariants as halts
 use Rattle.ppm_stretch.specs.Steady.{Moves, Refuses}
 
 module _ {W : Type 0} (told : W → Option (List Event)) where
@@ -21,3 +26,20 @@ module _ {W : Type 0} (told : W → Option (List Event)) where
   HasFramed k s code own place me me' w w' local most made work looks Stands =
       Moves told k own me me' w w' made work looks false × (standing_of s code local ≡ stands_by k own (deeds_in me'.0)) × IsLocal s code local
   HasFramed k s code own place me me' w w' local most made work looks (Refused lives) = Refuses told k own me me' w w' lives most
+
+-- register work has come to where its frame is over
+abbrev pub is_over : Reached → Bool
+is_over (Before step) = false
+is_over (AtEnd (ends.Next capsule)) = false
+is_over (AtEnd ends.Finish) = true
+is_over (AtEnd (ends.Trap trap line)) = false
+is_over (AtEnd (ends.Call procedure capsule to)) = false
+is_over (AtEnd (ends.Fork left right capsule left_to right_to)) = false
+
+-- and a capsule has halted there
+abbrev pub is_finish : Halt → Bool
+is_finish halts.Done = false
+is_finish halts.Broken = false
+is_finish (halts.Midway number at) = false
+is_finish (halts.Stopped number next what) = is_over what
+is_finish (halts.Full number) = false

@@ -6,15 +6,15 @@ ghost use Rattle.ppm_step.specs.Standings.{running};
 ghost use Rattle.ppm_table.specs.Run.{stands_by, deeds_in, IsAtCode, IsSeat};
 ghost use Rattle.ppm_stretch.specs.Asking.{rest_asking};
 ghost use Rattle.ppm_stretch.specs.Entering.{HaltsAt};
-ghost use Rattle.ppm_stretch.specs.Framing.{HasFramed};
+ghost use Rattle.ppm_stretch.specs.Framing.{HasFramed, is_finish, is_over};
 
 use crate::asking::fill_along;
-use crate::ending::{MOST_OF_AN_END, end_along};
+use crate::ending::{MOST_OF_AN_END, end_straight, finish_along};
 use crate::waiting::wait_halted;
 use crate::way::{EndStep, FrameEnd, Framed, Halt, RoundEnd};
 use atomic_table::Seat;
 use ppm_cells::Shape;
-use ppm_code::{Code, Reached, Step};
+use ppm_code::{Code, End, Reached, Step};
 use ppm_core::wait_broken;
 use ppm_ports::Watch;
 use ppm_step::{Home, Local, Seat as Place};
@@ -35,41 +35,39 @@ fn framed(made: u64, end: FrameEnd) -> Framed
 
 /// Makes the stores of the end at which a capsule of a frame has halted; where it has halted
 /// elsewhere, or fewer steps are left than an end may have, stands there.
-#[inline(never)]
-pub(crate) fn end_or_wait<W: Watch>(
+#[inline(always)]
+fn end_or_wait<W: Watch>(
     local: &mut Local,
     words: &Words,
     mine: &mut Seat<(), View>,
     watch: &mut W,
     shape: &Shape,
     code: &Code,
-    seat: Place,
-    home: Home,
+    sizes: &Shape,
+    seat: &Place,
+    home: &Home,
     halt: Halt,
     most: u64,
 ) -> Framed
+    requires sizes { sizes.now ≡ shape.now }
     requires table { IsAtCode mine.old.table_id words.now.shared.table_id words.now.shared.key shape.now code.now }
-    requires own { seat.own ≡ local.old.own }
+    requires own { seat.now.own ≡ local.old.own }
     requires sits { IsSeat local.old.own mine.old.me }
-    requires seat { IsPlace shape.now seat }
-    requires home { IsHome home }
-    requires halts { HaltsAt shape.now code.now seat home local.old.registers halt
+    requires seat { IsPlace shape.now seat.now }
+    requires home { IsHome home.now }
+    requires halts { HaltsAt shape.now code.now seat.now home.now local.old.registers halt
         (stands_by words.now.shared.key local.old.own (deeds_in mine.old.me.0)) }
     ensures table { mine.new.table_id ≡ mine.old.table_id }
     ensures few { (result.made ≤ most) × (result.work ≡ result.made) × (result.looks ≡ 0) }
-    ensures framed { HasFramed W.told words.now.shared.key shape.now code.now local.old.own seat.place mine.old.me mine.new.me
+    ensures framed { HasFramed W.told words.now.shared.key shape.now code.now local.old.own seat.now.place mine.old.me mine.new.me
         watch.old watch.new local.new most result.made result.work result.looks result.end }
     ensures own_stays { local.new.own ≡ local.old.own }
 {
-    let place = seat;
-    let at = home;
     if most >= MOST_OF_AN_END {
         if let Halt::Stopped(number, next, what) = halt {
             let _ = (number, next);
             if let Reached::AtEnd(end) = what {
-                // As in `rounds`.
-                let sizes = *shape;
-                let ended = end_along(words, &sizes, code, mine, watch, &place, &at, end);
+                let ended = end_straight(words, sizes, code, mine, watch, seat, home, end);
                 return match ended.step {
                     EndStep::Installed(restart) => {
                         framed(ended.made, FrameEnd::Installed(restart))
@@ -84,7 +82,7 @@ pub(crate) fn end_or_wait<W: Watch>(
             }
         }
     }
-    wait_halted(local, shape, code, seat, home, halt);
+    wait_halted(local, shape, code, *seat, *home, halt);
     framed(0, FrameEnd::Stands)
 }
 
@@ -156,8 +154,9 @@ pub(crate) fn fill_and_end<W: Watch>(
                 watch,
                 shape,
                 code,
-                seat,
-                at,
+                &sizes,
+                &place,
+                &at,
                 halt,
                 most - circuit.made,
             );
@@ -168,9 +167,9 @@ pub(crate) fn fill_and_end<W: Watch>(
     }
 }
 
-/// Goes on where a round of a frame has halted, at most so many steps.
-#[inline(always)]
-pub(crate) fn go_behind<W: Watch>(
+/// A frame is over: its restart word is stored.
+#[inline(never)]
+fn finish_or_wait<W: Watch>(
     local: &mut Local,
     words: &Words,
     mine: &mut Seat<(), View>,
@@ -195,6 +194,77 @@ pub(crate) fn go_behind<W: Watch>(
         watch.old watch.new local.new most result.made result.work result.looks result.end }
     ensures own_stays { local.new.own ≡ local.old.own }
 {
+    if most > 0 {
+        if is_finish(halt) {
+            let place = seat;
+            let at = home;
+            return match finish_along(words, shape, code, mine, watch, &place, &at) {
+                EndStep::Installed(restart) => framed(1, FrameEnd::Installed(restart)),
+                EndStep::Gone => {
+                    wait_broken(local, shape, code, seat.place);
+                    framed(0, FrameEnd::Stands)
+                }
+                EndStep::Refused => framed(0, FrameEnd::Refused(true)),
+                EndStep::Stored => unreachable!(),
+            };
+        }
+    }
+    wait_halted(local, shape, code, seat, home, halt);
+    framed(0, FrameEnd::Stands)
+}
+
+/// Whether register work has come to where its frame is over.
+#[inline(always)]
+fn is_over(what: Reached) -> bool
+    ensures { result ≡ is_over what }
+{
+    match what {
+        Reached::AtEnd(end) => match end {
+            End::Finish => true,
+            End::Next { .. } | End::Trap { .. } | End::Call { .. } | End::Fork { .. } => false,
+        },
+        Reached::Before(_) => false,
+    }
+}
+
+/// Whether a capsule has halted where its frame is over.
+#[inline(always)]
+fn is_finish(halt: Halt) -> bool
+    ensures { result ≡ is_finish halt }
+{
+    match halt {
+        Halt::Stopped(_, _, what) => is_over(what),
+        Halt::Done | Halt::Broken | Halt::Midway(..) | Halt::Full(_) => false,
+    }
+}
+
+/// Goes on where a round of a frame has halted, at most so many steps.
+#[inline(always)]
+pub(crate) fn go_behind<W: Watch>(
+    local: &mut Local,
+    words: &Words,
+    mine: &mut Seat<(), View>,
+    watch: &mut W,
+    shape: &Shape,
+    code: &Code,
+    seat: &Place,
+    home: &Home,
+    halt: Halt,
+    most: u64,
+) -> Framed
+    requires table { IsAtCode mine.old.table_id words.now.shared.table_id words.now.shared.key shape.now code.now }
+    requires own { seat.now.own ≡ local.old.own }
+    requires sits { IsSeat local.old.own mine.old.me }
+    requires seat { IsPlace shape.now seat.now }
+    requires home { IsHome home.now }
+    requires halts { HaltsAt shape.now code.now seat.now home.now local.old.registers halt
+        (stands_by words.now.shared.key local.old.own (deeds_in mine.old.me.0)) }
+    ensures table { mine.new.table_id ≡ mine.old.table_id }
+    ensures few { (result.made ≤ most) × (result.work ≡ result.made) × (result.looks ≡ 0) }
+    ensures framed { HasFramed W.told words.now.shared.key shape.now code.now local.old.own seat.now.place mine.old.me mine.new.me
+        watch.old watch.new local.new most result.made result.work result.looks result.end }
+    ensures own_stays { local.new.own ≡ local.old.own }
+{
     let _ = code.parts().capsules.as_slice().len();
     if most > 0 {
         if let Halt::Stopped(number, next, what) = halt {
@@ -207,8 +277,8 @@ pub(crate) fn go_behind<W: Watch>(
                         watch,
                         shape,
                         code,
-                        seat,
-                        home,
+                        *seat,
+                        *home,
                         number as u32,
                         next,
                         asked,
@@ -218,7 +288,7 @@ pub(crate) fn go_behind<W: Watch>(
             }
         }
     }
-    end_or_wait(
-        local, words, mine, watch, shape, code, seat, home, halt, most,
+    finish_or_wait(
+        local, words, mine, watch, shape, code, *seat, *home, halt, most,
     )
 }

@@ -1,5 +1,6 @@
 //! The stores with which a capsule ends, each an atomic step of the table.
 ghost use Rattle.std.specs.Prelude.{◌≡◌, ◌≢◌, ◌<◌, ◌≤◌, ◌+◌};
+ghost use Rattle.ppm_code.specs.declared.act.End.TheVariants.{Finish};
 ghost use Rattle.ppm_step.specs.Contents.{IsContent};
 ghost use Rattle.ppm_step.specs.Facts.{IsEnd, IsHome, IsSeat as IsPlace};
 ghost use Rattle.ppm_step.specs.Frames.{Rest, Stores, Installs, ending};
@@ -290,7 +291,7 @@ pub(crate) const MOST_OF_AN_END: u64 = 16;
 
 /// Makes all stores of an end, as straight code.
 #[inline(always)]
-pub(crate) fn end_along<W: Watch>(
+fn end_along<W: Watch>(
     words: &Words,
     shape: &Shape,
     code: &Code,
@@ -310,7 +311,7 @@ pub(crate) fn end_along<W: Watch>(
     ensures table { mine.new.table_id ≡ mine.old.table_id }
     ensures few { result.made ≤ 16 }
     ensures last { result.step ≢ Stored }
-    ensures ended { HasMadeEnds W.told words.now.shared.key shape.now place.now (ending code.now home.now end 16)
+    ensures ended { (rest : Rest) → HasMadeEnds W.told words.now.shared.key shape.now place.now rest
         mine.old.me mine.new.me watch.old watch.new 16 result.made result.step }
 {
     let first = eight_at(words, shape, code, mine, watch, place, home, end, 0);
@@ -319,4 +320,91 @@ pub(crate) fn end_along<W: Watch>(
     }
     let next = eight_at(words, shape, code, mine, watch, place, home, end, 8);
     ended_behind(first, next)
+}
+
+/// Makes all stores of an end, each kind by straight code of its own.
+#[inline(always)]
+pub(crate) fn end_straight<W: Watch>(
+    words: &Words,
+    shape: &Shape,
+    code: &Code,
+    mine: &mut Seat<(), View>,
+    watch: &mut W,
+    place: &Place,
+    home: &Home,
+    end: End,
+) -> Ended
+    requires table { IsAtTable mine.old.table_id words.now.shared.table_id words.now.shared.key shape.now }
+    requires sits { IsSeat place.now.own mine.old.me }
+    requires seat { IsPlace shape.now place.now }
+    requires home { IsHome home.now }
+    requires end { IsEnd end }
+    requires stands { stands_by words.now.shared.key place.now.own (deeds_in mine.old.me.0)
+        ≡ running shape.now place.now (ending code.now home.now end 0) }
+    ensures table { mine.new.table_id ≡ mine.old.table_id }
+    ensures few { result.made ≤ 16 }
+    ensures last { result.step ≢ Stored }
+    ensures ended { (rest : Rest) → HasMadeEnds W.told words.now.shared.key shape.now place.now rest
+        mine.old.me mine.new.me watch.old watch.new 16 result.made result.step }
+{
+    match end {
+        End::Call {
+            procedure,
+            capsule,
+            to,
+        } => {
+            let call = End::Call {
+                procedure,
+                capsule,
+                to,
+            };
+            end_along(words, shape, code, mine, watch, place, home, call)
+        }
+        End::Fork {
+            left,
+            right,
+            capsule,
+            left_to,
+            right_to,
+        } => {
+            let fork = End::Fork {
+                left,
+                right,
+                capsule,
+                left_to,
+                right_to,
+            };
+            end_along(words, shape, code, mine, watch, place, home, fork)
+        }
+        End::Next { .. } | End::Finish | End::Trap { .. } => {
+            end_along(words, shape, code, mine, watch, place, home, end)
+        }
+    }
+}
+
+/// Makes the one store of the end of a frame that is over.
+#[inline(always)]
+pub(crate) fn finish_along<W: Watch>(
+    words: &Words,
+    shape: &Shape,
+    code: &Code,
+    mine: &mut Seat<(), View>,
+    watch: &mut W,
+    place: &Place,
+    home: &Home,
+) -> EndStep
+    requires table { IsAtTable mine.old.table_id words.now.shared.table_id words.now.shared.key shape.now }
+    requires sits { IsSeat place.now.own mine.old.me }
+    requires seat { IsPlace shape.now place.now }
+    requires home { IsHome home.now }
+    requires stands { stands_by words.now.shared.key place.now.own (deeds_in mine.old.me.0)
+        ≡ running shape.now place.now (ending code.now home.now Finish 0) }
+    ensures table { mine.new.table_id ≡ mine.old.table_id }
+    ensures ended { (rest : Rest) → HasEnded W.told words.now.shared.key shape.now place.now rest
+        mine.old.me mine.new.me watch.old watch.new result }
+    ensures last { result ≢ Stored }
+{
+    let _ = code.parts().root;
+    let kind = RestartKind::Unwind { frame: home.frame };
+    install_at(words, shape, mine, watch, place, kind)
 }

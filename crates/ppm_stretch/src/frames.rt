@@ -110,8 +110,8 @@ pub(crate) fn rounds<W: Watch>(
                     watch,
                     shape,
                     code,
-                    seat,
-                    home,
+                    &seat,
+                    &home,
                     halt,
                     most - made,
                 );
