@@ -1,8 +1,9 @@
 -- Capsules of a frame, with the block that one asks for and the stores of its end.
-use Rattle.std.specs.Prelude.{true, false, ◌≡◌, ℕ, Bool, List, Option, Some}
+use Rattle.std.specs.Prelude.{true, false, ◌≡◌, ℕ, Bool, List, Option, Some, None}
 use Rattle.ppm_cells.specs.Restart.{IsRestart}
 use Rattle.ppm_cells.specs.declared.shape.Shape.{Shape}
 use Rattle.ppm_code.specs.declared.code.CodeParts.{CodeParts}
+use Rattle.ppm_code.specs.declared.act.End.{End}
 use Rattle.ppm_code.specs.declared.act.End.TheVariants as ends
 use Rattle.ppm_code.specs.declared.work.Reached.{Reached}
 use Rattle.ppm_code.specs.declared.work.Reached.TheVariants.{AtEnd, Before}
@@ -43,3 +44,15 @@ is_finish halts.Broken = false
 is_finish (halts.Midway number at) = false
 is_finish (halts.Stopped number next what) = is_over what
 is_finish (halts.Full number) = false
+
+-- the end that register work has come to, and at which a capsule has halted
+abbrev pub end_of : Reached → Option End
+end_of (Before step) = None
+end_of (AtEnd end) = Some end
+
+abbrev pub end_in : Halt → Option End
+end_in halts.Done = None
+end_in halts.Broken = None
+end_in (halts.Midway number at) = None
+end_in (halts.Stopped number next what) = end_of what
+end_in (halts.Full number) = None

@@ -6,7 +6,7 @@ ghost use Rattle.ppm_step.specs.Standings.{running};
 ghost use Rattle.ppm_table.specs.Run.{stands_by, deeds_in, IsAtCode, IsSeat};
 ghost use Rattle.ppm_stretch.specs.Asking.{rest_asking};
 ghost use Rattle.ppm_stretch.specs.Entering.{HaltsAt};
-ghost use Rattle.ppm_stretch.specs.Framing.{HasFramed, is_finish, is_over};
+ghost use Rattle.ppm_stretch.specs.Framing.{HasFramed, end_in, end_of, is_finish, is_over};
 
 use crate::asking::fill_along;
 use crate::ending::{MOST_OF_AN_END, end_straight, finish_along};
@@ -63,27 +63,45 @@ fn end_or_wait<W: Watch>(
         watch.old watch.new local.new most result.made result.work result.looks result.end }
     ensures own_stays { local.new.own ≡ local.old.own }
 {
+    let _ = code.parts().root;
     if most >= MOST_OF_AN_END {
-        if let Halt::Stopped(number, next, what) = halt {
-            let _ = (number, next);
-            if let Reached::AtEnd(end) = what {
-                let ended = end_straight(words, sizes, code, mine, watch, seat, home, end);
-                return match ended.step {
-                    EndStep::Installed(restart) => {
-                        framed(ended.made, FrameEnd::Installed(restart))
-                    }
-                    EndStep::Gone => {
-                        wait_broken(local, shape, code, seat.place);
-                        framed(ended.made, FrameEnd::Stands)
-                    }
-                    EndStep::Refused => framed(0, FrameEnd::Refused(true)),
-                    EndStep::Stored => unreachable!(),
-                };
-            }
+        if let Some(end) = end_in(halt) {
+            let ended = end_straight(words, sizes, code, mine, watch, seat, home, end);
+            return match ended.step {
+                EndStep::Installed(restart) => framed(ended.made, FrameEnd::Installed(restart)),
+                EndStep::Gone => {
+                    wait_broken(local, shape, code, seat.place);
+                    framed(ended.made, FrameEnd::Stands)
+                }
+                EndStep::Refused => framed(0, FrameEnd::Refused(true)),
+                EndStep::Stored => unreachable!(),
+            };
         }
     }
     wait_halted(local, shape, code, *seat, *home, halt);
     framed(0, FrameEnd::Stands)
+}
+
+/// The end at which a capsule has halted, if it is at one.
+#[inline(always)]
+fn end_in(halt: Halt) -> Option<End>
+    ensures { result ≡ end_in halt }
+{
+    match halt {
+        Halt::Stopped(_, _, what) => end_of(what),
+        Halt::Done | Halt::Broken | Halt::Midway(..) | Halt::Full(_) => None,
+    }
+}
+
+/// The end that register work has come to.
+#[inline(always)]
+fn end_of(what: Reached) -> Option<End>
+    ensures { result ≡ end_of what }
+{
+    match what {
+        Reached::AtEnd(end) => Some(end),
+        Reached::Before(_) => None,
+    }
 }
 
 /// These steps, and those behind them, all of them work.
