@@ -1,5 +1,5 @@
 -- Capsules of a frame, with the stores of an end behind them.
-use Rattle.std.proofs.Common.{true, false, ◌≡◌, ◌∙◌, ◌+◌, ◌-◌, ◌≤◌, ℕ, List, Option, Some, sym, refl, ap, subst, arith}
+use Rattle.std.proofs.Common.{true, false, ◌≡◌, ◌∙◌, ◌+◌, ◌-◌, ◌==◌, ◌≤◌, if◌then◌else◌, ℕ, Bool, List, Option, Some, sym, refl, ap, subst, arith}
 use Rattle.std.specs.Prelude.{slice_get}
 use Rattle.ppm_cells.specs.declared.shape.Shape.{Shape}
 use Rattle.ppm_code.specs.Code.{IsCode}
@@ -75,3 +75,14 @@ module _ {W : Type 0} (told : W → Option (List Event)) (k : Opening) (s : Shap
   framed_works own place a b w0 w1 local most f works looks h =
       subst (λ (n : ℕ). HasFramed told k s code own place a b w0 w1 local most f.made f.made n f.end) looks
       (subst (λ (n : ℕ). HasFramed told k s code own place a b w0 w1 local most f.made n f.looks f.end) works h)
+
+-- their numbers
+pub framed_few : (f g : Framed) (most : ℕ) → f ≡ g → g.made ≤ most → g.work ≤ g.made → g.looks ≤ g.made → (f.made ≤ most) × (f.work ≤ f.made) × (f.looks ≤ f.made)
+framed_few f g most is few works looks = subst (λ (x : Framed). (x.made ≤ most) × (x.work ≤ x.made) × (x.looks ≤ x.made)) (sym is) (few, works, looks)
+
+pub looks_within : (looks work made : ℕ) → looks ≤ made → looks_behind looks work 0 ≤ made
+looks_within looks work made few = by (work == 0)
+  where
+    by : (b : Bool) → (if b then looks + 0 else 0) ≤ made
+    by true = omega (arith, few)
+    by false = omega arith

@@ -27,7 +27,6 @@ use ppm_table::{View, Words};
 
 /// Goes through capsules of the frame that the place goes on with, each from its beginning, with the
 /// block that the last one asks for and the stores of its end, at most so many steps.
-#[tactic(none)]
 #[inline(always)]
 pub(crate) fn rounds<W: Watch>(
     local: &mut Local,

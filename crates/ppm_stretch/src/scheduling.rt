@@ -195,7 +195,6 @@ fn with_frames(steps: Steps, framed: Framed) -> Steps
 
 /// Makes capsules of frames and rows of work, by which the place goes on, one after the other, at
 /// most so many steps.
-#[tactic(none)]
 pub(crate) fn work_along<W: Watch>(
     local: &mut Local,
     memory: &Seated<'_>,
