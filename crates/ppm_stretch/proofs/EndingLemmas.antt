@@ -94,8 +94,10 @@ module _ {W : Type 0} (told : W → Option (List Event)) where
     where
       before : Moves told k seat.own a b w0 w1 made made 0 false
       before = moves_stored k s seat left a b w0 w1 m made first e f
+
       both : Moves told k seat.own b c w1 w2 more more 0 false → Moves told k seat.own a c w0 w2 (made + more) (made + more) 0 false
       both h = moves_then told k seat.own a b c w0 w1 w2 made more made more 0 0 (made + more) (made + more) 0 refl refl (from_none more 0) before h
+
       by : (step : EndStep) → HasMadeEnds told k s seat rest b c w1 w2 n more step → HasMadeEnds told k s seat rest a c w0 w2 most (made + more) step
       by Stored h = (both h.0, h.1)
       by (Installed restart) h = (both h.0, h.1, h.2)

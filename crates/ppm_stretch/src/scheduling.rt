@@ -14,9 +14,9 @@ ghost use Rattle.ppm_stretch.specs.Scheduling.{HasRowed, HasWorked, end_by};
 ghost use Rattle.ppm_stretch.specs.Steady.{looks_behind};
 
 use crate::entering::load_finish;
+use crate::frames::rounds;
 use crate::refusing::withdraw;
 use crate::seated::Seated;
-use crate::frames::rounds;
 use crate::way::{FrameEnd, Framed, NONE, REFUSED, RowEnd, Rowed, Steps, looks_behind, one_of};
 use atomic_table::Seat;
 use ppm_cells::{Restart, RestartKind};

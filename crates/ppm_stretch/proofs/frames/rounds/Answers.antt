@@ -44,7 +44,7 @@ returns-in_default g c =
       table = i.2;
       few = framed_few c.framed.result _ c.args.most c.framed.ensures i.0 i.1 (omega arith);
       framed = framed_as told k c.args.shape.now c.args.code.now own c.args.place c.args.mine.now.me c.loop-made.mine.me c.args.watch.now c.loop-made.watch
-    c.loop-made.local c.args.most c.framed.result _ c.framed.ensures (i.3, i.4, i.5);
+          c.loop-made.local c.args.most c.framed.result _ c.framed.ensures (i.3, i.4, i.5);
       own_stays = i.6;
     }
 

@@ -249,8 +249,7 @@ loop-so_far-preserved g c =
     let sum = c.with_frames-so_far.result in
     let few = frames_few so_far sum r.made r.work r.looks c.with_frames-so_far.ensures i.1 i.2 went.ensures.few.1 went.ensures.few.2 in
     let moves = frames_after told k own c.args.mine.now.me c.loop-so_far.mine.me new.mine.me c.args.watch.now c.loop-so_far.watch new.watch
-    so_far sum r.made r.work r.looks c.with_frames-so_far.ensures i.4 came.0 in
-    (
+    so_far sum r.made r.work r.looks c.with_frames-so_far.ensures i.4 came.0 in (
       omega (arith, few.0, i.0, went.ensures.few.0),
       few.1,
       few.2,
