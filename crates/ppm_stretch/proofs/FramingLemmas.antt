@@ -1,12 +1,9 @@
 -- Capsules of a frame, with the stores of an end behind them.
-use Rattle.std.proofs.Common.{true, false, ◌≡◌, ◌∙◌, ◌+◌, ◌-◌, ◌==◌, ◌≤◌, if◌then◌else◌, ℕ, Bool, List, Option, Some, sym, refl, ap, subst, arith}
-use Rattle.std.specs.Prelude.{slice_get}
+use Rattle.std.proofs.Common.{true, false, ◌≡◌, ◌+◌, ◌==◌, ◌≤◌, if◌then◌else◌, ℕ, Bool, List, Option, Some, sym, refl, subst, arith}
 use Rattle.ppm_cells.specs.declared.shape.Shape.{Shape}
 use Rattle.ppm_code.specs.Code.{IsCode}
 use Rattle.ppm_code.specs.declared.act.End.{End}
-use Rattle.ppm_code.specs.declared.act.End.TheVariants as kinds
 use Rattle.ppm_code.specs.declared.code.CodeParts.{CodeParts}
-use Rattle.ppm_code.specs.declared.work.Reached.{Reached}
 use Rattle.ppm_code.specs.declared.work.Reached.TheVariants.{AtEnd, Before}
 use Rattle.ppm_core.proofs.WaitingLemmas.{stage_fits}
 use Rattle.ppm_step.specs.declared.frame.Home.{Home}
@@ -24,7 +21,7 @@ use Rattle.ppm_stretch.specs.declared.way.Framed.{Framed}
 use Rattle.ppm_stretch.specs.declared.way.Halt.{Halt}
 use Rattle.ppm_stretch.specs.declared.way.Halt.TheVariants as halts
 use Rattle.ppm_stretch.specs.Entering.{HaltsAt}
-use Rattle.ppm_stretch.specs.Framing.{HasFramed, end_in, is_finish}
+use Rattle.ppm_stretch.specs.Framing.{HasFramed, end_in}
 use Rattle.ppm_stretch.specs.Steady.{Moves, looks_behind}
 use Rattle.ppm_stretch.proofs.SteadyLemmas.{moves_then, refuses_then}
 

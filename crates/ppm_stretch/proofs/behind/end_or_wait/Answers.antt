@@ -1,11 +1,10 @@
-use Rattle.std.proofs.Common.{true, false, ◌∙◌, ◌≡◌, ℕ, sym, ap, subst, arith}
+use Rattle.std.proofs.Common.{true, false, ◌∙◌, ℕ, sym, ap, subst, arith}
 use Rattle.ppm_cells.specs.declared.shape.Shape.{Shape}
 use Rattle.ppm_step.specs.Frames.{Full, ending}
 use Rattle.ppm_step.specs.Standings.{running}
 use Rattle.ppm_table.specs.Run.{stands_by, deeds_in}
 use Rattle.ppm_stretch.specs.declared.way.EndStep.{EndStep}
-use Rattle.ppm_stretch.specs.declared.way.FrameEnd.{FrameEnd}
-use Rattle.ppm_stretch.specs.declared.way.FrameEnd.TheVariants.{Installed, Stands, Refused}
+use Rattle.ppm_stretch.specs.declared.way.FrameEnd.TheVariants.{Installed, Refused}
 use Rattle.ppm_stretch.specs.Ending.{HasMadeEnds}
 use Rattle.ppm_stretch.specs.Framing.{HasFramed}
 use Rattle.ppm_stretch.specs.Steady.{Moves}

@@ -1,4 +1,4 @@
-use Rattle.std.proofs.Common.{true, false, ◌∙◌, ◌≡◌, ◌+◌, ◌-◌, ℕ, sym, ap, subst, arith}
+use Rattle.std.proofs.Common.{false, ◌+◌, ◌-◌, ℕ, subst, arith}
 use Rattle.ppm_stretch.specs.declared.way.RoundEnd.{RoundEnd}
 use Rattle.ppm_stretch.specs.Asking.{HasFilled}
 use Rattle.ppm_stretch.specs.Framing.{HasFramed}

@@ -1,8 +1,7 @@
-use Rattle.std.proofs.Common.{true, false, ◌∙◌, ◌≡◌, ℕ, sym, ap, subst, arith}
+use Rattle.std.proofs.Common.{true, ◌∙◌, ℕ, sym, ap, subst, arith}
 use Rattle.ppm_step.specs.Frames.{Full}
 use Rattle.ppm_table.specs.Run.{stands_by, deeds_in}
-use Rattle.ppm_stretch.specs.declared.way.FrameEnd.{FrameEnd}
-use Rattle.ppm_stretch.specs.declared.way.FrameEnd.TheVariants.{Installed, Stands, Refused}
+use Rattle.ppm_stretch.specs.declared.way.FrameEnd.TheVariants.{Installed, Refused}
 use Rattle.ppm_stretch.specs.Framing.{HasFramed}
 use Rattle.ppm_stretch.proofs.FramingLemmas.{framed_as}
 use Rattle.ppm_stretch.proofs.SteadyLemmas.{moves_none, moves_same, refuses_within}

@@ -1,5 +1,5 @@
-use Rattle.std.proofs.Common.{◌+◌, sym, subst, arith}
-use Rattle.ppm_step.specs.Frames.{Rest, ending}
+use Rattle.std.proofs.Common.{sym, subst, arith}
+use Rattle.ppm_step.specs.Frames.{ending}
 use Rattle.ppm_stretch.specs.Ending.{HasMadeEnds}
 use Rattle.ppm_stretch.specs.declared.way.Ended.{Ended}
 use Rattle.ppm_stretch.proofs.EndingLemmas.{ended_last, ended_so, ended_then}

@@ -1,8 +1,6 @@
-use Rattle.std.proofs.Common.{◌+◌, ◌≤◌, ◌<◌, ◌≡◌, ℕ, subst, sym, arith}
+use Rattle.std.proofs.Common.{◌+◌, ◌≤◌, ◌<◌, ℕ, subst, sym, arith}
 use Rattle.ppm_step.specs.Frames.{ending}
-use Rattle.ppm_stretch.specs.Ending.{HasMadeEnds, made_by}
-use Rattle.ppm_stretch.specs.declared.way.EndStep.{EndStep}
-use Rattle.ppm_stretch.specs.declared.way.EndStep.TheVariants.{Stored}
+use Rattle.ppm_stretch.specs.Ending.{HasMadeEnds}
 use Rattle.ppm_stretch.proofs.EndingLemmas.{ended_one, made_few}
 use Rattle.ppm_stretch.proofs.ending.one_at.Goals as goal
 

@@ -1,4 +1,4 @@
-use Rattle.std.proofs.Common.{false, ℕ, ◌∙◌, ◌+◌, ◌-◌, Some, sym, refl, ap, subst, arith}
+use Rattle.std.proofs.Common.{ℕ, ◌∙◌, ◌+◌, ◌-◌, Some, sym, refl, ap, subst, arith}
 use Rattle.ppm_cells.specs.declared.restart.RestartKind.{RestartKind}
 use Rattle.ppm_step.specs.declared.frame.Home.{Home}
 use Rattle.ppm_step.specs.declared.row.Seat.{Seat}

@@ -1,4 +1,4 @@
-use Rattle.std.proofs.Common.{false, ◌∙◌, ◌-◌, ℕ, sym, ap, subst, arith}
+use Rattle.std.proofs.Common.{◌∙◌, ◌-◌, ℕ, sym, ap, subst, arith}
 use Rattle.ppm_step.specs.declared.row.Seat.{Seat}
 use Rattle.ppm_table.specs.Run.{stands_by, deeds_in, IsSeat}
 use Rattle.ppm_stretch.specs.declared.way.FrameEnd.{FrameEnd}
