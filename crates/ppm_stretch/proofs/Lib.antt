@@ -16,3 +16,4 @@ mod EndingLemmas
 mod AskingLemmas
 mod WaitingLemmas
 mod SchedulingLemmas
+mod FramingLemmas

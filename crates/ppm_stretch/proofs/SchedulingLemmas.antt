@@ -201,3 +201,43 @@ made_at told table k place x o o' id me w w' tally (Ok restart) h = h.1.to.of_ta
 made_at told table k place x o o' id me w w' tally (Err stops.Broken) h = h.to.of_table
 made_at told table k place x o o' id me w w' tally (Err stops.Refused) h = h.2.to.of_table
 made_at told table k place x o o' id me w w' tally (Err stops.Over) h = absurd h.1
+
+or_none : (b : Bool) → (b || false) ≡ b
+or_none true = refl
+or_none false = refl
+
+-- steps of capsules of a frame, behind others
+pub frames_after : {W : Type 0} (told : W → Option (List Event)) (k : Opening) (own : ℕ) (a b c : Mine) (w0 w1 w2 : W) (steps sum : Steps) (made work looks : ℕ)
+    → sum ≡ record {
+      made = steps.made + made;
+      work = steps.work + work;
+      looks = looks_behind steps.looks work looks;
+      exchanged = steps.exchanged;
+      refused = steps.refused;
+    }
+    → Moves told k own a b w0 w1 steps.made steps.work steps.looks steps.exchanged → Moves told k own b c w1 w2 made work looks false
+    → Moves told k own a c w0 w2 sum.made sum.work sum.looks sum.exchanged
+frames_after told k own a b c w0 w1 w2 steps sum made work looks is f g =
+    subst (λ (x : Steps). Moves told k own a c w0 w2 x.made x.work x.looks x.exchanged) (sym is)
+    (subst (λ (e : Bool). Moves told k own a c w0 w2 (steps.made + made) (steps.work + work) (looks_behind steps.looks work looks) e)
+    (or_none steps.exchanged)
+    (moves_both told k own a b c w0 w1 w2 steps.made made steps.work work steps.looks looks _ _ _ steps.exchanged false refl refl refl f g))
+
+frames_few_by : (before made more last : ℕ) (b : Bool) → before ≤ made → last ≤ more → (if b then before + last else last) ≤ made + more
+frames_few_by before made more last true f g = omega (arith, f, g)
+frames_few_by before made more last false f g = omega (arith, f, g)
+
+-- their numbers
+pub frames_few : (steps sum : Steps) (made work looks : ℕ)
+    → sum ≡ record {
+      made = steps.made + made;
+      work = steps.work + work;
+      looks = looks_behind steps.looks work looks;
+      exchanged = steps.exchanged;
+      refused = steps.refused;
+    }
+    → steps.work ≤ steps.made → steps.looks ≤ steps.made → work ≤ made → looks ≤ made
+    → (sum.made ≡ steps.made + made) × (sum.work ≤ sum.made) × (sum.looks ≤ sum.made) × (sum.refused ≡ steps.refused)
+frames_few steps sum made work looks is few few_looks more more_looks =
+    subst (λ (x : Steps). (x.made ≡ steps.made + made) × (x.work ≤ x.made) × (x.looks ≤ x.made) × (x.refused ≡ steps.refused)) (sym is)
+    (refl, omega (arith, few, more), frames_few_by steps.looks steps.made made looks (work == 0) few_looks more_looks, refl)

@@ -1,5 +1,5 @@
 -- The stores with which a capsule ends.
-use Rattle.std.specs.Prelude.{false, ◌≡◌, List, Option, Some, true}
+use Rattle.std.specs.Prelude.{false, ◌≡◌, ℕ, Bool, List, Option, Some, true}
 use Rattle.ppm_cells.specs.Restart.{IsRestart}
 use Rattle.ppm_cells.specs.declared.shape.Shape.{Shape}
 use Rattle.ppm_words.specs.declared.event.Event.{Event}
@@ -26,3 +26,26 @@ module _ {W : Type 0} (told : W → Option (List Event)) where
       Moves told k seat.own me me' w w' 1 1 0 false × (stands_by k seat.own (deeds_in me'.0) ≡ IsAt seat.place (Some restart)) × IsRestart restart
   HasEnded k s seat rest me me' w w' steps.Gone = (me' ≡ me) × (w' ≡ w) × (stands_by k seat.own (deeds_in me'.0) ≡ IsBroken seat.place)
   HasEnded k s seat rest me me' w w' steps.Refused = Refuses told k seat.own me me' w w' true 1
+
+  -- what came of so many stores of an end, behind which this is left, where at most so many were to be made
+  abbrev pub HasMadeEnds : Opening → Shape → Seat → Rest → Mine → Mine → W → W → (most made : ℕ) → EndStep → Type 0
+  HasMadeEnds k s seat rest me me' w w' most made steps.Stored =
+      Moves told k seat.own me me' w w' made made 0 false × (stands_by k seat.own (deeds_in me'.0) ≡ running s seat rest)
+  HasMadeEnds k s seat rest me me' w w' most made (steps.Installed restart) =
+      Moves told k seat.own me me' w w' made made 0 false × (stands_by k seat.own (deeds_in me'.0) ≡ IsAt seat.place (Some restart)) × IsRestart restart
+  HasMadeEnds k s seat rest me me' w w' most made steps.Gone =
+      Moves told k seat.own me me' w w' made made 0 false × (stands_by k seat.own (deeds_in me'.0) ≡ IsBroken seat.place)
+  HasMadeEnds k s seat rest me me' w w' most made steps.Refused = Refuses told k seat.own me me' w w' true most
+
+-- the steps of a store of an end, and whether the next one comes
+abbrev pub made_by : EndStep → ℕ
+made_by steps.Stored = 1
+made_by (steps.Installed restart) = 1
+made_by steps.Gone = 0
+made_by steps.Refused = 0
+
+abbrev pub is_stored : EndStep → Bool
+is_stored steps.Stored = true
+is_stored (steps.Installed restart) = false
+is_stored steps.Gone = false
+is_stored steps.Refused = false

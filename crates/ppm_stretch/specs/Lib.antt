@@ -6,3 +6,4 @@ pub mod Asking
 pub mod Scheduling
 pub mod Seated
 pub mod SeatedLaws
+pub mod Framing

@@ -75,7 +75,7 @@ fn ask_at<W: Watch>(
 /// its home, and goes through the capsule behind that, from this instruction on, at most so many
 /// steps.
 #[inline(always)]
-fn fill_along<W: Watch>(
+pub(crate) fn fill_along<W: Watch>(
     words: &Words,
     shape: &Shape,
     code: &Code,

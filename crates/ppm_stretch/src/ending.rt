@@ -1,15 +1,16 @@
 //! The stores with which a capsule ends, each an atomic step of the table.
-ghost use Rattle.std.specs.Prelude.{◌≡◌, ◌≢◌, ◌<◌, ◌+◌};
+ghost use Rattle.std.specs.Prelude.{◌≡◌, ◌≢◌, ◌<◌, ◌≤◌, ◌+◌};
+ghost use Rattle.ppm_code.specs.declared.act.End.TheVariants.{Finish};
 ghost use Rattle.ppm_step.specs.Contents.{IsContent};
 ghost use Rattle.ppm_step.specs.Facts.{IsEnd, IsHome, IsSeat as IsPlace};
 ghost use Rattle.ppm_step.specs.Frames.{Rest, Stores, Installs, ending};
 ghost use Rattle.ppm_step.specs.Standings.{running};
 ghost use Rattle.ppm_table.specs.Run.{stands_by, deeds_in, IsAtTable, IsSeat};
-ghost use Rattle.ppm_stretch.specs.Ending.{HasEnded, IsPutting};
+ghost use Rattle.ppm_stretch.specs.Ending.{HasEnded, HasMadeEnds, IsPutting, is_stored, made_by};
 ghost use Rattle.ppm_stretch.specs.declared.way.EndStep.TheVariants.{Stored};
 
 use crate::entering::store_next;
-use crate::way::EndStep;
+use crate::way::{EndStep, Ended};
 use atomic_table::Seat;
 use ppm_cells::{Cell, Restart, RestartKind, Shape};
 use ppm_code::{Code, End};
@@ -116,4 +117,294 @@ pub(crate) fn end_at<W: Watch>(
         Some(put) => put_at(words, shape, mine, watch, place, put),
         None => install_at(words, shape, mine, watch, place, home.installed(end)),
     }
+}
+
+/// Makes the n-th store of an end, and counts it.
+#[inline(always)]
+fn one_at<W: Watch>(
+    words: &Words,
+    shape: &Shape,
+    code: &Code,
+    mine: &mut Seat<(), View>,
+    watch: &mut W,
+    place: &Place,
+    home: &Home,
+    end: End,
+    n: usize,
+) -> Ended
+    requires table { IsAtTable mine.old.table_id words.now.shared.table_id words.now.shared.key shape.now }
+    requires sits { IsSeat place.now.own mine.old.me }
+    requires seat { IsPlace shape.now place.now }
+    requires home { IsHome home.now }
+    requires end { IsEnd end }
+    requires n { n < 16 }
+    requires stands { stands_by words.now.shared.key place.now.own (deeds_in mine.old.me.0)
+        ≡ running shape.now place.now (ending code.now home.now end n) }
+    ensures table { mine.new.table_id ≡ mine.old.table_id }
+    ensures few { (result.made ≤ 1) × (result.step ≡ Stored → n + 1 ≤ 11) }
+    ensures ended { HasMadeEnds W.told words.now.shared.key shape.now place.now (ending code.now home.now end (n + 1))
+        mine.old.me mine.new.me watch.old watch.new 1 result.made result.step }
+{
+    let step = end_at(words, shape, code, mine, watch, place, home, end, n);
+    let made = made_by(step);
+    Ended { made, step }
+}
+
+/// Makes two stores of an end, from the n-th on.
+#[inline(always)]
+fn two_at<W: Watch>(
+    words: &Words,
+    shape: &Shape,
+    code: &Code,
+    mine: &mut Seat<(), View>,
+    watch: &mut W,
+    place: &Place,
+    home: &Home,
+    end: End,
+    n: usize,
+) -> Ended
+    requires table { IsAtTable mine.old.table_id words.now.shared.table_id words.now.shared.key shape.now }
+    requires sits { IsSeat place.now.own mine.old.me }
+    requires seat { IsPlace shape.now place.now }
+    requires home { IsHome home.now }
+    requires end { IsEnd end }
+    requires n { n < 16 }
+    requires stands { stands_by words.now.shared.key place.now.own (deeds_in mine.old.me.0)
+        ≡ running shape.now place.now (ending code.now home.now end n) }
+    ensures table { mine.new.table_id ≡ mine.old.table_id }
+    ensures few { (result.made ≤ 2) × (result.step ≡ Stored → n + 2 ≤ 11) }
+    ensures ended { HasMadeEnds W.told words.now.shared.key shape.now place.now (ending code.now home.now end (n + 2))
+        mine.old.me mine.new.me watch.old watch.new 2 result.made result.step }
+{
+    let first = one_at(words, shape, code, mine, watch, place, home, end, n);
+    if !is_stored(first.step) {
+        return first;
+    }
+    let next = one_at(words, shape, code, mine, watch, place, home, end, n + 1);
+    ended_behind(first, next)
+}
+
+/// Makes four stores of an end, from the n-th on.
+#[inline(always)]
+fn four_at<W: Watch>(
+    words: &Words,
+    shape: &Shape,
+    code: &Code,
+    mine: &mut Seat<(), View>,
+    watch: &mut W,
+    place: &Place,
+    home: &Home,
+    end: End,
+    n: usize,
+) -> Ended
+    requires table { IsAtTable mine.old.table_id words.now.shared.table_id words.now.shared.key shape.now }
+    requires sits { IsSeat place.now.own mine.old.me }
+    requires seat { IsPlace shape.now place.now }
+    requires home { IsHome home.now }
+    requires end { IsEnd end }
+    requires n { n < 16 }
+    requires stands { stands_by words.now.shared.key place.now.own (deeds_in mine.old.me.0)
+        ≡ running shape.now place.now (ending code.now home.now end n) }
+    ensures table { mine.new.table_id ≡ mine.old.table_id }
+    ensures few { (result.made ≤ 4) × (result.step ≡ Stored → n + 4 ≤ 11) }
+    ensures ended { HasMadeEnds W.told words.now.shared.key shape.now place.now (ending code.now home.now end (n + 4))
+        mine.old.me mine.new.me watch.old watch.new 4 result.made result.step }
+{
+    let first = two_at(words, shape, code, mine, watch, place, home, end, n);
+    if !is_stored(first.step) {
+        return first;
+    }
+    let next = two_at(words, shape, code, mine, watch, place, home, end, n + 2);
+    ended_behind(first, next)
+}
+
+/// Makes eight stores of an end, from the n-th on.
+#[inline(always)]
+fn eight_at<W: Watch>(
+    words: &Words,
+    shape: &Shape,
+    code: &Code,
+    mine: &mut Seat<(), View>,
+    watch: &mut W,
+    place: &Place,
+    home: &Home,
+    end: End,
+    n: usize,
+) -> Ended
+    requires table { IsAtTable mine.old.table_id words.now.shared.table_id words.now.shared.key shape.now }
+    requires sits { IsSeat place.now.own mine.old.me }
+    requires seat { IsPlace shape.now place.now }
+    requires home { IsHome home.now }
+    requires end { IsEnd end }
+    requires n { n < 16 }
+    requires stands { stands_by words.now.shared.key place.now.own (deeds_in mine.old.me.0)
+        ≡ running shape.now place.now (ending code.now home.now end n) }
+    ensures table { mine.new.table_id ≡ mine.old.table_id }
+    ensures few { (result.made ≤ 8) × (result.step ≡ Stored → n + 8 ≤ 11) }
+    ensures ended { HasMadeEnds W.told words.now.shared.key shape.now place.now (ending code.now home.now end (n + 8))
+        mine.old.me mine.new.me watch.old watch.new 8 result.made result.step }
+{
+    let first = four_at(words, shape, code, mine, watch, place, home, end, n);
+    if !is_stored(first.step) {
+        return first;
+    }
+    let next = four_at(words, shape, code, mine, watch, place, home, end, n + 4);
+    ended_behind(first, next)
+}
+
+/// The steps of a store of an end.
+#[inline(always)]
+fn made_by(step: EndStep) -> u64
+    ensures { result ≡ made_by step }
+{
+    match step {
+        EndStep::Stored | EndStep::Installed(_) => 1,
+        EndStep::Gone | EndStep::Refused => 0,
+    }
+}
+
+/// Whether a store was made, and the next one comes.
+#[inline(always)]
+fn is_stored(step: EndStep) -> bool
+    ensures { result ≡ is_stored step }
+{
+    match step {
+        EndStep::Stored => true,
+        EndStep::Installed(_) | EndStep::Gone | EndStep::Refused => false,
+    }
+}
+
+/// These stores, and those behind them.
+#[inline(always)]
+fn ended_behind(first: Ended, next: Ended) -> Ended
+    requires { (first.made ≤ 8) × (next.made ≤ 8) }
+    ensures { result ≡ record { made = first.made + next.made; step = next.step } }
+{
+    Ended {
+        made: first.made + next.made,
+        step: next.step,
+    }
+}
+
+/// The most stores that an end has, with that of the restart word.
+pub(crate) const MOST_OF_AN_END: u64 = 16;
+
+/// Makes all stores of an end, as straight code.
+#[inline(always)]
+fn end_along<W: Watch>(
+    words: &Words,
+    shape: &Shape,
+    code: &Code,
+    mine: &mut Seat<(), View>,
+    watch: &mut W,
+    place: &Place,
+    home: &Home,
+    end: End,
+) -> Ended
+    requires table { IsAtTable mine.old.table_id words.now.shared.table_id words.now.shared.key shape.now }
+    requires sits { IsSeat place.now.own mine.old.me }
+    requires seat { IsPlace shape.now place.now }
+    requires home { IsHome home.now }
+    requires end { IsEnd end }
+    requires stands { stands_by words.now.shared.key place.now.own (deeds_in mine.old.me.0)
+        ≡ running shape.now place.now (ending code.now home.now end 0) }
+    ensures table { mine.new.table_id ≡ mine.old.table_id }
+    ensures few { result.made ≤ 16 }
+    ensures last { result.step ≢ Stored }
+    ensures ended { (rest : Rest) → HasMadeEnds W.told words.now.shared.key shape.now place.now rest
+        mine.old.me mine.new.me watch.old watch.new 16 result.made result.step }
+{
+    let first = eight_at(words, shape, code, mine, watch, place, home, end, 0);
+    if !is_stored(first.step) {
+        return first;
+    }
+    let next = eight_at(words, shape, code, mine, watch, place, home, end, 8);
+    ended_behind(first, next)
+}
+
+/// Makes all stores of an end, each kind by straight code of its own.
+#[inline(always)]
+pub(crate) fn end_straight<W: Watch>(
+    words: &Words,
+    shape: &Shape,
+    code: &Code,
+    mine: &mut Seat<(), View>,
+    watch: &mut W,
+    place: &Place,
+    home: &Home,
+    end: End,
+) -> Ended
+    requires table { IsAtTable mine.old.table_id words.now.shared.table_id words.now.shared.key shape.now }
+    requires sits { IsSeat place.now.own mine.old.me }
+    requires seat { IsPlace shape.now place.now }
+    requires home { IsHome home.now }
+    requires end { IsEnd end }
+    requires stands { stands_by words.now.shared.key place.now.own (deeds_in mine.old.me.0)
+        ≡ running shape.now place.now (ending code.now home.now end 0) }
+    ensures table { mine.new.table_id ≡ mine.old.table_id }
+    ensures few { result.made ≤ 16 }
+    ensures last { result.step ≢ Stored }
+    ensures ended { (rest : Rest) → HasMadeEnds W.told words.now.shared.key shape.now place.now rest
+        mine.old.me mine.new.me watch.old watch.new 16 result.made result.step }
+{
+    match end {
+        End::Call {
+            procedure,
+            capsule,
+            to,
+        } => {
+            let call = End::Call {
+                procedure,
+                capsule,
+                to,
+            };
+            end_along(words, shape, code, mine, watch, place, home, call)
+        }
+        End::Fork {
+            left,
+            right,
+            capsule,
+            left_to,
+            right_to,
+        } => {
+            let fork = End::Fork {
+                left,
+                right,
+                capsule,
+                left_to,
+                right_to,
+            };
+            end_along(words, shape, code, mine, watch, place, home, fork)
+        }
+        End::Next { .. } | End::Finish | End::Trap { .. } => {
+            end_along(words, shape, code, mine, watch, place, home, end)
+        }
+    }
+}
+
+/// Makes the one store of the end of a frame that is over.
+#[inline(always)]
+pub(crate) fn finish_along<W: Watch>(
+    words: &Words,
+    shape: &Shape,
+    code: &Code,
+    mine: &mut Seat<(), View>,
+    watch: &mut W,
+    place: &Place,
+    home: &Home,
+) -> EndStep
+    requires table { IsAtTable mine.old.table_id words.now.shared.table_id words.now.shared.key shape.now }
+    requires sits { IsSeat place.now.own mine.old.me }
+    requires seat { IsPlace shape.now place.now }
+    requires home { IsHome home.now }
+    requires stands { stands_by words.now.shared.key place.now.own (deeds_in mine.old.me.0)
+        ≡ running shape.now place.now (ending code.now home.now Finish 0) }
+    ensures table { mine.new.table_id ≡ mine.old.table_id }
+    ensures ended { (rest : Rest) → HasEnded W.told words.now.shared.key shape.now place.now rest
+        mine.old.me mine.new.me watch.old watch.new result }
+    ensures last { result ≢ Stored }
+{
+    let _ = code.parts().root;
+    let kind = RestartKind::Unwind { frame: home.frame };
+    install_at(words, shape, mine, watch, place, kind)
 }

@@ -1,5 +1,5 @@
 //! The steps that a processor makes in a row in capsules of a frame, one after the other.
-ghost use Rattle.std.specs.Prelude.{◌≡◌, ◌≤◌, ◌<◌, Some, length};
+ghost use Rattle.std.specs.Prelude.{◌≡◌, ◌≤◌, ◌<◌, ◌+◌, ◌^◌, Some, length};
 ghost use Rattle.ppm_cells.specs.Restart.{IsRestart};
 ghost use Rattle.ppm_step.specs.Locals.{IsLocal, standing_of};
 ghost use Rattle.ppm_step.specs.Facts.{IsEnd, IsHome, IsSeat as IsPlace};
@@ -8,13 +8,15 @@ ghost use Rattle.ppm_step.specs.Standings.{IsAt, running};
 ghost use Rattle.ppm_table.specs.Run.{stands_by, deeds_in, IsAtCode, IsSeat};
 ghost use Rattle.ppm_widths.specs.Widths.{AreWidths};
 ghost use Rattle.ppm_stretch.specs.Entering.{looks_at};
+ghost use Rattle.ppm_stretch.specs.Framing.{HasFramed};
 ghost use Rattle.ppm_stretch.specs.Rows.{Makes, GivesUpIfRefused};
+ghost use Rattle.ppm_stretch.specs.Steady.{looks_behind};
 
+use crate::behind::go_behind;
 use crate::ending::end_at;
 use crate::entering::round;
 use crate::refusing::withdraw;
-use crate::waiting::wait_halted;
-use crate::way::{EndStep, Halt, REFUSED, RoundEnd, Steps, row};
+use crate::way::{EndStep, FrameEnd, Framed, Halt, REFUSED, RoundEnd, Steps, looks_behind, row};
 use atomic_table::Seat;
 use ppm_cells::{Restart, RestartKind, Shape};
 use ppm_code::{Code, End};
@@ -23,8 +25,9 @@ use ppm_ports::Watch;
 use ppm_step::{Home, Local, Running, Seat as Place, header_of};
 use ppm_table::{View, Words};
 
-/// Goes through capsules of the frame that the place goes on with, each from its beginning, at most
-/// so many steps.
+/// Goes through capsules of the frame that the place goes on with, each from its beginning, with the
+/// block that the last one asks for and the stores of its end, at most so many steps.
+#[inline(always)]
 pub(crate) fn rounds<W: Watch>(
     local: &mut Local,
     words: &Words,
@@ -36,7 +39,7 @@ pub(crate) fn rounds<W: Watch>(
     place: u32,
     restart: Restart,
     most: u64,
-) -> Steps
+) -> Framed
     requires table { IsAtCode mine.old.table_id words.now.shared.table_id words.now.shared.key shape.now code.now }
     requires widths { AreWidths code.now widths.now }
     requires own { local.old.own < shape.now.processors }
@@ -46,11 +49,8 @@ pub(crate) fn rounds<W: Watch>(
     requires stands { stands_by words.now.shared.key local.old.own (deeds_in mine.old.me.0) ≡ IsAt place (Some restart) }
     ensures table { mine.new.table_id ≡ mine.old.table_id }
     ensures few { (result.made ≤ most) × (result.work ≤ result.made) × (result.looks ≤ result.made) }
-    ensures makes { Makes W.told words.now.shared.key local.old.own mine.old.me mine.new.me watch.old watch.new result }
-    ensures stops { GivesUpIfRefused W.told words.now.shared.key local.old.own mine.old.me mine.new.me watch.old watch.new most result }
-    ensures sits_on { IsSeat local.old.own mine.new.me }
-    ensures stands_on { standing_of shape.now code.now local.new ≡ stands_by words.now.shared.key local.old.own (deeds_in mine.new.me.0) }
-    ensures holds { IsLocal shape.now code.now local.new }
+    ensures framed { HasFramed W.told words.now.shared.key shape.now code.now local.old.own place mine.old.me mine.new.me
+        watch.old watch.new local.new most result.made result.work result.looks result.end }
     ensures own_stays { local.new.own ≡ local.old.own }
 {
     // By a copy: behind an atomic step the compiler reads anew what lies behind a reference, and
@@ -67,12 +67,11 @@ pub(crate) fn rounds<W: Watch>(
             restart: at,
         };
         let RestartKind::Run { frame, copy } = at.kind else {
-            wait_at(local, shape, code, place, at);
-            return row(made, work, 0, false);
+            return framed(made, work, 0, FrameEnd::Installed(at));
         };
         let Some(header) = header_of(&sizes, seat) else {
             wait_at(local, shape, code, place, at);
-            return row(made, work, 0, false);
+            return framed(made, work, 0, FrameEnd::Stands);
         };
         let home = Home {
             frame,
@@ -102,22 +101,55 @@ pub(crate) fn rounds<W: Watch>(
                 work += circuit.work;
             }
             RoundEnd::Halts(halt) => {
-                wait_halted(local, shape, code, seat, home, halt);
-                return row(
-                    made + circuit.made,
-                    work + circuit.work,
-                    looks_at(halt),
-                    false,
+                made += circuit.made;
+                work += circuit.work;
+                let behind = go_behind(
+                    local,
+                    words,
+                    mine,
+                    watch,
+                    shape,
+                    code,
+                    &seat,
+                    &home,
+                    halt,
+                    most - made,
                 );
+                return framed_behind(made, work, looks_at(halt), behind);
             }
             RoundEnd::Refused(lives) => {
-                withdraw(local, words, mine, shape, code, lives);
-                return REFUSED;
+                return framed(0, 0, 0, FrameEnd::Refused(lives));
             }
         }
     }
-    wait_at(local, shape, code, place, at);
-    row(made, work, 0, false)
+    framed(made, work, 0, FrameEnd::Installed(at))
+}
+
+/// So many steps, and how they ended.
+#[inline(always)]
+fn framed(made: u64, work: u64, looks: u64, end: FrameEnd) -> Framed
+    ensures { result ≡ record { made = made; work = work; looks = looks; end = end } }
+{
+    Framed {
+        made,
+        work,
+        looks,
+        end,
+    }
+}
+
+/// These steps, and those behind them, which are work.
+#[inline(always)]
+fn framed_behind(made: u64, work: u64, looks: u64, behind: Framed) -> Framed
+    requires { (made + behind.made < 2 ^ 64) × (work ≤ made) × (behind.work ≤ behind.made) × (looks ≤ 1) }
+    ensures { result ≡ record { made = made + behind.made; work = work + behind.work; looks = looks_behind looks behind.work 0; end = behind.end } }
+{
+    Framed {
+        made: made + behind.made,
+        work: work + behind.work,
+        looks: looks_behind(looks, behind.work, 0),
+        end: behind.end,
+    }
 }
 
 /// The looks behind its last work where a processor halts.

@@ -9,6 +9,7 @@
 #![tactic(auto)]
 
 mod asking;
+mod behind;
 mod capsule;
 mod ending;
 mod entering;

@@ -15,9 +15,9 @@ ghost use Rattle.ppm_stretch.specs.Rows.{IsChoosing, IsFree, Makes, GivesUpIfRef
 ghost use Rattle.ppm_stretch.specs.Steady.{Moves, Refuses, is_exchange, looks_behind};
 
 use crate::asking::fills;
-use crate::frames::{ends, rounds};
+use crate::frames::ends;
 use crate::refusing::give_way;
-use crate::scheduling::{MOST_OF_A_ROW, has_row, rows_along};
+use crate::scheduling::{MOST_OF_A_ROW, has_row, work_along};
 use crate::seated::Seated;
 use crate::way::{NONE, OneStep, REFUSED, Steps, looks_behind, one_of, row};
 use atomic_table::Seat;
@@ -127,12 +127,7 @@ fn frame_steps<W: Watch>(
     let _ = code.parts().root;
     if let Stand::At { place, restart } = local.stand {
         if let Some(restart) = restart {
-            if is_of_frame(restart.kind) && most >= 2 {
-                return rounds(
-                    local, words, mine, watch, shape, code, widths, place, restart, most,
-                );
-            }
-            if has_row(restart.kind) && most >= MOST_OF_A_ROW {
+            if goes_along(restart.kind) && most >= MOST_OF_A_ROW {
                 let memory = Seated {
                     words,
                     shape: *shape,
@@ -142,7 +137,7 @@ fn frame_steps<W: Watch>(
                     place,
                     restart,
                 };
-                return rows_along(local, &memory, mine, watch, code, &seat, most);
+                return work_along(local, &memory, mine, watch, code, widths, &seat, most);
             }
         }
     }
@@ -221,10 +216,11 @@ fn some_steps<W: Watch>(
     other_step(local, words, mine, watch, shape, code)
 }
 
-/// Whether a restart is that of a frame.
+/// Whether a restart is that of a frame, or of another row of work. For speed alone: either answer
+/// is right.
 #[inline(always)]
-fn is_of_frame(kind: RestartKind) -> bool {
-    matches!(kind, RestartKind::Run { .. })
+fn goes_along(kind: RestartKind) -> bool {
+    matches!(kind, RestartKind::Run { .. }) || has_row(kind)
 }
 
 /// One step for which nothing is to be chosen, or none.

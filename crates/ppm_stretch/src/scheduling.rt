@@ -8,14 +8,16 @@ ghost use Rattle.ppm_step.specs.Rows.{row_of};
 ghost use Rattle.ppm_step.specs.Standings.{stands};
 ghost use Rattle.ppm_table.specs.Run.{stands_by, deeds_in, IsAtCode, IsSeat};
 ghost use Rattle.ppm_stretch.specs.Entering.{StandsBefore};
+ghost use Rattle.ppm_widths.specs.Widths.{AreWidths};
 ghost use Rattle.ppm_stretch.specs.Rows.{Makes, GivesUpIfRefused};
 ghost use Rattle.ppm_stretch.specs.Scheduling.{HasRowed, HasWorked, end_by};
 ghost use Rattle.ppm_stretch.specs.Steady.{looks_behind};
 
 use crate::entering::load_finish;
+use crate::frames::rounds;
 use crate::refusing::withdraw;
 use crate::seated::Seated;
-use crate::way::{NONE, REFUSED, RowEnd, Rowed, Steps, looks_behind, one_of};
+use crate::way::{FrameEnd, Framed, NONE, REFUSED, RowEnd, Rowed, Steps, looks_behind, one_of};
 use atomic_table::Seat;
 use ppm_cells::{Restart, RestartKind};
 use ppm_code::Code;
@@ -169,17 +171,42 @@ fn with_row(steps: Steps, rowed: Rowed) -> Steps
     }
 }
 
-/// Makes the rows of work with which the place goes on, one after the other, at most so many steps.
-pub(crate) fn rows_along<W: Watch>(
+/// These steps, and then those of capsules of a frame.
+#[inline(always)]
+fn with_frames(steps: Steps, framed: Framed) -> Steps
+    requires few { (steps.made + framed.made < 2 ^ 64) × (steps.work ≤ steps.made) × (steps.looks ≤ steps.made)
+        × (framed.work ≤ framed.made) × (framed.looks ≤ framed.made) }
+    ensures { result ≡ record {
+      made = steps.made + framed.made;
+      work = steps.work + framed.work;
+      looks = looks_behind steps.looks framed.work framed.looks;
+      exchanged = steps.exchanged;
+      refused = steps.refused;
+    } }
+{
+    Steps {
+        made: steps.made + framed.made,
+        work: steps.work + framed.work,
+        looks: looks_behind(steps.looks, framed.work, framed.looks),
+        exchanged: steps.exchanged,
+        refused: steps.refused,
+    }
+}
+
+/// Makes capsules of frames and rows of work, by which the place goes on, one after the other, at
+/// most so many steps.
+pub(crate) fn work_along<W: Watch>(
     local: &mut Local,
     memory: &Seated<'_>,
     mine: &mut Seat<(), View>,
     watch: &mut W,
     code: &Code,
+    widths: &[u8],
     from: &Place,
     most: u64,
 ) -> Steps
     requires table { IsAtCode mine.old.table_id memory.now.words.now.shared.table_id memory.now.words.now.shared.key memory.now.shape code.now }
+    requires widths { AreWidths code.now widths.now }
     requires sits { IsSeat local.old.own mine.old.me }
     requires seat { (from.now.own ≡ local.old.own) × (local.old.own < memory.now.shape.processors)
         × (from.now.place < memory.now.shape.processors) × IsRestart from.now.restart }
@@ -198,32 +225,59 @@ pub(crate) fn rows_along<W: Watch>(
     let mut at = from.restart;
     let mut so_far = NONE;
     while most - so_far.made >= MOST_OF_A_ROW {
-        if !has_row(at.kind) {
-            wait_at(local, &memory.shape, code, place, at);
-            return so_far;
-        }
-        let seat = Place {
-            own,
-            place,
-            restart: at,
-        };
-        let rowed = row_at(&seated, mine, watch, code, &seat);
-        if let RowEnd::Refused(lives) = rowed.end {
-            withdraw(local, memory.words, mine, &memory.shape, code, lives);
-            return REFUSED;
-        }
-        so_far = with_row(so_far, rowed);
-        match rowed.end {
-            RowEnd::Installed(next) => at = next,
-            RowEnd::Broken => {
-                wait_broken(local, &memory.shape, code, place);
-                return so_far;
+        if has_row(at.kind) {
+            let seat = Place {
+                own,
+                place,
+                restart: at,
+            };
+            let rowed = row_at(&seated, mine, watch, code, &seat);
+            if let RowEnd::Refused(lives) = rowed.end {
+                withdraw(local, memory.words, mine, &memory.shape, code, lives);
+                return REFUSED;
             }
-            RowEnd::Over => {
-                local.stand = Stand::Done;
-                return so_far;
+            so_far = with_row(so_far, rowed);
+            match rowed.end {
+                RowEnd::Installed(next) => at = next,
+                RowEnd::Broken => {
+                    wait_broken(local, &memory.shape, code, place);
+                    return so_far;
+                }
+                RowEnd::Over => {
+                    local.stand = Stand::Done;
+                    return so_far;
+                }
+                RowEnd::Refused(_) => unreachable!(),
             }
-            RowEnd::Refused(_) => unreachable!(),
+        } else {
+            let framed = rounds(
+                local,
+                memory.words,
+                mine,
+                watch,
+                &memory.shape,
+                code,
+                widths,
+                place,
+                at,
+                most - so_far.made,
+            );
+            if let FrameEnd::Refused(lives) = framed.end {
+                withdraw(local, memory.words, mine, &memory.shape, code, lives);
+                return REFUSED;
+            }
+            so_far = with_frames(so_far, framed);
+            match framed.end {
+                FrameEnd::Installed(next) => {
+                    if framed.made == 0 {
+                        wait_at(local, &memory.shape, code, place, next);
+                        return so_far;
+                    }
+                    at = next;
+                }
+                FrameEnd::Stands => return so_far,
+                FrameEnd::Refused(_) => unreachable!(),
+            }
         }
     }
     wait_at(local, &memory.shape, code, place, at);

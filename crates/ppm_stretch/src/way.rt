@@ -77,6 +77,14 @@ pub enum EndStep {
     Refused,
 }
 
+/// So many stores of an end were made, the restart word among them, and what came of the last, or of
+/// the one behind it.
+#[derive(Clone, Copy, Debug, PartialEq, Eq)]
+pub struct Ended {
+    pub made: u64,
+    pub step: EndStep,
+}
+
 /// Where a processor stands that does not go round.
 #[derive(Clone, Copy, Debug, PartialEq, Eq)]
 pub enum Halt {
@@ -121,6 +129,27 @@ pub struct Circuit {
     pub made: u64,
     pub work: u64,
     pub end: RoundEnd,
+}
+
+/// How capsules of a frame ended.
+#[derive(Clone, Copy, Debug, PartialEq, Eq)]
+pub enum FrameEnd {
+    /// The place goes on with this restart.
+    Installed(Restart),
+    /// The processor has been put where it stands.
+    Stands,
+    /// The watcher refused; whether the processor is still to take a step.
+    Refused(bool),
+}
+
+/// Capsules of a frame: so many steps, of which so many were work, so many looks behind the last of
+/// these, and how they ended.
+#[derive(Clone, Copy, Debug, PartialEq, Eq)]
+pub struct Framed {
+    pub made: u64,
+    pub work: u64,
+    pub looks: u64,
+    pub end: FrameEnd,
 }
 
 /// How the row of a restart of work ended, with the load of the finish word before it.

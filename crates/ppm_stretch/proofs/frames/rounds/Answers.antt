@@ -1,14 +1,16 @@
-use Rattle.std.proofs.Common.{false, ℕ, ◌∙◌, ◌+◌, ◌-◌, Some, sym, refl, ap, subst, arith}
+use Rattle.std.proofs.Common.{ℕ, ◌∙◌, ◌+◌, ◌-◌, Some, sym, refl, ap, subst, arith}
 use Rattle.ppm_cells.specs.declared.restart.RestartKind.{RestartKind}
 use Rattle.ppm_step.specs.declared.frame.Home.{Home}
 use Rattle.ppm_step.specs.declared.row.Seat.{Seat}
 use Rattle.ppm_step.specs.Standings.{IsAt}
-use Rattle.ppm_table.specs.Run.{stands_by, deeds_in}
+use Rattle.ppm_table.specs.Run.{stands_by, deeds_in, IsSeat}
 use Rattle.ppm_stretch.specs.declared.way.RoundEnd.{RoundEnd}
-use Rattle.ppm_stretch.specs.Entering.{Circled, looks_at}
-use Rattle.ppm_stretch.specs.Steady.{Lives}
+use Rattle.ppm_stretch.specs.Entering.{Circled, HaltsAt, looks_at}
+use Rattle.ppm_stretch.specs.Framing.{HasFramed}
+use Rattle.ppm_stretch.specs.Steady.{looks_behind}
+use Rattle.ppm_stretch.proofs.FramingLemmas.{framed_as, framed_few, framed_then, framed_works, looks_within}
 use Rattle.ppm_stretch.proofs.RoundLemmas.{looks_few}
-use Rattle.ppm_stretch.proofs.SteadyLemmas.{moves_then, refuses_then, row_few, row_makes, row_stops, from_none}
+use Rattle.ppm_stretch.proofs.SteadyLemmas.{moves_then, refuses_then, from_none}
 use Rattle.ppm_core.proofs.WaitingLemmas.{goes_round_fits}
 use Rattle.ppm_stretch.proofs.frames.rounds.Goals as goal
 
@@ -32,89 +34,160 @@ loop-made-preserved g c =
       i.6,
     )
 
-pub wait_halted-requires-clause-halts : goal.wait_halted-requires-clause-halts
-wait_halted-requires-clause-halts g c =
+pub returns-in_default : goal.returns-in_default
+returns-in_default g c =
+    let told = g.W.Watch.told in
     let k = c.args.words.now.shared.key in
+    let own = c.args.local.now.own in
     let i = c.loop-made.invariant in
-    let seat : Seat = record { own = c.args.local.now.own; place = c.args.place; restart = c.loop-made.at } in
+    record {
+      table = i.2;
+      few = framed_few c.framed.result _ c.args.most c.framed.ensures i.0 i.1 (omega arith);
+      framed = framed_as told k c.args.shape.now c.args.code.now own c.args.place c.args.mine.now.me c.loop-made.mine.me c.args.watch.now c.loop-made.watch
+          c.loop-made.local c.args.most c.framed.result _ c.framed.ensures (i.3, i.4, i.5);
+      own_stays = i.6;
+    }
+
+pub returns-in_default-header_of-clause-few : goal.returns-in_default-header_of-clause-few
+returns-in_default-header_of-clause-few g c =
+    framed_few c.framed-in_default-header_of.result _ c.args.most c.framed-in_default-header_of.ensures c.loop-made.invariant.0 c.loop-made.invariant.1
+    (omega arith)
+
+pub returns-in_default-header_of-clause-framed : goal.returns-in_default-header_of-clause-framed
+returns-in_default-header_of-clause-framed g c =
+    let told = g.W.Watch.told in
+    let k = c.args.words.now.shared.key in
+    let own = c.args.local.now.own in
+    let i = c.loop-made.invariant in
+    framed_as told k c.args.shape.now c.args.code.now own c.args.place c.args.mine.now.me c.loop-made.mine.me c.args.watch.now c.loop-made.watch
+    c.wait_at.new.local c.args.most c.framed-in_default-header_of.result _ c.framed-in_default-header_of.ensures
+    (i.3, c.wait_at.ensures.stands ∙ sym i.4, c.wait_at.ensures.holds)
+
+pub go_behind-behind-requires-clause-sits : goal.go_behind-behind-requires-clause-sits
+go_behind-behind-requires-clause-sits g c κs within =
+    let told = g.W.Watch.told in
+    let k = c.args.words.now.shared.key in
+    let own = c.args.local.now.own in
+    let i = c.loop-made.invariant in
+    let seat : Seat = record { own = own; place = c.args.place; restart = c.loop-made.at } in
     let home : Home = record { frame = c.in-Run.frame; copy = c.in-Run.copy; block = 0 } in
-    let made = c.round-circuit.result.made in
-    let work = c.round-circuit.result.work in
-    let circled = subst (λ (end : RoundEnd). Circled g.W.Watch.told k c.args.shape.now c.args.code.now seat home c.round-circuit.new.registers c.loop-made.mine.me c.round-circuit.new.mine.me
-    c.loop-made.watch c.round-circuit.new.watch (c.args.most - c.loop-made.made) made work end) c.in-Halts.is c.round-circuit.ensures.circled in
-    (stands_by k c.args.local.now.own (deeds_in c.round-circuit.new.mine.me.0), circled.2)
+    let went = c.round-circuit in
+    let made = went.result.made in
+    let work = went.result.work in
+    let circled = subst (λ (end : RoundEnd). Circled told k c.args.shape.now c.args.code.now seat home went.new.registers c.loop-made.mine.me went.new.mine.me
+    c.loop-made.watch went.new.watch (c.args.most - c.loop-made.made) made work end) c.in-Halts.is went.ensures.circled in
+    subst (λ (n : ℕ). IsSeat n went.new.mine.me) (sym i.6) circled.1.goes.sits
+
+pub go_behind-behind-requires-clause-halts : goal.go_behind-behind-requires-clause-halts
+go_behind-behind-requires-clause-halts g c κs within =
+    let told = g.W.Watch.told in
+    let k = c.args.words.now.shared.key in
+    let own = c.args.local.now.own in
+    let i = c.loop-made.invariant in
+    let seat : Seat = record { own = own; place = c.args.place; restart = c.loop-made.at } in
+    let home : Home = record { frame = c.in-Run.frame; copy = c.in-Run.copy; block = 0 } in
+    let went = c.round-circuit in
+    let made = went.result.made in
+    let work = went.result.work in
+    let circled = subst (λ (end : RoundEnd). Circled told k c.args.shape.now c.args.code.now seat home went.new.registers c.loop-made.mine.me went.new.mine.me
+    c.loop-made.watch went.new.watch (c.args.most - c.loop-made.made) made work end) c.in-Halts.is went.ensures.circled in
+    subst (λ (n : ℕ). HaltsAt c.args.shape.now c.args.code.now seat home went.new.registers c.in-Halts.halt (stands_by k n (deeds_in went.new.mine.me.0)))
+    (sym i.6) circled.2
+
+pub framed_behind-requires : goal.framed_behind-requires
+framed_behind-requires g c =
+    let i = c.loop-made.invariant in
+    let few = c.go_behind-behind.ensures.few in
+    let looks = looks_few c.in-Halts.halt in (
+      omega (arith, i.0, c.round-circuit.ensures.few, few.0, c.ranges.most.fits),
+      omega (arith, i.1, c.round-circuit.ensures.on.0),
+      omega (arith, few.1),
+      omega (arith, c.looks_at.ensures, looks),
+    )
 
 pub returns-in-Halts-clause-few : goal.returns-in-Halts-clause-few
 returns-in-Halts-clause-few g c =
+    let told = g.W.Watch.told in
     let k = c.args.words.now.shared.key in
+    let own = c.args.local.now.own in
     let i = c.loop-made.invariant in
-    let seat : Seat = record { own = c.args.local.now.own; place = c.args.place; restart = c.loop-made.at } in
+    let seat : Seat = record { own = own; place = c.args.place; restart = c.loop-made.at } in
     let home : Home = record { frame = c.in-Run.frame; copy = c.in-Run.copy; block = 0 } in
-    let made = c.round-circuit.result.made in
-    let work = c.round-circuit.result.work in
-    let circled = subst (λ (end : RoundEnd). Circled g.W.Watch.told k c.args.shape.now c.args.code.now seat home c.round-circuit.new.registers c.loop-made.mine.me c.round-circuit.new.mine.me
-    c.loop-made.watch c.round-circuit.new.watch (c.args.most - c.loop-made.made) made work end) c.in-Halts.is c.round-circuit.ensures.circled in
+    let went = c.round-circuit in
+    let made = went.result.made in
+    let work = went.result.work in
+    let circled = subst (λ (end : RoundEnd). Circled told k c.args.shape.now c.args.code.now seat home went.new.registers c.loop-made.mine.me went.new.mine.me
+    c.loop-made.watch went.new.watch (c.args.most - c.loop-made.made) made work end) c.in-Halts.is went.ensures.circled in
+    let few = c.go_behind-behind.ensures.few in
     let looks = looks_few c.in-Halts.halt in
-    row_few g.W.Watch.told (c.loop-made.made + made) (c.loop-made.work + work) c.looks_at.result false c.args.most c.row-in-Halts.result c.row-in-Halts.ensures
-    (omega (arith, i.0, c.round-circuit.ensures.few)) (omega (arith, i.1, c.round-circuit.ensures.on.0)) (omega (arith, c.looks_at.ensures, looks, circled.0))
+    framed_few c.framed_behind.result _ c.args.most c.framed_behind.ensures
+    (omega (arith, i.0, went.ensures.few, few.0)) (omega (arith, i.1, went.ensures.on.0, few.1))
+    (looks_within c.looks_at.result c.go_behind-behind.result.work _ (omega (arith, c.looks_at.ensures, looks, circled.0)))
 
-pub returns-in-Halts-clause-makes : goal.returns-in-Halts-clause-makes
-returns-in-Halts-clause-makes g c =
+pub returns-in-Halts-clause-framed : goal.returns-in-Halts-clause-framed
+returns-in-Halts-clause-framed g c =
+    let told = g.W.Watch.told in
     let k = c.args.words.now.shared.key in
+    let own = c.args.local.now.own in
     let i = c.loop-made.invariant in
-    let seat : Seat = record { own = c.args.local.now.own; place = c.args.place; restart = c.loop-made.at } in
+    let seat : Seat = record { own = own; place = c.args.place; restart = c.loop-made.at } in
     let home : Home = record { frame = c.in-Run.frame; copy = c.in-Run.copy; block = 0 } in
-    let made = c.round-circuit.result.made in
-    let work = c.round-circuit.result.work in
-    let circled = subst (λ (end : RoundEnd). Circled g.W.Watch.told k c.args.shape.now c.args.code.now seat home c.round-circuit.new.registers c.loop-made.mine.me c.round-circuit.new.mine.me
-    c.loop-made.watch c.round-circuit.new.watch (c.args.most - c.loop-made.made) made work end) c.in-Halts.is c.round-circuit.ensures.circled in
+    let went = c.round-circuit in
+    let made = went.result.made in
+    let work = went.result.work in
+    let circled = subst (λ (end : RoundEnd). Circled told k c.args.shape.now c.args.code.now seat home went.new.registers c.loop-made.mine.me went.new.mine.me
+    c.loop-made.watch went.new.watch (c.args.most - c.loop-made.made) made work end) c.in-Halts.is went.ensures.circled in
+    let behind = c.go_behind-behind in
+    let few = behind.ensures.few in
+    let most = c.args.most - (c.loop-made.made + made) in
     let looks = looks_at c.in-Halts.halt in
-    row_makes g.W.Watch.told k c.args.local.now.own c.args.mine.now.me c.round-circuit.new.mine.me c.args.watch.now c.round-circuit.new.watch
-    (c.loop-made.made + made) (c.loop-made.work + work) c.looks_at.result false c.row-in-Halts.result c.row-in-Halts.ensures
-    (moves_then g.W.Watch.told k c.args.local.now.own c.args.mine.now.me c.loop-made.mine.me c.round-circuit.new.mine.me c.args.watch.now c.loop-made.watch c.round-circuit.new.watch
-    c.loop-made.made made c.loop-made.work work 0 looks (c.loop-made.made + made) (c.loop-made.work + work) c.looks_at.result refl refl (from_none work looks ∙ sym c.looks_at.ensures) i.3 circled.1)
+    let before = moves_then told k own c.args.mine.now.me c.loop-made.mine.me went.new.mine.me c.args.watch.now c.loop-made.watch went.new.watch
+    c.loop-made.made made c.loop-made.work work 0 looks (c.loop-made.made + made) (c.loop-made.work + work) c.looks_at.result refl refl
+    (from_none work looks ∙ sym c.looks_at.ensures) i.3 circled.1 in
+    let after = subst (λ (n : ℕ). HasFramed told k c.args.shape.now c.args.code.now n c.args.place went.new.mine.me behind.new.mine.me
+    went.new.watch behind.new.watch behind.new.local most behind.result.made behind.result.work behind.result.looks behind.result.end) i.6 behind.ensures.framed in
+    framed_as told k c.args.shape.now c.args.code.now own c.args.place c.args.mine.now.me behind.new.mine.me c.args.watch.now behind.new.watch
+    behind.new.local c.args.most c.framed_behind.result _ c.framed_behind.ensures
+    (subst (λ (n : ℕ). HasFramed told k c.args.shape.now c.args.code.now own c.args.place c.args.mine.now.me behind.new.mine.me c.args.watch.now behind.new.watch
+    behind.new.local c.args.most (c.loop-made.made + made + behind.result.made) (c.loop-made.work + work + n) (looks_behind c.looks_at.result n 0) behind.result.end)
+    (sym few.1)
+    (framed_then told k c.args.shape.now c.args.code.now own c.args.place c.args.mine.now.me went.new.mine.me behind.new.mine.me c.args.watch.now went.new.watch
+    behind.new.watch behind.new.local most c.args.most (c.loop-made.made + made) (c.loop-made.work + work) c.looks_at.result behind.result.made behind.result.end
+    (omega (arith, i.0, went.ensures.few)) before
+    (framed_works told k c.args.shape.now c.args.code.now own c.args.place went.new.mine.me behind.new.mine.me went.new.watch behind.new.watch
+    behind.new.local most behind.result few.1 few.2 after)))
 
-pub returns-in-Halts-clause-stops : goal.returns-in-Halts-clause-stops
-returns-in-Halts-clause-stops g c =
-    row_stops g.W.Watch.told c.args.words.now.shared.key c.args.local.now.own c.args.mine.now.me c.round-circuit.new.mine.me c.args.watch.now c.round-circuit.new.watch
-    (c.loop-made.made + c.round-circuit.result.made) (c.loop-made.work + c.round-circuit.result.work) c.looks_at.result false c.args.most c.row-in-Halts.result c.row-in-Halts.ensures
-
-pub returns-in-Halts-clause-stands_on : goal.returns-in-Halts-clause-stands_on
-returns-in-Halts-clause-stands_on g c =
+pub returns-in-Refused-clause-framed : goal.returns-in-Refused-clause-framed
+returns-in-Refused-clause-framed g c =
+    let told = g.W.Watch.told in
     let k = c.args.words.now.shared.key in
+    let own = c.args.local.now.own in
     let i = c.loop-made.invariant in
-    let seat : Seat = record { own = c.args.local.now.own; place = c.args.place; restart = c.loop-made.at } in
+    let seat : Seat = record { own = own; place = c.args.place; restart = c.loop-made.at } in
     let home : Home = record { frame = c.in-Run.frame; copy = c.in-Run.copy; block = 0 } in
-    let made = c.round-circuit.result.made in
-    let work = c.round-circuit.result.work in
-    let circled = subst (λ (end : RoundEnd). Circled g.W.Watch.told k c.args.shape.now c.args.code.now seat home c.round-circuit.new.registers c.loop-made.mine.me c.round-circuit.new.mine.me
-    c.loop-made.watch c.round-circuit.new.watch (c.args.most - c.loop-made.made) made work end) c.in-Halts.is c.round-circuit.ensures.circled in
-    c.wait_halted.ensures.stands (stands_by k c.args.local.now.own (deeds_in c.round-circuit.new.mine.me.0)) circled.2
+    let went = c.round-circuit in
+    let made = went.result.made in
+    let work = went.result.work in
+    let circled = subst (λ (end : RoundEnd). Circled told k c.args.shape.now c.args.code.now seat home went.new.registers c.loop-made.mine.me went.new.mine.me
+    c.loop-made.watch went.new.watch (c.args.most - c.loop-made.made) made work end) c.in-Refused.is went.ensures.circled in
+    framed_as told k c.args.shape.now c.args.code.now own c.args.place c.args.mine.now.me went.new.mine.me c.args.watch.now went.new.watch
+    _ c.args.most c.framed-in-Refused.result _ c.framed-in-Refused.ensures
+    (refuses_then told k own c.args.mine.now.me c.loop-made.mine.me went.new.mine.me c.args.watch.now c.loop-made.watch went.new.watch
+    c.loop-made.made c.loop-made.work 0 c.in-Refused.lives (c.args.most - c.loop-made.made) c.args.most (omega (arith, i.0)) i.3 circled)
 
-pub withdraw-requires-clause-lives : goal.withdraw-requires-clause-lives
-withdraw-requires-clause-lives g c =
-    let k = c.args.words.now.shared.key in
-    let i = c.loop-made.invariant in
-    let seat : Seat = record { own = c.args.local.now.own; place = c.args.place; restart = c.loop-made.at } in
-    let home : Home = record { frame = c.in-Run.frame; copy = c.in-Run.copy; block = 0 } in
-    let circled = subst (λ (end : RoundEnd). Circled g.W.Watch.told k c.args.shape.now c.args.code.now seat home c.round-circuit.new.registers c.loop-made.mine.me c.round-circuit.new.mine.me
-    c.loop-made.watch c.round-circuit.new.watch (c.args.most - c.loop-made.made) c.round-circuit.result.made c.round-circuit.result.work end) c.in-Refused.is c.round-circuit.ensures.circled in
-    subst (λ (n : ℕ). Lives k n c.round-circuit.new.mine.me c.in-Refused.lives) (sym i.6) circled.stays
+pub returns-in-Refused-clause-few : goal.returns-in-Refused-clause-few
+returns-in-Refused-clause-few g c =
+    framed_few c.framed-in-Refused.result _ c.args.most c.framed-in-Refused.ensures (omega arith) (omega arith) (omega arith)
 
-pub returns-in-Refused-clause-stops : goal.returns-in-Refused-clause-stops
-returns-in-Refused-clause-stops g c = λ refused.
+pub returns-clause-few : goal.returns-clause-few
+returns-clause-few g c =
+    framed_few c.framed-2.result _ c.args.most c.framed-2.ensures c.loop-made.invariant.0 c.loop-made.invariant.1 (omega arith)
+
+pub returns-clause-framed : goal.returns-clause-framed
+returns-clause-framed g c =
+    let told = g.W.Watch.told in
     let k = c.args.words.now.shared.key in
+    let own = c.args.local.now.own in
     let i = c.loop-made.invariant in
-    let seat : Seat = record { own = c.args.local.now.own; place = c.args.place; restart = c.loop-made.at } in
-    let home : Home = record { frame = c.in-Run.frame; copy = c.in-Run.copy; block = 0 } in
-    let made = c.round-circuit.result.made in
-    let work = c.round-circuit.result.work in
-    let circled = subst (λ (end : RoundEnd). Circled g.W.Watch.told k c.args.shape.now c.args.code.now seat home c.round-circuit.new.registers c.loop-made.mine.me c.round-circuit.new.mine.me
-    c.loop-made.watch c.round-circuit.new.watch (c.args.most - c.loop-made.made) made work end) c.in-Refused.is c.round-circuit.ensures.circled in
-    record {
-      lives = c.in-Refused.lives;
-      behind = c.round-circuit.new.mine.me;
-      refuses = refuses_then g.W.Watch.told k c.args.local.now.own c.args.mine.now.me c.loop-made.mine.me c.round-circuit.new.mine.me c.args.watch.now c.loop-made.watch c.round-circuit.new.watch
-          c.loop-made.made c.loop-made.work 0 c.in-Refused.lives (c.args.most - c.loop-made.made) c.args.most (omega (arith, i.0)) i.3 circled;
-      quits = c.withdraw.ensures.quits;
-    }
+    framed_as told k c.args.shape.now c.args.code.now own c.args.place c.args.mine.now.me c.loop-made.mine.me c.args.watch.now c.loop-made.watch
+    c.loop-made.local c.args.most c.framed-2.result _ c.framed-2.ensures (i.3, i.4, i.5)

@@ -3,7 +3,7 @@ use Rattle.ppm_cells.specs.Restart.{IsRestart}
 use Rattle.ppm_step.specs.Standings.{IsAt}
 use Rattle.ppm_table.specs.Run.{stands_by, deeds_in}
 use Rattle.ppm_stretch.specs.Steady.{Moves}
-use Rattle.ppm_stretch.proofs.scheduling.rows_along.Given as goal
+use Rattle.ppm_stretch.proofs.scheduling.work_along.Given as goal
 
 abbrev pub invariant-loop-so_far : goal.invariant-loop-so_far
 invariant-loop-so_far g l = (l.so_far.made ≤ l.fn.most) × (l.so_far.work ≤ l.so_far.made) × (l.so_far.looks ≤ l.so_far.made)
