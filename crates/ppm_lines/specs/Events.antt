@@ -122,7 +122,7 @@ module _ (scene : Scene) (turn : Turn) (standing : Standing) where
   events_at number =
       let moment = moment_of number turn.processor standing in
       opened_by scene moment (doing_of standing) edge_of
-      ++ flow_event moment (flow_at turn.act standing)
+      ++ flow_event moment (flow_at scene turn.act standing)
       ++ flat_map (mark_event moment) (marks_at scene.shape scene.code scene.words turn.act standing)
       ++ closed_by moment edge_of
 

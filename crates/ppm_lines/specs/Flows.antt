@@ -1,13 +1,17 @@
 -- The ends of arrows between rows: from a fork to the beginning of its right branch, and from the branch that comes to a join first to the one that
--- goes on after it. Blocks are never used again, so each arrow has a number of its own.
-use Rattle.std.specs.Prelude.{ℕ, ◌+◌, ◌*◌, List, Option, Some, None, codes}
+-- goes on after it. Who comes first is told as it exchanges the order word, since the other one may go on before it is told by its restart word.
+-- Where one strand runs both branches there is no arrow. Blocks are never used again, so each arrow has a number of its own.
+use Rattle.std.specs.Prelude.{ℕ, ◌+◌, ◌*◌, ◌==◌, if◌then◌else◌, Bool, List, Option, Some, None, codes}
+use Rattle.ppm_cells.specs.Memory.{read}
 use Rattle.ppm_cells.specs.declared.restart.RestartKind.{RestartKind}
-use Rattle.ppm_cells.specs.declared.restart.RestartKind.TheVariants.{Join, Pop1}
+use Rattle.ppm_cells.specs.declared.restart.RestartKind.TheVariants.{Arrive, Join, Pop1}
 use Rattle.ppm_lines.specs.declared.flow.Flow.{Flow}
 use Rattle.ppm_lines.specs.declared.flow.Flow.TheVariants.{Forked, Taken, First, Last}
+use Rattle.ppm_lines.specs.Scene.{Scene, word_at}
+use Rattle.ppm_step.specs.Contents.{word_of}
 use Rattle.ppm_step.specs.Standings.{Standing, IsWithin}
 use Rattle.ppm_step.specs.declared.row.Row.{Row}
-use Rattle.ppm_step.specs.declared.row.Row.TheVariants.{Now}
+use Rattle.ppm_step.specs.declared.row.Row.TheVariants.{Now, Store, Exchange}
 use Rattle.ppm_step.specs.declared.row.Then.{Then}
 use Rattle.ppm_step.specs.declared.row.Then.TheVariants.{Install, Fork, Begin}
 use Rattle.ppm_step.specs.declared.turn.Act.{Act}
@@ -34,32 +38,41 @@ flow_id (Taken block) = 2 * block
 flow_id (First block) = 2 * block + 1
 flow_id (Last block) = 2 * block + 1
 
--- a branch at its join: the first one pops, the last one goes on
-abbrev pub joins : (block : ℕ) → (installed : RestartKind) → Flow
-joins block Pop1 = First block
-joins block _ = Last block
+-- a branch comes to its join: the first one makes the exchange of the order word
+abbrev pub arrived : RestartKind → (made : Bool) → Option Flow
+arrived (Arrive block side) made = if made then Some (First block) else None
+arrived _ made = None
+
+-- it goes on after the join, unless it pops; where the order word is 3, one strand has run both branches
+abbrev pub joined_at : Scene → (block : ℕ) → Option Flow
+joined_at scene block = if word_at scene (block + 1) == 3 then None else Some (Last block)
+
+abbrev pub joins : Scene → (block : ℕ) → (installed : RestartKind) → Option Flow
+joins scene block Pop1 = None
+joins scene block _ = joined_at scene block
 
 -- the store of a restart word, in a row of this kind
-abbrev pub flow_installed : RestartKind → (installed : RestartKind) → Option Flow
-flow_installed (Join block side) installed = Some (joins block installed)
-flow_installed _ installed = None
+abbrev pub flow_installed : Scene → RestartKind → (installed : RestartKind) → Option Flow
+flow_installed scene (Join block side) installed = joins scene block installed
+flow_installed scene _ installed = None
 
 -- what a row of this kind goes on with
-abbrev pub flow_then : RestartKind → Then → Option Flow
-flow_then kind (Fork block) = Some (Forked block)
-flow_then kind (Begin block frame bottom) = Some (Taken block)
-flow_then kind (Install restart) = flow_installed kind restart.kind
-flow_then kind _ = None
+abbrev pub flow_then : Scene → RestartKind → Then → Option Flow
+flow_then scene kind (Fork block) = Some (Forked block)
+flow_then scene kind (Begin block frame bottom) = Some (Taken block)
+flow_then scene kind (Install restart) = flow_installed scene kind restart.kind
+flow_then scene kind _ = None
 
-abbrev pub flow_row : RestartKind → Row → Option Flow
-flow_row kind (Now next) = flow_then kind next
-flow_row kind _ = None
+abbrev pub flow_row : Scene → RestartKind → Row → Option Flow
+flow_row scene kind (Now next) = flow_then scene kind next
+flow_row scene kind (Store cell content next) = None
+flow_row scene kind (Exchange cell old new next) = arrived kind (read scene.shape scene.words cell == word_of old)
 
-abbrev pub flow_from : Standing → Option Flow
-flow_from (IsWithin seat row) = flow_row seat.restart.kind row
-flow_from _ = None
+abbrev pub flow_from : Scene → Standing → Option Flow
+flow_from scene (IsWithin seat row) = flow_row scene seat.restart.kind row
+flow_from scene _ = None
 
 -- the end of an arrow, if an act of a processor that stands there is one
-abbrev pub flow_at : Act → Standing → Option Flow
-flow_at (Step victim) standing = flow_from standing
-flow_at _ standing = None
+abbrev pub flow_at : Scene → Act → Standing → Option Flow
+flow_at scene (Step victim) standing = flow_from scene standing
+flow_at scene _ standing = None

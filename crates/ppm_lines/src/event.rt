@@ -266,7 +266,7 @@ pub fn push_events(
     let moment = moment_of(number, local);
     let edge = edge_of(scene, local, turn);
     push_opened_by(text, scene, moment, doing_of(local), edge)?;
-    push_flow_event(text, moment, flow_at(local, turn.act))?;
+    push_flow_event(text, moment, flow_at(scene, local, turn.act))?;
     let marks = marks_at(scene.words(), scene.shape(), scene.code(), local, turn.act);
     push_mark_events(text, moment, marks)?;
     push_closed_by(text, moment, edge)

@@ -218,7 +218,7 @@ fn then_marks(going: Mark, kind: RestartKind, next: &Then) -> Marks
 }
 
 /// Whether a cell has this word.
-fn has(words: &[u64], shape: &Shape, cell: Cell, word: u64) -> bool
+pub(crate) fn has(words: &[u64], shape: &Shape, cell: Cell, word: u64) -> bool
     requires words { AreWordsOf shape.now words.now }
     requires there { is_there shape.now cell ≡ true }
     ensures { result ≡ (read shape.now words.now cell == word) }
