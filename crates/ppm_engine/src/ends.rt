@@ -85,14 +85,16 @@ pub(crate) fn install<M: Memory, W: Watch>(
         return Err(Stop::Broken);
     }
     let at = shape.address(Cell::RestartWord { place: seat.place });
-    make(
+    if let Err(stop) = make(
         memory,
         own,
         watch,
         tally,
         seat,
         Want::Stores(at, restart.pack()),
-    )?;
+    ) {
+        return Err(stop);
+    }
     Ok(restart)
 }
 
@@ -124,14 +126,16 @@ pub(crate) fn store<M: Memory, W: Watch>(
         return Err(Stop::Broken);
     }
     let at = address(&shape, put.cell);
-    make(
+    if let Err(stop) = make(
         memory,
         own,
         watch,
         tally,
         seat,
         Want::Stores(at, put.content.word()),
-    )?;
+    ) {
+        return Err(stop);
+    }
     Ok(())
 }
 
@@ -158,7 +162,9 @@ pub(crate) fn store_then<M: Memory, W: Watch>(
         seat.now.place own.new (W.told watch.new) tally.new
         IsRestart (λ restart. IsAt seat.now.place (Some restart)) result }
 {
-    store(memory, own, watch, tally, seat, put)?;
+    if let Err(stop) = store(memory, own, watch, tally, seat, put) {
+        return Err(stop);
+    }
     install(memory, own, watch, tally, seat, next)
 }
 
@@ -191,7 +197,9 @@ pub(crate) fn exchange<M: Memory, W: Watch>(
     }
     let at = address(&shape, change.cell);
     let want = Want::Exchanges(at, change.old.word(), change.new.word());
-    make(memory, own, watch, tally, seat, want)?;
+    if let Err(stop) = make(memory, own, watch, tally, seat, want) {
+        return Err(stop);
+    }
     Ok(())
 }
 
@@ -218,7 +226,9 @@ pub(crate) fn exchange_then<M: Memory, W: Watch>(
         seat.now.place own.new (W.told watch.new) tally.new
         IsRestart (λ restart. IsAt seat.now.place (Some restart)) result }
 {
-    exchange(memory, own, watch, tally, seat, change)?;
+    if let Err(stop) = exchange(memory, own, watch, tally, seat, change) {
+        return Err(stop);
+    }
     install(memory, own, watch, tally, seat, next)
 }
 
@@ -286,6 +296,8 @@ pub(crate) fn raise_then<M: Memory, W: Watch>(
         seat.now.place own.new (W.told watch.new) tally.new
         IsRestart (λ restart. IsAt seat.now.place (Some restart)) result }
 {
-    raise_entry(memory, own, watch, tally, seat, change)?;
+    if let Err(stop) = raise_entry(memory, own, watch, tally, seat, change) {
+        return Err(stop);
+    }
     install(memory, own, watch, tally, seat, next)
 }

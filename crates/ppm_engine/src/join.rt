@@ -123,7 +123,9 @@ fn join_values<M: Memory, W: Watch>(
         copy,
         right_of: Some(block),
     };
-    give(memory, own, watch, tally, seat, left)?;
+    if let Err(stop) = give(memory, own, watch, tally, seat, left) {
+        return Err(stop);
+    }
     let looked = Point::RightFrame { block, to, copy };
     let offset = load_number(memory, own, watch, tally, seat, looked)?;
     let shape = memory.shape();
@@ -136,7 +138,9 @@ fn join_values<M: Memory, W: Watch>(
         copy,
         right_of: None,
     };
-    give(memory, own, watch, tally, seat, right)?;
+    if let Err(stop) = give(memory, own, watch, tally, seat, right) {
+        return Err(stop);
+    }
     let kind = RestartKind::Run { frame: to, copy };
     let bottom = seat.restart.bottom;
     install(

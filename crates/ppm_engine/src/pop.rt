@@ -156,7 +156,9 @@ fn empty_above<M: Memory, W: Watch>(
         old: entry,
         new: Entry::Empty { tag: tag + 1 },
     };
-    raise_entry(memory, own, watch, tally, seat, change)?;
+    if let Err(stop) = raise_entry(memory, own, watch, tally, seat, change) {
+        return Err(stop);
+    }
     begin_right(memory, own, watch, tally, seat, block, bottom - 1)
 }
 

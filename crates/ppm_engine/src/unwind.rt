@@ -173,7 +173,9 @@ fn end_root<M: Memory, W: Watch>(
         old: Content::ANumber(0),
         new: Content::AFinish(outcome),
     };
-    exchange(memory, own, watch, tally, seat, change)?;
+    if let Err(stop) = exchange(memory, own, watch, tally, seat, change) {
+        return Err(stop);
+    }
     Ok(seat.restart)
 }
 
@@ -215,7 +217,9 @@ fn return_to<M: Memory, W: Watch>(
         copy,
         right_of: None,
     };
-    give(memory, own, watch, tally, seat, gift)?;
+    if let Err(stop) = give(memory, own, watch, tally, seat, gift) {
+        return Err(stop);
+    }
     let kind = RestartKind::Run { frame: to, copy };
     let bottom = seat.restart.bottom;
     install(

@@ -43,8 +43,8 @@ returns-then-not-cell_is_there-clause-came g c = λ first next l.
     let there = c.if-not-cell_is_there.ensures ∙ ap (λ (x : Shape). is_there x change.cell) c.shape-shape.ensures in
     moved led first (exchanges_if s code place change.cell change.old change.new next false there) (l)
 
-pub returns-in_err-make-clause-came : goal.returns-in_err-make-clause-came
-returns-in_err-make-clause-came g c = λ first next l.
+pub returns-in-Err-clause-came : goal.returns-in-Err-clause-came
+returns-in-Err-clause-came g c = λ first next l.
     let m = c.args.memory.now in
     let s = g.M.Memory.shape m in
     let code = g.M.Memory.code m in
@@ -53,11 +53,9 @@ returns-in_err-make-clause-came g c = λ first next l.
     let change = c.args.change in
     let there = c.if-not-cell_is_there.ensures ∙ ap (λ (x : Shape). is_there x change.cell) c.shape-shape.ensures in
     let at = c.address-at.ensures.value ∙ ap (λ (x : Shape). address x change.cell) c.shape-shape.ensures in
-    exit_by (λ (r : Result (Unit {0}) Stop). Came led first (g.M.Memory.refused m place.own) (g.M.Memory.over m) place.place c.make.new.own
-    (g.W.Watch.told c.make.new.watch) c.make.new.tally Any (λ done. stands_then s code place next) r) _ _ c.from_residual.ensures.1
-    (c.in_err-make.ensures.came first (Exchange change.cell change.old change.new next) (exchange_next s code place change.cell change.old change.new next
+    c.in-Err.ensures.came first (Exchange change.cell change.old change.new next) (exchange_next s code place change.cell change.old change.new next
     c.address-at.result c.word.result c.word-2.result at c.word.ensures c.word-2.ensures)
-    (moved led first (exchanges_if s code place change.cell change.old change.new next true there) (l)))
+    (moved led first (exchanges_if s code place change.cell change.old change.new next true there) (l))
 
 pub returns-clause-came : goal.returns-clause-came
 returns-clause-came g c = λ first next l.
@@ -70,7 +68,7 @@ returns-clause-came g c = λ first next l.
     let there = c.if-not-cell_is_there.ensures ∙ ap (λ (x : Shape). is_there x change.cell) c.shape-shape.ensures in
     let at = c.address-at.ensures.value ∙ ap (λ (x : Shape). address x change.cell) c.shape-shape.ensures in (
       tt,
-      (c.in_ok-make.ensures.came first (Exchange change.cell change.old change.new next) (exchange_next s code place change.cell change.old
+      (c.in_default.ensures.came first (Exchange change.cell change.old change.new next) (exchange_next s code place change.cell change.old
           change.new next c.address-at.result c.word.result c.word-2.result at c.word.ensures c.word-2.ensures)
           (moved led first (exchanges_if s code place change.cell change.old change.new next true there) (l))).1,
     )

@@ -13,18 +13,16 @@ exchange-requires-clause-stands g c κs within =
 
 pub install-requires-clause-stands : goal.install-requires-clause-stands
 install-requires-clause-stands g c κs within =
-    (c.requires.stands.0, (c.in_ok-exchange.ensures.came c.requires.stands.0 c.args.next c.requires.stands.1).1)
+    (c.requires.stands.0, (c.in_default.ensures.came c.requires.stands.0 c.args.next c.requires.stands.1).1)
 
-pub returns-in_err-exchange-clause-came : goal.returns-in_err-exchange-clause-came
-returns-in_err-exchange-clause-came g c = λ first l.
+pub returns-in-Err-clause-came : goal.returns-in-Err-clause-came
+returns-in-Err-clause-came g c = λ first l.
     let m = c.args.memory.now in
     let s = g.M.Memory.shape m in
     let code = g.M.Memory.code m in
     let place = c.args.seat.now in
     let led = g.M.Memory.led m place.own in
-    exit_by (λ (r : Result Restart Stop). Came led first (g.M.Memory.refused m place.own) (g.M.Memory.over m) place.place c.exchange.new.own
-    (g.W.Watch.told c.exchange.new.watch) c.exchange.new.tally IsRestart (λ restart. IsAt place.place (Some restart)) r) _ _ c.from_residual.ensures.1
-    (c.in_err-exchange.ensures.came first c.args.next l)
+    c.in-Err.ensures.came first c.args.next l
 
 pub returns-clause-came : goal.returns-clause-came
 returns-clause-came g c = λ first l.
@@ -33,4 +31,4 @@ returns-clause-came g c = λ first l.
     let code = g.M.Memory.code m in
     let place = c.args.seat.now in
     let led = g.M.Memory.led m place.own in
-    c.install.ensures.came first ((c.in_ok-exchange.ensures.came first c.args.next l).1)
+    c.install.ensures.came first ((c.in_default.ensures.came first c.args.next l).1)

@@ -55,8 +55,8 @@ returns-then-not-restart_there-clause-came g c = λ first l.
     (λ (x : Restart). restart_is_there s x) c.restart_of-restart.ensures in
     moved led first (ends_if s code place next false c.requires.next there) (l)
 
-pub returns-in_err-make-clause-came : goal.returns-in_err-make-clause-came
-returns-in_err-make-clause-came g c = λ first l.
+pub returns-in-Err-clause-came : goal.returns-in-Err-clause-came
+returns-in-Err-clause-came g c = λ first l.
     let m = c.args.memory.now in
     let s = g.M.Memory.shape m in
     let code = g.M.Memory.code m in
@@ -67,10 +67,8 @@ returns-in_err-make-clause-came g c = λ first l.
     let there = c.if-not-restart_there.ensures ∙ ap (λ (x : Shape). restart_is_there x restart) c.shape-shape.ensures ∙ ap
     (λ (x : Restart). restart_is_there s x) c.restart_of-restart.ensures in
     let at = c.address-at.ensures.value ∙ ap (λ (x : Shape). address x (RestartWord place.place)) c.shape-shape.ensures in
-    exit_by (λ (r : Result Restart Stop). Came led first (g.M.Memory.refused m place.own) (g.M.Memory.over m) place.place c.make.new.own
-    (g.W.Watch.told c.make.new.watch) c.make.new.tally IsRestart (λ restart. IsAt place.place (Some restart)) r) _ _ c.from_residual.ensures.1
-    (c.in_err-make.ensures.came first (Now next) (end_next s code place next c.address-at.result c.pack.result restart c.requires.next
-    c.restart_of-restart.ensures at c.pack.ensures) (moved led first (ends_if s code place next true c.requires.next there) (l)))
+    c.in-Err.ensures.came first (Now next) (end_next s code place next c.address-at.result c.pack.result restart c.requires.next
+    c.restart_of-restart.ensures at c.pack.ensures) (moved led first (ends_if s code place next true c.requires.next there) (l))
 
 pub returns-clause-came : goal.returns-clause-came
 returns-clause-came g c = λ first l.
@@ -87,7 +85,7 @@ returns-clause-came g c = λ first l.
     let small : word_count c.shape-shape.result ≤ 75497921 = omega (arith, c.word_count.ensures.value, c.word_count.ensures.bound) in (
       restart_fits c.shape-shape.result small c.restart_of-restart.result (sym c.if-not-restart_there.ensures),
       moved led first
-          (ended s code place next c.in_ok-make.field-0 restart c.requires.next c.restart_of-restart.ensures)
-          ((c.in_ok-make.ensures.came first (Now next) (end_next s code place next c.address-at.result c.pack.result restart c.requires.next
+          (ended s code place next c.in_default.field-0 restart c.requires.next c.restart_of-restart.ensures)
+          ((c.in_default.ensures.came first (Now next) (end_next s code place next c.address-at.result c.pack.result restart c.requires.next
           c.restart_of-restart.ensures at c.pack.ensures) (moved led first (ends_if s code place next true c.requires.next there) (l))).1),
     )

@@ -15,17 +15,15 @@ use Rattle.ppm_step.specs.Standings.{IsAt}
 use Rattle.ppm_engine.proofs.MakingLemmas.{exit_by, moved}
 use Rattle.ppm_engine.proofs.join.join_values.Goals as goal
 
-pub returns-in_err-give-clause-came : goal.returns-in_err-give-clause-came
-returns-in_err-give-clause-came g c = λ first l.
+pub returns-in-Err-clause-came : goal.returns-in-Err-clause-came
+returns-in-Err-clause-came g c = λ first l.
     let m = c.args.memory.now in
     let s = g.M.Memory.shape m in
     let code = g.M.Memory.code m in
     let place = c.args.seat.now in
     let led = g.M.Memory.led m place.own in
     let back = c.args.back in
-    exit_by (λ (r : Result Restart Stop). Came led first (g.M.Memory.refused m place.own) (g.M.Memory.over m) place.place c.give.new.own
-    (g.W.Watch.told c.give.new.watch) c.give.new.tally IsRestart (λ restart. IsAt place.place (Some restart)) r) _ _ c.from_residual.ensures.1
-    (c.in_err-give.ensures.came first l)
+    c.in-Err.ensures.came first l
 
 pub load_number-requires-clause-stands : goal.load_number-requires-clause-stands
 load_number-requires-clause-stands g c κs within =
@@ -35,7 +33,7 @@ load_number-requires-clause-stands g c κs within =
     let place = c.args.seat.now in
     let led = g.M.Memory.led m place.own in
     let back = c.args.back in
-    (c.requires.stands.0, (c.in_ok-give.ensures.came c.requires.stands.0 c.requires.stands.1).1)
+    (c.requires.stands.0, (c.in_default.ensures.came c.requires.stands.0 c.requires.stands.1).1)
 
 pub returns-in_err-offset-clause-came : goal.returns-in_err-offset-clause-came
 returns-in_err-offset-clause-came g c = λ first l.
@@ -47,21 +45,21 @@ returns-in_err-offset-clause-came g c = λ first l.
     let back = c.args.back in
     exit_by (λ (r : Result Restart Stop). Came led first (g.M.Memory.refused m place.own) (g.M.Memory.over m) place.place c.load_number.new.own
     (g.W.Watch.told c.load_number.new.watch) c.load_number.new.tally IsRestart (λ restart. IsAt place.place (Some restart)) r) _ _
-    c.from_residual-in_err-offset.ensures.1
-    (c.in_err-offset.ensures.came first ((c.in_ok-give.ensures.came first l).1))
+    c.from_residual.ensures.1
+    (c.in_err-offset.ensures.came first ((c.in_default.ensures.came first l).1))
 
-pub returns-in_default-clause-came : goal.returns-in_default-clause-came
-returns-in_default-clause-came g c = λ first l.
+pub returns-in_default-address_after-clause-came : goal.returns-in_default-address_after-clause-came
+returns-in_default-address_after-clause-came g c = λ first l.
     let m = c.args.memory.now in
     let s = g.M.Memory.shape m in
     let code = g.M.Memory.code m in
     let place = c.args.seat.now in
     let led = g.M.Memory.led m place.own in
     let back = c.args.back in
-    let at = c.in_default.ensures ∙ ap (λ (x : Shape). address_if x (c.args.block + c.in_ok-offset.offset)) c.shape-shape.ensures in
+    let at = c.in_default-address_after.ensures ∙ ap (λ (x : Shape). address_if x (c.args.block + c.in_ok-offset.offset)) c.shape-shape.ensures in
     moved led first (ap (λ (r : Row). stands s code place r) (there_breaks s (c.args.block + c.in_ok-offset.offset)
     (Now (Load (Target (c.args.block + c.in_ok-offset.offset) back.to back.copy None))) at))
-    ((c.in_ok-offset.ensures.came first ((c.in_ok-give.ensures.came first l).1)).1)
+    ((c.in_ok-offset.ensures.came first ((c.in_default.ensures.came first l).1)).1)
 
 pub give-requires-2-clause-stands : goal.give-requires-2-clause-stands
 give-requires-2-clause-stands g c κs within =
@@ -75,11 +73,11 @@ give-requires-2-clause-stands g c κs within =
       c.requires.stands.0,
       moved led c.requires.stands.0
           (ap (λ (r : Row). stands s code place r) (right_value_at s c.args.block back.to back.copy c.in_ok-offset.offset c.in-Some.frame at))
-          ((c.in_ok-offset.ensures.came c.requires.stands.0 ((c.in_ok-give.ensures.came c.requires.stands.0 c.requires.stands.1).1)).1),
+          ((c.in_ok-offset.ensures.came c.requires.stands.0 ((c.in_default.ensures.came c.requires.stands.0 c.requires.stands.1).1)).1),
     )
 
-pub returns-in_err-give-2-clause-came : goal.returns-in_err-give-2-clause-came
-returns-in_err-give-2-clause-came g c = λ first l.
+pub returns-in-Err-give-clause-came : goal.returns-in-Err-give-clause-came
+returns-in-Err-give-clause-came g c = λ first l.
     let m = c.args.memory.now in
     let s = g.M.Memory.shape m in
     let code = g.M.Memory.code m in
@@ -87,12 +85,9 @@ returns-in_err-give-2-clause-came g c = λ first l.
     let led = g.M.Memory.led m place.own in
     let back = c.args.back in
     let at = c.in-Some.ensures ∙ ap (λ (x : Shape). address_if x (c.args.block + c.in_ok-offset.offset)) c.shape-shape.ensures in
-    exit_by (λ (r : Result Restart Stop). Came led first (g.M.Memory.refused m place.own) (g.M.Memory.over m) place.place c.give-2.new.own
-    (g.W.Watch.told c.give-2.new.watch) c.give-2.new.tally IsRestart (λ restart. IsAt place.place (Some restart)) r) _ _
-    c.from_residual-in_err-give-2.ensures.1
-    (c.in_err-give-2.ensures.came first
+    c.in-Err-give.ensures.came first
     (moved led first (ap (λ (r : Row). stands s code place r) (right_value_at s c.args.block back.to back.copy c.in_ok-offset.offset c.in-Some.frame at))
-    ((c.in_ok-offset.ensures.came first ((c.in_ok-give.ensures.came first l).1)).1)))
+    ((c.in_ok-offset.ensures.came first ((c.in_default.ensures.came first l).1)).1))
 
 pub install-requires-clause-stands : goal.install-requires-clause-stands
 install-requires-clause-stands g c κs within =
@@ -104,10 +99,10 @@ install-requires-clause-stands g c κs within =
     let back = c.args.back in
     let at = c.in-Some.ensures ∙ ap (λ (x : Shape). address_if x (c.args.block + c.in_ok-offset.offset)) c.shape-shape.ensures in (
       c.requires.stands.0,
-      (c.in_ok-give-2.ensures.came c.requires.stands.0
+      (c.in_default-give.ensures.came c.requires.stands.0
           (moved led c.requires.stands.0 (ap (λ (r : Row). stands s code place r) (right_value_at s c.args.block back.to back.copy c.in_ok-offset.offset
           c.in-Some.frame at))
-          ((c.in_ok-offset.ensures.came c.requires.stands.0 ((c.in_ok-give.ensures.came c.requires.stands.0 c.requires.stands.1).1)).1))).1,
+          ((c.in_ok-offset.ensures.came c.requires.stands.0 ((c.in_default.ensures.came c.requires.stands.0 c.requires.stands.1).1)).1))).1,
     )
 
 pub returns-clause-came : goal.returns-clause-came
@@ -119,6 +114,6 @@ returns-clause-came g c = λ first l.
     let led = g.M.Memory.led m place.own in
     let back = c.args.back in
     let at = c.in-Some.ensures ∙ ap (λ (x : Shape). address_if x (c.args.block + c.in_ok-offset.offset)) c.shape-shape.ensures in
-    c.install.ensures.came first ((c.in_ok-give-2.ensures.came first
+    c.install.ensures.came first ((c.in_default-give.ensures.came first
     (moved led first (ap (λ (r : Row). stands s code place r) (right_value_at s c.args.block back.to back.copy c.in_ok-offset.offset c.in-Some.frame at))
-    ((c.in_ok-offset.ensures.came first ((c.in_ok-give.ensures.came first l).1)).1))).1)
+    ((c.in_ok-offset.ensures.came first ((c.in_default.ensures.came first l).1)).1))).1)

@@ -68,19 +68,16 @@ raise_entry-requires-clause-stands g c κs within =
           ((c.in_ok-entry.ensures.came c.requires.stands.0 c.requires.stands.1).1),
     )
 
-pub returns-in_err-raise_entry-clause-came : goal.returns-in_err-raise_entry-clause-came
-returns-in_err-raise_entry-clause-came g c = λ first l.
+pub returns-in-Err-clause-came : goal.returns-in-Err-clause-came
+returns-in-Err-clause-came g c = λ first l.
     let m = c.args.memory.now in
     let s = g.M.Memory.shape m in
     let code = g.M.Memory.code m in
     let place = c.args.seat.now in
     let led = g.M.Memory.led m place.own in
-    exit_by (λ (r : Result Restart Stop). Came led first (g.M.Memory.refused m place.own) (g.M.Memory.over m) place.place c.raise_entry.new.own
-    (g.W.Watch.told c.raise_entry.new.watch) c.raise_entry.new.tally IsRestart (λ restart. IsAt place.place (Some restart)) r) _ _
-    c.from_residual-in_err-raise_entry.ensures.1
-    (c.in_err-raise_entry.ensures.came first (Load (Offset c.args.block (place.restart.bottom - 1)))
+    c.in-Err.ensures.came first (Load (Offset c.args.block (place.restart.bottom - 1)))
     (moved led first (ap (λ (r : Row). stands s code place r) (empties s place c.args.block c.in_ok-entry.entry c.in-Local.tag c.in-Local.block
-    c.in-Local.is)) ((c.in_ok-entry.ensures.came first l).1)))
+    c.in-Local.is)) ((c.in_ok-entry.ensures.came first l).1))
 
 pub begin_right-requires-2-clause-stands : goal.begin_right-requires-2-clause-stands
 begin_right-requires-2-clause-stands g c κs within =
@@ -90,7 +87,7 @@ begin_right-requires-2-clause-stands g c κs within =
     let place = c.args.seat.now in
     let led = g.M.Memory.led m place.own in (
       c.requires.stands.0,
-      (c.in_ok-raise_entry.ensures.came c.requires.stands.0 (Load (Offset c.args.block (place.restart.bottom - 1)))
+      (c.in_default-raise_entry.ensures.came c.requires.stands.0 (Load (Offset c.args.block (place.restart.bottom - 1)))
           (moved led c.requires.stands.0 (ap (λ (r : Row). stands s code place r) (empties s place c.args.block c.in_ok-entry.entry c.in-Local.tag
           c.in-Local.block c.in-Local.is)) ((c.in_ok-entry.ensures.came c.requires.stands.0 c.requires.stands.1).1))).1,
     )
@@ -102,6 +99,6 @@ returns-clause-came g c = λ first l.
     let code = g.M.Memory.code m in
     let place = c.args.seat.now in
     let led = g.M.Memory.led m place.own in
-    c.begin_right-2.ensures.came first ((c.in_ok-raise_entry.ensures.came first (Load (Offset c.args.block (place.restart.bottom - 1)))
+    c.begin_right-2.ensures.came first ((c.in_default-raise_entry.ensures.came first (Load (Offset c.args.block (place.restart.bottom - 1)))
     (moved led first (ap (λ (r : Row). stands s code place r) (empties s place c.args.block c.in_ok-entry.entry c.in-Local.tag c.in-Local.block
     c.in-Local.is)) ((c.in_ok-entry.ensures.came first l).1))).1)

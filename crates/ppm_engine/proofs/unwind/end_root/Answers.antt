@@ -40,19 +40,16 @@ exchange-requires-clause-stands g c κs within =
           ((c.in_ok-outcome.ensures.came c.requires.stands.0 c.requires.stands.1).1),
     )
 
-pub returns-in_err-exchange-clause-came : goal.returns-in_err-exchange-clause-came
-returns-in_err-exchange-clause-came g c = λ first l.
+pub returns-in-Err-clause-came : goal.returns-in-Err-clause-came
+returns-in-Err-clause-came g c = λ first l.
     let m = c.args.memory.now in
     let s = g.M.Memory.shape m in
     let code = g.M.Memory.code m in
     let place = c.args.seat.now in
     let led = g.M.Memory.led m place.own in
-    exit_by (λ (r : Result Restart Stop). Came led first (g.M.Memory.refused m place.own) (g.M.Memory.over m) place.place c.exchange.new.own
-    (g.W.Watch.told c.exchange.new.watch) c.exchange.new.tally IsRestart (λ restart. IsAt place.place (Some restart)) r) _ _
-    c.from_residual-in_err-exchange.ensures.1
-    (c.in_err-exchange.ensures.came first Again
+    c.in-Err.ensures.came first Again
     (moved led first (ap (λ (r : Row). stands s code place r) (goes_by_outcome c.in_ok-outcome.outcome (unwound place c.args.frame Root)
-    (c.in_ok-outcome.ensures.came first l).0.1)) ((c.in_ok-outcome.ensures.came first l).1)))
+    (c.in_ok-outcome.ensures.came first l).0.1)) ((c.in_ok-outcome.ensures.came first l).1))
 
 pub returns-clause-came : goal.returns-clause-came
 returns-clause-came g c = λ first l.
@@ -62,7 +59,7 @@ returns-clause-came g c = λ first l.
     let place = c.args.seat.now in
     let led = g.M.Memory.led m place.own in (
       c.requires.seat.0.restart,
-      (c.in_ok-exchange.ensures.came first Again
+      (c.in_default.ensures.came first Again
           (moved led first (ap (λ (r : Row). stands s code place r) (goes_by_outcome c.in_ok-outcome.outcome (unwound place c.args.frame Root)
           (c.in_ok-outcome.ensures.came first l).0.1)) ((c.in_ok-outcome.ensures.came first l).1))).1,
     )

@@ -70,20 +70,18 @@ give-requires-clause-stands g c κs within =
           c.in-Ended.is)) ((c.in_ok-outcome.ensures.came c.requires.stands.0 c.requires.stands.1).1),
     )
 
-pub returns-in_err-give-clause-came : goal.returns-in_err-give-clause-came
-returns-in_err-give-clause-came g c = λ first l.
+pub returns-in-Err-clause-came : goal.returns-in-Err-clause-came
+returns-in-Err-clause-came g c = λ first l.
     let m = c.args.memory.now in
     let s = g.M.Memory.shape m in
     let code = g.M.Memory.code m in
     let place = c.args.seat.now in
     let led = g.M.Memory.led m place.own in
     let back = c.args.back in
-    exit_by (λ (r : Result Restart Stop). Came led first (g.M.Memory.refused m place.own) (g.M.Memory.over m) place.place c.give.new.own
-    (g.W.Watch.told c.give.new.watch) c.give.new.tally IsRestart (λ restart. IsAt place.place (Some restart)) r) _ _ c.from_residual-in_err-give.ensures.1
-    (c.in_err-give.ensures.came first
+    c.in-Err.ensures.came first
     (moved led first (ap (λ (r : Row). stands s code place r) (goes_by_outcome c.in_ok-outcome.outcome (unwound place c.args.frame (Call back.to back.copy))
     (c.in_ok-outcome.ensures.came first l).0.1 ∙ ap (λ (f : Finish). back_to place c.args.frame back.to back.copy f) c.in-Ended.is))
-    ((c.in_ok-outcome.ensures.came first l).1)))
+    ((c.in_ok-outcome.ensures.came first l).1))
 
 pub install-requires-clause-stands : goal.install-requires-clause-stands
 install-requires-clause-stands g c κs within =
@@ -94,7 +92,7 @@ install-requires-clause-stands g c κs within =
     let led = g.M.Memory.led m place.own in
     let back = c.args.back in (
       c.requires.stands.0,
-      (c.in_ok-give.ensures.came c.requires.stands.0
+      (c.in_default-give.ensures.came c.requires.stands.0
           (moved led c.requires.stands.0 (ap (λ (r : Row). stands s code place r)
           (goes_by_outcome c.in_ok-outcome.outcome (unwound place c.args.frame (Call back.to back.copy)) (c.in_ok-outcome.ensures.came c.requires.stands.0
           c.requires.stands.1).0.1 ∙ ap (λ (f : Finish). back_to place c.args.frame back.to back.copy f) c.in-Ended.is))
@@ -109,7 +107,7 @@ returns-clause-came g c = λ first l.
     let place = c.args.seat.now in
     let led = g.M.Memory.led m place.own in
     let back = c.args.back in
-    c.install.ensures.came first ((c.in_ok-give.ensures.came first
+    c.install.ensures.came first ((c.in_default-give.ensures.came first
     (moved led first (ap (λ (r : Row). stands s code place r) (goes_by_outcome c.in_ok-outcome.outcome (unwound place c.args.frame (Call back.to back.copy))
     (c.in_ok-outcome.ensures.came first l).0.1 ∙ ap (λ (f : Finish). back_to place c.args.frame back.to back.copy f) c.in-Ended.is))
     ((c.in_ok-outcome.ensures.came first l).1))).1)
