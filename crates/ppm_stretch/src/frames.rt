@@ -70,7 +70,10 @@ pub(crate) fn rounds<W: Watch>(
             return framed(made, work, 0, FrameEnd::Installed(at));
         };
         let Some(header) = header_of(&sizes, seat) else {
-            wait_at(local, shape, code, place, at);
+            // A copy: what is handed to a function that isn't inlined lies in memory from its
+            // beginning on, and `at` is to stay out of it.
+            let last = at;
+            wait_at(local, shape, code, place, last);
             return framed(made, work, 0, FrameEnd::Stands);
         };
         let home = Home {
