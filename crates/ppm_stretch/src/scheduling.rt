@@ -256,6 +256,7 @@ pub(crate) fn work_along<W: Watch>(
                 mine,
                 watch,
                 &memory.shape,
+                &seated.shape,
                 code,
                 widths,
                 place,
