@@ -34,12 +34,14 @@ pub(crate) fn rounds<W: Watch>(
     mine: &mut Seat<(), View>,
     watch: &mut W,
     shape: &Shape,
+    sizes: &Shape,
     code: &Code,
     widths: &[u8],
     place: u32,
     restart: Restart,
     most: u64,
 ) -> Framed
+    requires sizes { sizes.now ≡ shape.now }
     requires table { IsAtCode mine.old.table_id words.now.shared.table_id words.now.shared.key shape.now code.now }
     requires widths { AreWidths code.now widths.now }
     requires own { local.old.own < shape.now.processors }
@@ -53,9 +55,8 @@ pub(crate) fn rounds<W: Watch>(
         watch.old watch.new local.new most result.made result.work result.looks result.end }
     ensures own_stays { local.new.own ≡ local.old.own }
 {
-    // By a copy: behind an atomic step the compiler reads anew what lies behind a reference, and
-    // would work out addresses anew.
-    let sizes = *shape;
+    // `sizes` is a copy: behind an atomic step the compiler reads anew what lies behind a reference,
+    // and would work out addresses anew.
     let own = local.own;
     let mut at = restart;
     let mut made = 0;
@@ -69,8 +70,11 @@ pub(crate) fn rounds<W: Watch>(
         let RestartKind::Run { frame, copy } = at.kind else {
             return framed(made, work, 0, FrameEnd::Installed(at));
         };
-        let Some(header) = header_of(&sizes, seat) else {
-            wait_at(local, shape, code, place, at);
+        let Some(header) = header_of(sizes, seat) else {
+            // A copy: what is handed to a function that isn't inlined lies in memory from its
+            // beginning on, and `at` is to stay out of it.
+            let last = at;
+            wait_at(local, shape, code, place, last);
             return framed(made, work, 0, FrameEnd::Stands);
         };
         let home = Home {
@@ -80,7 +84,7 @@ pub(crate) fn rounds<W: Watch>(
         };
         let circuit = round(
             words,
-            &sizes,
+            sizes,
             code,
             widths,
             mine,

@@ -256,6 +256,7 @@ pub(crate) fn work_along<W: Watch>(
                 mine,
                 watch,
                 &memory.shape,
+                &seated.shape,
                 code,
                 widths,
                 place,
@@ -270,7 +271,9 @@ pub(crate) fn work_along<W: Watch>(
             match framed.end {
                 FrameEnd::Installed(next) => {
                     if framed.made == 0 {
-                        wait_at(local, &memory.shape, code, place, next);
+                        // Copies, here and below, as in `rounds`.
+                        let last = next;
+                        wait_at(local, &memory.shape, code, place, last);
                         return so_far;
                     }
                     at = next;
@@ -280,6 +283,7 @@ pub(crate) fn work_along<W: Watch>(
             }
         }
     }
-    wait_at(local, &memory.shape, code, place, at);
+    let last = at;
+    wait_at(local, &memory.shape, code, place, last);
     so_far
 }

@@ -1,10 +1,3 @@
-use Rattle.std.proofs.Common.{Result, Some}
-use Rattle.ppm_engine.specs.declared.memory.Stop.{Stop}
-use Rattle.ppm_engine.specs.Steps.{Came}
-use Rattle.ppm_cells.specs.Restart.{IsRestart}
-use Rattle.ppm_cells.specs.declared.restart.Restart.{Restart}
-use Rattle.ppm_step.specs.Standings.{IsAt}
-use Rattle.ppm_engine.proofs.MakingLemmas.{exit_by}
 use Rattle.ppm_engine.proofs.ends.exchange_then.Goals as goal
 
 pub exchange-requires-clause-stands : goal.exchange-requires-clause-stands

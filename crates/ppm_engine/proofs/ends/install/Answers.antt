@@ -1,4 +1,4 @@
-use Rattle.std.proofs.Common.{Result, Some, ap, arith, false, subst, sym, true, ◌<◌, ◌∙◌, ◌≤◌}
+use Rattle.std.proofs.Common.{ap, arith, false, subst, sym, true, ◌<◌, ◌∙◌, ◌≤◌}
 use Rattle.ppm_cells.specs.Cells.{address, word_count}
 use Rattle.ppm_cells.specs.declared.shape.Shape.{Shape}
 use Rattle.ppm_cells.specs.declared.cell.Cell.TheVariants.{RestartWord}
@@ -6,12 +6,8 @@ use Rattle.ppm_step.proofs.ThereLemmas.{restart_fits}
 use Rattle.ppm_step.specs.declared.row.Row.TheVariants.{Now}
 use Rattle.ppm_step.specs.There.{restart_is_there}
 use Rattle.ppm_engine.proofs.EndLemmas.{ended, end_next, ends_if}
-use Rattle.ppm_engine.specs.declared.memory.Stop.{Stop}
-use Rattle.ppm_engine.specs.Steps.{Came}
-use Rattle.ppm_cells.specs.Restart.{IsRestart}
 use Rattle.ppm_cells.specs.declared.restart.Restart.{Restart}
-use Rattle.ppm_step.specs.Standings.{IsAt}
-use Rattle.ppm_engine.proofs.MakingLemmas.{exit_by, moved}
+use Rattle.ppm_engine.proofs.MakingLemmas.{moved}
 use Rattle.ppm_engine.proofs.ends.install.Goals as goal
 
 pub pack-requires : goal.pack-requires

@@ -1,13 +1,10 @@
-use Rattle.std.proofs.Common.{Result, ap, false, subst, true, ◌<◌, ◌∙◌}
+use Rattle.std.proofs.Common.{ap, false, subst, true, ◌<◌, ◌∙◌}
 use Rattle.ppm_cells.specs.Cells.{address, word_count}
 use Rattle.ppm_cells.specs.declared.shape.Shape.{Shape}
 use Rattle.ppm_step.specs.declared.row.Row.TheVariants.{Store}
-use Rattle.ppm_step.specs.Standings.{stands_then}
 use Rattle.ppm_step.specs.There.{is_there}
 use Rattle.ppm_engine.proofs.EndLemmas.{store_next, stores_if}
-use Rattle.ppm_engine.specs.declared.memory.Stop.{Stop}
-use Rattle.ppm_engine.specs.Steps.{Came, Any}
-use Rattle.ppm_engine.proofs.MakingLemmas.{exit_by, moved}
+use Rattle.ppm_engine.proofs.MakingLemmas.{moved}
 use Rattle.ppm_engine.proofs.ends.store.Goals as goal
 
 pub make-requires-clause-step : goal.make-requires-clause-step

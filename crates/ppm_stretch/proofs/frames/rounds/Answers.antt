@@ -1,10 +1,12 @@
 use Rattle.std.proofs.Common.{ℕ, ◌∙◌, ◌+◌, ◌-◌, Some, sym, refl, ap, subst, arith}
 use Rattle.ppm_cells.specs.declared.restart.RestartKind.{RestartKind}
+use Rattle.ppm_cells.specs.declared.shape.Shape.{Shape}
 use Rattle.ppm_step.specs.declared.frame.Home.{Home}
 use Rattle.ppm_step.specs.declared.row.Seat.{Seat}
 use Rattle.ppm_step.specs.Standings.{IsAt}
 use Rattle.ppm_table.specs.Run.{stands_by, deeds_in, IsSeat}
 use Rattle.ppm_stretch.specs.declared.way.RoundEnd.{RoundEnd}
+use Rattle.ppm_stretch.specs.declared.way.RoundEnd.TheVariants.{Round, Halts, Refused}
 use Rattle.ppm_stretch.specs.Entering.{Circled, HaltsAt, looks_at}
 use Rattle.ppm_stretch.specs.Framing.{HasFramed}
 use Rattle.ppm_stretch.specs.Steady.{looks_behind}
@@ -22,8 +24,9 @@ loop-made-preserved g c =
     let home : Home = record { frame = c.in-Run.frame; copy = c.in-Run.copy; block = 0 } in
     let made = c.round-circuit.result.made in
     let work = c.round-circuit.result.work in
-    let circled = subst (λ (end : RoundEnd). Circled g.W.Watch.told k c.args.shape.now c.args.code.now seat home c.round-circuit.new.registers c.loop-made.mine.me c.round-circuit.new.mine.me
-    c.loop-made.watch c.round-circuit.new.watch (c.args.most - c.loop-made.made) made work end) c.in-Round.is c.round-circuit.ensures.circled in (
+    let circled = subst (λ (s : Shape). Circled g.W.Watch.told k s c.args.code.now seat home c.round-circuit.new.registers c.loop-made.mine.me c.round-circuit.new.mine.me
+    c.loop-made.watch c.round-circuit.new.watch (c.args.most - c.loop-made.made) made work Round) c.requires.sizes (subst (λ (end : RoundEnd). Circled g.W.Watch.told k c.args.sizes.now c.args.code.now seat home c.round-circuit.new.registers c.loop-made.mine.me c.round-circuit.new.mine.me
+    c.loop-made.watch c.round-circuit.new.watch (c.args.most - c.loop-made.made) made work end) c.in-Round.is c.round-circuit.ensures.circled) in (
       omega (arith, i.0, c.round-circuit.ensures.few),
       omega (arith, i.1, c.round-circuit.ensures.on.0),
       c.round-circuit.ensures.table ∙ i.2,
@@ -74,8 +77,9 @@ go_behind-behind-requires-clause-sits g c κs within =
     let went = c.round-circuit in
     let made = went.result.made in
     let work = went.result.work in
-    let circled = subst (λ (end : RoundEnd). Circled told k c.args.shape.now c.args.code.now seat home went.new.registers c.loop-made.mine.me went.new.mine.me
-    c.loop-made.watch went.new.watch (c.args.most - c.loop-made.made) made work end) c.in-Halts.is went.ensures.circled in
+    let circled = subst (λ (s : Shape). Circled told k s c.args.code.now seat home went.new.registers c.loop-made.mine.me went.new.mine.me
+    c.loop-made.watch went.new.watch (c.args.most - c.loop-made.made) made work (Halts c.in-Halts.halt)) c.requires.sizes (subst (λ (end : RoundEnd). Circled told k c.args.sizes.now c.args.code.now seat home went.new.registers c.loop-made.mine.me went.new.mine.me
+    c.loop-made.watch went.new.watch (c.args.most - c.loop-made.made) made work end) c.in-Halts.is went.ensures.circled) in
     subst (λ (n : ℕ). IsSeat n went.new.mine.me) (sym i.6) circled.1.goes.sits
 
 pub go_behind-behind-requires-clause-halts : goal.go_behind-behind-requires-clause-halts
@@ -89,8 +93,9 @@ go_behind-behind-requires-clause-halts g c κs within =
     let went = c.round-circuit in
     let made = went.result.made in
     let work = went.result.work in
-    let circled = subst (λ (end : RoundEnd). Circled told k c.args.shape.now c.args.code.now seat home went.new.registers c.loop-made.mine.me went.new.mine.me
-    c.loop-made.watch went.new.watch (c.args.most - c.loop-made.made) made work end) c.in-Halts.is went.ensures.circled in
+    let circled = subst (λ (s : Shape). Circled told k s c.args.code.now seat home went.new.registers c.loop-made.mine.me went.new.mine.me
+    c.loop-made.watch went.new.watch (c.args.most - c.loop-made.made) made work (Halts c.in-Halts.halt)) c.requires.sizes (subst (λ (end : RoundEnd). Circled told k c.args.sizes.now c.args.code.now seat home went.new.registers c.loop-made.mine.me went.new.mine.me
+    c.loop-made.watch went.new.watch (c.args.most - c.loop-made.made) made work end) c.in-Halts.is went.ensures.circled) in
     subst (λ (n : ℕ). HaltsAt c.args.shape.now c.args.code.now seat home went.new.registers c.in-Halts.halt (stands_by k n (deeds_in went.new.mine.me.0)))
     (sym i.6) circled.2
 
@@ -116,8 +121,9 @@ returns-in-Halts-clause-few g c =
     let went = c.round-circuit in
     let made = went.result.made in
     let work = went.result.work in
-    let circled = subst (λ (end : RoundEnd). Circled told k c.args.shape.now c.args.code.now seat home went.new.registers c.loop-made.mine.me went.new.mine.me
-    c.loop-made.watch went.new.watch (c.args.most - c.loop-made.made) made work end) c.in-Halts.is went.ensures.circled in
+    let circled = subst (λ (s : Shape). Circled told k s c.args.code.now seat home went.new.registers c.loop-made.mine.me went.new.mine.me
+    c.loop-made.watch went.new.watch (c.args.most - c.loop-made.made) made work (Halts c.in-Halts.halt)) c.requires.sizes (subst (λ (end : RoundEnd). Circled told k c.args.sizes.now c.args.code.now seat home went.new.registers c.loop-made.mine.me went.new.mine.me
+    c.loop-made.watch went.new.watch (c.args.most - c.loop-made.made) made work end) c.in-Halts.is went.ensures.circled) in
     let few = c.go_behind-behind.ensures.few in
     let looks = looks_few c.in-Halts.halt in
     framed_few c.framed_behind.result _ c.args.most c.framed_behind.ensures
@@ -135,8 +141,9 @@ returns-in-Halts-clause-framed g c =
     let went = c.round-circuit in
     let made = went.result.made in
     let work = went.result.work in
-    let circled = subst (λ (end : RoundEnd). Circled told k c.args.shape.now c.args.code.now seat home went.new.registers c.loop-made.mine.me went.new.mine.me
-    c.loop-made.watch went.new.watch (c.args.most - c.loop-made.made) made work end) c.in-Halts.is went.ensures.circled in
+    let circled = subst (λ (s : Shape). Circled told k s c.args.code.now seat home went.new.registers c.loop-made.mine.me went.new.mine.me
+    c.loop-made.watch went.new.watch (c.args.most - c.loop-made.made) made work (Halts c.in-Halts.halt)) c.requires.sizes (subst (λ (end : RoundEnd). Circled told k c.args.sizes.now c.args.code.now seat home went.new.registers c.loop-made.mine.me went.new.mine.me
+    c.loop-made.watch went.new.watch (c.args.most - c.loop-made.made) made work end) c.in-Halts.is went.ensures.circled) in
     let behind = c.go_behind-behind in
     let few = behind.ensures.few in
     let most = c.args.most - (c.loop-made.made + made) in
@@ -168,8 +175,9 @@ returns-in-Refused-clause-framed g c =
     let went = c.round-circuit in
     let made = went.result.made in
     let work = went.result.work in
-    let circled = subst (λ (end : RoundEnd). Circled told k c.args.shape.now c.args.code.now seat home went.new.registers c.loop-made.mine.me went.new.mine.me
-    c.loop-made.watch went.new.watch (c.args.most - c.loop-made.made) made work end) c.in-Refused.is went.ensures.circled in
+    let circled = subst (λ (s : Shape). Circled told k s c.args.code.now seat home went.new.registers c.loop-made.mine.me went.new.mine.me
+    c.loop-made.watch went.new.watch (c.args.most - c.loop-made.made) made work (Refused c.in-Refused.lives)) c.requires.sizes (subst (λ (end : RoundEnd). Circled told k c.args.sizes.now c.args.code.now seat home went.new.registers c.loop-made.mine.me went.new.mine.me
+    c.loop-made.watch went.new.watch (c.args.most - c.loop-made.made) made work end) c.in-Refused.is went.ensures.circled) in
     framed_as told k c.args.shape.now c.args.code.now own c.args.place c.args.mine.now.me went.new.mine.me c.args.watch.now went.new.watch
     _ c.args.most c.framed-in-Refused.result _ c.framed-in-Refused.ensures
     (refuses_then told k own c.args.mine.now.me c.loop-made.mine.me went.new.mine.me c.args.watch.now c.loop-made.watch went.new.watch
