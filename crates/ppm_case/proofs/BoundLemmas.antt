@@ -14,17 +14,17 @@ use Rattle.ppm_listing_reader.specs.Places.{standing, next, standing_from, code_
 use Rattle.ppm_listing_reader.specs.Faults.{BreaksAt}
 use Rattle.ppm_listing_reader.specs.Correct.{standing_of, HasFault, Breaks, TooLong, IsRefusal}
 
-number_within : (code : CodeParts) (rule : Fault) (place : Place) (ls : List (Option Part)) (number : ℕ) → BreaksAt code rule place ls number → number ≤ length ls
+pub number_within : (code : CodeParts) (rule : Fault) (place : Place) (ls : List (Option Part)) (number : ℕ) → BreaksAt code rule place ls number → number ≤ length ls
 number_within code rule place [] zero h = omega arith
 number_within code rule place [] (suc number) h = absurd h
 number_within code rule place (l ∷ ls) zero h = omega arith
 number_within code rule place (l ∷ ls) (suc number) h = omega (arith, number_within code rule (next place l) ls number h)
 
-standing_length : (place : Place) (ls : List (Option Part)) → length (standing_from place ls) ≡ length ls
+pub standing_length : (place : Place) (ls : List (Option Part)) → length (standing_from place ls) ≡ length ls
 standing_length place [] = refl
 standing_length place (l ∷ ls) = omega (arith, standing_length (next place (standing place l)) ls)
 
-lines_length : (ps : List (List ℕ)) → length (lines_in ps) ≤ length ps
+pub lines_length : (ps : List (List ℕ)) → length (lines_in ps) ≤ length ps
 lines_length [] = omega arith
 lines_length ([] ∷ []) = omega arith
 lines_length ((b ∷ bs) ∷ []) = omega arith
@@ -34,7 +34,7 @@ in_front_length : (b : ℕ) (ps : List (List ℕ)) → length (in_front b ps) �
 in_front_length b [] = omega arith
 in_front_length b (p ∷ ps) = omega arith
 
-pieces_length : (bs : List ℕ) → length (split 10 bs) ≤ 1 + length bs
+pub pieces_length : (bs : List ℕ) → length (split 10 bs) ≤ 1 + length bs
 pieces_length [] = omega arith
 pieces_length (b ∷ bs) = by (b == 10) (pieces_length bs)
   where

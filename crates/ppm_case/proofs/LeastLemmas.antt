@@ -22,14 +22,15 @@ module _ (P : ℕ → Type 0) (none : (n : ℕ) → ((m : ℕ) → m < n → P m
   without_least : (n : ℕ) → P n → ⊥
   without_least n = below (suc n) n (omega arith)
 
--- a text has no fault where it has no first one
-module _ (text : List ℕ) (free : (rule : Fault) (line : ℕ) → IsFirstFault text rule line → ⊥) where
+-- faults at lines, none of which is the first
+module _ (Has : Fault → ℕ → Type 0)
+    (free : (rule : Fault) (line : ℕ) → Has rule line → ((other : Fault) (later : ℕ) → Has other later → IsNotAfter (rule, line) (other, later)) → ⊥) where
   -- where a fault stands among all: by its line, and there by its number, which is 6 at most
   abbrev rank : Fault → ℕ → ℕ
   rank rule line = 7 * line + fault_number rule
 
   abbrev HasRank : ℕ → Type 0
-  HasRank n = (rule : Fault) × (line : ℕ) × HasFault text rule line × (rank rule line ≡ n)
+  HasRank n = (rule : Fault) × (line : ℕ) × Has rule line × (rank rule line ≡ n)
 
   -- a fault whose rank is no less comes no earlier
   not_after : (rule other : Fault) (line later : ℕ) → rank rule line ≤ rank other later → IsNotAfter (rule, line) (other, later)
@@ -43,9 +44,9 @@ module _ (text : List ℕ) (free : (rule : Fault) (line : ℕ) → IsFirstFault 
       by false e = let no : later ≤ line = grind (arith, e) in inr (omega (arith, less, most, no), omega (arith, less, most, no))
 
   first : (n : ℕ) → ((m : ℕ) → m < n → HasRank m → ⊥) → HasRank n → ⊥
-  first n none (rule, line, h, e) = free rule line (record { there = h; first = least })
+  first n none (rule, line, h, e) = free rule line h least
     where
-      least : (other : Fault) (later : ℕ) → HasFault text other later → IsNotAfter (rule, line) (other, later)
+      least : (other : Fault) (later : ℕ) → Has other later → IsNotAfter (rule, line) (other, later)
       least other later k = by (nat_lt (rank other later) (rank rule line)) refl
         where
           by : (b : Bool) → nat_lt (rank other later) (rank rule line) ≡ b → IsNotAfter (rule, line) (other, later)
@@ -54,5 +55,10 @@ module _ (text : List ℕ) (free : (rule : Fault) (line : ℕ) → IsFirstFault 
               absurd (none (rank other later) (subst (λ (m : ℕ). rank other later < m) e less) (other, later, k, refl))
           by false f = not_after rule other line later (grind (arith, f))
 
-  pub no_fault : (rule : Fault) (line : ℕ) → HasFault text rule line → ⊥
-  no_fault rule line h = without_least HasRank first (rank rule line) (rule, line, h, refl)
+  -- there are none
+  pub no_faults : (rule : Fault) (line : ℕ) → Has rule line → ⊥
+  no_faults rule line h = without_least HasRank first (rank rule line) (rule, line, h, refl)
+
+-- a text has no fault where it has no first one
+pub no_fault : (text : List ℕ) → ((rule : Fault) (line : ℕ) → IsFirstFault text rule line → ⊥) → (rule : Fault) (line : ℕ) → HasFault text rule line → ⊥
+no_fault text free = no_faults (HasFault text) (λ rule line there first. free rule line (record { there = there; first = first }))

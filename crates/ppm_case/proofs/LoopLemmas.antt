@@ -11,12 +11,11 @@ use Rattle.ppm_pieces.specs.Numbers.{value}
 use Rattle.ppm_pieces.specs.Pieces.{halves_of}
 use Rattle.ppm_case.specs.declared.case_error.InputFault.{InputFault}
 use Rattle.ppm_case.specs.declared.case_error.InputFault.TheVariants as input
-use Rattle.ppm_case.specs.declared.case_error.CaseFault.TheVariants as fault
 use Rattle.ppm_case.specs.Spelling.{Written, has_form, array_text, array_line, array_of, begins_array}
 use Rattle.ppm_case.specs.Rules.{case_limit, is_past, Follows, AllFollow}
 use Rattle.ppm_case.specs.Judged.{CanStand, IsNext, AreRead}
 use Rattle.ppm_case.specs.Case.{Front}
-use Rattle.ppm_case.specs.Faults.{IsBadLine, NoForm, HasFault, BadLine}
+use Rattle.ppm_case.specs.Faults.{IsBadLine, NoForm, HasBadArray}
 use Rattle.ppm_case.proofs.OptionLemmas.{not_both}
 use Rattle.ppm_case.proofs.WordLemmas.{halves_back}
 use Rattle.ppm_case.proofs.FormLemmas.{line_before, line_of_text}
@@ -80,17 +79,21 @@ module _ {text : List ℕ} {arrays : List NamedArray} {words lines : ℕ} {left 
   abbrev pub front : length text ≤ case_limit → Front text
   front short = record { short = short; arrays = h.read.written; follow = h.read.follow; rest = left; same = h.read.same }
 
-  -- a bad line is the fault of the text
-  pub bad_line : length text ≤ case_limit → (bad : InputFault) → IsBadLine arrays left bad → HasFault text (fault.OfInput bad) (lines + 1)
-  bad_line short bad b =
-      subst (λ (n : ℕ). HasFault text (fault.OfInput bad) (n + 1)) (sym h.read.count)
-      (BadLine (front short) bad (subst (λ (l : List NamedArray). IsBadLine l left bad) h.read.are b))
+  -- a line is bad after the arrays of the front
+  pub bad_of_front : (bad : InputFault) → IsBadLine arrays left bad → IsBadLine (map array_of h.read.written) left bad
+  bad_of_front bad b = subst (λ (l : List NamedArray). IsBadLine l left bad) h.read.are b
 
-  -- so is one without a line feed
-  pub unended : length text ≤ case_limit → begins_array left ≡ true → halves_of 10 left ≡ None → HasFault text (fault.OfInput input.NoSuchForm) (lines + 1)
-  unended short begins none =
-      bad_line short input.NoSuchForm (NoForm begins (λ a more form same.
-      not_both (sym (ap (λ (t : List ℕ). halves_of 10 t) same) ∙ none) (line_of_text a more form)))
+  -- the text has it
+  pub bad_line : length text ≤ case_limit → (bad : InputFault) → IsBadLine arrays left bad → HasBadArray text bad (lines + 1)
+  bad_line short bad b = record { front = front short; is = bad_of_front bad b; there = ap (λ (n : ℕ). n + 1) h.read.count }
+
+  -- a line without a line feed is bad
+  pub unended_bad : begins_array left ≡ true → halves_of 10 left ≡ None → IsBadLine arrays left input.NoSuchForm
+  unended_bad begins none =
+      NoForm begins (λ a more form same. not_both (sym (ap (λ (t : List ℕ). halves_of 10 t) same) ∙ none) (line_of_text a more form))
+
+  pub unended : length text ≤ case_limit → begins_array left ≡ true → halves_of 10 left ≡ None → HasBadArray text input.NoSuchForm (lines + 1)
+  unended short begins none = bad_line short input.NoSuchForm (unended_bad begins none)
 
   -- one array more
   pub array_more : {line name numbers : List ℕ} {len : ℕ} (rest : List ℕ) (array : NamedArray) → halves_of 10 left ≡ Some (line, rest)

@@ -15,22 +15,30 @@ use Rattle.ppm_depth.specs.Start.{NamesArrays}
 use Rattle.ppm_case.specs.declared.case_error.InputFault.TheVariants as input
 use Rattle.ppm_case.specs.declared.case_error.CaseFault.TheVariants as fault
 use Rattle.ppm_case.specs.declared.case_error.CaseError.{CaseError}
+use Rattle.ppm_case.specs.declared.case_error.CaseError.TheVariants as refusal
 use Rattle.ppm_case.specs.Spelling.{Written, array_line, array_of, begins_array}
 use Rattle.ppm_case.specs.Rules.{case_limit}
 use Rattle.ppm_case.specs.Judged.{AreRead}
 use Rattle.ppm_case.specs.Case.{Front, IsCaseOf}
-use Rattle.ppm_case.specs.Faults.{HasFault, BadListing, BadRoot, IsRefusal, listing_refused}
+use Rattle.ppm_case.specs.Faults.{HasFault, BadLine, BadListing, BadRoot, IsRefusal, IsArrayRefusal, listing_refused}
 use Rattle.ppm_case.proofs.BoundLemmas.{refusal_within}
 
 pub exit_err : {T : Type 0} (Q : CaseError → Type 0) (e : CaseError) (r : Result T CaseError) → IsErrAnd r (λ y. y ≡ e) → Q e → IfErr r Q
 exit_err Q e (Ok x) is h = absurd is
 exit_err Q e (Err y) is h = subst Q (sym is) h
 
+-- the arrays are refused
+pub array_refused : (text : List ℕ) (e : CaseError) → IsArrayRefusal text e → IsRefusal text e
+array_refused text (refusal.Refused (fault.OfInput bad) line) h =
+    subst (λ (n : ℕ). HasFault text (fault.OfInput bad) n) (sym h.there) (BadLine h.front bad h.is)
+array_refused text (refusal.Refused (fault.OfListing rule) line) h = absurd h
+array_refused text refusal.NoMemory h = tt
+
 module _ {text : List ℕ} {arrays : List NamedArray} {lines : ℕ} {rest : List ℕ} (r : AreRead text arrays lines rest) (short : length text ≤ case_limit) where
-  abbrev its_front : Front text
+  abbrev pub its_front : Front text
   its_front = record { short = short; arrays = r.written; follow = r.follow; rest = rest; same = r.same }
 
-  lines_are : lines ≡ length arrays
+  pub lines_are : lines ≡ length arrays
   lines_are = r.count ∙ sym (length_of r.written) ∙ ap (λ (l : List NamedArray). length l) (sym r.are)
     where
       length_of : (xs : List Written) → length (map array_of xs) ≡ length xs

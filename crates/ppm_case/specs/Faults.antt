@@ -54,6 +54,18 @@ abbrev pub IsRefusal : List ℕ → CaseError → Type 0
 IsRefusal text (error.Refused found line) = HasFault text found line
 IsRefusal text error.NoMemory = Unit {0}
 
+-- after lines of arrays stands a bad one, at a line
+pub record HasBadArray (text : List ℕ) (bad : InputFault) (line : ℕ) : Type 0 where
+  pub front : Front text
+  pub is : IsBadLine (map array_of front.arrays) front.rest bad
+  pub there : line ≡ length front.arrays + 1
+
+-- a refusal while the lines of arrays are read
+abbrev pub IsArrayRefusal : List ℕ → CaseError → Type 0
+IsArrayRefusal text (error.Refused (fault.OfInput bad) line) = HasBadArray text bad line
+IsArrayRefusal text (error.Refused (fault.OfListing rule) line) = ⊥
+IsArrayRefusal text error.NoMemory = Unit {0}
+
 -- the refusal where the listing behind so many lines is refused
 abbrev pub listing_refused : (lines : ℕ) → ListingError → CaseError
 listing_refused lines (listing.NoSuchForm line) = error.Refused (fault.OfListing listing_fault.NoSuchForm) (lines + line)

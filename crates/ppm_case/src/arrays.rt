@@ -7,7 +7,7 @@ ghost use Rattle.ppm_pieces.specs.Pieces.{halves_of};
 ghost use Rattle.ppm_case.specs.Spelling.{Written, array_of, begins_array as array_begins};
 ghost use Rattle.ppm_case.specs.Rules.{is_named as named, is_past as past, case_limit};
 ghost use Rattle.ppm_case.specs.Judged.{IsWordsOf, CanStand, IsNext, AreRead};
-ghost use Rattle.ppm_case.specs.Faults.{IsBadLine, IsRefusal};
+ghost use Rattle.ppm_case.specs.Faults.{IsBadLine, IsArrayRefusal};
 
 use crate::case_error::{CaseError, InputFault};
 use crate::line::{begins_array, head_in, numbers_in};
@@ -99,19 +99,20 @@ fn make_array(alloc: Global, name: &[u8], numbers: &[u8], len: u64) -> Result<Na
 
 /// Arrays that were read, in how many lines, and the text behind them.
 #[derive(Drop)]
-pub(crate) struct Arrays<'a> {
+pub struct Arrays<'a> {
     pub arrays: Vec<NamedArray>,
     pub lines: u32,
     pub rest: &'a [u8],
 }
 
-/// Reads the lines of arrays.
-pub(crate) fn read_arrays<'a>(alloc: Global, text: &'a [u8]) -> Result<Arrays<'a>, CaseError>
+/// Reads the lines of arrays with which a text begins, of at most 536,870,912 bytes. `Err` with the
+/// first line that is bad, from 1, or where memory is refused.
+pub fn read_arrays<'a>(alloc: Global, text: &'a [u8]) -> Result<Arrays<'a>, CaseError>
     requires { length text.now ≤ case_limit }
     ensures read { IfOk result (λ r. AreRead text.now r.arrays.items r.lines r.rest.now) }
     ensures input { IfOk result (λ r. IsInput r.arrays.items) }
     ensures none { IfOk result (λ r. array_begins r.rest.now ≡ false) }
-    ensures err { IfErr result (IsRefusal text.now) }
+    ensures err { IfErr result (IsArrayRefusal text.now) }
 {
     let mut arrays = Vec::new(alloc);
     let mut words: u64 = 0;

@@ -62,14 +62,14 @@ impl InputFault {
 
 impl CaseError {
     /// The refusal where a line has a fault of the arrays.
-    pub(crate) fn of_input(fault: InputFault, line: u32) -> CaseError
+    pub fn of_input(fault: InputFault, line: u32) -> CaseError
         ensures { result ≡ Refused (OfInput fault) line }
     {
         CaseError::Refused(CaseFault::OfInput(fault), line)
     }
 
     /// The refusal where the listing behind so many lines is refused.
-    pub(crate) fn of_listing(lines: u32, error: ListingError) -> CaseError
+    pub fn of_listing(lines: u32, error: ListingError) -> CaseError
         requires { lines + line_of error < 2 ^ 32 }
         ensures { result ≡ listing_refused lines error }
     {

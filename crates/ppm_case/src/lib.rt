@@ -3,7 +3,8 @@
 //! `specs/Case`).
 //! Contract: `read_case` answers the case of a text or its first fault (`specs/Faults`), and
 //! `write_case` writes a text of a case (`specs/Text`).
-//! Stands on `ppm_listing` and `ppm_listing_reader`; the commands that judge cases stand on it.
+//! Stands on `ppm_listing` and `ppm_listing_reader`; the commands that judge cases stand on it, and
+//! `ppm_racy_case` reads arrays with it.
 //! After the readers of listings; the form of the arrays is this project's.
 #![tactic(auto)]
 
@@ -18,11 +19,12 @@ mod run;
 mod values;
 mod writing;
 
+pub use arrays::{Arrays, read_arrays};
 pub use case::Case;
 pub use case_error::{CaseError, CaseFault, InputFault};
 pub use laws::{faults_tell_cases, written_cases_are_read};
 pub use line::{Numbers, Room};
-pub use reading::{CASE_LIMIT, read_case};
+pub use reading::{CASE_LIMIT, are_below, read_case};
 pub use row::Row;
 pub use run::Run;
 pub use writing::write_case;

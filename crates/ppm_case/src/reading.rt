@@ -19,7 +19,7 @@ use std::alloc::Global;
 pub const CASE_LIMIT: usize = 536_870_912;
 
 /// Whether all numbers are below a limit.
-fn are_below(numbers: &[u32], limit: usize) -> bool
+pub fn are_below(numbers: &[u32], limit: usize) -> bool
     ensures { result ≡ list_all (λ number. nat_lt number limit) numbers.now }
 {
     let mut left = numbers;

@@ -8,7 +8,7 @@
 
 mod AlongLemmas
 mod EndLemmas
-mod FallenLemmas
+pub mod FallenLemmas
 mod ForkLemmas
 mod MachineLemmas
 mod OnceLemmas

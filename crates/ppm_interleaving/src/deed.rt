@@ -1,4 +1,7 @@
 //! Whose turn it is, and what strands do that others see.
+ghost use Rattle.std.specs.Prelude.{◌≡◌};
+ghost use Rattle.ppm_interleaving.specs.Turns.{strand_of};
+
 use ppm_depth::Finish;
 
 /// A turn. Strands count from 0 in the order of forks.
@@ -8,6 +11,18 @@ pub enum Turn {
     Step { strand: u32 },
     /// A soft fault befalls a strand.
     Fault { strand: u32 },
+}
+
+impl Turn {
+    /// Whose turn it is.
+    pub fn strand(self) -> u32
+        ensures { result ≡ strand_of self }
+    {
+        match self {
+            Turn::Step { strand } => strand,
+            Turn::Fault { strand } => strand,
+        }
+    }
 }
 
 /// What a turn does that other strands see.

@@ -4,7 +4,8 @@
 //! settled falls (`specs/Falls`).
 //! Contract: a machine shows the one run of its schedule, and `Machine::fallen` answers exactly
 //! what does not stand then (`specs/Shows`).
-//! Stands on `ppm_racy`, and on `ppm_depth` for how strands are over; no command calls it yet.
+//! Stands on `ppm_racy`, and on `ppm_depth` for how strands are over; `ppm_strand_runs` makes the
+//! turns of a schedule with it.
 //! After the capsules with compare-and-modify of Blelloch et al., SPAA 2018; the conditions are
 //! this project's.
 #![tactic(auto)]

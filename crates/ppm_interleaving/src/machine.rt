@@ -51,6 +51,13 @@ impl Machine {
         Ok(Machine { strands, words })
     }
 
+    /// How the root's strand is over, if it is.
+    pub fn finish(&self) -> Option<Finish>
+        ensures { result ≡ finish_in self.now.strands.items 0 }
+    {
+        finish_among(&self.strands, 0)
+    }
+
     /// Takes out the strand with a number, which is there.
     fn take(&mut self, strand: usize) -> Strand
         requires { strand < length self.old.strands.items }

@@ -1,13 +1,16 @@
--- The texts of plans and of schedules are read as they are written.
-use Rattle.std.proofs.Common.{◌≡◌, ◌∙◌, ℕ, true, List, [], ◌∷◌, ◌++◌, decimal, refl, ap, arith}
+-- The texts of plans, of schedules and of strands are read as they are written.
+use Rattle.std.proofs.Common.{◌≡◌, ◌∙◌, ℕ, true, List, [], ◌∷◌, ◌++◌, Option, Some, None, decimal, refl, ap, arith}
 use Rattle.ppm_plan.specs.declared.fault.Fault.{Fault}
 use Rattle.ppm_plan.specs.declared.fault.Fault.TheVariants.{Soft, Hard}
 use Rattle.ppm_plan.specs.declared.plan_item.PlanItem.{PlanItem}
 use Rattle.ppm_plan.specs.declared.schedule_item.ScheduledAct.TheVariants.{Step, Fails}
 use Rattle.ppm_plan.specs.declared.schedule_item.ScheduleItem.{ScheduleItem}
-use Rattle.ppm_plan.specs.Items.{letter_of, act_text, WritesScheduleItem, Once, Times}
+use Rattle.ppm_plan.specs.declared.strand_item.StrandItem.{StrandItem}
+use Rattle.ppm_plan.specs.Items.{letter_of, act_text, schedule_item_of, WritesScheduleItem, Once, Times}
 use Rattle.ppm_plan.specs.Forms.{plan_form, schedule_form}
 use Rattle.ppm_plan.specs.Spellings.{WritesPlanItem}
+use Rattle.ppm_plan.specs.Strands.{strand_form, strand_item_in, WritesStrandItem}
+use Rattle.std.proofs.lemmas.Option.{none-some}
 use Rattle.ppm_plan.proofs.SpellingLemmas.{lacks, decimal_lacks, both_lack}
 use Rattle.ppm_plan.proofs.PlanItemLemmas as plan
 use Rattle.ppm_plan.proofs.ScheduleItemLemmas as schedule
@@ -46,3 +49,19 @@ plans = record {
 
 pub schedules : ReadsItems schedule_form WritesScheduleItem
 schedules = record { read = schedule.item_read; back = schedule.item_back; lack = schedule_lacks; none = refl }
+
+-- by the item of a schedule
+strand_back : (piece : List ℕ) (i : StrandItem) → strand_form.reading piece ≡ Some i → WritesStrandItem piece i
+strand_back piece i h = go (schedule_item_of piece) refl h
+  where
+    go : (o : Option ScheduleItem) → schedule_item_of piece ≡ o → strand_item_in o ≡ Some i → WritesStrandItem piece i
+    go None e k = absurd (none-some i k)
+    go (Some j) e k = record { item = j; written = schedule.item_back piece j e; same = k }
+
+pub strands : ReadsItems strand_form WritesStrandItem
+strands = record {
+  read = λ piece i w. ap strand_item_in (schedule.item_read piece w.item w.written) ∙ w.same;
+  back = strand_back;
+  lack = λ piece i w. schedule_lacks piece w.item w.written;
+  none = refl;
+}

@@ -3,6 +3,7 @@ use Rattle.std.specs.Prelude.{◌≡◌, ◌⊎◌, ℕ, Bool, true, false, List
 use Rattle.ppm_plan.specs.declared.plan_error.PlanError.{PlanError}
 use Rattle.ppm_plan.specs.declared.plan_error.PlanError.TheVariants.{BadItem, NoSuchProcessor, TooManyFaults, AllKilled, NoMemory}
 use Rattle.ppm_plan.specs.Forms.{Form, plan_form, schedule_form}
+use Rattle.ppm_plan.specs.Strands.{strand_form}
 use Rattle.ppm_plan.specs.Refusals.{HasItems, IsAccepted, IsRefused}
 
 -- an error that says something of the text: memory that was refused says nothing
@@ -33,7 +34,8 @@ pub record HasOneAnswer {A : Type 0} (form : Form A) : Type 0 where
   pub refusals : (text : List ℕ) (p : ℕ) (e f : PlanError) → is_of_text e ≡ true → is_of_text f ≡ true
       → IsRefused form text p e → IsRefused form text p f → e ≡ f
 
--- so it is of plans, and of schedules
+-- so it is of plans, of schedules, and of schedules of strands
 pub record HaveOneAnswer : Type 0 where
   pub plans : HasOneAnswer plan_form
   pub schedules : HasOneAnswer schedule_form
+  pub strands : HasOneAnswer strand_form

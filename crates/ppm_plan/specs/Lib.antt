@@ -5,6 +5,7 @@ pub mod Refusals
 pub mod Fronts
 pub mod Faults
 pub mod Schedules
+pub mod Strands
 pub mod Tables
 pub mod Draws
 pub mod Sources

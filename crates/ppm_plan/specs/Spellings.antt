@@ -2,9 +2,11 @@
 use Rattle.std.specs.Prelude.{◌≡◌, ◌↔◌, ℕ, List, [], ◌∷◌, ◌++◌, Some, codes}
 use Rattle.ppm_plan.specs.declared.plan_item.PlanItem.{PlanItem}
 use Rattle.ppm_plan.specs.declared.schedule_item.ScheduleItem.{ScheduleItem}
+use Rattle.ppm_plan.specs.declared.strand_item.StrandItem.{StrandItem}
 use Rattle.ppm_plan.specs.Items.{plan_item_text, FitsPlanItem, plan_item_of, WritesScheduleItem, schedule_item_of}
 use Rattle.ppm_plan.specs.Forms.{plan_form, schedule_form}
 use Rattle.ppm_plan.specs.Refusals.{HasItems}
+use Rattle.ppm_plan.specs.Strands.{strand_form, WritesStrandItem}
 
 -- an item of a plan whose numbers fit has one text, which reads as this item, and whatever reads as it is this text
 pub record PlanItemsReadAsWritten : Type 0 where
@@ -37,3 +39,4 @@ WritesAll Writes text (i ∷ items) = WritesInTurn Writes text (i ∷ items)
 pub record TextsReadAsWritten : Type 0 where
   pub plans : (text : List ℕ) (items : List PlanItem) → HasItems plan_form text items ↔ WritesAll WritesPlanItem text items
   pub schedules : (text : List ℕ) (items : List ScheduleItem) → HasItems schedule_form text items ↔ WritesAll WritesScheduleItem text items
+  pub strands : (text : List ℕ) (items : List StrandItem) → HasItems strand_form text items ↔ WritesAll WritesStrandItem text items

@@ -3,7 +3,8 @@ ghost use Rattle.ppm_plan.specs.Correct.{HaveOneAnswer};
 ghost use Rattle.ppm_plan.specs.Spellings.{PlanItemsReadAsWritten, ScheduleItemsReadAsWritten};
 ghost use Rattle.ppm_plan.specs.Spellings.{TextsReadAsWritten};
 
-/// A text has a plan or one refusal, for any number of processors, and so it is with schedules.
+/// A text has a plan or one refusal, for any number of processors, and so it is with schedules, also
+/// of strands.
 pub fn have_one_answer()
     ensures law { HaveOneAnswer }
 {}

@@ -1,11 +1,11 @@
-//! Fault plans and schedules: their texts, the faults of a turn, the keeper, and victims and plans
-//! drawn at random.
+//! Fault plans, and schedules of processors and of strands: their texts, the faults of a turn, the
+//! keeper, and victims and plans drawn at random.
 //! Model: a text is pieces that read as items (`specs/Items`); a plan or a schedule is its items
 //! (`specs/Schedules`).
 //! Contract: a reader answers the items of the text, or its one refusal; texts are read as written
 //! (`specs/Spellings`).
 //! Stands on `ppm_words` and `rand_xoshiro`; `ppm_choice` and `ppm_orders` call it.
-//! After the soft and hard faults of Blelloch et al., SPAA 2018; the two forms of text are this
+//! After the soft and hard faults of Blelloch et al., SPAA 2018; the three forms of text are this
 //! project's.
 #![tactic(auto)]
 
@@ -22,6 +22,8 @@ mod schedule;
 mod schedule_item;
 mod seeded;
 mod source;
+mod strand_item;
+mod strands;
 mod victims;
 
 pub use fault::Fault;
@@ -37,4 +39,6 @@ pub use schedule::{Schedule, read_schedule};
 pub use schedule_item::{MOST_TIMES, ScheduleItem, ScheduledAct};
 pub use seeded::seeded_plan;
 pub use source::make_source;
+pub use strand_item::{StrandAct, StrandItem};
+pub use strands::read_strands;
 pub use victims::Victims;

@@ -9,7 +9,7 @@ mod ExchangeLemmas
 mod PlainListingLemmas
 mod TextLemmas
 mod SplitLemmas
-mod LineLemmas
+pub mod LineLemmas
 mod WholeLemmas
 mod WrongLemmas
 mod BackLemmas

@@ -5,7 +5,7 @@
 //! Contract: a text with puts in place of its `cam` lines is read as a listing, and its code then
 //! has the exchanges of these lines.
 //! A text has a fault exactly where it is the listing of no code.
-//! Stands on `ppm_racy` and `ppm_listing_reader`; no command calls it yet.
+//! Stands on `ppm_racy` and `ppm_listing_reader`; `ppm_racy_case` reads cases with it.
 //! After the listings of `ppm_listing`; the line is this project's.
 #![tactic(auto)]
 

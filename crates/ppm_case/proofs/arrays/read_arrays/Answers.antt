@@ -3,7 +3,7 @@ use Rattle.ppm_words.specs.Inputs.{value_count}
 use Rattle.ppm_words.specs.declared.named_array.NamedArray.{NamedArray}
 use Rattle.ppm_case.specs.declared.case_error.InputFault.TheVariants as input
 use Rattle.ppm_case.specs.Judged.{IsNext}
-use Rattle.ppm_case.specs.Faults.{IsBadLine, IsRefusal}
+use Rattle.ppm_case.specs.Faults.{IsBadLine, IsArrayRefusal}
 use Rattle.ppm_case.proofs.LoopLemmas.{SoFar, no_arrays, unended, bad_line, array_more, can_stand}
 use Rattle.ppm_case.proofs.arrays.read_arrays.Goals as goal
 
@@ -14,7 +14,7 @@ loop-alloc-init c = subst (λ (l : List NamedArray). SoFar c.args.text.now l 0 0
 -- the line has no line feed
 pub returns-in_default-clause-err : goal.returns-in_default-clause-err
 returns-in_default-clause-err c =
-    subst (IsRefusal c.args.text.now) (sym c.of_input.ensures)
+    subst (IsArrayRefusal c.args.text.now) (sym c.of_input.ensures)
     (unended c.loop-alloc.invariant c.requires (sym c.begins_array.ensures ∙ c.loop-alloc-test.true) c.in_default.ensures.halves)
 
 -- the arrays so far
@@ -27,7 +27,7 @@ judge-requires-clause-few c = omega (arith, c.loop-alloc.invariant.words_are, c.
 -- the line is bad
 pub returns-in-Err-clause-err : goal.returns-in-Err-clause-err
 returns-in-Err-clause-err c =
-    subst (IsRefusal c.args.text.now) (sym c.of_input-in-Err.ensures)
+    subst (IsArrayRefusal c.args.text.now) (sym c.of_input-in-Err.ensures)
     (bad_line c.loop-alloc.invariant c.requires c.in-Err.fault
     (subst (λ (l : List NamedArray). IsBadLine l c.loop-alloc.left.now c.in-Err.fault) c.deref.ensures.value
     (c.in-Err.ensures.err c.loop-alloc.left.now c.in-Some.rest.now c.in-Some.ensures.halves (sym c.begins_array.ensures ∙ c.loop-alloc-test.true))))

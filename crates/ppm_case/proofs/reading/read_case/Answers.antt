@@ -6,7 +6,7 @@ use Rattle.ppm_listing_reader.specs.Correct.{IsListing}
 use Rattle.ppm_case.specs.Rules.{case_limit}
 use Rattle.ppm_case.specs.Case.{IsCaseOf}
 use Rattle.ppm_case.specs.Faults.{IsRefusal, TooLong}
-use Rattle.ppm_case.proofs.ReadLemmas.{exit_err, line_within, few_lines, refused, unnamed, case_is}
+use Rattle.ppm_case.proofs.ReadLemmas.{exit_err, array_refused, line_within, few_lines, refused, unnamed, case_is}
 use Rattle.ppm_case.proofs.reading.read_case.Goals as goal
 
 -- the text is too long
@@ -21,7 +21,8 @@ read_arrays-requires c = ltb-false case_limit (length c.args.text.now) (sym c.is
 
 -- an array is refused
 pub returns-in_err-read-clause-err : goal.returns-in_err-read-clause-err
-returns-in_err-read-clause-err c = exit_err _ _ c.from_residual.result c.from_residual.ensures.1 c.in_err-read.ensures.err
+returns-in_err-read-clause-err c =
+    exit_err _ _ c.from_residual.result c.from_residual.ensures.1 (array_refused c.args.text.now _ c.in_err-read.ensures.err)
 
 -- the listing is refused
 pub of_listing-requires : goal.of_listing-requires

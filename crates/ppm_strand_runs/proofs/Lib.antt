@@ -1,0 +1,10 @@
+-- How a run is shown: a turn more keeps what is said of the moments so far (`TurnLemmas`), the order says whose turn it is (`OrderLemmas`), and so the
+-- loop over turns keeps what is said of a run that goes on (`RunLemmas`). It begins with the words of the arrays (`StartLemmas`).
+-- A fall is one of `ppm_interleaving`, at a moment of a run without faults (`LawLemmas`).
+
+mod DrawLemmas
+mod LawLemmas
+mod OrderLemmas
+mod RunLemmas
+mod StartLemmas
+mod TurnLemmas

@@ -1,0 +1,5 @@
+pub mod Order
+pub mod First
+pub mod Run
+pub mod Correct
+pub mod Draws
