@@ -16,7 +16,8 @@ use Rattle.ppm_step.specs.declared.row.Seat.{Seat}
 use Rattle.ppm_step.specs.Frames.{Rest, ending, other_copy}
 use Rattle.ppm_step.specs.Points.{header_word}
 use Rattle.ppm_step.specs.Standings.{Standing, IsAt, IsBroken, rest_is_there, running, running_if}
-use Rattle.ppm_core.specs.Rounds.{IsComing, LedTo, WentAlong, goes_round, stands_at, stands_before, stands_behind}
+use Rattle.ppm_engine.specs.Waiting.{goes_round, stands_before}
+use Rattle.ppm_core.specs.Rounds.{IsComing, LedTo, WentAlong, stands_at, stands_behind}
 use Rattle.ppm_core.specs.declared.capsule.Stretch.{Stretch}
 use Rattle.ppm_core.specs.declared.capsule.Way.{Way}
 use Rattle.ppm_core.specs.declared.capsule.Way.TheVariants.{Made, Stops}

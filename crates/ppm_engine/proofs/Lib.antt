@@ -2,3 +2,5 @@ pub mod MakingLemmas
 pub mod LoadLemmas
 pub mod EndLemmas
 pub mod RowLemmas
+pub mod WaitingLemmas
+pub mod WidthLemmas

@@ -21,8 +21,7 @@ use crate::way::{FrameEnd, Framed, NONE, REFUSED, RowEnd, Rowed, Steps, looks_be
 use atomic_table::Seat;
 use ppm_cells::{Restart, RestartKind};
 use ppm_code::Code;
-use ppm_core::{wait_at, wait_broken};
-use ppm_engine::{Stop, Tally, make_row};
+use ppm_engine::{Stop, Tally, make_row, wait_at, wait_broken};
 use ppm_ports::Watch;
 use ppm_step::{Local, Seat as Place, Stand, restart_there};
 use ppm_table::View;
