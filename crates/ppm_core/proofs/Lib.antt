@@ -15,3 +15,5 @@ pub mod TurnLemmas
 pub mod MomentLemmas
 pub mod StepsLemmas
 pub mod CapsuleLemmas
+mod AloneLemmas
+mod RowLemmas

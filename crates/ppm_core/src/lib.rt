@@ -8,11 +8,13 @@
 #![tactic(auto)]
 
 mod acts;
+mod alone;
 mod capsule;
 mod copies;
 mod frames;
 mod laws;
 mod machine;
+mod rows;
 mod steps;
 
 pub use copies::code_copy;

@@ -24,6 +24,6 @@ mod waiting;
 
 pub use locations::address_of;
 pub use memory::{Memory, Stop};
-pub use rows::make_row;
-pub use tally::Tally;
+pub use rows::{has_row, make_row};
+pub use tally::{Mark, Settled, Tally};
 pub use waiting::{wait_at, wait_broken, wait_ending, wait_full, wait_midway, wait_stopped};
