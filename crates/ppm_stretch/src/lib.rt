@@ -3,8 +3,8 @@
 //! (`specs/Steady`, by `specs/Moves` of `ppm_table`).
 //! Contract: `steps` makes so many such steps, and a watcher is told of each of them; behind one
 //! that it refuses the processor gives up.
-//! Stands on `ppm_table`, `ppm_engine`, `ppm_core`, `ppm_step` and `ppm_widths`; the driver of the
-//! threads stands on it.
+//! Stands on `ppm_table`, `ppm_engine`, `ppm_step` and `ppm_widths`; the driver of the threads stands
+//! on it.
 //! After the parallel persistent memory of Blelloch et al., SPAA 2018.
 #![tactic(auto)]
 

@@ -17,12 +17,13 @@ ghost use Rattle.ppm_stretch.specs.Steady.{Moves, Refuses, is_exchange, looks_be
 use crate::asking::fills;
 use crate::frames::ends;
 use crate::refusing::give_way;
-use crate::scheduling::{MOST_OF_A_ROW, has_row, work_along};
+use crate::scheduling::{MOST_OF_A_ROW, work_along};
 use crate::seated::Seated;
 use crate::way::{NONE, OneStep, REFUSED, Steps, looks_behind, one_of, row};
 use atomic_table::Seat;
 use ppm_cells::{RestartKind, Shape};
 use ppm_code::{Code, Step};
+use ppm_engine::has_row;
 use ppm_ports::Watch;
 use ppm_step::{Local, Next, Point, Row, Seat as Place, Stage, Stand, Then, Want};
 use ppm_table::{Processor, Shared, View, Words, tell};
