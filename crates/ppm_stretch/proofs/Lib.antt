@@ -16,4 +16,6 @@ mod EndingLemmas
 mod AskingLemmas
 mod WaitingLemmas
 mod SchedulingLemmas
+mod SeekingLemmas
 mod FramingLemmas
+mod LookingLemmas
