@@ -1,4 +1,4 @@
--- What stands behind a lock: the words and processors after one run from an opening, of which each work turn is booked.
+-- What stands under a lock: the words and processors after one run from an opening, of which each work turn is booked.
 use Rattle.std.specs.Prelude.{◌≡◌, ◌==◌, ◌+◌, ◌≤◌, ◌<◌, ◌≢◌, if◌then◌else◌, not, ℕ, Bool, true, false, List, [], length, get_or, take, Some, None, slice_get}
 use Rattle.std.specs.List.{All, sum_by}
 use Rattle.std.proofs.Common.{arith}
