@@ -87,18 +87,18 @@ not_constant v old new same =
 -- changes that do the same to all words and would change one, are the same
 one_change : (a : Words) (k l : Change) → change_of k ≡ change_of l → (AllStill a (change_of k ∷ []) → ⊥) → (AllStill a (change_of l ∷ []) → ⊥) → k ≡ l
 one_change a (Puts x v) (Puts y w) e p q =
-    let at = ap (λ (c : Asking). c.at) e in
-    let by = ap (λ (c : Asking). c.by 0) e in
-    λ i. Puts (at i) (by i)
+    let place : x ≡ y = ap (λ (c : Asking). c.at) e in
+    let value : v ≡ w = ap (λ (c : Asking). c.by 0) e in
+    λ i. Puts (place i) (value i)
 one_change a (Puts x v) (Exchanges y old new) e p q = absurd (not_constant v old new (λ w. ap (λ (c : Asking). c.by w) e))
 one_change a (Exchanges x old new) (Puts y v) e p q = absurd (not_constant v old new (λ w. sym (ap (λ (c : Asking). c.by w) e)))
 one_change a (Exchanges x old new) (Exchanges y odd now_is) e p q =
-    let at : x ≡ y = ap (λ (c : Asking). c.at) e in
+    let place : x ≡ y = ap (λ (c : Asking). c.at) e in
     let first : a x ≡ old = finds_old old new (a x) (falls_by a (Exchanges x old new) p) in
     let second : a y ≡ odd = finds_old odd now_is (a y) (falls_by a (Exchanges y odd now_is) q) in
-    let olds : old ≡ odd = sym first ∙ ap a at ∙ second in
+    let olds : old ≡ odd = sym first ∙ ap a place ∙ second in
     let news : new ≡ now_is = sym (made_old old new old refl) ∙ ap (λ (c : Asking). c.by old) e ∙ made_old odd now_is old olds in
-    λ i. Exchanges (at i) (olds i) (news i)
+    λ i. Exchanges (place i) (olds i) (news i)
 
 module _ (code : RacyParts) (array_words : ℕ) (root : FrameWord → ℕ) (arrays : Words) where
   -- what falls is among what its strand has settled
@@ -122,12 +122,12 @@ module _ (code : RacyParts) (array_words : ℕ) (root : FrameWord → ℕ) (arra
           (ap (λ (zs : List Asking). length zs) (sym (append-nil xs) ∙ sym same), one_change a k l (ap (first_or (change_of k)) rest) falls_k falls_l)
       by (Longer (z ∷ more) same rest) =
           let here = subst (λ (zs : List Asking). AllStill a zs) same still_ys in
-          let at : z ≡ change_of k = sym (ap (first_or (change_of k)) rest) in
-          absurd (falls_k (subst (λ (c : Asking). AllStill a (c ∷ [])) at ((still_back a xs (z ∷ more) here).0, tt)))
+          let is : z ≡ change_of k = sym (ap (first_or (change_of k)) rest) in
+          absurd (falls_k (subst (λ (c : Asking). AllStill a (c ∷ [])) is ((still_back a xs (z ∷ more) here).0, tt)))
       by (Shorter z more same rest) =
           let here = subst (λ (zs : List Asking). AllStill a zs) same still_xs in
-          let at : z ≡ change_of l = sym (ap (first_or (change_of l)) rest) in
-          absurd (falls_l (subst (λ (c : Asking). AllStill a (c ∷ [])) at ((still_back a ys (z ∷ more) here).0, tt)))
+          let is : z ≡ change_of l = sym (ap (first_or (change_of l)) rest) in
+          absurd (falls_l (subst (λ (c : Asking). AllStill a (c ∷ [])) is ((still_back a ys (z ∷ more) here).0, tt)))
 
   -- the first change that does not stand is one
   one_fallen : (h : List Moment) → AreOverOnce (deeds h) → (f g : Fallen) → IsFirstFallen code array_words root arrays h f
