@@ -29,11 +29,11 @@ data Fronts {X : Type 0} (xs ys c d : List X) : Type 0 where
   Longer : (more : List X) → ys ≡ xs ++ more → c ≡ more ++ d → Fronts xs ys c d
   Shorter : (x : X) (more : List X) → xs ≡ ys ++ x ∷ more → d ≡ x ∷ more ++ c → Fronts xs ys c d
 
-first_or : {X : Type 0} → X → List X → X
+abbrev first_or : {X : Type 0} → X → List X → X
 first_or other [] = other
 first_or other (x ∷ xs) = x
 
-rest_of : {X : Type 0} → List X → List X
+abbrev rest_of : {X : Type 0} → List X → List X
 rest_of [] = []
 rest_of (x ∷ xs) = xs
 

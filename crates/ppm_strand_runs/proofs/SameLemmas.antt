@@ -14,7 +14,7 @@ use Rattle.ppm_strand_runs.specs.Order.{whose, IsNext, OfSchedule, OfRound, Goes
 use Rattle.ppm_strand_runs.proofs.LawLemmas.{tail_of}
 
 -- the next turn, by what is left of the schedule
-NextIs : (left : List Turn) → (next strands : ℕ) → Turn → (after : List Turn) → (then_next : ℕ) → Type 0
+abbrev NextIs : (left : List Turn) → (next strands : ℕ) → Turn → (after : List Turn) → (then_next : ℕ) → Type 0
 NextIs [] next strands turn after then_next = (turn ≡ Step (whose next strands)) × (after ≡ []) × (then_next ≡ whose next strands + 1)
 NextIs (t ∷ left) next strands turn after then_next = (turn ≡ t) × (after ≡ left) × (then_next ≡ next)
 
@@ -37,7 +37,7 @@ module _ (s : System OwnWord Place Exit Result) where
     goes : GoesOn s h
     is : IsNext left_before next_before (count s (deeds h)) m.turn left next
 
-  OrderIs : (schedule : List Turn) → List Moment → (left : List Turn) → (next : ℕ) → Type 0
+  abbrev OrderIs : (schedule : List Turn) → List Moment → (left : List Turn) → (next : ℕ) → Type 0
   OrderIs schedule [] left next = (left ≡ schedule) × (next ≡ 0)
   OrderIs schedule (m ∷ h) left next = WasInOrder schedule m h left next
 
@@ -82,10 +82,11 @@ module _ (s : System OwnWord Place Exit Result) where
     earlier : (n : ℕ) (h : List Moment) (left : List Turn) (next : ℕ) → n < length h → InOrder s schedule h left next → IsRun s h → Earlier n
     earlier n [] left next less o r = absurd (omega (arith, less))
     earlier n (m ∷ h) left next less o r =
-        let a = order_is o in by a (cases_order n (length h))
+        let a = order_is o in
+        by a (λ fewer. earlier n h a.left_before a.next_before fewer a.before (run_before m h r)) (cases_order n (length h))
       where
-        by : WasInOrder schedule m h left next → (n ≡ length h) ⊎ ((n < length h) ⊎ (length h < n)) → Earlier n
-        by a (inl same) = record {
+        by : WasInOrder schedule m h left next → (n < length h → Earlier n) → (n ≡ length h) ⊎ ((n < length h) ⊎ (length h < n)) → Earlier n
+        by a further (inl same) = record {
           moments = h;
           left = a.left_before;
           next = a.next_before;
@@ -94,8 +95,8 @@ module _ (s : System OwnWord Place Exit Result) where
           goes = a.goes;
           many = sym same;
         }
-        by a (inr (inl fewer)) = earlier n h a.left_before a.next_before fewer a.before (run_before m h r)
-        by a (inr (inr more)) = absurd (omega (arith, less, more))
+        by a further (inr (inl fewer)) = further fewer
+        by a further (inr (inr more)) = absurd (omega (arith, less, more))
 
     -- a run in this order that ended, or made all its turns, is not shorter than another one
     pub not_shorter : (g h : List Moment) (left after : List Turn) (next then_next limit : ℕ) (finishes : ℕ → Option Finish) → FinishesAre finishes (deeds g)

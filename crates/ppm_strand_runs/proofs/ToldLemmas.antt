@@ -21,7 +21,7 @@ use Rattle.ppm_strand_runs.specs.declared.done.Done.{Done}
 use Rattle.ppm_strand_runs.specs.Run.{done_in, AreDone, Nothing, Then}
 
 -- how a strand is over, from its outcome
-finish_from : Result → Finish
+abbrev finish_from : Result → Finish
 finish_from (Gave value) = finish.Gave value
 finish_from (Trapped trap line) = finish.Trapped trap line
 
@@ -55,7 +55,7 @@ module _ (code : RacyParts) (array_words : ℕ) (root : FrameWord → ℕ) (arra
       ext_get_or 0 m.words.items n.words.items (a.word_count ∙ sym b.word_count) (λ i less. sym (a.words i) ∙ b.words i)
 
   -- what is told of a deed
-  told_of : List (Deed OwnWord Place Result) → Option (Deed OwnWord Place Result) → Option Told
+  abbrev pub told_of : List (Deed OwnWord Place Result) → Option (Deed OwnWord Place Result) → Option Told
   told_of t None = None
   told_of t (Some (HasChanged who x v)) = Some (Changed x (now (system code array_words root arrays) t x) v)
   told_of t (Some (HasForked who fs)) = Some (Forked (count (system code array_words root arrays) t) (length fs))
@@ -83,7 +83,7 @@ module _ (code : RacyParts) (array_words : ℕ) (root : FrameWord → ℕ) (arra
     is : IsTold code array_words root arrays (strand_of m.turn) told (deeds h) m.deed
     all : done ≡ before ++ done_in (length h + 1) (strand_of m.turn) told
 
-  DoneIs : List Moment → List Done → Type 0
+  abbrev DoneIs : List Moment → List Done → Type 0
   DoneIs [] done = done ≡ []
   DoneIs (m ∷ h) done = WasDone m h done
 
