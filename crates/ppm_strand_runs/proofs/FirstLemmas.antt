@@ -4,7 +4,7 @@ use Rattle.std.proofs.Common.{refl, sym, ap, ◌∙◌, subst, inl, inr, arith, 
 use Rattle.std.proofs.lemmas.Bool.{cases_order, eqb-true, eqb-false}
 use Rattle.ppm_strands.specs.Tree.{Words}
 use Rattle.ppm_unseen.specs.Capsule.{constant, exchange}
-use Rattle.ppm_unseen.specs.Run.{AllStill, Change as Asking, Deed, asked, settled, now}
+use Rattle.ppm_unseen.specs.Run.{AllStill, Change as Asking, Deed, settled, now}
 use Rattle.ppm_code.specs.declared.location.FrameWord.{FrameWord}
 use Rattle.ppm_code.specs.Strands.{Result}
 use Rattle.ppm_filled.specs.Racing.{OwnWord, Place}

@@ -1,15 +1,13 @@
 -- A schedule has one run, as far as it is told.
-use Rattle.std.proofs.Common.{◌≡◌, ◌⊎◌, ◌<◌, ◌≤◌, ℕ, List, length, Option, Some, sym, ap, ◌∙◌, subst, inl, inr, arith}
+use Rattle.std.proofs.Common.{◌≡◌, ◌⊎◌, ◌<◌, ℕ, List, length, Some, sym, ap, ◌∙◌, subst, inl, inr, arith}
 use Rattle.std.proofs.lemmas.Bool.{cases_order}
 use Rattle.ppm_strands.specs.Tree.{Words}
 use Rattle.ppm_unseen.specs.Run.{System}
-use Rattle.ppm_words.specs.declared.named_array.NamedArray.{NamedArray}
 use Rattle.ppm_code.specs.declared.location.FrameWord.{FrameWord}
 use Rattle.ppm_code.specs.Inputs.{words_in}
 use Rattle.ppm_code.specs.Strands.{Result}
 use Rattle.ppm_depth.specs.Start.{root_own, words_of}
 use Rattle.ppm_filled.specs.Racing.{OwnWord, Place, Exit}
-use Rattle.ppm_plan.specs.declared.strand_item.StrandItem.{StrandItem}
 use Rattle.ppm_racy.specs.declared.code.RacyParts.{RacyParts}
 use Rattle.ppm_racy.specs.Code.{plain_code}
 use Rattle.ppm_depth.specs.declared.frame.Finish.{Finish}

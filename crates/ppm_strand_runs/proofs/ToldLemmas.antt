@@ -1,8 +1,8 @@
 -- What is told of moments is one.
-use Rattle.std.proofs.Common.{◌≡◌, ◌<◌, ℕ, ◌+◌, List, [], ◌∷◌, ◌++◌, length, get_or, Option, Some, None, refl, sym, ap, ◌∙◌, subst}
+use Rattle.std.proofs.Common.{◌≡◌, ℕ, ◌+◌, List, [], ◌∷◌, ◌++◌, length, Option, Some, None, refl, sym, ap, ◌∙◌}
 use Rattle.std.proofs.lemmas.List.{ext_get_or}
 use Rattle.ppm_strands.specs.Tree.{Words}
-use Rattle.ppm_unseen.specs.Run.{Deed, HasFinished, count, now}
+use Rattle.ppm_unseen.specs.Run.{Deed, count, now}
 use Rattle.ppm_unseen.specs.Run.{Changed as HasChanged, Forked as HasForked, Finished as IsFinished}
 use Rattle.ppm_code.specs.declared.location.FrameWord.{FrameWord}
 use Rattle.ppm_code.specs.Strands.{Result, Gave, Trapped}
@@ -12,11 +12,10 @@ use Rattle.ppm_filled.specs.Racing.{OwnWord, Place}
 use Rattle.ppm_racy.specs.declared.code.RacyParts.{RacyParts}
 use Rattle.ppm_interleaving.specs.declared.deed.Deed.{Deed as Told}
 use Rattle.ppm_interleaving.specs.declared.deed.Deed.TheVariants.{Changed, Forked, Finished}
-use Rattle.ppm_interleaving.specs.declared.deed.Turn.{Turn}
 use Rattle.ppm_interleaving.specs.declared.machine.Machine.{Machine}
 use Rattle.ppm_interleaving.specs.Shows.{FinishesAre, IsTold, Shows, system}
 use Rattle.ppm_interleaving.specs.Steps.{result_of}
-use Rattle.ppm_interleaving.specs.Turns.{Moment, moment, deeds, strand_of}
+use Rattle.ppm_interleaving.specs.Turns.{Moment, deeds, strand_of}
 use Rattle.ppm_strand_runs.specs.declared.done.Done.{Done}
 use Rattle.ppm_strand_runs.specs.Run.{done_in, AreDone, Nothing, Then}
 

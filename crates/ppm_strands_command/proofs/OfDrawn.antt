@@ -1,5 +1,5 @@
 -- The rows of `strands` by schedules that are drawn.
-use Rattle.std.proofs.Common.{◌≡◌, ℕ, List, subst, inl, inr}
+use Rattle.std.proofs.Common.{ℕ, subst, inl, inr}
 use Rattle.ppm_ports.specs.Ports.{Gets}
 use Rattle.ppm_ports.specs.Outside.{Ports}
 use Rattle.ppm_case.specs.Rules.{case_limit}

@@ -1,5 +1,5 @@
 -- The answers of runs: which there are, and that runs which are alike have one.
-use Rattle.std.proofs.Common.{◌≡◌, ◌++◌, ℕ, List, Option, Some, None, refl, sym, ap, ap₂, ◌∙◌, subst}
+use Rattle.std.proofs.Common.{◌≡◌, ◌++◌, ℕ, List, Option, Some, None, refl, ap, ◌∙◌}
 use Rattle.ppm_words.specs.declared.named_array.NamedArray.{NamedArray}
 use Rattle.ppm_depth.specs.declared.frame.Finish.{Finish}
 use Rattle.ppm_depth.specs.declared.frame.Finish.TheVariants as finish
@@ -14,7 +14,7 @@ use Rattle.ppm_answers.specs.declared.sweep.Came.{Came}
 use Rattle.ppm_answers.specs.declared.sweep.Came.TheVariants as came
 use Rattle.ppm_answers.specs.declared.answer.Answer.{Answer}
 use Rattle.ppm_answers.specs.declared.answer.Answer.TheVariants as answers
-use Rattle.ppm_strands_command.specs.Lines.{done_lines, fall_text}
+use Rattle.ppm_strands_command.specs.Lines.{done_lines}
 use Rattle.ppm_strands_command.specs.Strands.{answer_by, came_by, came_of, lines_of, run_answer}
 
 -- what a run of strands may come to

@@ -1,8 +1,5 @@
-use Rattle.std.proofs.Common.{◌≡◌, ◌++◌, List, ℕ, ap, ◌∙◌, ap₂, arith, length}
+use Rattle.std.proofs.Common.{arith}
 use Rattle.ppm_depth.proofs.EndLemmas.{length_words}
-use Rattle.ppm_plan.specs.declared.strand_item.StrandItem.{StrandItem}
-use Rattle.ppm_strands_command.specs.Lines.{drawn_line}
-use Rattle.ppm_strands_command.specs.Strands.{run_answer}
 use Rattle.ppm_strands_command.proofs.drawn.found_answer.Goals as goal
 
 -- the words of the run are those of the arrays

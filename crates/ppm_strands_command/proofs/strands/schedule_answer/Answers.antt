@@ -1,4 +1,4 @@
-use Rattle.std.proofs.Common.{◌≡◌, ◌++◌, List, ℕ, [], sym, ap, ◌∙◌, subst, arith, length}
+use Rattle.std.proofs.Common.{List, ℕ, ap, ◌∙◌, arith}
 use Rattle.ppm_depth.proofs.EndLemmas.{length_words}
 use Rattle.ppm_strands_command.specs.Strands.{run_answer}
 use Rattle.ppm_strands_command.proofs.strands.schedule_answer.Goals as goal
