@@ -1,5 +1,5 @@
 //! The command `strands` by schedules that are drawn.
-ghost use Rattle.std.specs.Prelude.{◌≡◌, IfOk};
+ghost use Rattle.std.specs.Prelude.{◌≡◌, IfOk, Some};
 ghost use Rattle.ppm_ports.specs.Ports.{port};
 ghost use Rattle.ppm_ports.specs.Outside.{ports};
 ghost use Rattle.ppm_words.specs.Inputs.{IsInput};
@@ -8,8 +8,10 @@ ghost use Rattle.ppm_racy.specs.Code.{plain_code};
 ghost use Rattle.ppm_answers.specs.Reading.{TextMay};
 ghost use Rattle.ppm_cli.specs.Words.{AreDrawn};
 ghost use Rattle.ppm_strand_runs.specs.Draws.{TellsDrawn};
+ghost use Rattle.ppm_strand_runs.specs.Run.{IsRunOf};
 ghost use Rattle.ppm_strands_command.specs.Cases.{MayOf};
-ghost use Rattle.ppm_strands_command.specs.Drawn.{DrawnHas, DrawnMay, OfDraws, drawn_answer};
+ghost use Rattle.ppm_strands_command.specs.Drawn.{DrawnHas, DrawnMay, OfDraws};
+ghost use Rattle.ppm_strands_command.specs.Drawn.{drawn_answer, schedule_of};
 ghost use Rattle.ppm_strands_command.specs.DrawnRows.{AreRunByDraws};
 ghost use Rattle.ppm_strands_command.specs.Lines.{drawn_line as line_of_drawn};
 
@@ -127,14 +129,27 @@ fn found_answer(
 {
     match found {
         None => Ok(Answer::AllStood(options.runs)),
-        Some(drawn) => {
-            let seed = u64::from(options.seed) + u64::from(drawn.number);
-            let items = drawn_steps(alloc, seed, options.strands, options.steps)?;
-            let line = drawn_line(alloc, seed, &items)?;
-            let answer = run_told(alloc, line, options.form, input, &drawn.run)?;
-            Ok(answer)
-        }
+        Some(drawn) => drawn_told(alloc, options, code, input, drawn),
     }
+}
+
+/// The answer of a drawn run, after the line of its schedule.
+fn drawn_told(
+    alloc: Global,
+    options: DrawnStrandsOptions,
+    code: &RacyCode,
+    input: &[NamedArray],
+    drawn: &DrawnRun,
+) -> Result<Answer, NoMemory>
+    requires options { AreDrawn options }
+    requires run { IsRunOf code.now input.now (schedule_of options code.now input.now drawn.now.number) options.turns drawn.now.run }
+    ensures { IfOk result (λ answer. answer ≡ drawn_answer options code.now input.now (Some drawn.now)) }
+{
+    let seed = u64::from(options.seed) + u64::from(drawn.number);
+    let items = drawn_steps(alloc, seed, options.strands, options.steps)?;
+    let line = drawn_line(alloc, seed, &items)?;
+    let answer = run_told(alloc, line, options.form, input, &drawn.run)?;
+    Ok(answer)
 }
 
 /// The line of a schedule that was drawn by a seed.

@@ -1,19 +1,17 @@
 use Rattle.std.proofs.Common.{sym, subst}
 use Rattle.ppm_case.specs.Rules.{case_limit}
-use Rattle.ppm_answers.specs.Reading.{JudgingMay}
 use Rattle.ppm_answers.proofs.Delivered.{left_alone}
 use Rattle.ppm_plan.specs.Strands.{strand_form}
-use Rattle.ppm_loading.proofs.PlannedLemmas.{by_items, refused_may}
+use Rattle.ppm_loading.proofs.PlannedLemmas.{refused_may}
 use Rattle.ppm_strands_command.specs.Strands.{StrandsMay, TextHas}
-use Rattle.ppm_strands_command.proofs.OneAnswer.{steady}
+use Rattle.ppm_strands_command.proofs.OneAnswer.{by_schedule}
 use Rattle.ppm_strands_command.proofs.strands.read_answer.Goals as goal
 
 -- the answer by the schedule's items
 pub returns-in-Ok : goal.returns-in-Ok
 returns-in-Ok g c =
-    by_items strand_form c.args.schedule.now 1 (TextHas c.args.options) case_limit c.have_one_answer.ensures.law.strands (steady c.args.options)
-    c.in-Ok.items.items c.in-Ok.ensures.items _ c.source_answer.result
-    (subst (λ items. JudgingMay case_limit (TextHas c.args.options items) _ c.source_answer.result) c.deref.ensures.value c.source_answer.ensures)
+    by_schedule c.have_one_answer.ensures.law c.args.options c.args.schedule.now c.in-Ok.items.items _ c.in-Ok.ensures.items c.deref.ensures.value _
+    c.source_answer.result c.source_answer.ensures
 
 -- or the schedule is refused
 pub returns-in-Err : goal.returns-in-Err

@@ -13,7 +13,7 @@ run_told-requires c =
 -- the answer of the run
 pub returns : goal.returns
 returns c = record {
-  run = c.in_ok-run.run;
+  run = c.in_ok-run.run';
   is = c.in_ok-run.ensures;
-  tells = c.in_ok-answer.ensures ∙ ap (λ (front : List ℕ). run_answer front c.args.options.form c.args.input.now c.in_ok-run.run) c.new.ensures;
+  tells = c.in_ok-answer.ensures ∙ ap (λ (front : List ℕ). run_answer front c.args.options.form c.args.input.now c.in_ok-run.run') c.new-front.ensures;
 }
