@@ -15,5 +15,5 @@ pub returns : goal.returns
 returns c = record {
   run = c.in_ok-run.run';
   is = c.in_ok-run.ensures;
-  tells = c.in_ok-answer.ensures ∙ ap (λ (front : List ℕ). run_answer front c.args.options.form c.args.input.now c.in_ok-run.run') c.new-front.ensures;
+  tells = c.in_ok-answer.ensures ∙ ap (λ (front : List ℕ). run_answer front c.args.options.form c.args.input.now c.in_ok-run.run') c.new-front.ensures.items;
 }
