@@ -306,7 +306,7 @@ fn step_on(
     let place = local.place();
     let want = local.want(shape, code, victim);
     let found = found_by(words, shape, want);
-    // Before the store, behind which the compiler would read anew where the processor stands.
+    // Before the store, after which the compiler would read anew where the processor stands.
     local.observe(shape, code, victim, found);
     store(words, shape, want);
     Some(step_event(place, want, found))
