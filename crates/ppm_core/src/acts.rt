@@ -312,7 +312,7 @@ fn step_on(
     Some(step_event(place, want, found))
 }
 
-/// Does an act, a step or another one.
+/// Does any act. `act_on` calls it for faults and quits alone, and `step_on` for steps, for speed.
 #[inline(never)]
 fn do_act(
     local: &mut Local,

@@ -286,7 +286,7 @@ fn ended_behind(first: Ended, next: Ended) -> Ended
     }
 }
 
-/// The most stores that an end has, with that of the restart word.
+/// So many stores suffice for each end, with that of the restart word.
 pub(crate) const MOST_OF_AN_END: u64 = 16;
 
 /// Makes all stores of an end, as straight code.
