@@ -306,13 +306,13 @@ fn step_on(
     let place = local.place();
     let want = local.want(shape, code, victim);
     let found = found_by(words, shape, want);
-    // Before the store, behind which the compiler would read anew where the processor stands.
+    // Before the store, after which the compiler would read anew where the processor stands.
     local.observe(shape, code, victim, found);
     store(words, shape, want);
     Some(step_event(place, want, found))
 }
 
-/// Does an act, a step or another one.
+/// Does any act. `act_on` calls it for faults and quits alone, and `step_on` for steps, for speed.
 #[inline(never)]
 fn do_act(
     local: &mut Local,

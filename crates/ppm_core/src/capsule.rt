@@ -14,7 +14,7 @@ use ppm_code::{Code, Instr, Location, Reached, Step, reach};
 use ppm_engine::address_of;
 use ppm_step::{Home, Running, Seat, Stage, Want, location_is_there};
 
-/// How a capsule goes on behind some steps.
+/// How a capsule goes on after some steps.
 #[derive(Clone, Copy, Debug, PartialEq, Eq)]
 pub(crate) enum Way {
     /// With this instruction.
@@ -35,7 +35,7 @@ pub(crate) struct Stretch {
 /// What came of the stores with which a frame goes round.
 #[derive(Clone, Copy, Debug, PartialEq, Eq)]
 pub(crate) enum Turned {
-    /// Behind so many of them the next one isn't there.
+    /// After so many of them the next one isn't there.
     Breaks(u64),
     /// Both were made.
     Round,

@@ -5,12 +5,12 @@ ghost use Rattle.ppm_code.specs.declared.code.CodeParts.{CodeParts};
 ghost use Rattle.ppm_words.specs.declared.event.Event.{Event};
 ghost use Rattle.ppm_core.specs.Laws.{FollowOn, TellOn, DoneIsDone};
 
-/// The turns of a list behind another one go on from what the first has made.
+/// The turns of a list after another one go on from what the first has made.
 pub fn turns_follow_on()
     ensures { (s : Shape) (code : CodeParts) → FollowOn s code }
 {}
 
-/// What they tell comes behind what the first has told: blocks and processors that are counted, and
+/// What they tell comes after what the first has told: blocks and processors that are counted, and
 /// events.
 pub fn turns_tell_on()
     ensures counted { (s : Shape) (code : CodeParts) → TellOn ℕ s code }

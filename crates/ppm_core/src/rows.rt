@@ -18,7 +18,8 @@ use ppm_engine::{Mark, Settled, Stop, Tally, has_row, make_row, wait_at, wait_br
 use ppm_ports::Silent;
 use ppm_step::{Local, Seat, restart_there};
 
-/// The most steps that a row of work has, with the load of the finish word.
+/// So many steps suffice for each row of work, which has 13 at most with the load of the finish
+/// word.
 const MOST_OF_A_ROW: u64 = 16;
 
 /// Steps in a row: how many of them were work, forks and takes.

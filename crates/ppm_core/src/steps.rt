@@ -88,7 +88,7 @@ fn go_through(
     under_way(made)
 }
 
-/// Whether the capsule goes on behind a step.
+/// Whether the capsule goes on after a step.
 #[inline(always)]
 fn is_under_way(going: Going) -> bool
     ensures { result ≡ is_under_way going }
@@ -99,7 +99,7 @@ fn is_under_way(going: Going) -> bool
     }
 }
 
-/// The capsule goes on behind so many steps.
+/// The capsule goes on after so many steps.
 #[inline(always)]
 fn under_way(made: u64) -> Resumed
     ensures { result ≡ record { made = made; going = Went true } }

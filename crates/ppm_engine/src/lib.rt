@@ -1,9 +1,9 @@
 //! Steps of a processor in a row, on words of any kind.
 //! Model: a relation between where a processor stood and where it stands (`Memory::led`), which
 //! each kind of words has for itself.
-//! Contract: a row of work of the scheduler leads where its steps lead, one by one. `wait_at` and its
-//! like put a processor where steps in a row have led it, and `address_of` is the address of a
-//! location of its capsule.
+//! Contract: a row of work of the scheduler leads where its steps lead, one by one. `wait_at` and the
+//! other `wait_..` calls put a processor where steps in a row have led it. `address_of` is the address
+//! of a location of its capsule.
 //! Stands on `ppm_step` and `ppm_widths`; `ppm_core` makes steps in a row on a machine's words, and
 //! `ppm_stretch` on words that threads share.
 //! After the parallel persistent memory of Blelloch et al., SPAA 2018.

@@ -72,7 +72,7 @@ fn ask_at<W: Watch>(
 }
 
 /// Loads the room counter for a capsule of a frame that asks for so many words, puts the block into
-/// its home, and goes through the capsule behind that, from this instruction on, at most so many
+/// its home, and goes through the capsule after that, from this instruction on, at most so many
 /// steps.
 #[inline(always)]
 pub(crate) fn fill_along<W: Watch>(
@@ -147,7 +147,7 @@ fn filled(made: u64, end: RoundEnd) -> Circuit
     }
 }
 
-/// Gets the block that a capsule of a frame asks for, and goes through the capsule behind that, at
+/// Gets the block that a capsule of a frame asks for, and goes through the capsule after that, at
 /// most so many steps.
 #[inline(never)]
 pub(crate) fn fills<W: Watch>(

@@ -104,7 +104,7 @@ fn end_of(what: Reached) -> Option<End>
     }
 }
 
-/// These steps, and those behind them, all of them work.
+/// These steps, and those after them, all of them work.
 #[inline(always)]
 fn filled_behind(made: u64, behind: Framed) -> Framed
     requires { made + behind.made < 2 ^ 64 }
@@ -113,7 +113,7 @@ fn filled_behind(made: u64, behind: Framed) -> Framed
     framed(made + behind.made, behind.end)
 }
 
-/// Gets the block that a capsule of a frame asks for, goes through the capsule behind that, and
+/// Gets the block that a capsule of a frame asks for, goes through the capsule after that, and
 /// makes the stores of its end, at most so many steps.
 #[inline(never)]
 pub(crate) fn fill_and_end<W: Watch>(

@@ -18,7 +18,7 @@ use ppm_ports::Watch;
 use ppm_step::{Home, Seat as Place, Want, location_is_there};
 use ppm_table::{View, Words, tell};
 
-/// Loads the word of a location, whatever comes behind that; and tells the watcher.
+/// Loads the word of a location, whatever comes after that; and tells the watcher.
 #[inline(always)]
 fn load_at<W: Watch>(
     words: &Words,
@@ -51,7 +51,7 @@ fn load_at<W: Watch>(
     }
 }
 
-/// Stores a word at a location, whatever comes behind that, and tells the watcher.
+/// Stores a word at a location, whatever comes after that, and tells the watcher.
 #[inline(always)]
 fn store_at<W: Watch>(
     words: &Words,

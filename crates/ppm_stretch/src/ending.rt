@@ -18,7 +18,7 @@ use ppm_ports::Watch;
 use ppm_step::{Home, Put, Seat as Place, address, cell_is_there, restart_there, restart_word};
 use ppm_table::{View, Words};
 
-/// Makes a store of an end, whatever comes behind that.
+/// Makes a store of an end, whatever comes after that.
 #[inline(always)]
 fn put_at<W: Watch>(
     words: &Words,
@@ -87,7 +87,7 @@ fn install_at<W: Watch>(
     }
 }
 
-/// Makes the n-th store of an end, or behind the last one that of the restart word.
+/// Makes the n-th store of an end, or after the last one that of the restart word.
 #[inline(always)]
 pub(crate) fn end_at<W: Watch>(
     words: &Words,
@@ -274,7 +274,7 @@ fn is_stored(step: EndStep) -> bool
     }
 }
 
-/// These stores, and those behind them.
+/// These stores, and those after them.
 #[inline(always)]
 fn ended_behind(first: Ended, next: Ended) -> Ended
     requires { (first.made ≤ 8) × (next.made ≤ 8) }
@@ -286,7 +286,7 @@ fn ended_behind(first: Ended, next: Ended) -> Ended
     }
 }
 
-/// The most stores that an end has, with that of the restart word.
+/// So many stores suffice for each end, with that of the restart word.
 pub(crate) const MOST_OF_AN_END: u64 = 16;
 
 /// Makes all stores of an end, as straight code.

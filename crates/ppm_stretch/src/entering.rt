@@ -262,7 +262,7 @@ pub(crate) fn capsule_along<W: Watch>(
     ))
 }
 
-/// Goes through the next capsule of a frame, at most so many steps, and on to the one behind it
+/// Goes through the next capsule of a frame, at most so many steps, and on to the one after it
 /// where it names one.
 #[inline(always)]
 pub(crate) fn round<W: Watch>(

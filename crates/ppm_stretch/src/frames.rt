@@ -55,8 +55,8 @@ pub(crate) fn rounds<W: Watch>(
         watch.old watch.new local.new most result.made result.work result.looks result.end }
     ensures own_stays { local.new.own ≡ local.old.own }
 {
-    // `sizes` is a copy: behind an atomic step the compiler reads anew what lies behind a reference,
-    // and would work out addresses anew.
+    // `sizes` is a copy: after an atomic step the compiler reads anew what a reference leads to, and
+    // would work out addresses anew.
     let own = local.own;
     let mut at = restart;
     let mut made = 0;
@@ -142,7 +142,7 @@ fn framed(made: u64, work: u64, looks: u64, end: FrameEnd) -> Framed
     }
 }
 
-/// These steps, and those behind them, which are work.
+/// These steps, and those after them, which are work.
 #[inline(always)]
 fn framed_behind(made: u64, work: u64, looks: u64, behind: Framed) -> Framed
     requires { (made + behind.made < 2 ^ 64) × (work ≤ made) × (behind.work ≤ behind.made) × (looks ≤ 1) }
@@ -156,7 +156,7 @@ fn framed_behind(made: u64, work: u64, looks: u64, behind: Framed) -> Framed
     }
 }
 
-/// The looks behind its last work where a processor halts.
+/// The looks after its last work where a processor halts.
 #[inline(always)]
 fn looks_at(halt: Halt) -> u64
     ensures { result ≡ looks_at halt }

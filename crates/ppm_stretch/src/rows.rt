@@ -98,8 +98,8 @@ fn one<W: Watch>(
     }
 }
 
-/// Goes on by the capsules of frames before which the processor stands, by the block that one asks
-/// for, or by the stores of an end; where it stands elsewhere, by no step.
+/// Goes on by the capsules of frames and rows of work before which the processor stands, by the
+/// block that a capsule asks for, or by the stores of an end; where it stands elsewhere, by no step.
 #[inline(always)]
 fn frame_steps<W: Watch>(
     local: &mut Local,
@@ -219,8 +219,9 @@ fn steps_within<W: Watch>(
     other_step(local, words, mine, watch, shape, code)
 }
 
-/// Goes on by the capsules of frames before which the processor stands, by the stores of an end, or
-/// by one step for which nothing is to be chosen; where it is to choose, by none.
+/// Goes on by capsules of frames and rows of work, by the block that a capsule asks for, by the
+/// stores of an end, by the loads with which a place looks for a job, or by one other step for which
+/// nothing is to be chosen; where something is to be chosen, by none.
 #[inline(always)]
 fn some_steps<W: Watch>(
     local: &mut Local,

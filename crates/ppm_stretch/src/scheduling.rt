@@ -26,7 +26,8 @@ use ppm_ports::Watch;
 use ppm_step::{Local, Seat as Place, Stand, restart_there};
 use ppm_table::View;
 
-/// The most steps that a row of work has, with the load of the finish word.
+/// So many steps suffice for each row of work, which has 13 at most with the load of the finish
+/// word.
 pub(crate) const MOST_OF_A_ROW: u64 = 16;
 
 /// How a row ends, by what came of its steps.

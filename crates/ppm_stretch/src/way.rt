@@ -56,7 +56,7 @@ pub enum Begun {
 /// What came of the stores with which a frame goes round.
 #[derive(Clone, Copy, Debug, PartialEq, Eq)]
 pub enum Turned {
-    /// Behind so many of them the next one isn't there.
+    /// After so many of them the next one isn't there.
     Breaks(u64),
     /// Both were made.
     Round,
@@ -78,7 +78,7 @@ pub enum EndStep {
 }
 
 /// So many stores of an end were made, the restart word among them, and what came of the last, or of
-/// the one behind it.
+/// the one after it.
 #[derive(Clone, Copy, Debug, PartialEq, Eq)]
 pub struct Ended {
     pub made: u64,
@@ -94,7 +94,7 @@ pub enum Halt {
     Broken,
     /// Before this instruction of the capsule with this number.
     Midway(u64, usize),
-    /// In the capsule with this number, at an end or where it asks for words; behind that comes
+    /// In the capsule with this number, at an end or where it asks for words; after that comes
     /// this instruction.
     Stopped(u64, usize, Reached),
     /// In the capsule with this number, which asks for more words than its pool has.
@@ -142,7 +142,7 @@ pub enum FrameEnd {
     Refused(bool),
 }
 
-/// Capsules of a frame: so many steps, of which so many were work, so many looks behind the last of
+/// Capsules of a frame: so many steps, of which so many were work, so many looks after the last of
 /// these, and how they ended.
 #[derive(Clone, Copy, Debug, PartialEq, Eq)]
 pub struct Framed {

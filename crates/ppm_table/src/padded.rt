@@ -1,4 +1,4 @@
-//! The words of a table, behind the padding.
+//! The words of a table, after the padding.
 ghost use Rattle.std.specs.Prelude.{◌≡◌, IfOk, drop};
 ghost use Rattle.ppm_table.specs.Padding.{padding};
 
@@ -22,7 +22,7 @@ impl Model for Padded {
 }
 
 impl Padded {
-    /// These words behind the padding, moved in place where there is room behind them.
+    /// These words after the padding, moved in place where there is room after them.
     pub(crate) fn behind(words: Vec<u64>) -> Result<Padded, NoMemory>
         ensures { IfOk result (λ padded. padded ≡ words.items) }
     {

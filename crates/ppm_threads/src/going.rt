@@ -127,7 +127,7 @@ fn wake(crew: &Crew) {
 }
 
 /// Whether an act may be one for which others wait: a compare-and-modify, a hard fault or a quit, or
-/// the last of its processor; or a soft fault, behind which the processor itself may park again
+/// the last of its processor; or a soft fault, after which the processor itself may park again
 /// without a look, though it was woken to see the end.
 fn wakes(event: Event, next: Next) -> bool {
     event.step >= 3 || matches!(next, Next::Done)
@@ -187,7 +187,7 @@ fn make<W: Watch>(
     false
 }
 
-/// Where a processor goes behind an act that its watcher took, or refused.
+/// Where a processor goes after an act that its watcher took, or refused.
 fn act_result_of(taken: bool) -> ActResult
     ensures { result ≡ act_result_of taken }
 {
@@ -198,7 +198,7 @@ fn act_result_of(taken: bool) -> ActResult
     }
 }
 
-/// A processor that rests leaves; or it parks, and makes its next act behind that.
+/// A processor that rests leaves; or it parks, and makes its next act after that.
 fn rest_first<W: Watch, R: Wait>(
     rt: &R,
     crew: &Crew,

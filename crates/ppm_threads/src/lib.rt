@@ -1,7 +1,7 @@
 //! The processors of a machine on threads, each of which obeys a plan and limits.
 //! Model: one run of `ppm_step`, in which every processor obeys (`ppm_choice`), and of which each
 //! watcher is told its processor's part.
-//! Contract: the closed words are those behind that run, and where the answer is no want of memory
+//! Contract: the closed words are those after that run, and where the answer is no want of memory
 //! the finish word is set, by no quit of a processor whose watcher refused.
 //! Stands on `ppm_stretch`, `ppm_table`, `ppm_choice` and `ppm_plan`; the commands that run a
 //! machine on threads stand on it.
