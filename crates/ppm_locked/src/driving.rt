@@ -1,6 +1,8 @@
 //! Seats on threads.
-ghost use Rattle.std.specs.Prelude.{◌≡◌, ◌≢◌, ◌<◌, true, false, IfOk, map, vec_len};
+ghost use Rattle.std.specs.Prelude.{◌≡◌, ◌≢◌, ◌==◌, ◌<◌, true, false, IfOk, map, vec_len};
 ghost use Rattle.std.specs.List.{range_with_len};
+ghost use Rattle.ppm_cells.specs.Finish.{finish_word};
+ghost use Rattle.ppm_cells.specs.declared.finish.Finish.TheVariants.{Stopped};
 ghost use Rattle.ppm_core.specs.Machine.{seen};
 ghost use Rattle.ppm_core.specs.Situation.{finish_in};
 ghost use Rattle.ppm_plan.specs.Forms.{plan_form};
@@ -13,6 +15,7 @@ use crate::held::Keeping;
 use crate::locked::Locked;
 use crate::seat::Seat;
 use crossbeam_utils::Backoff;
+use ppm_cells::Finish;
 use ppm_choice::{Limits, Pace, is_over, next_act};
 use ppm_core::{Act, Machine, Next};
 use ppm_plan::{Plan, Victims};
@@ -127,14 +130,8 @@ fn run_seats<L: Keeping + Send + Sync, E: Ledger + Send + Sync, R: Threads + Wai
     Ok(map_vec(rt, seats, &one)?)
 }
 
-/// Runs the processors of a lock on threads, one for each where the system makes so many, until the
-/// run has ended: the machine under the lock. Each processor makes the acts that `next_act` chooses
-/// for its pace, by the plan and the limits; the lock's own limit of work turns holds too. A
-/// processor that rests leaves, whatever `limits.idle` says. The seats are those of `load`, none of
-/// which has made a turn, and the plan is for as many processors. Some run has come to the machine
-/// from the opening, and its finish word isn't 0. `Err` where memory is refused. It may never
-/// return.
-pub fn drive_locked<L: Keeping + Send + Sync, E: Ledger + Send + Sync, R: Threads + Wait + Sync>(
+/// Runs the processors of a lock on threads: the machine once all have left.
+fn drive_seats<L: Keeping + Send + Sync, E: Ledger + Send + Sync, R: Threads + Wait + Sync>(
     rt: &R,
     locked: Locked<L, E>,
     seats: Vec<Seat<L, E>>,
@@ -150,4 +147,39 @@ pub fn drive_locked<L: Keeping + Send + Sync, E: Ledger + Send + Sync, R: Thread
     let _ = plan.keeper();
     let back = run_seats(rt, &locked, plan, limits, seats)?;
     Ok(locked.close(back))
+}
+
+/// Whether a finish word says that a watcher has refused.
+fn says_stopped(finish: u64) -> bool
+    ensures { result ≡ (finish == finish_word Stopped) }
+{
+    finish == Finish::Stopped.pack()
+}
+
+/// Runs the processors of a lock on threads, one for each where the system makes so many, until the
+/// run has ended: the machine under the lock. Each processor makes the acts that `next_act` chooses
+/// for its pace, by the plan and the limits; the lock's own limit of work turns holds too. A
+/// processor that rests leaves, whatever `limits.idle` says. The seats are those of `load`, none of
+/// which has made a turn, and the plan is for as many processors. Some run has come to the machine
+/// from the opening. Its finish word isn't 0, nor the one of a run that a watcher has stopped. `Err`
+/// where memory is refused, and for that word: nobody watches here. It may never return.
+pub fn drive_locked<L: Keeping + Send + Sync, E: Ledger + Send + Sync, R: Threads + Wait + Sync>(
+    rt: &R,
+    locked: Locked<L, E>,
+    seats: Vec<Seat<L, E>>,
+    plan: &Plan,
+    limits: Limits,
+) -> Result<Machine, NoMemory>
+    requires seats { seats.items ≡ map unused (range_with_len 0 L.first.shape.processors) }
+    requires ledger { L.all ≡ L.parts }
+    requires plan { plan.now.processors ≡ L.first.shape.processors }
+    ensures run { IfOk result (λ machine. HasRun L.first L.most (seen machine)) }
+    ensures finish { IfOk result (λ machine. finish_in (seen machine) ≢ 0) }
+    ensures unrefused { IfOk result (λ machine. (finish_in (seen machine) == finish_word Stopped) ≡ false) }
+{
+    let machine = drive_seats(rt, locked, seats, plan, limits)?;
+    if says_stopped(machine.finish_word()) {
+        return Err(NoMemory);
+    }
+    Ok(machine)
 }

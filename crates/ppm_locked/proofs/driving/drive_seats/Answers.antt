@@ -6,7 +6,7 @@ use Rattle.std.proofs.lemmas.Option.{slice_get-get_or}
 use Rattle.ppm_plan.specs.Forms.{plan_form}
 use Rattle.ppm_plan.specs.Refusals.{IsKeeper}
 use Rattle.ppm_locked.specs.Held.{Seated, unused}
-use Rattle.ppm_locked.proofs.driving.drive_locked.Goals as goal
+use Rattle.ppm_locked.proofs.driving.drive_seats.Goals as goal
 
 -- so many seats were given
 seat_count : (n : ℕ) (seats : List Seated) → seats ≡ map unused (range_with_len 0 n) → length seats ≡ n
