@@ -12,6 +12,7 @@ mod Kept
 mod Owed
 pub mod StandLemmas
 pub mod AskedLemmas
+pub mod TallyLemmas
 mod Orders
 pub mod TellingLemmas
 pub mod SaidLemmas

@@ -1,10 +1,12 @@
 //! How a table is closed, once all its processors are back.
 ghost use Rattle.std.specs.Prelude.{◌≡◌, ◌<◌, []};
 ghost use Rattle.ppm_table.specs.Run.{both_of};
-ghost use Rattle.ppm_table.specs.Shown.{AllHeld, AllOf, Grows};
+ghost use Rattle.ppm_table.specs.Counting.{no_tally};
+ghost use Rattle.ppm_table.specs.Shown.{AllHeld, AllOf, Grows, tallies_with};
 
 use crate::closed::{Closed, closed_over};
 use crate::processor::{Processor, Shared};
+use crate::tally::Tally;
 use crate::view::{View, Wholes, Words};
 use atomic_table::Seat;
 
@@ -15,6 +17,7 @@ impl Processor {
         let Processor {
             local: _,
             seat,
+            tally: _,
             apart: _,
         } = self;
         seat
@@ -47,6 +50,19 @@ fn gather(words: &Words, seat: &mut Seat<(), View>, mut rest: Vec<Processor>)
     }
 }
 
+/// What these processors have counted together.
+pub fn total(processors: &[Processor]) -> Tally
+    ensures { result ≡ tallies_with no_tally processors.now }
+{
+    let mut all = Tally::none();
+    let mut left = processors;
+    while let [first, rest @ ..] = left {
+        all = all.and(first.tally);
+        left = rest;
+    }
+    all
+}
+
 impl Shared {
     ghost use Rattle.std.specs.Prelude.{◌≡◌, ◌<◌, vec_len};
     ghost use Rattle.ppm_table.specs.Shown.{InOrder, ClosedRun, opening_of};
@@ -64,6 +80,7 @@ impl Shared {
             code: _,
             lengths,
             widths: _,
+            counted: _,
         } = self;
         let Some(last) = processors.pop() else {
             unreachable!()

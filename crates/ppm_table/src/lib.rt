@@ -12,13 +12,16 @@ mod closing;
 mod opening;
 mod padded;
 mod processor;
+mod tally;
 mod touching;
 mod turning;
 mod view;
 
 pub use closed::Closed;
+pub use closing::total;
 pub use padded::Padded;
 pub use processor::{Processor, Shared};
+pub use tally::Tally;
 pub use touching::{Found, give_up, hear, step_event, tell, touch};
 pub use turning::is_done;
 pub use view::{

@@ -13,7 +13,9 @@ use Rattle.ppm_choice.specs.Obeying.{ObeysIn, ObeyAll}
 use Rattle.ppm_choice.specs.Tells.{told_in}
 use Rattle.ppm_table.specs.declared.processor.Processor.{Processor}
 use Rattle.ppm_table.specs.declared.processor.Shared.{Shared}
+use Rattle.ppm_table.specs.declared.tally.Tally.{Tally}
 use Rattle.ppm_table.specs.declared.view.Opening.{Opening}
+use Rattle.ppm_table.specs.Counting.{run_tally}
 use Rattle.ppm_table.specs.Run.{start, behind_turns, deeds_in_run}
 use Rattle.ppm_table.specs.Shown.{IsOf, deeds_of_processor, opening_of}
 use Rattle.ppm_threads.specs.Going.{TraceGrows, HasQuit, OwnObeys, told_of_deeds}
@@ -70,6 +72,11 @@ module _ {W : Type 0} (told : W → Option (List Event)) (plan : Planned) (limit
     pub obey : ObeyAll plan limits k.shape k.code (start k) turns
     pub told_are : (c : ℕ) (d : W) → c < k.shape.processors
         → AppendsList (told (slice_index_or old c d)) (told (slice_index_or new c d)) (told_in plan limits c k.shape k.code (start k) turns)
+
+  -- So it is, and so much was counted in this run: what each processor did in it, together.
+  pub record DrivenCounted (k : Opening) (words : List ℕ) (tally : Tally) (old new : List W) : Type 0 where
+    pub driven : Driven k words old new
+    pub counted : tally ≡ run_tally k driven.turns
 
   -- There is one run, in which each processor obeys and its watcher is told of that, or its watcher refused and it has quit; so one did.
   pub record WasRefused (k : Opening) (old new : List W) : Type 0 where
