@@ -7,10 +7,10 @@ use Rattle.ppm_table.specs.declared.view.Deed.{Deed}
 use Rattle.ppm_table.specs.declared.view.Opening.{Opening}
 use Rattle.ppm_table.specs.declared.view.Record.{Record}
 use Rattle.ppm_table.specs.declared.view.View.{View}
-use Rattle.ppm_table.specs.declared.tally.Tally.{Tally}
+use Rattle.ppm_table.specs.declared.act_counts.ActCounts.{ActCounts}
 use Rattle.ppm_table.specs.declared.processor.Processor.{Processor}
 use Rattle.ppm_table.specs.declared.processor.Shared.{Shared}
-use Rattle.ppm_table.specs.Counting.{both_tallies, tally_by}
+use Rattle.ppm_table.specs.Counting.{both_counts, counts_by}
 use Rattle.ppm_table.specs.Run.{AllTold, start, behind_turns, deeds_in_run, stands_by, deeds_in, records_in, record_with}
 
 -- what a processor has done
@@ -29,7 +29,7 @@ pub record StandsIn (s : Shared) (p : Processor) : Type 0 where
 
 -- it has counted its deeds, where its table's processors count
 abbrev pub HasCounted : Shared → Processor → Type 0
-HasCounted s p = s.counted ≡ true → p.tally ≡ tally_by (opening_of s) p.local.own (deeds_of_processor p)
+HasCounted s p = s.counted ≡ true → p.counts ≡ counts_by (opening_of s) p.local.own (deeds_of_processor p)
 
 -- it stands there, and has
 pub record IsOf (s : Shared) (p : Processor) : Type 0 where
@@ -70,9 +70,9 @@ AllIn k turns [] = Unit {0}
 AllIn k turns (p ∷ ps) = (deeds_of_processor p ≡ deeds_in_run k p.local.own turns) × AllIn k turns ps
 
 -- what these processors have counted, and this
-abbrev pub tallies_with : Tally → List Processor → Tally
-tallies_with t [] = t
-tallies_with t (p ∷ ps) = tallies_with (both_tallies t p.tally) ps
+abbrev pub counts_with : ActCounts → List Processor → ActCounts
+counts_with t [] = t
+counts_with t (p ∷ ps) = counts_with (both_counts t p.counts) ps
 
 -- there is one run, with these words behind it, in which each processor does what it has done
 pub record ClosedRun (k : Opening) (words : List ℕ) (ps : List Processor) : Type 0 where

@@ -1,12 +1,12 @@
 //! How a table is closed, once all its processors are back.
 ghost use Rattle.std.specs.Prelude.{◌≡◌, ◌<◌, []};
 ghost use Rattle.ppm_table.specs.Run.{both_of};
-ghost use Rattle.ppm_table.specs.Counting.{no_tally};
-ghost use Rattle.ppm_table.specs.Shown.{AllHeld, AllOf, Grows, tallies_with};
+ghost use Rattle.ppm_table.specs.Counting.{none_counted};
+ghost use Rattle.ppm_table.specs.Shown.{AllHeld, AllOf, Grows, counts_with};
 
+use crate::act_counts::ActCounts;
 use crate::closed::{Closed, closed_over};
 use crate::processor::{Processor, Shared};
-use crate::tally::Tally;
 use crate::view::{View, Wholes, Words};
 use atomic_table::Seat;
 
@@ -17,7 +17,7 @@ impl Processor {
         let Processor {
             local: _,
             seat,
-            tally: _,
+            counts: _,
             apart: _,
         } = self;
         seat
@@ -51,13 +51,13 @@ fn gather(words: &Words, seat: &mut Seat<(), View>, mut rest: Vec<Processor>)
 }
 
 /// What these processors have counted together.
-pub fn total(processors: &[Processor]) -> Tally
-    ensures { result ≡ tallies_with no_tally processors.now }
+pub fn total_counts(processors: &[Processor]) -> ActCounts
+    ensures { result ≡ counts_with none_counted processors.now }
 {
-    let mut all = Tally::none();
+    let mut all = ActCounts::none();
     let mut left = processors;
     while let [first, rest @ ..] = left {
-        all = all.and(first.tally);
+        all = all.and(first.counts);
         left = rest;
     }
     all

@@ -7,13 +7,13 @@ ghost use Rattle.ppm_cells.specs.declared.shape.Shape.{Shape};
 ghost use Rattle.ppm_code.specs.declared.code.CodeParts.{CodeParts};
 ghost use Rattle.ppm_step.specs.Locals.{IsLocal, standing_of};
 ghost use Rattle.ppm_step.specs.Standings.{IsLost};
-ghost use Rattle.ppm_table.specs.Counting.{no_tally};
+ghost use Rattle.ppm_table.specs.Counting.{none_counted};
 ghost use Rattle.ppm_table.specs.Run.{maker, padding, seated};
 ghost use Rattle.ppm_widths.specs.Widths.{AreWidths};
 
+use crate::act_counts::ActCounts;
 use crate::padded::Padded;
 use crate::processor::{Processor, Shared};
-use crate::tally::Tally;
 use crate::view::{Halves, Opening, View, Words};
 use atomic_table::{Seat, Table};
 use ppm_cells::Shape;
@@ -67,7 +67,7 @@ fn processor_at(own: u32, seat: Seat<(), View>) -> Processor
     requires { seat.me ≡ (seated own [], []) }
     ensures seat { result.seat ≡ seat }
     ensures own { result.local.own ≡ own }
-    ensures none { result.tally ≡ no_tally }
+    ensures none { result.counts ≡ none_counted }
     ensures lost { (s : Shape) (code : CodeParts) → standing_of s code result.local ≡ IsLost }
     ensures holds { (s : Shape) (code : CodeParts) → own < s.processors
         → IsLocal s code result.local }
@@ -75,13 +75,13 @@ fn processor_at(own: u32, seat: Seat<(), View>) -> Processor
     Processor {
         local: Local::lost(own),
         seat,
-        tally: Tally::none(),
+        counts: ActCounts::none(),
         apart: [0; 16],
     }
 }
 
 impl Shared {
-    ghost use Rattle.std.specs.Prelude.{◌≡◌, IfOk};
+    ghost use Rattle.std.specs.Prelude.{◌≡◌, IfOk, false};
     ghost use Rattle.ppm_table.specs.Shown.{AreNewOf, opening_of};
 
     /// The words of an image as a table, with the code, and the processors of its shape in their
@@ -95,6 +95,7 @@ impl Shared {
             ≡ record { shape = image.shape; code = code; words = image.words }) }
         ensures arrays { IfOk result (λ r. r.0.lengths ≡ image.lengths) }
         ensures processors { IfOk result (λ r. AreNewOf r.0 r.1.items) }
+        ensures plain { IfOk result (λ r. r.0.counted ≡ false) }
     {
         Shared::load_to_count(alloc, image, code, false)
     }

@@ -6,7 +6,7 @@ ghost use Rattle.ppm_cells.specs.Memory.{AreWordsOf};
 ghost use Rattle.ppm_table.specs.Run.{padding, IsSeat};
 ghost use Rattle.ppm_widths.specs.Widths.{AreWidths};
 
-use crate::tally::Tally;
+use crate::act_counts::ActCounts;
 use crate::view::{View, Words};
 use atomic_table::Seat;
 use ppm_cells::Shape;
@@ -40,7 +40,7 @@ pub struct Processor {
     pub local: Local,
     pub seat: Seat<(), View>,
     /// What is counted of its acts, where its table's processors count them.
-    pub tally: Tally,
+    pub counts: ActCounts,
     /// Keeps the registers of one processor off the cache line of the next one's stand.
     pub apart: [u64; 16],
     pub ghost mine: { IsSeat local.own seat.me },

@@ -10,8 +10,8 @@ ghost use Rattle.ppm_table.specs.Run.{IsActAt};
 ghost use Rattle.ppm_table.specs.Shown.{IsOf, deeds_of_processor};
 ghost use Rattle.ppm_table.specs.Events.{HasActed, HasMadeNone};
 
+use crate::act_counts::ActCounts;
 use crate::processor::{Processor, Shared};
-use crate::tally::Tally;
 use crate::touching::{give_up, hard, soft, step_event, touch};
 use ppm_step::{Act, Local, Next, Stand, Told, Why};
 use ppm_words::Event;
@@ -38,7 +38,7 @@ impl Processor {
     ghost use Rattle.ppm_step.specs.Standings.{IsDone};
     ghost use Rattle.ppm_step.specs.declared.turn.Act.TheVariants.{Step, Soft, Hard, Quit};
     ghost use Rattle.ppm_table.specs.Run.{IsActAt};
-    ghost use Rattle.ppm_table.specs.Counting.{tallied};
+    ghost use Rattle.ppm_table.specs.Counting.{counted};
     ghost use Rattle.ppm_table.specs.Shown.{IsOf, StandsIn, deeds_of_processor};
     ghost use Rattle.ppm_table.specs.Events.{HasActed, HasMadeNone};
 
@@ -49,7 +49,7 @@ impl Processor {
         requires may { IsActAt shared.now.shape (standing_of shared.now.shape shared.now.code self.old.local) (Step victim) }
         ensures of { StandsIn shared.now self.new }
         ensures own { self.new.local.own ≡ self.old.local.own }
-        ensures tally { self.new.tally ≡ self.old.tally }
+        ensures counts { self.new.counts ≡ self.old.counts }
         ensures acted { HasActed shared.now.shape shared.now.code self.old.local.own (Step victim)
             (standing_of shared.now.shape shared.now.code self.old.local) (standing_of shared.now.shape shared.now.code self.new.local)
             (deeds_of_processor self.old) (deeds_of_processor self.new) result }
@@ -73,7 +73,7 @@ impl Processor {
         requires lives { standing_of shared.now.shape shared.now.code self.old.local ≢ IsDone }
         ensures of { StandsIn shared.now self.new }
         ensures own { self.new.local.own ≡ self.old.local.own }
-        ensures tally { self.new.tally ≡ self.old.tally }
+        ensures counts { self.new.counts ≡ self.old.counts }
         ensures acted { HasActed shared.now.shape shared.now.code self.old.local.own Soft
             (standing_of shared.now.shape shared.now.code self.old.local) (standing_of shared.now.shape shared.now.code self.new.local)
             (deeds_of_processor self.old) (deeds_of_processor self.new) result }
@@ -99,7 +99,7 @@ impl Processor {
         requires lives { standing_of shared.now.shape shared.now.code self.old.local ≢ IsDone }
         ensures of { StandsIn shared.now self.new }
         ensures own { self.new.local.own ≡ self.old.local.own }
-        ensures tally { self.new.tally ≡ self.old.tally }
+        ensures counts { self.new.counts ≡ self.old.counts }
         ensures acted { HasActed shared.now.shape shared.now.code self.old.local.own Hard
             (standing_of shared.now.shape shared.now.code self.old.local) (standing_of shared.now.shape shared.now.code self.new.local)
             (deeds_of_processor self.old) (deeds_of_processor self.new) result }
@@ -125,7 +125,7 @@ impl Processor {
         requires lives { standing_of shared.now.shape shared.now.code self.old.local ≢ IsDone }
         ensures of { StandsIn shared.now self.new }
         ensures own { self.new.local.own ≡ self.old.local.own }
-        ensures tally { self.new.tally ≡ self.old.tally }
+        ensures counts { self.new.counts ≡ self.old.counts }
         ensures acted { HasActed shared.now.shape shared.now.code self.old.local.own (Quit why)
             (standing_of shared.now.shape shared.now.code self.old.local) (standing_of shared.now.shape shared.now.code self.new.local)
             (deeds_of_processor self.old) (deeds_of_processor self.new) result }
@@ -158,7 +158,7 @@ impl Processor {
         requires may { IsActAt shared.now.shape (standing_of shared.now.shape shared.now.code self.old.local) act }
         ensures of { StandsIn shared.now self.new }
         ensures own { self.new.local.own ≡ self.old.local.own }
-        ensures tally { self.new.tally ≡ self.old.tally }
+        ensures counts { self.new.counts ≡ self.old.counts }
         ensures acted { HasActed shared.now.shape shared.now.code self.old.local.own act
             (standing_of shared.now.shape shared.now.code self.old.local) (standing_of shared.now.shape shared.now.code self.new.local)
             (deeds_of_processor self.old) (deeds_of_processor self.new) result }
@@ -172,14 +172,14 @@ impl Processor {
     }
 
     /// What is counted of its acts, with this one, where its table's processors count.
-    fn tally_after(&self, shared: &Shared, act: Act) -> Tally
+    fn counts_after(&self, shared: &Shared, act: Act) -> ActCounts
         ensures { shared.now.counted ≡ true
-            → result ≡ tallied act (standing_of shared.now.shape shared.now.code self.now.local) self.now.tally }
+            → result ≡ counted act (standing_of shared.now.shape shared.now.code self.now.local) self.now.counts }
     {
         if !shared.counted {
-            return self.tally;
+            return self.counts;
         }
-        self.tally.after(&self.local, act)
+        self.counts.after(&self.local, act)
     }
 
     /// Makes an act, which is one atomic step of the table; none where the processor is done. A step
@@ -206,7 +206,7 @@ impl Processor {
                 next: Next::Done,
             };
         }
-        self.tally = self.tally_after(shared, act);
+        self.counts = self.counts_after(shared, act);
         self.make(shared, act)
     }
 }

@@ -10,7 +10,7 @@ use crate::parking::{IdleParker, parkers, unparkers};
 use ppm_choice::Limits;
 use ppm_plan::Plan;
 use ppm_ports::Watch;
-use ppm_table::{Closed, Processor, Shared, Tally, total};
+use ppm_table::{ActCounts, Closed, Processor, Shared, total_counts};
 use ppm_words::NoMemory;
 use std::alloc::Global;
 use std::sync::Wait;
@@ -149,7 +149,7 @@ pub fn drive_counted<W: Watch, R: Threads + Wait + Sync>(
     plan: &Plan,
     limits: Limits,
     watch: &mut Vec<W>,
-) -> Result<(Closed, Tally), NoMemory>
+) -> Result<(Closed, ActCounts), NoMemory>
     requires processors { AreNewOf shared processors.items }
     requires plan { plan.now.processors ≡ shared.shape.processors }
     requires watchers { vec_len processors ≤ vec_len watch.old }
@@ -188,12 +188,12 @@ pub fn drive_counted<W: Watch, R: Threads + Wait + Sync>(
         limits: _,
         unparkers: _,
     } = crew;
-    let tally = total(&processors);
+    let counts = total_counts(&processors);
     let closed = shared.close(processors);
     if !taken {
         return Err(NoMemory);
     }
-    Ok((closed, tally))
+    Ok((closed, counts))
 }
 
 /// Runs each processor of a table on a thread of its own until it is done, or leaves where the

@@ -75,4 +75,4 @@ returns-clause-counted g c on =
     let ends = subst (λ (x : Bool). AllEnd g.W.Watch.told c.args.plan.now c.args.limits c.args.shared x c.args.processors.items c.args.watch.now.items c.run_over-taken.new.processors.items c.run_over-taken.new.watch.items) c.if-not-taken.false c.run_over-taken.ensures.ends in
     let shape = ap (λ (t : Shape). t.processors) c.args.shared.told.0 in
     driven_counted g.W.Watch.told c.args.plan.now c.args.limits c.args.shared c.close-closed.result.words _ _ _ _ (c.requires.processors.count ∙ sym shape) c.requires.processors.order
-    (in_order_begins c.args.shared 0 c.args.processors.items c.requires.processors.order c.requires.processors.fresh) c.close-closed.ensures.run c.total-tally.result on c.total-tally.ensures (c.requires.plan ∙ sym shape) ends (omega (arith, n, m, c.requires.watchers))
+    (in_order_begins c.args.shared 0 c.args.processors.items c.requires.processors.order c.requires.processors.fresh) c.close-closed.ensures.run c.total_counts-counts.result on c.total_counts-counts.ensures (c.requires.plan ∙ sym shape) ends (omega (arith, n, m, c.requires.watchers))

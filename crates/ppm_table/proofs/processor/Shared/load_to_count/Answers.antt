@@ -1,7 +1,7 @@
 use Rattle.std.proofs.Common.{◌≡◌, ◌+◌, ◌<◌, List, [], ℕ, drop, length, sym, ap, subst, arith, ◌∙◌}
 use Rattle.ppm_cells.specs.declared.shape.Shape.{Shape}
 use Rattle.ppm_table.specs.declared.view.Deed.{Deed}
-use Rattle.ppm_table.specs.Counting.{tally_by}
+use Rattle.ppm_table.specs.Counting.{counts_by}
 use Rattle.ppm_table.specs.Run.{padding, Mine, deeds_in, stands_by}
 use Rattle.ppm_table.specs.Shown.{InOrder, AllNew, IsOf, deeds_of_processor, opening_of}
 use Rattle.ppm_table.proofs.Orders.{in_order_more, new_more}
@@ -26,7 +26,7 @@ loop-own-preserved c =
       table = ap (λ x. x.table_id) e.seat ∙ t.table.1 ∙ i.0;
       holds = e.holds s.shape s.code less;
       stands = e.lost s.shape s.code ∙ sym (ap (λ (ds : List Deed). stands_by (opening_of s) p.local.own ds) none);
-      counts = λ on. e.none ∙ sym (ap (λ (ds : List Deed). tally_by (opening_of s) p.local.own ds) none);
+      counts = λ on. e.none ∙ sym (ap (λ (ds : List Deed). counts_by (opening_of s) p.local.own ds) none);
     } in (
       t.table.0 ∙ i.0,
       t.views.0,

@@ -4,8 +4,8 @@ ghost use Rattle.ppm_cells.specs.declared.shape.Shape.{Shape};
 ghost use Rattle.ppm_code.specs.declared.code.CodeParts.{CodeParts};
 ghost use Rattle.ppm_step.specs.Locals.{standing_of};
 ghost use Rattle.ppm_step.specs.State.{is_work_next, is_work_turn};
-ghost use Rattle.ppm_table.specs.Counting.{act_tally, both_tallies, checked, gains, gains_in, installed_in, looks_at};
-ghost use Rattle.ppm_table.specs.Counting.{moved_in, no_tally, row_tally, step_tally, tallied, then_tally, together, work_tally};
+ghost use Rattle.ppm_table.specs.Counting.{act_counts, both_counts, checked, gains, gains_in, installed_in, looks_at};
+ghost use Rattle.ppm_table.specs.Counting.{moved_in, none_counted, row_counts, step_counts, counted, then_counts, together, work_counts};
 
 use ppm_cells::RestartKind;
 use ppm_step::{Act, Local, Next, Point, Row, Stand, Then};
@@ -13,7 +13,7 @@ use ppm_step::{Act, Local, Next, Point, Row, Stand, Then};
 /// What is counted of the acts of a processor, or of all those of a run. Each number goes up to
 /// 2^64 - 1, and stays there.
 #[derive(Clone, Copy, Debug, PartialEq, Eq)]
-pub struct Tally {
+pub struct ActCounts {
     /// How many acts were made: steps, faults and quits.
     pub acts: u64,
     /// How many of these were work turns.
@@ -52,12 +52,12 @@ fn one_more(count: u64) -> u64
     together(count, 1)
 }
 
-impl Tally {
+impl ActCounts {
     /// Nothing yet.
-    pub fn none() -> Tally
-        ensures { result ≡ no_tally }
+    pub fn none() -> ActCounts
+        ensures { result ≡ none_counted }
     {
-        Tally {
+        ActCounts {
             acts: 0,
             work: 0,
             forks: 0,
@@ -71,16 +71,16 @@ impl Tally {
     }
 
     /// A theft was won, or the strand of a closed place was taken over.
-    fn gains(self) -> Tally
+    fn gains(self) -> ActCounts
         ensures { result ≡ gains self.inherits self }
     {
         if self.inherits {
-            Tally {
+            ActCounts {
                 takeovers: one_more(self.takeovers),
                 ..self
             }
         } else {
-            Tally {
+            ActCounts {
                 stolen: one_more(self.stolen),
                 ..self
             }
@@ -88,7 +88,7 @@ impl Tally {
     }
 
     /// After a fork, or the beginning of a right branch, in a row of this kind.
-    fn gains_in(self, row: RestartKind) -> Tally
+    fn gains_in(self, row: RestartKind) -> ActCounts
         ensures { result ≡ gains_in row self }
     {
         match row {
@@ -110,7 +110,7 @@ impl Tally {
     }
 
     /// After Check has installed a restart of this kind.
-    fn checked(self, installed: RestartKind) -> Tally
+    fn checked(self, installed: RestartKind) -> ActCounts
         ensures { result ≡ checked installed self }
     {
         match installed {
@@ -132,7 +132,7 @@ impl Tally {
     }
 
     /// After a row of this kind has installed a restart of that one.
-    fn installed_in(self, row: RestartKind, installed: RestartKind) -> Tally
+    fn installed_in(self, row: RestartKind, installed: RestartKind) -> ActCounts
         ensures { result ≡ installed_in row installed self }
     {
         match row {
@@ -154,11 +154,11 @@ impl Tally {
     }
 
     /// After a row of this kind has moved to another place.
-    fn moved_in(self, row: RestartKind) -> Tally
+    fn moved_in(self, row: RestartKind) -> ActCounts
         ensures { result ≡ moved_in row self }
     {
         match row {
-            RestartKind::Take2 { .. } => Tally {
+            RestartKind::Take2 { .. } => ActCounts {
                 takeovers: one_more(self.takeovers),
                 ..self
             },
@@ -179,11 +179,11 @@ impl Tally {
     }
 
     /// After a load of a row.
-    fn looks_at(self, point: Point) -> Tally
+    fn looks_at(self, point: Point) -> ActCounts
         ensures { result ≡ looks_at point self }
     {
         match point {
-            Point::ClosedRestart { .. } => Tally {
+            Point::ClosedRestart { .. } => ActCounts {
                 inherits: true,
                 ..self
             },
@@ -222,18 +222,18 @@ impl Tally {
     }
 
     /// After a load of a row of this kind, or the step with which it comes to an end.
-    fn then(self, row: RestartKind, next: Then) -> Tally
-        ensures { result ≡ then_tally row next self }
+    fn then(self, row: RestartKind, next: Then) -> ActCounts
+        ensures { result ≡ then_counts row next self }
     {
         match next {
             Then::Load(point) => self.looks_at(point),
             Then::Install(restart) => self.installed_in(row, restart.kind),
-            Then::Fork { .. } => Tally {
+            Then::Fork { .. } => ActCounts {
                 forks: one_more(self.forks),
                 ..self
             }
             .gains_in(row),
-            Then::Begin { .. } => Tally {
+            Then::Begin { .. } => ActCounts {
                 takes: one_more(self.takes),
                 ..self
             }
@@ -244,8 +244,8 @@ impl Tally {
     }
 
     /// After a step of a row of this kind.
-    fn row(self, kind: RestartKind, row: &Row) -> Tally
-        ensures { result ≡ row_tally kind row.now self }
+    fn row(self, kind: RestartKind, row: &Row) -> ActCounts
+        ensures { result ≡ row_counts kind row.now self }
     {
         match row {
             Row::Now(next) => self.then(kind, *next),
@@ -254,11 +254,11 @@ impl Tally {
     }
 
     /// After a step of a processor that stands there.
-    fn step(self, local: &Local) -> Tally
-        ensures { (s : Shape) (code : CodeParts) → result ≡ step_tally (standing_of s code local.now) self }
+    fn step(self, local: &Local) -> ActCounts
+        ensures { (s : Shape) (code : CodeParts) → result ≡ step_counts (standing_of s code local.now) self }
     {
         match &local.stand {
-            Stand::At { .. } => Tally {
+            Stand::At { .. } => ActCounts {
                 inherits: false,
                 ..self
             },
@@ -272,16 +272,16 @@ impl Tally {
     }
 
     /// After an act of a processor that stands there, but for whether it is work.
-    fn act(self, local: &Local, act: Act) -> Tally
-        ensures { (s : Shape) (code : CodeParts) → result ≡ act_tally act (standing_of s code local.now) self }
+    fn act(self, local: &Local, act: Act) -> ActCounts
+        ensures { (s : Shape) (code : CodeParts) → result ≡ act_counts act (standing_of s code local.now) self }
     {
         match act {
             Act::Step { .. } => self.step(local),
-            Act::Soft => Tally {
+            Act::Soft => ActCounts {
                 soft: one_more(self.soft),
                 ..self
             },
-            Act::Hard => Tally {
+            Act::Hard => ActCounts {
                 hard: one_more(self.hard),
                 ..self
             },
@@ -290,17 +290,17 @@ impl Tally {
     }
 
     /// With an act more, which is work or is none.
-    fn one_act(self, work: bool) -> Tally
-        ensures { result ≡ work_tally work self }
+    fn one_act(self, work: bool) -> ActCounts
+        ensures { result ≡ work_counts work self }
     {
         if work {
-            Tally {
+            ActCounts {
                 acts: one_more(self.acts),
                 work: one_more(self.work),
                 ..self
             }
         } else {
-            Tally {
+            ActCounts {
                 acts: one_more(self.acts),
                 ..self
             }
@@ -308,17 +308,17 @@ impl Tally {
     }
 
     /// After an act of a processor that stands there.
-    pub fn after(self, local: &Local, act: Act) -> Tally
-        ensures { (s : Shape) (code : CodeParts) → result ≡ tallied act (standing_of s code local.now) self }
+    pub fn after(self, local: &Local, act: Act) -> ActCounts
+        ensures { (s : Shape) (code : CodeParts) → result ≡ counted act (standing_of s code local.now) self }
     {
         self.one_act(is_work_turn(local, act)).act(local, act)
     }
 
     /// With what is counted of others; no row is under way.
-    pub fn and(self, other: Tally) -> Tally
-        ensures { result ≡ both_tallies self other }
+    pub fn and(self, other: ActCounts) -> ActCounts
+        ensures { result ≡ both_counts self other }
     {
-        Tally {
+        ActCounts {
             acts: together(self.acts, other.acts),
             work: together(self.work, other.work),
             forks: together(self.forks, other.forks),
