@@ -1,18 +1,18 @@
 -- What the processors of a run have counted together is what its turns are.
-use Rattle.std.proofs.Common.{◌≡◌, ◌≢◌, ◌≤◌, ◌<◌, ◌∙◌, ℕ, zero, suc, ◌+◌, ◌-◌, ◌^◌, ◌==◌, min, Bool, true, false, if◌then◌else◌, List, [], ◌∷◌, ◌++◌, length, refl, sym, ap, subst, arith, eq-eqb, ne_eqb, length-append}
+use Rattle.std.proofs.Common.{◌≡◌, ◌≤◌, ◌<◌, ◌∙◌, ℕ, zero, suc, ◌+◌, ◌==◌, min, Bool, true, false, if◌then◌else◌, List, [], ◌∷◌, ◌++◌, length, refl, sym, ap, subst, arith, eq-eqb, ne_eqb, length-append}
 use native.Mathlib.Decide.{ℕ_discrete}
 use mathlib.Core.Logic.{dite}
 use Rattle.ppm_cells.specs.declared.shape.Shape.{Shape}
 use Rattle.ppm_code.specs.declared.code.CodeParts.{CodeParts}
 use Rattle.ppm_step.specs.declared.turn.Act.{Act}
 use Rattle.ppm_step.specs.declared.turn.Turn.{Turn}
-use Rattle.ppm_step.specs.Standings.{Standing, IsLost}
+use Rattle.ppm_step.specs.Standings.{Standing}
 use Rattle.ppm_step.specs.State.{State, along, forks_of, happens, is_work_turn, stand_of, takes_of, work_of}
 use Rattle.ppm_table.specs.declared.act_counts.ActCounts.{ActCounts}
 use Rattle.ppm_table.specs.declared.view.Deed.{Deed}
 use Rattle.ppm_table.specs.declared.view.Opening.{Opening}
 use Rattle.ppm_table.specs.Counting.{TellsTurns, acts_of_kind, both_counts, is_hard, is_soft, none_counted, all_counts, counted, counts_below, counts_along, counts_by, together}
-use Rattle.ppm_table.specs.Run.{act_by, behind, deed_at, deeds_by, deeds_of, start, AllTold, IsTold}
+use Rattle.ppm_table.specs.Run.{act_by, behind, deed_at, deeds_by, deeds_of, start, AllTold}
 use Rattle.ppm_table.proofs.AddLemmas.{Fits, fits_on, forks_at, most, one_if, takes_at, counted_adds}
 use Rattle.ppm_table.proofs.RunLemmas.{behind_is, length_stays, live_below, lost_at, lost_length, no_deed, own_deed, stands_still}
 

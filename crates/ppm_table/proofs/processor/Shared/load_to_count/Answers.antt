@@ -1,8 +1,8 @@
-use Rattle.std.proofs.Common.{◌≡◌, ◌+◌, ◌<◌, List, [], ℕ, drop, length, sym, ap, subst, arith, ◌∙◌}
+use Rattle.std.proofs.Common.{◌≡◌, ◌+◌, ◌<◌, List, [], length, sym, ap, subst, arith, ◌∙◌}
 use Rattle.ppm_cells.specs.declared.shape.Shape.{Shape}
 use Rattle.ppm_table.specs.declared.view.Deed.{Deed}
 use Rattle.ppm_table.specs.Counting.{counts_by}
-use Rattle.ppm_table.specs.Run.{padding, Mine, deeds_in, stands_by}
+use Rattle.ppm_table.specs.Run.{Mine, deeds_in, stands_by}
 use Rattle.ppm_table.specs.Shown.{InOrder, AllNew, IsOf, deeds_of_processor, opening_of}
 use Rattle.ppm_table.proofs.Orders.{in_order_more, new_more}
 use Rattle.ppm_table.proofs.Kept as kept
