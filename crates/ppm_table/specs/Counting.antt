@@ -163,6 +163,6 @@ pub record TellsTurns (k : Opening) (turns : List Turn) (counts : ActCounts) : T
   pub soft : counts.soft ≡ kept (acts_of_kind is_soft turns)
   pub hard : counts.hard ≡ kept (acts_of_kind is_hard turns)
 
--- so it is with what is counted in a run, of which each turn is that of a processor that isn't done
+-- what is counted in a run has the numbers of its turns, each of which is that of a processor that isn't done
 abbrev pub ActCountsTellTurns : Type 0
 ActCountsTellTurns = (k : Opening) (turns : List Turn) → AllTold k.shape k.code (start k) turns → TellsTurns k turns (all_counts k turns)

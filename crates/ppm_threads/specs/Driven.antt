@@ -73,8 +73,8 @@ module _ {W : Type 0} (told : W → Option (List Event)) (plan : Planned) (limit
     pub told_are : (c : ℕ) (d : W) → c < k.shape.processors
         → AppendsList (told (slice_index_or old c d)) (told (slice_index_or new c d)) (told_in plan limits c k.shape k.code (start k) turns)
 
-  -- So it is, and so much was counted in this run: what each processor did in it, together. Acts, work turns, forks, takes and faults are as many as
-  -- its turns have.
+  -- There is such a run, and this was counted in it: what each processor did, together. Acts, work turns, forks, takes and faults are as many as its
+  -- turns have.
   pub record DrivenCounted (k : Opening) (words : List ℕ) (counts : ActCounts) (old new : List W) : Type 0 where
     pub driven : Driven k words old new
     pub counted : counts ≡ all_counts k driven.turns
