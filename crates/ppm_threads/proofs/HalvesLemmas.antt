@@ -23,7 +23,7 @@ use Rattle.ppm_threads.specs.Driven.{AllBegin, Ends, AllEnd, AllKeep, IsToldOf, 
 use Rattle.ppm_threads.proofs.AmongLemmas.{are_among}
 use Rattle.ppm_threads.proofs.ClosingLemmas.{obeys_in, tells_run}
 
-some_of : {W : Type 0} (ws : List W) → 0 < length ws → W
+pub some_of : {W : Type 0} (ws : List W) → 0 < length ws → W
 some_of [] some = absurd (omega (arith, some))
 some_of (w ∷ ws) some = w
 
@@ -239,7 +239,7 @@ module _ {W : Type 0} (told : W → Option (List Event)) (plan : Planned) (limit
   -- all of them, behind a run
   module _ (words : List ℕ) (ps : List Processor) (ws : List W) (qs : List Processor) (vs : List W) (len : length ps ≡ k.shape.processors)
       (i : InOrder s 0 ps) (n : AllBegin s ps) (run : ClosedRun k words qs) where
-    fares : (x : Bool) → AllEnd told plan limits s x ps ws qs vs → (c : ℕ) (d : W) → c < k.shape.processors
+    pub fares : (x : Bool) → AllEnd told plan limits s x ps ws qs vs → (c : ℕ) (d : W) → c < k.shape.processors
         → Fares run.turns x c (told (get_or ws c d)) (told (get_or vs c d))
     fares x h c d less =
         let e : 0 + c ≡ c = omega arith in
