@@ -13,7 +13,7 @@ use Rattle.ppm_answers.specs.declared.status.Status.TheVariants as statuses
 use Rattle.ppm_answers.specs.declared.run_counts.RunCounts.{RunCounts}
 use Rattle.ppm_answers.specs.declared.sweep.Came.{Came}
 use Rattle.ppm_answers.specs.declared.sweep.Came.TheVariants as came
-use Rattle.ppm_answers.specs.Texts.{IsFixed, counted_out, out_text}
+use Rattle.ppm_answers.specs.Texts.{IsFixed, counted_out, stood_out, out_text}
 use Rattle.ppm_answers.specs.Statuses.{came_status, refused_status, status_of}
 use Rattle.ppm_answers.specs.Delivery.{IsWritten, Delivers}
 use Rattle.ppm_answers.specs.Reading.{IsUnread, DeliversAnswer, TellsNothing, Answers}
@@ -89,6 +89,14 @@ no_counted (came.Unfinished acts) counts n m = refl
 no_counted (came.OutOfRoom place) counts n m = refl
 no_counted (came.Broken place) counts n m = refl
 
+-- nor has a run of strands, its turns included
+no_stood : (lines : List ℕ) (c : Came) → came_status c ≢ statuses.Ended → came_status c ≢ statuses.Trapped → stood_out lines c ≡ []
+no_stood lines (came.Ended arrays) n m = absurd (n refl)
+no_stood lines (came.Trapped t line) n m = absurd (m refl)
+no_stood lines (came.Unfinished acts) n m = refl
+no_stood lines (came.OutOfRoom place) n m = refl
+no_stood lines (came.Broken place) n m = refl
+
 -- but for arrays, traps, sums, counts, listings, saved states in digits and in words, traces and `ok`, an answer has no text on out
 no_text : (answer : Answer) (status : Status) → status ≡ status_of answer → status ≢ statuses.Ended → status ≢ statuses.Trapped →
     out_text answer ≡ []
@@ -107,6 +115,8 @@ no_text (answers.TrappedAfter t line counts) status e n m = absurd (m e)
 no_text (answers.Sound counts) status e n m = absurd (n e)
 no_text (answers.Swept sweep) status e n m = absurd (n e)
 no_text (answers.ReplayedWith c counts) status e n m = no_counted c counts (λ is. n (e ∙ is)) (λ is. m (e ∙ is))
+no_text (answers.Stood lines c) status e n m = no_stood lines c (λ is. n (e ∙ is)) (λ is. m (e ∙ is))
+no_text (answers.AllStood runs) status e n m = absurd (n e)
 no_text answer status e n m = refl
 
 appends_nothing : (before now : Option (List ℕ)) → Appends before now [] → Keeps before now

@@ -28,6 +28,7 @@ pub record SaysOfPorts (o : Ports) (Says : Status → Type 0) : Type 0 where
 is_read_fault : (a : Answer) → status_of a ≡ statuses.ReadFault → a ≡ answers.ReadFault
 is_read_fault answers.ReadFault e = refl
 is_read_fault (answers.ReplayedWith c counts) e = absurd (came_no_fault c e)
+is_read_fault (answers.Stood lines c) e = absurd (came_no_fault c e)
 is_read_fault (answers.Explained r notes) e = absurd (refused_no_fault r e)
 is_read_fault a e = cc
 

@@ -108,6 +108,9 @@ TellsOfRun Tells (answers.Raced race) before now = Tells (answers.Raced race) be
 TellsOfRun Tells (answers.Gapped g) before now = Tells (answers.Gapped g) before now
 TellsOfRun Tells (answers.Swept sweep) before now = Tells (answers.Swept sweep) before now
 TellsOfRun Tells (answers.Differs difference) before now = Tells (answers.Differs difference) before now
+TellsOfRun Tells (answers.Stood lines came) before now = Tells (answers.Stood lines came) before now
+TellsOfRun Tells (answers.Fell lines came fall) before now = Tells (answers.Fell lines came fall) before now
+TellsOfRun Tells (answers.AllStood runs) before now = Tells (answers.AllStood runs) before now
 
 -- an answer that may come was delivered, also where a port failed at its text; and watchers were told what belongs to it
 pub record Answers (may : Answer → Type 0) (Tells : Answer → ToldLists → ToldLists → Type 0) (o : Outside) (status : Status) : Type 0 where

@@ -313,6 +313,30 @@ takeover_line t = ended_line (codes "takeover " ++ takeover_name t)
 abbrev pub difference_text : Difference → List ℕ
 difference_text d = schedule_line d.schedule ++ takeover_line d.takeover ++ came_text d.came
 
+-- what is written on out of a run of strands in which all stood, with lines that tell its turns: the lines, and the arrays or the trap
+abbrev pub stood_out : List ℕ → Came → List ℕ
+stood_out lines (came.Ended arrays) = lines ++ came_text (came.Ended arrays)
+stood_out lines (came.Trapped t line) = lines ++ came_text (came.Trapped t line)
+stood_out lines (came.Unfinished acts) = []
+stood_out lines (came.OutOfRoom place) = []
+stood_out lines (came.Broken place) = []
+
+-- and on err: the lines, and why it has no end
+abbrev pub stood_err : List ℕ → Came → List ℕ
+stood_err lines (came.Ended arrays) = []
+stood_err lines (came.Trapped t line) = []
+stood_err lines (came.Unfinished acts) = lines ++ came_text (came.Unfinished acts)
+stood_err lines (came.OutOfRoom place) = lines ++ came_text (came.OutOfRoom place)
+stood_err lines (came.Broken place) = lines ++ came_text (came.Broken place)
+
+-- those of a run in which something fell: the lines of its turns, what it came to, and what fell
+abbrev pub fell_text : List ℕ → Came → List ℕ → List ℕ
+fell_text lines c fall = (lines ++ came_text c) ++ fall
+
+-- a line with the runs of strands in none of which something fell
+abbrev pub all_stood_text : ℕ → List ℕ
+all_stood_text runs = ended_line (codes "ok: " ++ decimal runs ++ codes " runs")
+
 -- the line of a refusal that is explained
 abbrev pub refused_text : Refused → List ℕ
 refused_text (refused.Source r) = refusal_text r
@@ -341,6 +365,9 @@ out_text (answers.Counted arrays counts) = arrays_text arrays ++ counts_text cou
 out_text (answers.TrappedAfter t line counts) = trap_text t line ++ counts_text counts
 out_text (answers.Sound counts) = sound_text counts
 out_text (answers.Swept sweep) = sweep_text sweep
+out_text (answers.Stood lines c) = stood_out lines c
+out_text (answers.AllStood runs) = all_stood_text runs
+out_text (answers.Fell lines c fall) = []
 out_text (answers.NotWithin turns) = []
 out_text (answers.OutOfTurns processor) = []
 out_text (answers.OutOfRoom place) = []
@@ -384,6 +411,9 @@ err_text (answers.Untidy u) = untidy_text u
 err_text (answers.ConflictingAt c read write) = conflict_at_text c read write
 err_text (answers.InputRefused r) = input_text r
 err_text (answers.Differs difference) = difference_text difference
+err_text (answers.Stood lines c) = stood_err lines c
+err_text (answers.Fell lines c fall) = fell_text lines c fall
+err_text (answers.AllStood runs) = []
 err_text answers.WordsRefused = ended_line (codes "words refused")
 err_text answers.ReadFault = ended_line (codes "read fault")
 err_text answers.NoMemory = ended_line (codes "out of memory")

@@ -86,6 +86,14 @@ pub enum Answer {
     Swept(Sweep),
     /// This run of the sweep came to something else.
     Differs(Difference),
+    /// The run of strands came to this, and what capsules had settled stood after each of its turns.
+    /// These lines tell the turns.
+    Stood(Items<u8>, Came),
+    /// The run of strands came to this, and some change that a capsule had settled did not stand.
+    /// The first lines tell the turns, the last ones the first such change.
+    Fell(Items<u8>, Came, Items<u8>),
+    /// In none of so many runs of strands some change that a capsule had settled did not stand.
+    AllStood(u32),
     /// The words give no command.
     WordsRefused,
     /// The plan or schedule among the words has the fault of this number, from 1 to 4.

@@ -62,6 +62,9 @@ fn own_status(answer: &Answer) -> Status
         Answer::Trapped(_, _) | Answer::TrappedWith(_, _, _) | Answer::TrappedAfter(_, _, _) =>
             Status::Trapped,
         Answer::ReplayedWith(came, _) => came_status(came),
+        Answer::Stood(_, came) => came_status(came),
+        Answer::Fell(_, _, _) => Status::CodeRefused,
+        Answer::AllStood(_) => Status::Ended,
         Answer::NotWithin(_) | Answer::NotWithinCapsules(_) => Status::NotWithin,
         Answer::OutOfTurns(_) | Answer::Unfinished(_) => Status::OutOfTurns,
         Answer::OutOfRoom(_) => Status::OutOfRoom,

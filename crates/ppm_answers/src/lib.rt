@@ -21,6 +21,7 @@ mod replayed;
 mod run_counts;
 mod saved;
 mod status;
+mod strands;
 mod sums;
 mod sweep;
 mod tally;

@@ -6,7 +6,7 @@ ghost use Rattle.ppm_answers.specs.Statuses.{number_of};
 #[derive(Clone, Copy, Debug, PartialEq, Eq)]
 pub enum Status {
     /// The run ended, and its arrays are on out; or the listing of a code is, or a trace; or `check`
-    /// or `races` accepts a code.
+    /// or `races` accepts a code, or nothing fell in runs of strands.
     Ended = 0,
     /// The run ended by a trap, which is reported on out.
     Trapped = 1,
@@ -25,7 +25,7 @@ pub enum Status {
     /// Memory was refused.
     NoMemory = 9,
     /// A code is refused: what was read is no listing or no case, or its code has a conflict, an
-    /// untidy store or a race.
+    /// untidy store or a race, or what a capsule of it has settled does not stand.
     CodeRefused = 10,
     /// The serial run did not end within its turns, or the depth-first run within its capsules.
     NotWithin = 11,

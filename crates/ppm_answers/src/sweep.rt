@@ -130,7 +130,7 @@ fn takeover_name(takeover: Takeover) -> &'static str
 }
 
 /// What a replay says of what its run came to, without its tally.
-fn came_text_of(alloc: Global, came: &Came) -> Result<Vec<u8>, AllocError>
+pub(crate) fn came_text_of(alloc: Global, came: &Came) -> Result<Vec<u8>, AllocError>
     ensures { IfOk result (λ text. text.items ≡ came_text came.now) }
 {
     match came {

@@ -16,6 +16,7 @@ use crate::refusal::{Pass, Refusal};
 use crate::refused::explained_text_of;
 use crate::replayed::{counted_err_of, counted_out_of};
 use crate::saved::saved_line_of;
+use crate::strands::{all_stood_text_of, fell_text_of, stood_err_of, stood_out_of};
 use crate::sums::sums_text_of;
 use crate::sweep::{difference_text_of, sweep_text_of};
 use crate::tally::with_tally;
@@ -99,6 +100,18 @@ pub fn texts_of(alloc: Global, answer: &Answer) -> Result<(Text, Text), AllocErr
         Answer::Differs(difference) => Ok((
             CowSlice::Borrowed(none),
             CowSlice::Owned(difference_text_of(alloc, difference)?),
+        )),
+        Answer::Stood(lines, came) => Ok((
+            CowSlice::Owned(stood_out_of(alloc, lines.as_slice(), came)?),
+            CowSlice::Owned(stood_err_of(alloc, lines.as_slice(), came)?),
+        )),
+        Answer::Fell(lines, came, fall) => Ok((
+            CowSlice::Borrowed(none),
+            CowSlice::Owned(fell_text_of(alloc, lines.as_slice(), came, fall.as_slice())?),
+        )),
+        Answer::AllStood(runs) => Ok((
+            CowSlice::Owned(all_stood_text_of(alloc, *runs)?),
+            CowSlice::Borrowed(none),
         )),
         Answer::SourceRefused(refusal) => Ok((
             CowSlice::Borrowed(none),

@@ -1,5 +1,5 @@
 -- The options of a command that words give are in their ranges.
-use Rattle.std.proofs.Common.{◌≡◌, ◌≤◌, ◌*◌, ℕ, nat_le, Bool, true, false, List, [], ◌∷◌, Option, Some, None, IfSome, refl, subst}
+use Rattle.std.proofs.Common.{◌≡◌, ◌≤◌, ◌*◌, ◌==◌, ℕ, nat_le, Bool, true, false, List, [], ◌∷◌, Option, Some, None, IfSome, refl, subst}
 use Rattle.std.proofs.Common.{if◌then◌else◌, option_and_then, option_map}
 use Rattle.std.specs.Prelude.{codes}
 use Rattle.std.specs.Str.{bytes_eq}
@@ -13,7 +13,7 @@ use Rattle.ppm_cli.specs.Application.{ppm_application}
 use Rattle.ppm_cli.specs.CommandLine.{Number, OptionRule, processors, turns, room, slots, looks, seed, faults, schedule}
 use Rattle.ppm_cli.specs.CommandLine.{few_processors, after, saved_room, few_slots, size, count, capsules, arrays, racy}
 use Rattle.ppm_cli.specs.CommandLine.{copied_room, copied_slots, met, from, acts, runs}
-use Rattle.ppm_cli.specs.CommandLine.{traced_from, traced_acts, stated_plan, stated_schedule}
+use Rattle.ppm_cli.specs.CommandLine.{traced_from, traced_acts, stated_plan, stated_schedule, steps, strands}
 use Rattle.ppm_cli.specs.Words.{run_options, serial_in, replay_options, resume_options, self_in, self_options, stop_options}
 use Rattle.ppm_cli.specs.Values.{number_in, number_given, value_of_digits, text_given}
 use Rattle.ppm_cli.specs.Words.{command_named, command_in, without_fault, command_of}
@@ -21,7 +21,8 @@ use Rattle.ppm_cli.specs.Values.{takeover_given, idle_given}
 use Rattle.ppm_cli.specs.Words.{with_text, AreReplayed, AreResumed, AreRun, AreSelf, AreStopped, DoPoolsFit, DoSavedPoolsFit, IsInRange, IsLimit, IsOfForm}
 use Rattle.ppm_cli.specs.Values.{fitting_room, fitting_saved_room, room_given, saved_room_given}
 use Rattle.ppm_cli.specs.Words.{sweep_options, AreSwept, trace_options, AreTraced}
-use Rattle.ppm_cli.specs.Values.{swept_takeovers_given, traced_form_given, traced_lines_given}
+use Rattle.ppm_cli.specs.Words.{strands_by, strands_in, drawn_options, AreDrawn}
+use Rattle.ppm_cli.specs.Values.{strands_form_given, swept_takeovers_given, traced_form_given, traced_lines_given}
 use Rattle.ppm_cli.specs.Words.{by_input, explain_by, explain_in, replay_by, replay_with, check_in, code_in, capsule_limit, with_input}
 use Rattle.ppm_cli.specs.Words.{by_any_input, command_for, replay_saved, stop_saved, trace_saved, with_any_input}
 use Rattle.ppm_cli.specs.Values.{are_counts_given, choice_given, explained_given, input_given, is_case_given, stated_given}
@@ -33,6 +34,7 @@ use Rattle.ppm_cli.specs.declared.explain.ExplainedText.{ExplainedText}
 use Rattle.ppm_cli.specs.declared.input.InputKind.{InputKind}
 use Rattle.ppm_cli.specs.declared.input.InputKind.TheVariants as kinds
 use Rattle.ppm_cli.specs.declared.replay.ReplayOptions.{ReplayOptions}
+use Rattle.ppm_cli.specs.declared.strands.DrawnStrandsOptions.{DrawnStrandsOptions}
 
 -- a value with what came of it
 record Came {A B : Type 0} (o : Option A) (f : A → Option B) (b : B) : Type 0 where
@@ -316,6 +318,30 @@ limited_are : (make : CapsuleLimit → Command) → ((l : CapsuleLimit) → IsLi
 limited_are make in_range None h = tt
 limited_are make in_range (Some l) h = in_range l h
 
+drawn_are : (rows : List Row) → IfSome (drawn_options rows) AreDrawn
+drawn_are rows =
+    bound AreDrawn (number_given turns rows) _ (λ n a.
+    bound AreDrawn (strands_form_given rows) _ (λ f b.
+    bound AreDrawn (number_given runs rows) _ (λ r c.
+    bound AreDrawn (number_given seed rows) _ (λ s d.
+    bound AreDrawn (number_given strands rows) _ (λ k e.
+    bound AreDrawn (number_given steps rows) _ (λ m g. (
+      given turns _ _ n rows refl a,
+      given runs _ _ r rows refl c,
+      given seed _ _ s rows refl d,
+      given strands _ _ k rows refl e,
+      given steps _ _ m rows refl g,
+    )))))))
+
+-- strands run by a schedule, or by schedules that are drawn, or not at all
+strands_by_are : (o : DrawnStrandsOptions) (t : Text) → AreDrawn o → IfSome (strands_by o t) IsInRange
+strands_by_are o t h = either IsInRange (o.runs == 0) _ _ h.0 (either IsInRange (bytes_eq t (codes "none")) _ _ h tt)
+
+strands_are : (options : Option DrawnStrandsOptions) (rows : List Row) → IfSome options AreDrawn
+    → IfSome (option_and_then (λ o. option_and_then (λ t. strands_by o t) (text_given schedule rows)) options) IsInRange
+strands_are None rows h = tt
+strands_are (Some o) rows h = bound IsInRange (text_given schedule rows) (λ t. strands_by o t) (λ t e. strands_by_are o t h)
+
 -- ---- any command
 
 named_are : (name : Text) (rows : List Row) → IfSome (command_named name rows) IsInRange
@@ -329,6 +355,7 @@ named_are name rows =
     (limited_are (λ l. commands.Depth l) (λ l h. h) (capsule_limit rows) (limit_are rows))
     (either IsInRange (bytes_eq name (codes "races")) _ _
     (limited_are (λ l. commands.Races l) (λ l h. h) (capsule_limit rows) (limit_are rows))
+    (either IsInRange (bytes_eq name (codes "strands")) _ _ (strands_are (drawn_options rows) rows (drawn_are rows))
     (either IsInRange (bytes_eq name (codes "replay")) _ _
     (replays_are (replay_options rows) rows (replay_are rows))
     (either IsInRange (bytes_eq name (codes "self")) _ _ (example_are rows)
@@ -346,7 +373,7 @@ named_are name rows =
     (λ o t h. (h.1, h.2)) (trace_are rows))
     (either IsInRange (bytes_eq name (codes "show")) _ _ tt
     (either IsInRange (bytes_eq name (codes "explain")) _ _ (explain_are rows)
-    tt))))))))))))))
+    tt)))))))))))))))
 
 -- the options of a command that words give
 pub is_in_range : (words : List Text) (command : Command) → command_of words ≡ Some command → IsInRange command

@@ -123,7 +123,8 @@ from = number "from" 0 268435455 0
 abbrev pub acts : OptionRule
 acts = number "acts" 1 turn_limit 268435456
 
--- how many of these acts are drawn before which the first fault is put; with 0 none is drawn, and it is put before each
+-- how many of these acts are drawn before which the first fault is put; with 0 none is drawn, and it is put before each. Of strands: how many
+-- schedules are drawn; with 0 none is, and one may be stated
 abbrev pub runs : OptionRule
 runs = number "runs" 0 65536 0
 
@@ -134,6 +135,14 @@ traced_from = number "from" 0 turn_limit 0
 -- the acts that a trace tells at most
 abbrev pub traced_acts : OptionRule
 traced_acts = number "acts" 1 1048576 65536
+
+-- below which number the strands are of which schedules are drawn
+abbrev pub strands : OptionRule
+strands = number "strands" 1 65536 3
+
+-- the steps of each drawn schedule
+abbrev pub steps : OptionRule
+steps = number "steps" 1 4096 64
 
 -- the plan of faults
 abbrev pub faults : OptionRule
@@ -158,6 +167,10 @@ idle = choice "idle" ("leave" ∷ "park" ∷ []) "leave"
 -- the form of a trace: lines of text, events in JSON for a viewer, or a picture in SVG
 abbrev pub traced_form : OptionRule
 traced_form = choice "form" ("text" ∷ "json" ∷ "svg" ∷ []) "text"
+
+-- what is told of a run of strands: what it came to, or each turn of which others saw something too
+abbrev pub strands_form : OptionRule
+strands_form = choice "form" ("arrays" ∷ "text" ∷ []) "arrays"
 
 -- which lines of a trace are written: all, those that end a row, or those with a mark
 abbrev pub only : OptionRule
@@ -206,6 +219,7 @@ command_line =
     ∷ command "check" (racy ∷ [])
     ∷ command "depth" (capsules ∷ [])
     ∷ command "races" (capsules ∷ [])
+    ∷ command "strands" (schedule ∷ turns ∷ strands_form ∷ runs ∷ seed ∷ strands ∷ steps ∷ [])
     ∷ command "replay" (processors ∷ turns ∷ room ∷ slots ∷ takeover ∷ schedule ∷ any_input ∷ counts ∷ [])
     ∷ command "self" (few_processors ∷ size ∷ seed ∷ count ∷ [])
     ∷ command "stop" (processors ∷ after ∷ saved_room ∷ few_slots ∷ schedule ∷ any_input ∷ [])

@@ -9,11 +9,13 @@ use Rattle.ppm_words.specs.declared.idle.Idle.TheVariants.{Leave, Park}
 use Rattle.ppm_cells.specs.Limits.{most_pool_words, most_saved_pool_words}
 use Rattle.ppm_cells.specs.declared.shape.Takeover.{Takeover}
 use Rattle.ppm_cells.specs.declared.shape.Takeover.TheVariants.{ByPlaces, ByEntries}
-use Rattle.ppm_cli.specs.CommandLine.{Form, Number, Choice, AnyText, OptionRule, is_free_text, takeover, swept_takeovers, counts, idle, input, any_input, explained, traced_form, only}
+use Rattle.ppm_cli.specs.CommandLine.{Form, Number, Choice, AnyText, OptionRule, is_free_text, takeover, swept_takeovers, counts, idle, input, any_input, explained, strands_form, traced_form, only}
 use Rattle.ppm_cli.specs.declared.explain.ExplainedText.{ExplainedText}
 use Rattle.ppm_cli.specs.declared.explain.ExplainedText.TheVariants as texts
 use Rattle.ppm_cli.specs.declared.input.InputKind.{InputKind}
 use Rattle.ppm_cli.specs.declared.input.InputKind.TheVariants as kinds
+use Rattle.ppm_cli.specs.declared.strands.StrandsForm.{StrandsForm}
+use Rattle.ppm_cli.specs.declared.strands.StrandsForm.TheVariants as told
 use Rattle.ppm_cli.specs.declared.takeover.SweptTakeovers.{SweptTakeovers}
 use Rattle.ppm_cli.specs.declared.takeover.SweptTakeovers.TheVariants as swept
 use Rattle.ppm_cli.specs.declared.trace.TracedForm.{TracedForm}
@@ -84,6 +86,10 @@ idle_given rows = choice_given idle (Leave ∷ Park ∷ []) rows
 -- the form of a trace
 abbrev pub traced_form_given : List Row → Option TracedForm
 traced_form_given rows = choice_given traced_form (forms.Text ∷ forms.Json ∷ forms.Svg ∷ []) rows
+
+-- what is told of a run of strands
+abbrev pub strands_form_given : List Row → Option StrandsForm
+strands_form_given rows = choice_given strands_form (told.Arrays ∷ told.Text ∷ []) rows
 
 -- which lines of a trace are written
 abbrev pub traced_lines_given : List Row → Option TracedLines

@@ -1,5 +1,5 @@
 -- The command that the words of the command line give, as clap reads them.
-use Rattle.std.specs.Prelude.{◌≤◌, ◌*◌, ℕ, Bool, true, false, List, [], ◌∷◌, Option, Some, None, codes, if◌then◌else◌, option_and_then, option_map, ⊤}
+use Rattle.std.specs.Prelude.{◌≤◌, ◌*◌, ◌==◌, ℕ, Bool, true, false, List, [], ◌∷◌, Option, Some, None, codes, if◌then◌else◌, option_and_then, option_map, ⊤}
 use Rattle.std.specs.Str.{bytes_eq}
 use Rattle.clap.specs.Words.{Kinds, Row, Text, fault_of, subcommand_of}
 use Rattle.ppm_cells.specs.Limits.{most_pool_words, most_saved_pool_words}
@@ -8,9 +8,9 @@ use Rattle.ppm_cli.specs.CommandLine.{Form, Number, OptionRule}
 use Rattle.ppm_cli.specs.CommandLine.{processors, turns, room, slots, looks, seed, faults, schedule}
 use Rattle.ppm_cli.specs.CommandLine.{few_processors, after, saved_room, few_slots, size, count, capsules, arrays, racy}
 use Rattle.ppm_cli.specs.CommandLine.{copied_room, copied_slots, met, from, acts, runs}
-use Rattle.ppm_cli.specs.CommandLine.{traced_from, traced_acts, stated_plan, stated_schedule}
+use Rattle.ppm_cli.specs.CommandLine.{traced_from, traced_acts, stated_plan, stated_schedule, steps, strands}
 use Rattle.ppm_cli.specs.Values.{and_then, are_counts_given, choice_given, idle_given, is_case_given, number_given, room_given, swept_takeovers_given, takeover_given, text_given}
-use Rattle.ppm_cli.specs.Values.{explained_given, stated_given, input_given, saved_room_given, traced_form_given, traced_lines_given}
+use Rattle.ppm_cli.specs.Values.{explained_given, stated_given, input_given, saved_room_given, strands_form_given, traced_form_given, traced_lines_given}
 use Rattle.ppm_cli.specs.declared.capsules.CapsuleLimit.{CapsuleLimit}
 use Rattle.ppm_cli.specs.declared.command.Command.{Command}
 use Rattle.ppm_cli.specs.declared.command.Command.TheVariants as commands
@@ -26,6 +26,8 @@ use Rattle.ppm_cli.specs.declared.resume.ResumeOptions.{ResumeOptions}
 use Rattle.ppm_cli.specs.declared.run.RunOptions.{RunOptions}
 use Rattle.ppm_cli.specs.declared.stop.StopOptions.{StopOptions}
 use Rattle.ppm_cli.specs.declared.stop.StopSavedOptions.{StopSavedOptions}
+use Rattle.ppm_cli.specs.declared.strands.DrawnStrandsOptions.{DrawnStrandsOptions}
+use Rattle.ppm_cli.specs.declared.strands.StrandsOptions.{StrandsOptions}
 use Rattle.ppm_cli.specs.declared.sweep.SweepOptions.{SweepOptions}
 use Rattle.ppm_cli.specs.declared.trace.TraceOptions.{TraceOptions}
 use Rattle.ppm_cli.specs.declared.trace.TraceSavedOptions.{TraceSavedOptions}
@@ -223,6 +225,27 @@ depth_in rows = option_map (λ l. commands.Depth l) (capsule_limit rows)
 abbrev pub races_in : List Row → Option Command
 races_in rows = option_map (λ l. commands.Races l) (capsule_limit rows)
 
+-- the options of `strands` but for its schedule, with how many schedules are drawn, 0 for none, if each has a value of its form
+abbrev pub drawn_options : List Row → Option DrawnStrandsOptions
+drawn_options rows =
+    and_then (number_given turns rows) (λ n.
+    and_then (strands_form_given rows) (λ f.
+    and_then (number_given runs rows) (λ r.
+    and_then (number_given seed rows) (λ s.
+    and_then (number_given strands rows) (λ c.
+    and_then (number_given steps rows) (λ k.
+    Some (record { turns = n; form = f; runs = r; seed = s; strands = c; steps = k })))))))
+
+-- the command `strands` with its options: by its schedule where none are drawn; where some are, no other schedule than the one without items is given
+abbrev pub strands_by : DrawnStrandsOptions → Text → Option Command
+strands_by o text =
+    if o.runs == 0 then Some (commands.Strands (record { turns = o.turns; form = o.form }) text)
+    else if bytes_eq text (codes "none") then Some (commands.DrawnStrands o)
+    else None
+
+abbrev pub strands_in : List Row → Option Command
+strands_in rows = and_then (drawn_options rows) (λ o. and_then (text_given schedule rows) (λ t. strands_by o t))
+
 -- the command `explain`: of a plan or of a schedule for so many processors, if one is stated, else of this text; of both there is none
 abbrev pub explain_by : ExplainedText → (processors : ℕ) → (plan schedule : Option Text) → Option Command
 explain_by text p None None = Some (commands.Explain text)
@@ -247,6 +270,7 @@ command_named name rows =
     else if bytes_eq name (codes "check") then check_in rows
     else if bytes_eq name (codes "depth") then depth_in rows
     else if bytes_eq name (codes "races") then races_in rows
+    else if bytes_eq name (codes "strands") then strands_in rows
     else if bytes_eq name (codes "replay") then replay_in rows
     else if bytes_eq name (codes "self") then self_in rows
     else if bytes_eq name (codes "stop") then stop_in rows
@@ -340,6 +364,16 @@ AreTraced options =
 abbrev pub AreSavedTraced : TraceSavedOptions → Type 0
 AreSavedTraced options = IsOfForm traced_from.form options.from × IsOfForm traced_acts.form options.acts
 
+-- the turns of a run of strands are in their range
+abbrev pub AreOfStrands : StrandsOptions → Type 0
+AreOfStrands options = IsOfForm turns.form options.turns
+
+-- and where schedules are drawn, each option is
+abbrev pub AreDrawn : DrawnStrandsOptions → Type 0
+AreDrawn options =
+    IsOfForm turns.form options.turns × IsOfForm runs.form options.runs × IsOfForm seed.form options.seed
+    × IsOfForm strands.form options.strands × IsOfForm steps.form options.steps
+
 -- the processors for which a plan or a schedule is explained are in their range
 abbrev pub AreExplained : ExplainOptions → Type 0
 AreExplained options = IsOfForm processors.form options.processors
@@ -361,6 +395,8 @@ IsInRange (commands.Stop options _) = AreStopped options
 IsInRange (commands.Resume options _) = AreResumed options
 IsInRange (commands.Depth limit) = IsLimit limit
 IsInRange (commands.Races limit) = IsLimit limit
+IsInRange (commands.Strands options _) = AreOfStrands options
+IsInRange (commands.DrawnStrands options) = AreDrawn options
 IsInRange commands.CodeCase = ⊤
 IsInRange (commands.RunCase options _) = AreRun options
 IsInRange (commands.ReplayCase options _) = AreReplayed options

@@ -14,6 +14,7 @@ use crate::resume::{ResumeOptions, resume_from};
 use crate::run::{RunOptions, run_from};
 use crate::serial::{SerialOptions, serial_from};
 use crate::stop::{StopOptions, StopSavedOptions, stop_from};
+use crate::strands::{DrawnStrandsOptions, StrandsOptions, strands_from};
 use crate::sweep::{SweepOptions, sweep_from};
 use crate::trace::{TraceOptions, TraceSavedOptions, trace_from};
 use clap::ArgMatches;
@@ -47,6 +48,11 @@ pub enum Command {
     Depth(CapsuleLimit),
     /// To judge whether the code of the case that is read is sound with its arrays.
     Races(CapsuleLimit),
+    /// To run the strands of the case that is read, which may race, by a schedule, of which these
+    /// are the bytes.
+    Strands(StrandsOptions, Items<u8>),
+    /// To run the strands of the case that is read, which may race, by schedules that are drawn.
+    DrawnStrands(DrawnStrandsOptions),
     /// To write the case of the source that is read: its arrays and its code.
     CodeCase,
     /// To run the case that is read, under a plan of faults, of which these are the bytes.
@@ -122,6 +128,7 @@ fn command_named(
         "check" => Ok(check_from(matches)),
         "depth" => Ok(depth_from(matches)),
         "races" => Ok(races_from(matches)),
+        "strands" => strands_from(alloc, matches),
         "replay" => replay_from(alloc, matches),
         "self" => Ok(self_from(matches)),
         "stop" => stop_from(alloc, matches),

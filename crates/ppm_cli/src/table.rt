@@ -8,7 +8,8 @@ const FEW: u32 = 16;
 /// The most words of a pool where all words are written out, and of all pools together.
 pub(crate) const MOST_WRITTEN_WORDS: u32 = 4_194_304;
 
-/// The most values that are made, and the most faults that are drawn.
+/// The most values that are made, the most faults that are drawn, and the most steps of a drawn
+/// schedule.
 const MOST_MADE: u32 = 4_096;
 
 /// The most entries of a deque where all words are written out.
@@ -17,7 +18,7 @@ const MOST_WRITTEN_ENTRIES: u32 = 4_096;
 /// The most looks for work in a row.
 const MOST_LOOKS: u32 = 1_048_576;
 
-/// The most acts of a base run that are drawn.
+/// The most acts of a base run that are drawn, and the most strands of which steps are.
 const MOST_DRAWN: u32 = 65_536;
 
 /// The most acts that are told.
@@ -221,7 +222,8 @@ pub(crate) const ACTS: NumberOption = NumberOption {
     default: "268435456",
 };
 
-/// How many acts of the base run are drawn before which faults are put.
+/// How many acts of the base run are drawn before which faults are put, or how many schedules are
+/// drawn.
 pub(crate) const RUNS: NumberOption = NumberOption {
     name: "runs",
     low: 0,
@@ -243,6 +245,22 @@ pub(crate) const TRACED_ACTS: NumberOption = NumberOption {
     low: 1,
     high: MOST_TOLD,
     default: "65536",
+};
+
+/// Below which number the strands are of which schedules are drawn.
+pub(crate) const STRANDS: NumberOption = NumberOption {
+    name: "strands",
+    low: 1,
+    high: MOST_DRAWN,
+    default: "3",
+};
+
+/// How many steps each drawn schedule has: no more than items may be written.
+pub(crate) const STEPS: NumberOption = NumberOption {
+    name: "steps",
+    low: 1,
+    high: MOST_MADE,
+    default: "64",
 };
 
 /// The plan of faults.
@@ -277,6 +295,13 @@ pub(crate) const TRACED_FORM: ChoiceOption = ChoiceOption {
     name: "form",
     words: &["text", "json", "svg"],
     default: "text",
+};
+
+/// What is told of a run of strands.
+pub(crate) const STRANDS_FORM: ChoiceOption = ChoiceOption {
+    name: "form",
+    words: &["arrays", "text"],
+    default: "arrays",
 };
 
 /// Which lines of a trace are written.
@@ -347,7 +372,7 @@ pub(crate) const SCHEDULE: TextOption = TextOption {
 };
 
 /// The commands, in the order of the help page.
-pub const COMMANDS: [CommandRow; 15] = [
+pub const COMMANDS: [CommandRow; 16] = [
     CommandRow {
         name: "run",
         options: &[
@@ -382,6 +407,18 @@ pub const COMMANDS: [CommandRow; 15] = [
     CommandRow {
         name: "races",
         options: &[OptionRow::Number(CAPSULES)],
+    },
+    CommandRow {
+        name: "strands",
+        options: &[
+            OptionRow::Text(SCHEDULE),
+            OptionRow::Number(TURNS),
+            OptionRow::Choice(STRANDS_FORM),
+            OptionRow::Number(RUNS),
+            OptionRow::Number(SEED),
+            OptionRow::Number(STRANDS),
+            OptionRow::Number(STEPS),
+        ],
     },
     CommandRow {
         name: "replay",

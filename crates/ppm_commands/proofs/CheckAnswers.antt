@@ -14,7 +14,7 @@ use Rattle.ppm_commands.proofs.LeastLemmas.{no_fault, no_conflict}
 use Rattle.ppm_commands.proofs.LongTexts.{front}
 
 -- a refusal by its parts
-refusal_path : (q r : ListingRefusal) → q.number ≡ r.number → q.line ≡ r.line → q ≡ r
+pub refusal_path : (q r : ListingRefusal) → q.number ≡ r.number → q.line ≡ r.line → q ≡ r
 refusal_path q r number line = λ i. record { number = number i; line = line i }
 
 module _ (law : FaultsTellListings) where
@@ -26,7 +26,7 @@ module _ (law : FaultsTellListings) where
       a.free k.conflict.capsule k.conflict.read_at k.conflict.write_at k.conflict.class of_a.first.first.conflict
 
   -- a listing has no fault
-  pub not_listed : (text : List ℕ) (code : CodeParts) (r : ListingRefusal) → IsListing text code → IsUnlisted text r → ⊥
+  not_listed : (text : List ℕ) (code : CodeParts) (r : ListingRefusal) → IsListing text code → IsUnlisted text r → ⊥
   not_listed text code r l u = law.excludes text code u.rule r.line l u.first.there
 
   -- two conflicts of a text are one

@@ -9,6 +9,7 @@ use Rattle.ppm_war.specs.Conflicts.{IsFree, IsFirstConflictOf}
 use Rattle.ppm_listing_reader.specs.declared.listing_error.Fault.{Fault}
 use Rattle.ppm_listing_reader.specs.ErrorNumbers.{fault_number}
 use Rattle.ppm_listing_reader.specs.Correct.{HasFault, IsNotAfter, IsFirstFault}
+use Rattle.ppm_racy_listing.specs.Correct.{HasRacyFault, IsFirstRacyFault}
 use Rattle.ppm_commands.proofs.LongTexts.{most_number}
 
 -- what no number has that is the least to have it, no number has
@@ -20,14 +21,15 @@ module _ (P : ℕ → Type 0) (none : (n : ℕ) → ((m : ℕ) → m < n → P m
   pub without_least : (n : ℕ) → P n → ⊥
   without_least n = below (suc n) n (omega arith)
 
--- a text has no fault where it has no first one
-module _ (text : List ℕ) (free : (rule : Fault) (line : ℕ) → IsFirstFault text rule line → ⊥) where
+-- there is no fault where there is no first one
+module _ (Has : Fault → ℕ → Type 0)
+    (free : (rule : Fault) (line : ℕ) → Has rule line → ((other : Fault) (later : ℕ) → Has other later → IsNotAfter (rule, line) (other, later)) → ⊥) where
   -- where a fault stands among all: by its line, and there by its number, which is 6 at most
   abbrev rank : Fault → ℕ → ℕ
   rank rule line = 7 * line + fault_number rule
 
   abbrev HasRank : ℕ → Type 0
-  HasRank n = (rule : Fault) × (line : ℕ) × HasFault text rule line × (rank rule line ≡ n)
+  HasRank n = (rule : Fault) × (line : ℕ) × Has rule line × (rank rule line ≡ n)
 
   -- a fault whose rank is no less comes no earlier
   not_after : (rule other : Fault) (line later : ℕ) → rank rule line ≤ rank other later → IsNotAfter (rule, line) (other, later)
@@ -41,9 +43,9 @@ module _ (text : List ℕ) (free : (rule : Fault) (line : ℕ) → IsFirstFault 
       by false e = let no : later ≤ line = grind (arith, e) in inr (omega (arith, less, most, no), omega (arith, less, most, no))
 
   first : (n : ℕ) → ((m : ℕ) → m < n → HasRank m → ⊥) → HasRank n → ⊥
-  first n none (rule, line, h, e) = free rule line (record { there = h; first = least })
+  first n none (rule, line, h, e) = free rule line h least
     where
-      least : (other : Fault) (later : ℕ) → HasFault text other later → IsNotAfter (rule, line) (other, later)
+      least : (other : Fault) (later : ℕ) → Has other later → IsNotAfter (rule, line) (other, later)
       least other later k = by (nat_lt (rank other later) (rank rule line)) refl
         where
           by : (b : Bool) → nat_lt (rank other later) (rank rule line) ≡ b → IsNotAfter (rule, line) (other, later)
@@ -52,8 +54,18 @@ module _ (text : List ℕ) (free : (rule : Fault) (line : ℕ) → IsFirstFault 
               absurd (none (rank other later) (subst (λ (m : ℕ). rank other later < m) e less) (other, later, k, refl))
           by false f = not_after rule other line later (grind (arith, f))
 
-  pub no_fault : (rule : Fault) (line : ℕ) → HasFault text rule line → ⊥
-  no_fault rule line h = without_least HasRank first (rank rule line) (rule, line, h, refl)
+  none_is_there : (rule : Fault) (line : ℕ) → Has rule line → ⊥
+  none_is_there rule line h = without_least HasRank first (rank rule line) (rule, line, h, refl)
+
+-- so of a text
+pub no_fault : (text : List ℕ) → ((rule : Fault) (line : ℕ) → IsFirstFault text rule line → ⊥)
+    → (rule : Fault) (line : ℕ) → HasFault text rule line → ⊥
+no_fault text free = none_is_there (HasFault text) (λ rule line h least. free rule line (record { there = h; first = least }))
+
+-- and of one with exchanges
+pub no_racy_fault : (text : List ℕ) → ((rule : Fault) (line : ℕ) → IsFirstRacyFault text rule line → ⊥)
+    → (rule : Fault) (line : ℕ) → HasRacyFault text rule line → ⊥
+no_racy_fault text free = none_is_there (HasRacyFault text) (λ rule line h least. free rule line (record { there = h; first = least }))
 
 -- a code has no conflict where it has no first one
 module _ (code : CodeParts) (free : (c : Conflict) → IsFirstConflictOf code c → ⊥) where

@@ -1,18 +1,20 @@
--- The command `check` of a code whose strands may race: what it says of a text, when it may give each answer, and what follows from each status.
-use Rattle.std.specs.Prelude.{◌≡◌, ◌⊎◌, ℕ, List}
+-- The command `check` of a code whose strands may race, and exchange array words: what it says of a text, when it may give each answer, and what
+-- follows from each status.
+use Rattle.std.specs.Prelude.{◌≡◌, ◌⊎◌, ◌<◌, ◌≤◌, ℕ, List, length, ⊤}
 use Rattle.ppm_ports.specs.Ports.{Port, Gets}
 use Rattle.ppm_ports.specs.Outside.{Ports}
-use Rattle.ppm_code.specs.declared.code.CodeParts.{CodeParts}
-use Rattle.ppm_war.specs.declared.checked.Conflict.{Conflict}
 use Rattle.ppm_gaps.specs.declared.gaps.CapsuleGap.{CapsuleGap}
 use Rattle.ppm_gaps.specs.declared.gaps.Gap.{Gap}
 use Rattle.ppm_gaps.specs.declared.gaps.Gap.TheVariants as gaps
 use Rattle.ppm_gaps.specs.declared.racing.Flaw.{Flaw}
 use Rattle.ppm_gaps.specs.declared.racing.Flaw.TheVariants as flaws
-use Rattle.ppm_gaps.specs.Correct.{IsRestartable}
-use Rattle.ppm_gaps.specs.Flaws.{IsFirstFlaw}
+use Rattle.ppm_racy.specs.declared.code.RacyParts.{RacyParts}
+use Rattle.ppm_racy_gaps.specs.Correct.{IsRestartable}
+use Rattle.ppm_racy_gaps.specs.Flaws.{IsFirstRacyFlaw}
+use Rattle.ppm_listing_reader.specs.declared.listing_error.Fault.{Fault}
 use Rattle.ppm_listing_reader.specs.Limits.{listing_limit}
-use Rattle.ppm_listing_reader.specs.Correct.{IsListing}
+use Rattle.ppm_listing_reader.specs.ErrorNumbers.{fault_number}
+use Rattle.ppm_racy_listing.specs.Correct.{IsRacyListing, IsFirstRacyFault}
 use Rattle.ppm_answers.specs.declared.conflict.Conflict.{Conflict as ToldConflict}
 use Rattle.ppm_answers.specs.declared.conflict.ListingRefusal.{ListingRefusal}
 use Rattle.ppm_answers.specs.declared.gap.Gap.{Gap as ToldGap}
@@ -42,47 +44,59 @@ abbrev pub flaw_answer : Flaw → Answer
 flaw_answer (flaws.Conflict c) = answers.Conflicting (conflict_told c)
 flaw_answer (flaws.Gap g) = answers.Gapped (gap_told g)
 
--- the text is the listing of a code whose capsules may be stopped anywhere and begun again, though strands race
+-- the text is the listing of a code that may have exchanges, in so many bytes as a listing may have
+pub record IsRacyText (text : List ℕ) (code : RacyParts) : Type 0 where
+  pub listed : IsRacyListing text code
+  pub short : length text ≤ listing_limit
+
+-- the text is that of a code whose capsules may be stopped anywhere and begun again, though strands race and exchange array words
 pub record IsAcceptedRacing (text : List ℕ) : Type 0 where
-  pub code : CodeParts
-  pub listed : IsListing text code
+  pub code : RacyParts
+  pub is : IsRacyText text code
   pub restartable : IsRestartable code
 
--- the text is the listing of a code with a conflict or a gap, and this answer tells the first flaw: of the least capsule that has one, and there a
--- conflict before a gap
+-- the text is that of a code with a conflict or a gap, and this answer tells the first flaw: of the least capsule that has one, and there a conflict
+-- before a gap; an exchange is a read and a write of array words at one place
 pub record IsFlawed (text : List ℕ) (answer : Answer) : Type 0 where
-  pub code : CodeParts
-  pub listed : IsListing text code
+  pub code : RacyParts
+  pub is : IsRacyText text code
   pub flaw : Flaw
-  pub first : IsFirstFlaw code flaw
+  pub first : IsFirstRacyFlaw code flaw
   pub tells : answer ≡ flaw_answer flaw
+
+-- the text is that of no code, and this is its first fault: that of a listing with exchanges, or, of a text that is too long, that of a listing
+pub data IsRefusedRacing (text : List ℕ) (r : ListingRefusal) : Type 0 where
+  NotListed : (rule : Fault) → length text ≤ listing_limit → IsFirstRacyFault text rule r.line → r.number ≡ fault_number rule
+      → IsRefusedRacing text r
+  TooLong : listing_limit < length text → IsUnlisted text r → IsRefusedRacing text r
 
 -- the answer that a text has where it is checked so
 abbrev pub RacingHas : List ℕ → Answer → Type 0
 RacingHas text answers.Accepted = IsAcceptedRacing text
 RacingHas text (answers.Conflicting c) = IsFlawed text (answers.Conflicting c)
 RacingHas text (answers.Gapped g) = IsFlawed text (answers.Gapped g)
-RacingHas text (answers.ListingRefused r) = IsUnlisted text r
+RacingHas text (answers.ListingRefused r) = IsRefusedRacing text r
 RacingHas text _ = ⊥
 
--- the answer that a code has
-pub record HasFlaw (code : CodeParts) (answer : Answer) : Type 0 where
+-- an answer that a code has, or want of memory
+pub record HasFlaw (code : RacyParts) (answer : Answer) : Type 0 where
   pub flaw : Flaw
-  pub first : IsFirstFlaw code flaw
+  pub first : IsFirstRacyFlaw code flaw
   pub tells : answer ≡ flaw_answer flaw
 
-abbrev pub RacingVerdictOf : CodeParts → Answer → Type 0
-RacingVerdictOf code answers.Accepted = IsRestartable code
-RacingVerdictOf code (answers.Conflicting c) = HasFlaw code (answers.Conflicting c)
-RacingVerdictOf code (answers.Gapped g) = HasFlaw code (answers.Gapped g)
-RacingVerdictOf code _ = ⊥
+abbrev pub RacingVerdictMay : RacyParts → Answer → Type 0
+RacingVerdictMay code answers.Accepted = IsRestartable code
+RacingVerdictMay code (answers.Conflicting c) = HasFlaw code (answers.Conflicting c)
+RacingVerdictMay code (answers.Gapped g) = HasFlaw code (answers.Gapped g)
+RacingVerdictMay code answers.NoMemory = ⊤
+RacingVerdictMay code _ = ⊥
 
 -- Two answers of a text are one, and what stands after more bytes than a listing may have changes none. Each text has one: it is refused for its
 -- first fault, or its code has a first flaw, or it is accepted.
 pub record HaveOneAnswer : Type 0 where
   pub one : AreOne RacingHas
   pub front : FrontsDecide listing_limit RacingHas
-  pub some : (text : List ℕ) → ((r : ListingRefusal) → ¬ IsUnlisted text r) → ((answer : Answer) → ¬ IsFlawed text answer) → IsAcceptedRacing text
+  pub some : (text : List ℕ) → ((r : ListingRefusal) → ¬ IsRefusedRacing text r) → ((answer : Answer) → ¬ IsFlawed text answer) → IsAcceptedRacing text
 
 -- the answers of `check` of such a code
 abbrev pub RacingCheckMay : Port → Answer → Type 0

@@ -14,10 +14,11 @@ use ppm_cut_code::keeps_the_rules;
 use ppm_cut_correct::{end_as_meant, name_arrays, start_with_input};
 use ppm_cut_sound::{code_is_sound, may_be_stopped, store_tidily};
 use ppm_depth::runs_are_there;
-use ppm_gaps::{codes_without_flaws_are_restartable, flaws_tell_codes};
 use ppm_listing_reader::faults_tell_listings;
 use ppm_program::have_one_answer as have_one_program;
 use ppm_races::{verdicts_are_one, verdicts_are_there};
+use ppm_racy_gaps::{racy_codes_without_flaws_are_restartable, racy_flaws_tell_codes};
+use ppm_racy_listing::racy_faults_tell_listings;
 use ppm_rows::trees_are_within;
 use ppm_saved_reader::faults_tell_saved_texts;
 use ppm_tree::{have_one_end, none_is_stuck, spend_their_turns};
@@ -39,8 +40,9 @@ pub fn racing_listings_have_one_answer()
 {
     // The law rests on these; the calls do nothing.
     faults_tell_listings();
-    flaws_tell_codes();
-    codes_without_flaws_are_restartable();
+    racy_faults_tell_listings();
+    racy_flaws_tell_codes();
+    racy_codes_without_flaws_are_restartable();
 }
 
 /// Where its state is shown, a text has one answer: its fault, or the lines of its state; and a text

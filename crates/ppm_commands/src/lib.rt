@@ -10,9 +10,10 @@
 //! Contract: each call delivers the answer of the text that was read, or says that a port failed or
 //! memory was refused, and what follows from each status is a sentence of its table (`CheckSays`,
 //! `RacingCheckSays`, `CodeSays`, `CaseSays`, `SerialSays`, `DepthSays`, `RacesSays`, `ShowSays`).
-//! Stands on `ppm_listing_reader`, `ppm_war` and `ppm_gaps`, on `ppm_program`, `ppm_cut` and `ppm_serial`, on
-//! `ppm_case`, `ppm_depth` and `ppm_races`, on `ppm_saved_reader` and `ppm_show`, on `ppm_loading`
-//! for the refusals of cases, and on `ppm_answers`; `ppm_explained` and `ppm_top` call it.
+//! Stands on `ppm_listing_reader`, `ppm_racy_listing`, `ppm_war` and `ppm_racy_gaps`, on
+//! `ppm_program`, `ppm_cut` and `ppm_serial`, on `ppm_case`, `ppm_depth` and `ppm_races`, on
+//! `ppm_saved_reader` and `ppm_show`, on `ppm_loading` for the refusals of cases, and on
+//! `ppm_answers`; `ppm_explained` and `ppm_top` call it.
 //! After the write-after-read conflicts of Blelloch et al., SPAA 2018; the commands and their
 //! answers are this project's.
 #![tactic(auto)]

@@ -1,24 +1,27 @@
-//! The command `check` of a code whose strands may race.
-ghost use Rattle.std.specs.Prelude.{◌≡◌};
+//! The command `check` of a code whose strands may race, and exchange array words.
+ghost use Rattle.std.specs.Prelude.{◌≡◌, ◌<◌, length, nat_lt};
 ghost use Rattle.ppm_ports.specs.Ports.{port};
 ghost use Rattle.ppm_ports.specs.Outside.{ports};
+ghost use Rattle.ppm_listing_reader.specs.Limits.{listing_limit};
 ghost use Rattle.ppm_answers.specs.Reading.{TextMay};
 ghost use Rattle.ppm_commands.specs.RacingCheck.{IsRacingChecked, RacingCheckMay, RacingHas};
-ghost use Rattle.ppm_commands.specs.RacingCheck.{RacingVerdictOf};
+ghost use Rattle.ppm_commands.specs.RacingCheck.{RacingVerdictMay};
 ghost use Rattle.ppm_commands.specs.RacingCheck.{flaw_answer as answer_of_flaw};
 ghost use Rattle.ppm_commands.specs.RacingCheck.{gap_told as told_gap};
 
 use crate::check::{class_told, conflict_told, error_answer};
 use crate::laws::racing_listings_have_one_answer;
 use ppm_answers::{Answer, Hung, LeftOut, OtherBlock, Status, Unbuilt, answer_of_read, deliver};
-use ppm_code::Code;
-use ppm_gaps::{CapsuleGap, Flaw, Gap, check_racing};
-use ppm_listing_reader::{LISTING_LIMIT, read_listing};
+use ppm_gaps::{CapsuleGap, Flaw, Gap};
+use ppm_listing_reader::{LISTING_LIMIT, faults_tell_listings, read_listing};
 use ppm_ports::{Sink, Source, read_whole};
+use ppm_racy::RacyCode;
+use ppm_racy_gaps::first_flaw;
+use ppm_racy_listing::read_racy_listing;
 use std::alloc::Global;
 
-/// Checks the listing that is read, of a code whose strands may race: `ok` is written on `out`, its
-/// first conflict or gap, or its first fault, on `err`.
+/// Checks the listing that is read, of a code whose strands may race and exchange array words: `ok`
+/// is written on `out`, its first conflict or gap, or its first fault, on `err`.
 pub fn racing_check_command<S: Source, K: Sink, E: Sink>(
     alloc: Global,
     source: &mut S,
@@ -45,27 +48,57 @@ fn check_answer<S: Source>(alloc: Global, source: &mut S) -> Answer
     }
 }
 
-/// What is said of a text: its fault, or the first flaw of its code, or that there is none.
-fn text_answer(alloc: Global, text: &[u8]) -> Answer
+/// Whether so many bytes are more than a listing may have.
+fn is_too_long(bytes: usize) -> bool
+    ensures { result ≡ nat_lt listing_limit bytes }
+{
+    bytes > LISTING_LIMIT
+}
+
+/// What is said of a text that is too long: the fault that it has as a listing.
+fn long_answer(alloc: Global, text: &[u8]) -> Answer
+    requires { listing_limit < length text.now }
     ensures { TextMay RacingHas text.now result }
 {
+    // No listing is so long; the call does nothing.
+    faults_tell_listings();
     match read_listing(alloc, text) {
         Ok(code) => {
             // What the type of `code` keeps is known once its parts were seen.
             let _ = code.parts();
-            code_answer(&code)
+            unreachable!()
+        }
+        Err(error) => error_answer(error),
+    }
+}
+
+/// What is said of a text: its fault, or the first flaw of its code, or that there is none.
+fn text_answer(alloc: Global, text: &[u8]) -> Answer
+    ensures { TextMay RacingHas text.now result }
+{
+    if is_too_long(text.len()) {
+        return long_answer(alloc, text);
+    }
+    match read_racy_listing(alloc, text) {
+        Ok(code) => {
+            // What the type of `code` keeps is known once its parts were seen.
+            let _ = code.parts();
+            code_answer(alloc, &code)
         }
         Err(error) => error_answer(error),
     }
 }
 
 /// What is said of a code.
-fn code_answer(code: &Code) -> Answer
-    ensures { RacingVerdictOf code.now result }
+fn code_answer(alloc: Global, code: &RacyCode) -> Answer
+    ensures { RacingVerdictMay code.now result }
 {
-    match check_racing(code) {
-        Ok(()) => Answer::Accepted,
-        Err(flaw) => flaw_told(flaw),
+    let Ok(found) = first_flaw(alloc, code) else {
+        return Answer::NoMemory;
+    };
+    match found {
+        Some(flaw) => flaw_told(flaw),
+        None => Answer::Accepted,
     }
 }
 

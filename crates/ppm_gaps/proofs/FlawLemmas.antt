@@ -93,7 +93,7 @@ module _ (is : List Instr) where
 
 module _ (code : CodeParts) where
   -- a capsule with a first gap is not filled, and one with a first conflict has a conflict
-  gap_shows : (g : CapsuleGap) → IsFirstGapOf code g → IsFilledIn code g.capsule → ⊥
+  pub gap_shows : (g : CapsuleGap) → IsFirstGapOf code g → IsFilledIn code g.capsule → ⊥
   gap_shows g f fills = not_filled (instrs_of code g.capsule) g.gap fills f.first.first
 
   conflict_shows : (c : Conflict) → IsFirstConflictOf code c → HasNoConflictIn code c.capsule → ⊥

@@ -27,11 +27,11 @@ module _ (P : ℕ → Type 0) (none : (n : ℕ) → ((m : ℕ) → m < n → P m
   below zero n less = λ h. absurd (omega (arith, less))
   below (suc k) n less = none n (λ m is. below k m (omega (arith, less, is)))
 
-  without_least : (n : ℕ) → P n → ⊥
+  pub without_least : (n : ℕ) → P n → ⊥
   without_least n = below (suc n) n (omega arith)
 
 -- a number below which none has it is no greater than one that has
-least_of : (P : ℕ → Type 0) (n : ℕ) → ((m : ℕ) → m < n → P m → ⊥) → (k : ℕ) → P k → n ≤ k
+pub least_of : (P : ℕ → Type 0) (n : ℕ) → ((m : ℕ) → m < n → P m → ⊥) → (k : ℕ) → P k → n ≤ k
 least_of P n before k p = by (nat_lt k n) refl
   where
     by : (b : Bool) → nat_lt k n ≡ b → n ≤ k
@@ -137,7 +137,7 @@ module _ (is : List Instr) (free : (at : ℕ) → IsFirstHung is at → ⊥) whe
   no_hung at h = without_least (IsHung is) hung_by_place at h
 
 -- a capsule without a first gap is filled, as its paths tell
-no_gap_in : (is : List Instr) → ((g : Gap) → IsFirstGap is g → ⊥) → IsFilledOnPaths is
+pub no_gap_in : (is : List Instr) → ((g : Gap) → IsFirstGap is g → ⊥) → IsFilledOnPaths is
 no_gap_in is free =
     let none_left_out : HasNoLeftOut is = no_left_out is (λ g f. free (OfLeftOut g) f) in
     let none_unbuilt : HasNoUnbuilt is = no_unbuilt is (λ g f. free (OfUnbuilt g) (none_left_out, f)) in

@@ -16,7 +16,7 @@ pub(crate) fn may_be(instr: &Instr, may: May) -> bool
 
 /// Whether a path leads to a place from another one, past instructions that are allowed: any, or
 /// those that leave the class exposed.
-pub(crate) fn leads(instrs: &[Instr], from: usize, to: usize, class: Option<Class>) -> bool
+pub fn leads(instrs: &[Instr], from: usize, to: usize, class: Option<Class>) -> bool
     requires most { length instrs.now ≤ instr_limit }
     requires there { to < length instrs.now }
     ensures { IsTrue result ↔ Path instrs.now (Allows class) from to }

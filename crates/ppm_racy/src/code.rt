@@ -1,10 +1,13 @@
 //! Codes whose capsules may race.
-ghost use Rattle.std.specs.Prelude.{◌≡◌, slice_get, MatchOption, Some, None};
-ghost use Rattle.ppm_racy.specs.Code.{IsRacyCode};
+ghost use Rattle.std.specs.Prelude.{◌≡◌, slice_get, map, MatchOption, Some, None, IfOk};
+ghost use Rattle.ppm_racy.specs.Acts.{plain_of};
+ghost use Rattle.ppm_racy.specs.Code.{IsRacyCode, plain_capsule as capsule_with_puts};
+ghost use Rattle.ppm_racy.specs.Code.{plain_code as code_with_puts};
 
 use crate::instr::RacyInstr;
-use ppm_code::Procedure;
-use ppm_words::Items;
+use ppm_code::{Capsule, Code, CodeParts, Instr, Procedure};
+use ppm_words::{Items, NoMemory};
+use std::alloc::Global;
 use std::marker::Model;
 
 /// A capsule of a procedure: its instructions, 160 at most.
@@ -65,4 +68,49 @@ impl RacyCode {
     {
         self.parts.capsules.as_slice().get(number as usize)
     }
+}
+
+/// Instructions, with a put in place of each compare-and-modify.
+fn plain_instrs(alloc: Global, instrs: &[RacyInstr]) -> Result<Vec<Instr>, NoMemory>
+    ensures { IfOk result (λ plain. plain.items ≡ map plain_of instrs.now) }
+{
+    let mut plain = Vec::new(alloc);
+    let mut left = instrs;
+    while let [instr, rest @ ..] = left {
+        plain.push(instr.plain())?;
+        left = rest;
+    }
+    Ok(plain)
+}
+
+/// Capsules, with a put in place of each compare-and-modify.
+fn plain_capsules(alloc: Global, capsules: &[RacyCapsule]) -> Result<Vec<Capsule>, NoMemory>
+    ensures { IfOk result (λ plain. plain.items ≡ map capsule_with_puts capsules.now) }
+{
+    let mut plain = Vec::new(alloc);
+    let mut left = capsules;
+    while let [capsule, rest @ ..] = left {
+        plain.push(Capsule {
+            procedure: capsule.procedure,
+            instrs: Items::from_vec(plain_instrs(alloc, capsule.instrs.as_slice())?),
+        })?;
+        left = rest;
+    }
+    Ok(plain)
+}
+
+/// The code with a put in place of each compare-and-modify. `Err` only where memory is refused.
+pub fn plain_code(alloc: Global, code: &RacyCode) -> Result<Code, NoMemory>
+    ensures { IfOk result (λ plain. plain ≡ code_with_puts code.now) }
+{
+    let parts = code.parts();
+    let arrays = Vec::from_slice(alloc, parts.arrays.as_slice())?;
+    let procedures = Vec::from_slice(alloc, parts.procedures.as_slice())?;
+    let capsules = plain_capsules(alloc, parts.capsules.as_slice())?;
+    Ok(Code::from_parts(CodeParts {
+        root: parts.root,
+        arrays: Items::from_vec(arrays),
+        procedures: Items::from_vec(procedures),
+        capsules: Items::from_vec(capsules),
+    }))
 }

@@ -16,7 +16,7 @@ mod instr;
 mod laws;
 mod touch;
 
-pub use code::{RacyCapsule, RacyCode, RacyParts};
+pub use code::{RacyCapsule, RacyCode, RacyParts, plain_code};
 pub use instr::{RacyAct, RacyInstr};
 pub use laws::{faults_of_racy_paths_are_invisible, plain_codes_race_as_before};
 pub use touch::{Stop, Touch, reach};

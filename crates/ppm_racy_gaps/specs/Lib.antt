@@ -1,0 +1,4 @@
+pub mod Conflicts
+pub mod Correct
+pub mod Flaws
+pub mod Repeats
