@@ -63,7 +63,8 @@ fn most_at_once(limits: Limits) -> u64 {
     }
 }
 
-/// Makes steps in a row, as many as surely obey: how many. `None` where the watcher refused one.
+/// Makes steps in a row, as many as surely obey: how many, and none where acts are counted. `None`
+/// where the watcher refused one.
 fn go_ahead<W: Watch>(
     crew: &Crew,
     processor: &mut Processor,
@@ -79,6 +80,10 @@ fn go_ahead<W: Watch>(
         → GoesAhead crew.now.plan.now crew.now.limits (opening_of crew.now.shared) processor.old.local.own (W.told watch.old) (W.told watch.new)
         processor.old.seat.me processor.new.seat.me pace.new victims result }
 {
+    if crew.shared.counted {
+        // Each of its acts is a turn of its own, which counts.
+        return Some(0);
+    }
     let most = clear_steps(pace, crew.plan, crew.limits).min(most_at_once(crew.limits));
     let row = steps(processor, &crew.shared, most, watch);
     if row.refused {

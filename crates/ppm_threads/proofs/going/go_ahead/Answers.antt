@@ -7,6 +7,10 @@ use Rattle.ppm_threads.proofs.GoingLemmas.{obeying_along, grows_along, more_alon
 use Rattle.ppm_threads.proofs.ActLemmas.{row_quits}
 use Rattle.ppm_threads.proofs.going.go_ahead.Goals as goal
 
+-- acts are counted, and none was made
+pub returns-then-counted-clause-goes : goal.returns-then-counted-clause-goes
+returns-then-counted-clause-goes g c victims o = (o, λ list e. e, omega arith)
+
 -- the watcher refused one
 pub returns-then-row-clause-goes : goal.returns-then-row-clause-goes
 returns-then-row-clause-goes g c victims o =
