@@ -5,6 +5,9 @@ pub mod AsCode
 pub mod Runs
 pub mod OrderedFaults
 pub mod Strikes
+pub mod Room
+pub mod RunCounts
+pub mod CountedRuns
 pub mod Completeness
 pub mod CompleteAsCode
 pub mod Replays
