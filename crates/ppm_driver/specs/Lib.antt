@@ -1,6 +1,7 @@
 pub mod CodeRuns
 pub mod Headline
 pub mod RunRows
+pub mod CountedRunRows
 pub mod CaseRuns
 pub mod CaseHeadline
 pub mod CaseRows
