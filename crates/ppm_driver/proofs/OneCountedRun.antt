@@ -1,10 +1,13 @@
--- A text has one answer where its run by one processor is counted.
+-- A text has one answer where the run by one processor, of its program or of its case, is counted.
 use Rattle.std.proofs.Common.{◌≡◌, ◌∙◌, List, [], refl, sym, ap}
 use Rattle.ppm_words.specs.declared.named_array.NamedArray.{NamedArray}
 use Rattle.ppm_text.specs.Limits.{text_limit}
+use Rattle.ppm_case.specs.Correct.{FaultsTellCases}
+use Rattle.ppm_case.specs.Rules.{case_limit}
 use Rattle.ppm_code.specs.declared.code.CodeParts.{CodeParts}
 use Rattle.ppm_core.specs.Situation.{Situation}
 use Rattle.ppm_layout.specs.Correct.{ImagesAreOne}
+use Rattle.ppm_plan.specs.Correct.{HaveOneAnswer as PlansHaveOneAnswer}
 use Rattle.ppm_plan.specs.declared.plan_item.PlanItem.{PlanItem}
 use Rattle.ppm_plan.specs.Forms.{plan_form}
 use Rattle.ppm_step.specs.declared.turn.Turn.{Turn}
@@ -16,12 +19,14 @@ use Rattle.ppm_answers.specs.declared.ran.Ran.{Ran}
 use Rattle.ppm_answers.specs.declared.ran.Ran.TheVariants as ran
 use Rattle.ppm_answers.specs.declared.run_counts.RunCounts.{RunCounts}
 use Rattle.ppm_cli.specs.declared.run.RunOptions.{RunOptions}
+use Rattle.ppm_loading.proofs.CaseLemmas as cases
 use Rattle.ppm_loading.proofs.PlannedLemmas.{planned_one, planned_front}
 use Rattle.ppm_loading.proofs.ProgramLemmas.{text_one, text_front, plain}
 use Rattle.ppm_outcomes.specs.CountedRuns.{answer_of, IsCounted, CodeHas, ProgramHas, TextHas, CountedAnswersAreOne}
 use Rattle.ppm_outcomes.specs.RunCounts.{made_counts}
 use Rattle.ppm_outcomes.specs.Strikes.{fault_count}
-use Rattle.ppm_outcomes.proofs.CountedLemmas.{kinds, of_code, of_program}
+use Rattle.ppm_outcomes.proofs.CountedLemmas.{kinds, case_kinds, of_code, of_program}
+use Rattle.ppm_driver.specs.CountedCaseRuns as counted_cases
 use Rattle.ppm_driver.proofs.OneRun as runs
 
 -- what a run came to, by its answer
@@ -73,4 +78,14 @@ counted_answers_are_one laws = record {
   front = λ options plan.
       planned_front plan_form plan options.processors (TextHas options) text_limit
       (λ items. plain (ProgramHas options items) kinds (of_program options items)) (λ items. text_front (ProgramHas options items) laws.texts);
+}
+
+pub counted_case_answers_are_one : FaultsTellCases → ImagesAreOne → PlansHaveOneAnswer → runs.RunsAreOne → counted_cases.CountedCaseAnswersAreOne
+counted_case_answers_are_one texts images plans one_run = record {
+  one = λ options plan alone.
+      planned_one plan_form plan options.processors (counted_cases.TextHas options) case_limit plans.plans
+      (λ items. cases.text_one (CodeHas options items) texts (λ code input. code_one images one_run options alone items code input));
+  front = λ options plan.
+      planned_front plan_form plan options.processors (counted_cases.TextHas options) case_limit
+      (λ items. cases.plain (CodeHas options items) case_kinds (of_code options items)) (λ items. cases.text_front (CodeHas options items) texts);
 }

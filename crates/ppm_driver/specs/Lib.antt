@@ -5,6 +5,8 @@ pub mod CountedRunRows
 pub mod CaseRuns
 pub mod CaseHeadline
 pub mod CaseRows
+pub mod CountedCaseRuns
+pub mod CountedRunCaseRows
 pub mod RamEnds
 pub mod RamRuns
 pub mod RamHeadline
