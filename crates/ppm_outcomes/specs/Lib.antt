@@ -20,3 +20,4 @@ pub mod ResumeCompleteness
 pub mod ProgramsAsCode
 pub mod CodeResumes
 pub mod ResumeLaws
+pub mod CountedResumes
