@@ -1,5 +1,5 @@
 //! The threads.
-ghost use Rattle.std.specs.Prelude.{◌≡◌, ◌<◌, ◌≤◌, ◌⊎◌, ◌&&◌, ◌∷◌, [], IfErr, IfOk, vec_len, length};
+ghost use Rattle.std.specs.Prelude.{◌≡◌, ◌<◌, ◌≤◌, ◌⊎◌, ◌&&◌, ◌∷◌, [], IfErr, IfOk, true, vec_len, length};
 ghost use Rattle.std.specs.Thread.{IsSync, IsSend};
 ghost use Rattle.ppm_table.specs.Shown.{AreNewOf, opening_of};
 ghost use Rattle.ppm_threads.specs.Driven.{Begins, AllBegin, AllEnd, AllKeep, OthersStay, Driven, DrivenCounted, WasRefused, HasFinished};

@@ -8,8 +8,8 @@ use Rattle.ppm_threads.proofs.ActLemmas.{row_quits}
 use Rattle.ppm_threads.proofs.going.go_ahead.Goals as goal
 
 -- acts are counted, and none was made
-pub returns-then-counted-clause-goes : goal.returns-then-counted-clause-goes
-returns-then-counted-clause-goes g c victims o = (o, λ list e. e, omega arith)
+pub returns-then-crew-clause-goes : goal.returns-then-crew-clause-goes
+returns-then-crew-clause-goes g c victims o = (o, λ list e. e, omega arith)
 
 -- the watcher refused one
 pub returns-then-row-clause-goes : goal.returns-then-row-clause-goes
