@@ -17,7 +17,7 @@ use Rattle.ppm_answers.specs.declared.conflict.ListingRefusal.{ListingRefusal}
 use Rattle.ppm_answers.specs.declared.answer.Answer.{Answer}
 use Rattle.ppm_answers.specs.declared.answer.Answer.TheVariants as answers
 use Rattle.ppm_answers.specs.Reading.{TextMay}
-use Rattle.ppm_commands.specs.Check.{IsUnlisted, error_answer}
+use Rattle.ppm_commands.specs.Check.{error_answer}
 use Rattle.ppm_commands.specs.RacingCheck.{IsRacyText, IsAcceptedRacing, IsFlawed, IsRefusedRacing, NotListed, TooLong, RacingHas}
 use Rattle.ppm_commands.specs.RacingCheck.{RacingVerdictMay, HaveOneAnswer, flaw_answer}
 use Rattle.ppm_commands.proofs.CheckAnswers.{refusal_path, same_refusal}

@@ -16,7 +16,8 @@ use Rattle.ppm_step.specs.declared.row.Seat.{Seat}
 use Rattle.ppm_step.specs.Frames.{Rest, ending, other_copy}
 use Rattle.ppm_step.specs.Points.{header_word}
 use Rattle.ppm_step.specs.Standings.{Standing, IsAt, IsBroken, rest_is_there, running, running_if}
-use Rattle.ppm_core.specs.Rounds.{IsComing, LedTo, WentAlong, goes_round, stands_at, stands_before, stands_behind}
+use Rattle.ppm_engine.specs.Waiting.{goes_round, stands_before}
+use Rattle.ppm_core.specs.Rounds.{IsComing, LedTo, WentAlong, stands_at, stands_behind}
 use Rattle.ppm_core.specs.declared.capsule.Stretch.{Stretch}
 use Rattle.ppm_core.specs.declared.capsule.Way.{Way}
 use Rattle.ppm_core.specs.declared.capsule.Way.TheVariants.{Made, Stops}
@@ -25,7 +26,7 @@ use Rattle.ppm_core.specs.Moments.{Moment, moment, StepsTo}
 use Rattle.ppm_core.proofs.MomentLemmas.{both, in_capsule}
 
 -- a store elsewhere than at the first word leaves that as it is
-first_stays : (words : List ℕ) (at word : ℕ) → 0 < at → slice_index (slice_set words at word) 0 ≡ slice_index words 0
+pub first_stays : (words : List ℕ) (at word : ℕ) → 0 < at → slice_index (slice_set words at word) 0 ≡ slice_index words 0
 first_stays words zero word some = absurd (omega (arith, some))
 first_stays [] (suc at) word some = refl
 first_stays (x ∷ xs) (suc at) word some = refl
@@ -36,7 +37,7 @@ block_same a b e = cc
 module _ (s : Shape) (code : CodeParts) (seat : Seat) where
   -- no steps
   pub none : {t u : Moment} → t ≡ u → StepsTo s code seat.own 0 0 t u
-  none {t} {u} same = record { moves = tt; comes_to = sym same; works = refl; ends = tt }
+  none {t} {u} same = record { goes = record { moves = tt; comes_to = sym same; works = refl; forked = refl; taken = refl }; ends = tt }
 
   module _ (home : Home) (instrs : List Instr) where
     -- steps, and then others

@@ -5,7 +5,7 @@
 -- lemma (`both`) joins two, and only at the end is it turned into the machine's own `run_on`
 -- (`StepsLemmas`). A round of a frame is such steps too, with registers alone between them
 -- (`CapsuleLemmas`); it enters a capsule as from 0 in all registers, where those hold 0 that it reads
--- (`WidthLemmas`), and where it halts a `Local` is built that stands there (`WaitingLemmas`).
+-- (`WidthLemmas` of `ppm_engine`), and where it halts a `Local` is built that stands there (`WaitingLemmas` there).
 
 pub mod CopyLemmas
 pub mod ListLemmas
@@ -14,6 +14,6 @@ pub mod RunLemmas
 pub mod TurnLemmas
 pub mod MomentLemmas
 pub mod StepsLemmas
-pub mod WaitingLemmas
 pub mod CapsuleLemmas
-pub mod WidthLemmas
+mod AloneLemmas
+mod RowLemmas

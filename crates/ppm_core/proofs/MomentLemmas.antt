@@ -15,7 +15,7 @@ use Rattle.ppm_step.specs.Locals.{HasNoHeader}
 use Rattle.ppm_step.specs.Stages.{IsUnderWay, WentOn, rest_at, went_on}
 use Rattle.ppm_step.specs.Standings.{Standing, IsAt, IsRunning, at_finish, begins, wanted_rest, went_rest}
 use Rattle.ppm_step.specs.State.{found_in, words_after}
-use Rattle.ppm_core.specs.Moments.{Moment, moment, moved, moved_by, AllMove, work_in, LastWorks, StepsTo}
+use Rattle.ppm_core.specs.Moments.{Moment, moment, moved, moved_by, AllMove, work_in, forks_in, takes_in, LastWorks, Goes, Leads, StepsTo}
 use Rattle.ppm_core.specs.Moments.{MovesOn, NoFurther, is_under_way}
 use Rattle.ppm_core.specs.Steps.{is_in_capsule, is_of_frame}
 
@@ -55,6 +55,34 @@ module _ (s : Shape) (code : CodeParts) (own : ℕ) where
       next : (n m : ℕ) → suc (n + m) ≡ suc n + m
       next n m = omega arith
 
+  forks_on : (n m : ℕ) (t : Moment) → forks_in s code own n t + forks_in s code own m (moved_by s code own n t) ≡ forks_in s code own (n + m) t
+  forks_on zero m t = sum (forks_in s code own m t) ∙ ap (λ k. forks_in s code own k t) (none m)
+    where
+      none : (m : ℕ) → m ≡ 0 + m
+      none m = omega arith
+
+      sum : (w : ℕ) → 0 + w ≡ w
+      sum w = omega arith
+  forks_on (suc n) m t =
+      omega (arith, forks_on n m (moved s code own t), ap (λ k. forks_in s code own k t) (next n m))
+    where
+      next : (n m : ℕ) → suc n + m ≡ suc (n + m)
+      next n m = omega arith
+
+  takes_on : (n m : ℕ) (t : Moment) → takes_in s code own n t + takes_in s code own m (moved_by s code own n t) ≡ takes_in s code own (n + m) t
+  takes_on zero m t = sum (takes_in s code own m t) ∙ ap (λ k. takes_in s code own k t) (none m)
+    where
+      none : (m : ℕ) → m ≡ 0 + m
+      none m = omega arith
+
+      sum : (w : ℕ) → 0 + w ≡ w
+      sum w = omega arith
+  takes_on (suc n) m t =
+      omega (arith, takes_on n m (moved s code own t), ap (λ k. takes_in s code own k t) (next n m))
+    where
+      next : (n m : ℕ) → suc n + m ≡ suc (n + m)
+      next n m = omega arith
+
   last_on : (n m : ℕ) (t : Moment) → LastWorks s code own n t → LastWorks s code own m (moved_by s code own n t) → LastWorks s code own (n + m) t
   last_on n zero t first more = subst (λ k. LastWorks s code own k t) (same n) first
     where
@@ -79,13 +107,25 @@ module _ (s : Shape) (code : CodeParts) (own : ℕ) where
       next n m = omega arith
 
   -- some, and then others
-  pub both : {n m w v : ℕ} {t u x : Moment} → StepsTo s code own n w t u → StepsTo s code own m v u x → StepsTo s code own (n + m) (w + v) t x
-  both {n} {m} {w} {v} {t} {u} {x} first more = record {
+  pub goes_both : {n m w v f g h k : ℕ} {t u x : Moment} → Goes s code own n w f h t u → Goes s code own m v g k u x
+      → Goes s code own (n + m) (w + v) (f + g) (h + k) t x
+  goes_both {n} {m} {w} {v} {f} {g} {h} {k} {t} {u} {x} first more = record {
     moves = all_move n m t first.moves (subst (AllMove s code own m) first.comes_to more.moves);
     comes_to = more.comes_to ∙ ap (moved_by s code own m) first.comes_to ∙ sym (moved_on n m t);
     works = omega (arith, first.works, more.works, ap (work_in s code own m) first.comes_to, work_on n m t);
-    ends = last_on n m t first.ends (subst (LastWorks s code own m) first.comes_to more.ends);
+    forked = omega (arith, first.forked, more.forked, ap (forks_in s code own m) first.comes_to, forks_on n m t);
+    taken = omega (arith, first.taken, more.taken, ap (takes_in s code own m) first.comes_to, takes_on n m t);
   }
+
+  pub leads_both : {n m w v f g h k : ℕ} {t u x : Moment} → Leads s code own n w f h t u → Leads s code own m v g k u x
+      → Leads s code own (n + m) (w + v) (f + g) (h + k) t x
+  leads_both {n} {m} {w} {v} {f} {g} {h} {k} {t} {u} {x} first more = record {
+    goes = goes_both first.goes more.goes;
+    ends = last_on n m t first.ends (subst (LastWorks s code own m) first.goes.comes_to more.ends);
+  }
+
+  pub both : {n m w v : ℕ} {t u x : Moment} → StepsTo s code own n w t u → StepsTo s code own m v u x → StepsTo s code own (n + m) (w + v) t x
+  both first more = leads_both first more
 
   -- a step in a capsule of a frame
   pub in_capsule : (seat : Seat) (rest : Rest) (words words' : List ℕ) (stand : Standing) → read s words FinishWord ≡ 0
@@ -93,14 +133,18 @@ module _ (s : Shape) (code : CodeParts) (own : ℕ) where
       → stand ≡ went_rest s seat (found_in words (wanted_rest s seat rest)) rest
       → StepsTo s code own 1 1 (moment words (IsRunning seat rest)) (moment words' stand)
   in_capsule seat rest words words' stand finish stored stands = record {
-    moves = (record { finish = finish; lives = refl; seeks_none = refl; no_fork = refl; no_take = refl }, tt);
-    comes_to = λ i. record { words = stored i; stand = stands i };
-    works = refl;
+    goes = record {
+      moves = (record { finish = finish; lives = refl; seeks_none = refl }, tt);
+      comes_to = λ i. record { words = stored i; stand = stands i };
+      works = refl;
+      forked = refl;
+      taken = refl;
+    };
     ends = refl;
   }
 
   -- behind the load of the finish word a restart begins
-  behind_finish_word : (seat : Seat) (words : List ℕ) (stand : Standing) → own ≡ seat.own → read s words FinishWord ≡ 0
+  pub behind_finish_word : (seat : Seat) (words : List ℕ) (stand : Standing) → own ≡ seat.own → read s words FinishWord ≡ 0
       → begins s code seat.own seat.place (Some seat.restart) ≡ stand
       → moved s code own (moment words (IsAt seat.place (Some seat.restart))) ≡ moment words stand
   behind_finish_word seat words stand same finish begins_with =

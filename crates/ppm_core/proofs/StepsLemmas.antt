@@ -15,7 +15,7 @@ use Rattle.ppm_core.specs.Acts.{is_done_at, forks_at, takes_at, words_acted, sta
 use Rattle.ppm_core.specs.Machine.{Holding, seen}
 use Rattle.ppm_core.specs.Situation.{Situation, turned, run_on}
 use Rattle.ppm_core.specs.Steps.{steady_step, steady_steps, AreSteady, EndsInWork, GoesNoFurther, is_in_capsule, is_before_capsule}
-use Rattle.ppm_core.specs.Moments.{Moment, moment, moved, moved_by, Moves, AllMove, work_at, work_in, LastWorks, NoFurther, StepsTo}
+use Rattle.ppm_core.specs.Moments.{Moment, moment, moved, moved_by, AllMove, work_at, work_in, forks_in, takes_in, LastWorks, NoFurther, Leads}
 use Rattle.ppm_core.proofs.ListLemmas.{get_changed, set_same}
 use Rattle.ppm_core.proofs.TurnLemmas.{acts_are, stands_at, work_is}
 
@@ -78,13 +78,17 @@ module _ (s : Shape) (code : CodeParts) (own : ℕ) where
         told_in told count one n next (moved s code own t) (turned_at state t h),
       )
 
-  none_told : (count : Moment → ℕ) → ((t : Moment) → Moves s code own t → count t ≡ 0) → (n : ℕ) (t : Moment) → AllMove s code own n t → total count n t ≡ 0
-  none_told count none zero t all = refl
-  none_told count none (suc n) t all = omega (arith, none t all.0, none_told count none n (moved s code own t) all.1)
-
   work_told : (n : ℕ) (t : Moment) → total (work_at s code own) n t ≡ work_in s code own n t
   work_told zero t = refl
   work_told (suc n) t = ap (λ w. work_at s code own t + w) (work_told n (moved s code own t))
+
+  forks_told : (n : ℕ) (t : Moment) → total (λ u. forks_at (Step 0) u.stand) n t ≡ forks_in s code own n t
+  forks_told zero t = refl
+  forks_told (suc n) t = ap (λ w. forks_at (Step 0) t.stand + w) (forks_told n (moved s code own t))
+
+  takes_told : (n : ℕ) (t : Moment) → total (λ u. takes_at (Step 0) u.stand) n t ≡ takes_in s code own n t
+  takes_told zero t = refl
+  takes_told (suc n) t = ap (λ w. takes_at (Step 0) t.stand + w) (takes_told n (moved s code own t))
 
   forks_one : (state : State) (t : Moment) → StandsAt state t → length (forks_of state (steady_step own)) ≡ forks_at (Step 0) t.stand
   forks_one state t h = ap (λ standing. forks_at (Step 0) standing) (stand_is state t h)
@@ -97,15 +101,13 @@ module _ (s : Shape) (code : CodeParts) (own : ℕ) where
       ap (λ standing. length (if is_work_turn s code (Step 0) standing then own ∷ [] else [])) (stand_is state t h)
       ∙ sym (work_is s code own (Step 0) t.stand)
 
-  no_forks : (n : ℕ) (state : State) (t : Moment) → StandsAt state t → AllMove s code own n t
-      → length (along s code forks_of state (steady_steps own n)) ≡ 0
-  no_forks n state t h all =
-      told_in forks_of (λ u. forks_at (Step 0) u.stand) forks_one n state t h ∙ none_told (λ u. forks_at (Step 0) u.stand) (λ u m. m.no_fork) n t all
+  forks : (n : ℕ) (state : State) (t : Moment) → StandsAt state t
+      → length (along s code forks_of state (steady_steps own n)) ≡ forks_in s code own n t
+  forks n state t h = told_in forks_of (λ u. forks_at (Step 0) u.stand) forks_one n state t h ∙ forks_told n t
 
-  no_takes : (n : ℕ) (state : State) (t : Moment) → StandsAt state t → AllMove s code own n t
-      → length (along s code takes_of state (steady_steps own n)) ≡ 0
-  no_takes n state t h all =
-      told_in takes_of (λ u. takes_at (Step 0) u.stand) takes_one n state t h ∙ none_told (λ u. takes_at (Step 0) u.stand) (λ u m. m.no_take) n t all
+  takes : (n : ℕ) (state : State) (t : Moment) → StandsAt state t
+      → length (along s code takes_of state (steady_steps own n)) ≡ takes_in s code own n t
+  takes n state t h = told_in takes_of (λ u. takes_at (Step 0) u.stand) takes_one n state t h ∙ takes_told n t
 
   works : (n : ℕ) (state : State) (t : Moment) → StandsAt state t
       → length (along s code work_of state (steady_steps own n)) ≡ work_in s code own n t
@@ -131,83 +133,83 @@ end_in_work (suc (suc n)) m own t h last =
     end_in_work (suc n) (turned m (steady_step own)) own (moved m.shape m.code own t) (turned_at m.shape m.code own m.state t h) last
 
 -- the whole machine
-abbrev pub with_steps : Holding → (own : ℕ) → Local → List ℕ → (work made : ℕ) → Holding
-with_steps m own new words work made = record {
+abbrev pub with_steps : Holding → (own : ℕ) → Local → List ℕ → (forks takes work made : ℕ) → Holding
+with_steps m own new words forks takes work made = record {
   shape = m.shape;
   code = m.code;
   array_lengths = m.array_lengths;
   words = words;
   locals = set m.locals own new;
-  forks = m.forks;
-  takes = m.takes;
+  forks = m.forks + forks;
+  takes = m.takes + takes;
   work = m.work + work;
   turns = m.turns + made;
 }
 
-pub record HasMade (m : Holding) (own : ℕ) (old new : Local) (words : List ℕ) (made work : ℕ) : Type 0 where
+pub record HasMade (m : Holding) (own : ℕ) (old new : Local) (words : List ℕ) (made work forks takes : ℕ) : Type 0 where
   pub at : slice_get m.locals own ≡ Some old
-  pub leads : StepsTo m.shape m.code own made work (moment m.words (standing_of m.shape m.code old)) (moment words (standing_of m.shape m.code new))
+  pub leads : Leads m.shape m.code own made work forks takes (moment m.words (standing_of m.shape m.code old)) (moment words (standing_of m.shape m.code new))
 
-stands : (m : Holding) (own : ℕ) (old new : Local) (words : List ℕ) (made work : ℕ) → HasMade m own old new words made work
+stands : (m : Holding) (own : ℕ) (old new : Local) (words : List ℕ) (made work forks_made takes_made : ℕ) → HasMade m own old new words made work forks_made takes_made
     → StandsAt m.shape m.code own (seen m).state (moment m.words (standing_of m.shape m.code old))
-stands m own old new words made work h = record { words = refl; stand = stands_at m own old h.at }
+stands m own old new words made work forks_made takes_made h = record { words = refl; stand = stands_at m own old h.at }
 
-pub run_is : (m : Holding) (own : ℕ) (old new : Local) (words : List ℕ) (made work : ℕ) → HasMade m own old new words made work
-    → seen (with_steps m own new words work made) ≡ run_on (seen m) (steady_steps own made)
-run_is m own old new words made work h =
+pub run_is : (m : Holding) (own : ℕ) (old new : Local) (words : List ℕ) (made work forks_made takes_made : ℕ) → HasMade m own old new words made work forks_made takes_made
+    → seen (with_steps m own new words forks_made takes_made work made) ≡ run_on (seen m) (steady_steps own made)
+run_is m own old new words made work forks_made takes_made h =
     let s = m.shape in
     let code = m.code in
     let t : Moment = moment m.words (standing_of s code old) in
-    let at = stands m own old new words made work h in
+    let at = stands m own old new words made work forks_made takes_made h in
     let state : record { words = words; stand = map (standing_of s code) (set m.locals own new) } ≡ after s code (seen m).state (steady_steps own made) =
     ap (λ stand. record { words = words; stand = stand }) (map-set (standing_of s code) m.locals own new)
-    ∙ ap (λ (u : Moment). record { words = u.words; stand = set (seen m).state.stand own u.stand }) h.leads.comes_to
+    ∙ ap (λ (u : Moment). record { words = u.words; stand = set (seen m).state.stand own u.stand }) h.leads.goes.comes_to
     ∙ sym (after_is s code own made (seen m).state t at) in
-    let forks : m.forks ≡ m.forks + length (along s code forks_of (seen m).state (steady_steps own made)) =
-    omega (arith, no_forks s code own made (seen m).state t at h.leads.moves) in
-    let takes : m.takes ≡ m.takes + length (along s code takes_of (seen m).state (steady_steps own made)) =
-    omega (arith, no_takes s code own made (seen m).state t at h.leads.moves) in
+    let forks_path : m.forks + forks_made ≡ m.forks + length (along s code forks_of (seen m).state (steady_steps own made)) =
+    omega (arith, forks s code own made (seen m).state t at, h.leads.goes.forked) in
+    let takes_path : m.takes + takes_made ≡ m.takes + length (along s code takes_of (seen m).state (steady_steps own made)) =
+    omega (arith, takes s code own made (seen m).state t at, h.leads.goes.taken) in
     let works_path : m.work + work ≡ m.work + length (along s code work_of (seen m).state (steady_steps own made)) =
-    omega (arith, works s code own made (seen m).state t at, h.leads.works) in
+    omega (arith, works s code own made (seen m).state t at, h.leads.goes.works) in
     let turns : m.turns + made ≡ m.turns + length (steady_steps own made) = omega (arith, length-replicate made (steady_step own)) in
     λ i. record {
       shape = m.shape;
       code = m.code;
       array_lengths = m.array_lengths;
       state = state i;
-      forks = forks i;
-      takes = takes i;
+      forks = forks_path i;
+      takes = takes_path i;
       work = works_path i;
       turns = turns i;
     }
 
-pub steady_is : (m : Holding) (own : ℕ) (old new : Local) (words : List ℕ) (made work : ℕ) → HasMade m own old new words made work
+pub steady_is : (m : Holding) (own : ℕ) (old new : Local) (words : List ℕ) (made work forks_made takes_made : ℕ) → HasMade m own old new words made work forks_made takes_made
     → AreSteady (seen m) own made
-steady_is m own old new words made work h =
-    are_steady made (seen m) own (moment m.words (standing_of m.shape m.code old)) (stands m own old new words made work h) h.leads.moves
+steady_is m own old new words made work forks_made takes_made h =
+    are_steady made (seen m) own (moment m.words (standing_of m.shape m.code old)) (stands m own old new words made work forks_made takes_made h) h.leads.goes.moves
 
-pub work_is_last : (m : Holding) (own : ℕ) (old new : Local) (words : List ℕ) (made work : ℕ) → HasMade m own old new words made work
+pub work_is_last : (m : Holding) (own : ℕ) (old new : Local) (words : List ℕ) (made work forks_made takes_made : ℕ) → HasMade m own old new words made work forks_made takes_made
     → EndsInWork (seen m) own made
-work_is_last m own old new words made work h =
-    end_in_work made (seen m) own (moment m.words (standing_of m.shape m.code old)) (stands m own old new words made work h) h.leads.ends
+work_is_last m own old new words made work forks_made takes_made h =
+    end_in_work made (seen m) own (moment m.words (standing_of m.shape m.code old)) (stands m own old new words made work forks_made takes_made h) h.leads.ends
 
-pub has_made : (m : Holding) (own : ℕ) (old new : Local) (words : List ℕ) (made work : ℕ) → slice_get m.locals own ≡ Some old → old.own ≡ own
-    → StepsTo m.shape m.code old.own made work (moment m.words (standing_of m.shape m.code old)) (moment words (standing_of m.shape m.code new))
-    → HasMade m own old new words made work
-has_made m own old new words made work at same leads = record {
+pub has_made : (m : Holding) (own : ℕ) (old new : Local) (words : List ℕ) (made work forks_made takes_made : ℕ) → slice_get m.locals own ≡ Some old → old.own ≡ own
+    → Leads m.shape m.code old.own made work forks_made takes_made (moment m.words (standing_of m.shape m.code old)) (moment words (standing_of m.shape m.code new))
+    → HasMade m own old new words made work forks_made takes_made
+has_made m own old new words made work forks_made takes_made at same leads = record {
   at = at;
   leads = subst
-      (λ (n : ℕ). StepsTo m.shape m.code n made work (moment m.words (standing_of m.shape m.code old)) (moment words (standing_of m.shape m.code new))) same leads;
+      (λ (n : ℕ). Leads m.shape m.code n made work forks_made takes_made (moment m.words (standing_of m.shape m.code old)) (moment words (standing_of m.shape m.code new))) same leads;
 }
 
 -- and more would lead no further, as of the moment so of the machine
-pub goes_no_further_is : (m : Holding) (own : ℕ) (old new : Local) (words : List ℕ) (made work left : ℕ) → HasMade m own old new words made work
+pub goes_no_further_is : (m : Holding) (own : ℕ) (old new : Local) (words : List ℕ) (made work forks_made takes_made left : ℕ) → HasMade m own old new words made work forks_made takes_made
     → NoFurther m.shape m.code own left (moment words (standing_of m.shape m.code new))
-    → GoesNoFurther (seen (with_steps m own new words work made)) own left
-goes_no_further_is m own old new words made work left h stops =
+    → GoesNoFurther (seen (with_steps m own new words forks_made takes_made work made)) own left
+goes_no_further_is m own old new words made work forks_made takes_made left h stops =
     let s = m.shape in
     let code = m.code in
-    let behind = with_steps m own new words work made in
+    let behind = with_steps m own new words forks_made takes_made work made in
     let t : Moment = moment words (standing_of s code new) in
     let at : StandsAt s code own (seen behind).state t =
     record { words = refl; stand = stands_at behind own new (get_changed m.locals own new old h.at) } in

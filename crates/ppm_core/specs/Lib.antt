@@ -5,3 +5,6 @@ pub mod Laws
 pub mod Steps
 pub mod Moments
 pub mod Rounds
+pub mod Alone
+pub mod AloneLaws
+pub mod Worked

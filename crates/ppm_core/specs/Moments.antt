@@ -36,13 +36,11 @@ module _ (s : Shape) (code : CodeParts) (own : ℕ) where
   moved_by zero t = t
   moved_by (suc n) t = moved_by n (moved t)
 
-  -- the processor makes such a step while the finish word is 0, and neither forks nor takes by it
+  -- the processor makes such a step while the finish word is 0
   pub record Moves (t : Moment) : Type 0 where
     pub finish : read s t.words FinishWord ≡ 0
     pub lives : is_done_at t.stand ≡ false
     pub seeks_none : seeks_holder t.stand ≡ false
-    pub no_fork : forks_at (Step 0) t.stand ≡ 0
-    pub no_take : takes_at (Step 0) t.stand ≡ 0
 
   abbrev pub AllMove : ℕ → Moment → Type 0
   AllMove zero t = Unit {0}
@@ -56,18 +54,37 @@ module _ (s : Shape) (code : CodeParts) (own : ℕ) where
   work_in zero t = 0
   work_in (suc n) t = work_at t + work_in n (moved t)
 
+  -- how many forks, and how many takes, so many make
+  abbrev pub forks_in : ℕ → Moment → ℕ
+  forks_in zero t = 0
+  forks_in (suc n) t = forks_at (Step 0) t.stand + forks_in n (moved t)
+
+  abbrev pub takes_in : ℕ → Moment → ℕ
+  takes_in zero t = 0
+  takes_in (suc n) t = takes_at (Step 0) t.stand + takes_in n (moved t)
+
   -- the last of them, if there is one, is work
   abbrev pub LastWorks : ℕ → Moment → Type 0
   LastWorks zero t = Unit {0}
   LastWorks (suc zero) t = next_of t.stand ≡ Work
   LastWorks (suc (suc n)) t = LastWorks (suc n) (moved t)
 
-  -- so many steps, of which so many are work, lead from one moment to another
-  pub record StepsTo (n work : ℕ) (first last : Moment) : Type 0 where
+  -- so many steps, of which so many are work, go from one moment to another; so many forks and takes are among them
+  pub record Goes (n work forks takes : ℕ) (first last : Moment) : Type 0 where
     pub moves : AllMove n first
     pub comes_to : last ≡ moved_by n first
     pub works : work ≡ work_in n first
+    pub forked : forks ≡ forks_in n first
+    pub taken : takes ≡ takes_in n first
+
+  -- and the last of them is work
+  pub record Leads (n work forks takes : ℕ) (first last : Moment) : Type 0 where
+    pub goes : Goes n work forks takes first last
     pub ends : LastWorks n first
+
+  -- neither forks nor takes are among them
+  abbrev pub StepsTo : (n work : ℕ) → (first last : Moment) → Type 0
+  StepsTo n work first last = Leads n work 0 0 first last
 
   -- of so many steps more none would go on in a capsule, and no two from the restart of a frame would enter one, while the finish word is 0
   pub record NoFurther (left : ℕ) (t : Moment) : Type 0 where

@@ -2,27 +2,20 @@
 use Rattle.std.specs.Prelude.{◌≡◌, ◌≤◌, ℕ, Bool, true, false, List, Option, Some, None, slice_get}
 use Rattle.ppm_cells.specs.Memory.{read, write}
 use Rattle.ppm_cells.specs.declared.cell.Cell.{Cell}
-use Rattle.ppm_cells.specs.declared.restart.Restart.{Restart}
 use Rattle.ppm_cells.specs.declared.restart.RestartKind.TheVariants.{Run}
 use Rattle.ppm_cells.specs.declared.shape.Shape.{Shape}
-use Rattle.ppm_strands.specs.Capsule.{Capsule}
-use Rattle.ppm_code.specs.Capsules.{capsule_from, reached}
-use Rattle.ppm_code.specs.Locations.{Where}
-use Rattle.ppm_code.specs.declared.act.End.{End}
+use Rattle.ppm_code.specs.Capsules.{reached}
 use Rattle.ppm_code.specs.declared.act.End.TheVariants.{Next}
 use Rattle.ppm_code.specs.declared.code.Capsule.{Capsule as Coded}
 use Rattle.ppm_code.specs.declared.code.CodeParts.{CodeParts}
 use Rattle.ppm_code.specs.declared.instr.Instr.{Instr}
-use Rattle.ppm_code.specs.declared.work.Reached.{Reached}
-use Rattle.ppm_code.specs.declared.work.Reached.TheVariants.{Before, AtEnd}
 use Rattle.ppm_step.specs.declared.frame.Home.{Home}
 use Rattle.ppm_step.specs.declared.row.Seat.{Seat}
-use Rattle.ppm_step.specs.declared.running.Stage.{Stage}
-use Rattle.ppm_step.specs.declared.running.Stage.TheVariants as stages
 use Rattle.ppm_step.specs.Facts.{IsHome, IsSeat}
-use Rattle.ppm_step.specs.Frames.{ending, other_copy, rest_of}
+use Rattle.ppm_step.specs.Frames.{ending}
 use Rattle.ppm_step.specs.Standings.{Standing, IsAt, IsBroken, enters, running}
 use Rattle.ppm_step.specs.There.{is_there}
+use Rattle.ppm_engine.specs.Waiting.{HasReached, goes_round, stands_before, stands_in}
 use Rattle.ppm_core.specs.declared.capsule.Turned.{Turned}
 use Rattle.ppm_core.specs.declared.capsule.Turned.TheVariants as turned
 use Rattle.ppm_core.specs.declared.capsule.Stretch.{Stretch}
@@ -32,11 +25,6 @@ use Rattle.ppm_core.specs.declared.frames.NextCapsule.{NextCapsule}
 use Rattle.ppm_core.specs.declared.frames.RoundEnd.{RoundEnd}
 use Rattle.ppm_core.specs.declared.frames.RoundEnd.TheVariants.{Round, Halts}
 use Rattle.ppm_core.specs.Moments.{moment, NoFurther, StepsTo}
-
--- the stage of what register work has come to
-abbrev pub stage_of : Reached → Stage
-stage_of (Before step) = stages.Before step
-stage_of (AtEnd end) = stages.Ending end 0
 
 -- the word of a cell was found, or the cell isn't there
 abbrev pub HasFound : Shape → (words : List ℕ) → Cell → Option ℕ → Type 0
@@ -48,14 +36,6 @@ abbrev pub HasPut : Shape → (words words' : List ℕ) → Cell → (word : ℕ
 HasPut s words words' cell word true = (is_there s cell ≡ true) × (words' ≡ write s words cell word)
 HasPut s words words' cell word false = (is_there s cell ≡ false) × (words' ≡ words)
 
--- register work has come there
-abbrev pub HasReached : Shape → List Instr → (next : ℕ) → Reached → List ℕ → Type 0
-HasReached s instrs next what registers = (from : ℕ) × (before : List ℕ) × (capsule_from s.arrays 0 from instrs before ≡ reached s.arrays instrs next what registers)
-
--- the frame goes on with the other copy of its header
-abbrev pub goes_round : Seat → Home → Restart
-goes_round seat home = record { kind = Run home.frame (other_copy home.copy); bottom = seat.restart.bottom }
-
 -- 1 if the way is a step, else 0
 abbrev pub steps_by : Way → ℕ
 steps_by (Made next) = 1
@@ -63,18 +43,10 @@ steps_by (Stops next what) = 0
 steps_by Breaks = 0
 
 module _ (s : Shape) (code : CodeParts) (seat : Seat) (home : Home) where
-  -- a processor stands within a capsule of a frame, with this left of it; where what comes next isn't there, at broken words
-  abbrev pub stands_in : Capsule Where End → Standing
-  stands_in left = running s seat (rest_of s code seat.place home left)
-
-  -- before an instruction
-  abbrev pub stands_before : List Instr → (at : ℕ) → List ℕ → Standing
-  stands_before instrs at registers = stands_in (capsule_from s.arrays 0 at instrs registers)
-
   -- where a capsule goes on this way
   abbrev pub stands_behind : List Instr → List ℕ → Way → Standing
-  stands_behind instrs registers (Made next) = stands_before instrs next registers
-  stands_behind instrs registers (Stops next what) = stands_in (reached s.arrays instrs next what registers)
+  stands_behind instrs registers (Made next) = stands_before s code seat home instrs next registers
+  stands_behind instrs registers (Stops next what) = stands_in s code seat home (reached s.arrays instrs next what registers)
   stands_behind instrs registers Breaks = IsBroken seat.place
 
   -- where it stops, register work has come there
@@ -85,7 +57,7 @@ module _ (s : Shape) (code : CodeParts) (seat : Seat) (home : Home) where
 
   -- so many steps led this way from an instruction
   pub record LedTo (instrs : List Instr) (from : ℕ) (registers registers' words words' : List ℕ) (made : ℕ) (way : Way) : Type 0 where
-    pub steps : StepsTo s code seat.own made made (moment words (stands_before instrs from registers)) (moment words' (stands_behind instrs registers' way))
+    pub steps : StepsTo s code seat.own made made (moment words (stands_before s code seat home instrs from registers)) (moment words' (stands_behind instrs registers' way))
     pub stopped : HasStopped instrs registers' way
 
   -- what came of the stores with which a frame goes round

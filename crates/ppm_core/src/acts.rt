@@ -183,6 +183,7 @@ pub(crate) fn store(words: &mut Vec<u64>, shape: &Shape, want: Want)
 }
 
 /// Makes a word step; what a load found, and else 0.
+#[inline(always)]
 pub(crate) fn make(words: &mut Vec<u64>, shape: &Shape, want: Want) -> u64
     requires words { AreWordsOf shape.now words.old.items }
     requires within { WantIsWithin shape.now want }

@@ -1,18 +1,17 @@
 //! The steps that a processor makes in a row in a capsule of a frame, with registers and numbers
 //! alone between them.
 ghost use Rattle.std.specs.Prelude.{◌≡◌, ◌≤◌, ◌<◌, true};
-ghost use Rattle.ppm_cells.specs.Cells.{address, word_count};
 ghost use Rattle.ppm_cells.specs.Memory.{AreWordsOf, read};
 ghost use Rattle.ppm_cells.specs.declared.cell.Cell.TheVariants.{FinishWord};
 ghost use Rattle.ppm_code.specs.Locations.{location_of};
 ghost use Rattle.ppm_core.specs.Rounds.{HasFound, HasPut, LedTo, TurnedTo, steps_by};
 ghost use Rattle.ppm_step.specs.Facts.{IsHome, IsSeat};
 ghost use Rattle.ppm_step.specs.Frames.{cell_of};
-ghost use Rattle.ppm_step.specs.There.{is_there};
 
 use crate::acts::{finish_word, found_by, store};
 use ppm_cells::{Cell, Shape};
-use ppm_code::{Code, FrameWord, Instr, Location, Reached, Step, reach};
+use ppm_code::{Code, Instr, Location, Reached, Step, reach};
+use ppm_engine::address_of;
 use ppm_step::{Home, Running, Seat, Stage, Want, location_is_there};
 
 /// How a capsule goes on behind some steps.
@@ -40,25 +39,6 @@ pub(crate) enum Turned {
     Breaks(u64),
     /// Both were made.
     Round,
-}
-
-/// The address of a location that is there.
-#[inline(always)]
-pub fn address_of(shape: &Shape, home: &Home, location: Location) -> u32
-    requires home { IsHome home.now }
-    requires there { is_there shape.now (cell_of home.now (location_of location)) ≡ true }
-    ensures value { result ≡ address shape.now (cell_of home.now (location_of location)) }
-    ensures within { result < word_count shape.now }
-{
-    let _ = shape.slots;
-    match location {
-        Location::Frame(FrameWord::Slot(slot)) => home.frame + 6 + slot,
-        Location::Frame(FrameWord::Value) => home.frame + 4,
-        Location::New(offset) => home.block + offset,
-        Location::Array(index) => shape.address(Cell::ArrayWord {
-            index: index as u32,
-        }),
-    }
 }
 
 /// The word of a location; `None` where it isn't there.

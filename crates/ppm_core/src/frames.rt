@@ -14,9 +14,9 @@ ghost use Rattle.ppm_widths.specs.Widths.{AreWidths};
 use crate::acts::{finish_word, found_by};
 use crate::capsule::{Stretch, Turned, Way, go_along, go_round};
 use crate::steps::{NONE, Steps};
-use crate::waiting::{wait_at, wait_broken, wait_midway, wait_stopped};
 use ppm_cells::{Restart, RestartKind, Shape};
 use ppm_code::{Code, End, Reached};
+use ppm_engine::{wait_at, wait_broken, wait_midway, wait_stopped};
 use ppm_step::{Home, Local, Seat, Want, header_of};
 use ppm_widths::set_to_0;
 

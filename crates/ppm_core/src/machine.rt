@@ -236,9 +236,9 @@ impl Machine {
     }
 
     /// Makes up to `most` word steps of one processor, fast, and tells how many: each while the
-    /// finish word is 0 and for which no victim is due, the last one work. It stops early only
-    /// where the run has ended, or the next step is not inside a capsule of a frame;
-    /// `GoesNoFurther` says exactly where. The processor is below the number of processors, and
+    /// finish word is 0 and for which no victim is due, the last one work. It goes through capsules
+    /// of frames and rows of work of the scheduler, and stops early only where the run has ended,
+    /// or the next step is not inside a capsule of a frame; `GoesNoFurther` says exactly where. The processor is below the number of processors, and
     /// there come to be 2^62 turns at most. No event is told, and no memory is taken.
     pub fn steps(&mut self, processor: u32, most: u64) -> u64
         requires processor { processor < self.old.shape.processors }
@@ -259,6 +259,8 @@ impl Machine {
             widths,
             most,
         );
+        self.forks += steps.forks;
+        self.takes += steps.takes;
         self.work += steps.work;
         self.turns += steps.made;
         steps.made

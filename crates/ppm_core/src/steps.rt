@@ -1,10 +1,10 @@
-//! The steps that one processor makes in a row in capsules of frames: what `act_on` makes of them
-//! one by one. A capsule gone through from its beginning is held as registers and numbers
-//! (`frames.rt`), one that is already under way as a `Running`.
+//! The steps that one processor makes in a row: what `act_on` makes of them one by one. A capsule
+//! gone through from its beginning is held as registers and numbers (`frames.rt`), one that is
+//! already under way as a `Running`; rows of work are straight code (`rows.rt`).
 ghost use Rattle.std.specs.Prelude.{◌≡◌, ◌<◌, ◌≤◌, ◌-◌, true};
 ghost use Rattle.ppm_cells.specs.Memory.{AreWordsOf, read};
 ghost use Rattle.ppm_cells.specs.declared.cell.Cell.TheVariants.{FinishWord};
-ghost use Rattle.ppm_core.specs.Moments.{moment, is_under_way, MovesOn, StepsTo, NoFurther};
+ghost use Rattle.ppm_core.specs.Moments.{moment, is_under_way, Leads, MovesOn, StepsTo, NoFurther};
 ghost use Rattle.ppm_step.specs.Facts.{IsSeat};
 ghost use Rattle.ppm_step.specs.Locals.{IsLocal, standing_of};
 ghost use Rattle.ppm_step.specs.Stages.{IsUnderWay, WentOn, rest_at, went_on};
@@ -14,8 +14,10 @@ ghost use Rattle.ppm_widths.specs.Widths.{AreWidths};
 
 use crate::acts::{finish_word, make};
 use crate::frames::rounds;
+use crate::rows::{Count, NOTHING, rows_along};
 use ppm_cells::Shape;
 use ppm_code::Code;
+use ppm_engine::has_row;
 use ppm_step::{Going, Local, Running, Stand};
 
 /// Steps in a row, and how many of them were work.
@@ -169,8 +171,22 @@ fn resume(
     }
 }
 
-/// Makes steps of a processor in a row in its capsules of frames, at most so many, while the finish
-/// word is 0.
+/// Steps among which there is neither a fork nor a take.
+#[inline(always)]
+fn plain(steps: Steps) -> Count
+    ensures { result
+        ≡ record { made = steps.made; work = steps.work; forks = 0; takes = 0 } }
+{
+    Count {
+        made: steps.made,
+        work: steps.work,
+        forks: 0,
+        takes: 0,
+    }
+}
+
+/// Makes steps of a processor in a row, in its capsules of frames and by its rows of work, at most
+/// so many, while the finish word is 0.
 pub(crate) fn step_along(
     local: &mut Local,
     words: &mut Vec<u64>,
@@ -178,12 +194,12 @@ pub(crate) fn step_along(
     code: &Code,
     widths: &[u8],
     most: u64,
-) -> Steps
+) -> Count
     requires local { IsLocal shape.now code.now local.old }
     requires words { AreWordsOf shape.now words.old.items }
     requires widths { AreWidths code.now widths.now }
-    ensures few { (result.made ≤ most) × (result.work ≤ result.made) }
-    ensures leads { StepsTo shape.now code.now local.old.own result.made result.work
+    ensures few { (result.made ≤ most) × (result.work ≤ result.made) × (result.forks ≤ result.made) × (result.takes ≤ result.made) }
+    ensures leads { Leads shape.now code.now local.old.own result.made result.work result.forks result.takes
         (moment words.old.items (standing_of shape.now code.now local.old))
         (moment words.new.items (standing_of shape.now code.now local.new)) }
     ensures no_further { NoFurther shape.now code.now local.old.own (most - result.made)
@@ -192,7 +208,7 @@ pub(crate) fn step_along(
     ensures own { local.new.own ≡ local.old.own }
     ensures count { AreWordsOf shape.now words.new.items }
 {
-    let mut steps = NONE;
+    let mut steps = NOTHING;
     while steps.made < most {
         if finish_word(words, shape) != 0 {
             return steps;
@@ -201,16 +217,18 @@ pub(crate) fn step_along(
         if more.made == 0 {
             return steps;
         }
-        steps = Steps {
+        steps = Count {
             made: steps.made + more.made,
             work: steps.work + more.work,
+            forks: steps.forks + more.forks,
+            takes: steps.takes + more.takes,
         };
     }
     steps
 }
 
-/// Goes on by the capsule in which the processor stands, or by those before which it stands;
-/// elsewhere by none.
+/// Goes on by the capsule in which the processor stands, or by the capsules or the rows of work
+/// before which it stands; elsewhere by none.
 fn steps_from(
     local: &mut Local,
     words: &mut Vec<u64>,
@@ -218,14 +236,14 @@ fn steps_from(
     code: &Code,
     widths: &[u8],
     most: u64,
-) -> Steps
+) -> Count
     requires local { IsLocal shape.now code.now local.old }
     requires words { AreWordsOf shape.now words.old.items }
     requires widths { AreWidths code.now widths.now }
     requires most { 0 < most }
     requires finish { read shape.now words.old.items FinishWord ≡ 0 }
-    ensures few { (result.made ≤ most) × (result.work ≤ result.made) }
-    ensures leads { StepsTo shape.now code.now local.old.own result.made result.work
+    ensures few { (result.made ≤ most) × (result.work ≤ result.made) × (result.forks ≤ result.made) × (result.takes ≤ result.made) }
+    ensures leads { Leads shape.now code.now local.old.own result.made result.work result.forks result.takes
         (moment words.old.items (standing_of shape.now code.now local.old))
         (moment words.new.items (standing_of shape.now code.now local.new)) }
     ensures no_further { result.made ≡ 0
@@ -236,14 +254,20 @@ fn steps_from(
 {
     match local.stand {
         Stand::At { place, restart } => match restart {
-            Some(restart) => rounds(local, words, shape, code, widths, place, restart, most),
-            None => NONE,
+            Some(restart) => {
+                if has_row(restart.kind) {
+                    rows_along(local, words, shape, code, place, restart, most)
+                } else {
+                    plain(rounds(local, words, shape, code, widths, place, restart, most))
+                }
+            }
+            None => NOTHING,
         },
-        Stand::Runs(running) => resume(local, words, shape, code, running, most),
+        Stand::Runs(running) => plain(resume(local, words, shape, code, running, most)),
         Stand::Lost
         | Stand::Placed { .. }
         | Stand::Within { .. }
         | Stand::Broken { .. }
-        | Stand::Done => NONE,
+        | Stand::Done => NOTHING,
     }
 }

@@ -1,11 +1,11 @@
 -- The stores of the rows, and the restart word at their ends.
-use Rattle.std.proofs.Common.{◌≡◌, ◌∙◌, ◌+◌, ◌^◌, ℕ, Bool, true, false, Some, sym, refl, ap}
+use Rattle.std.proofs.Common.{◌≡◌, ◌∙◌, ◌+◌, ◌^◌, ◌<◌, ◌⊎◌, inl, inr, ℕ, Bool, true, false, length, Some, sym, refl, ap, subst, arith}
 use Rattle.std.specs.Prelude.{nat_lt}
 use Rattle.std.proofs.lemmas.Bool.{lt-ltb, ltb-true}
 use Rattle.ppm_cells.specs.Cells.{address}
 use Rattle.ppm_cells.specs.Restart.{restart_word}
 use Rattle.ppm_cells.specs.declared.cell.Cell.{Cell}
-use Rattle.ppm_cells.specs.declared.cell.Cell.TheVariants.{RestartWord}
+use Rattle.ppm_cells.specs.declared.cell.Cell.TheVariants.{FinishWord, CarryWord, DeadWord, RestartWord, MessageWord, HolderWord, Top, RoomCounter, EntryWord, BlockWord, ArrayWord}
 use Rattle.ppm_cells.specs.declared.entry.Entry.{Entry}
 use Rattle.ppm_cells.specs.declared.restart.Restart.{Restart}
 use Rattle.ppm_cells.specs.declared.shape.Shape.{Shape}
@@ -20,9 +20,47 @@ use Rattle.ppm_step.specs.declared.row.Row.TheVariants.{Now, Store, Exchange}
 use Rattle.ppm_step.specs.Contents.{word_of}
 use Rattle.ppm_step.specs.Rows.{raised}
 use Rattle.ppm_step.specs.Standings.{IsAt, IsWithin, stands, stands_then, wanted_then, went_then, within_if, installs}
-use Rattle.ppm_step.specs.State.{seeks_holder}
+use Rattle.ppm_step.specs.State.{seeks_holder, fork_row, take_row}
 use Rattle.ppm_step.specs.There.{is_there, restart_is_there}
-use Rattle.ppm_engine.specs.Steps.{IsEnd, IsNext, restart_of}
+use Rattle.ppm_engine.specs.declared.tally.Mark.{Mark}
+use Rattle.ppm_engine.specs.declared.tally.Mark.TheVariants as marks
+use Rattle.ppm_engine.specs.Memory.{IsSparing, IsLast, forks_by, takes_by}
+use Rattle.ppm_engine.specs.Steps.{IsEnd, IsNext, IsSpared, Spares, mark_of, restart_of}
+
+-- another cell lies elsewhere than the finish word
+pub spared : (s : Shape) (cell : Cell) → IsSpared cell → 0 < address s cell
+spared s FinishWord is = absurd is
+spared s (CarryWord processor) is = omega arith
+spared s (DeadWord processor) is = omega arith
+spared s (RestartWord place) is = omega arith
+spared s (MessageWord place) is = omega arith
+spared s (HolderWord place) is = omega arith
+spared s (Top place) is = omega arith
+spared s (RoomCounter place) is = omega arith
+spared s (EntryWord place slot) is = omega arith
+spared s (BlockWord at) is = is
+spared s (ArrayWord index) is = omega arith
+
+-- what a store at a row's end is counted as
+forks_there : (next : Then) → length (fork_row (Now next)) ≡ forks_by (mark_of next)
+forks_there (Install restart) = refl
+forks_there (Fork block) = refl
+forks_there (Begin block frame bottom) = refl
+forks_there (Load point) = refl
+forks_there (Move place) = refl
+forks_there (Enter capsule) = refl
+forks_there Again = refl
+forks_there Broken = refl
+
+takes_there : (next : Then) → length (take_row (Now next)) ≡ takes_by (mark_of next)
+takes_there (Install restart) = refl
+takes_there (Fork block) = refl
+takes_there (Begin block frame bottom) = refl
+takes_there (Load point) = refl
+takes_there (Move place) = refl
+takes_there (Enter capsule) = refl
+takes_there Again = refl
+takes_there Broken = refl
 
 module _ (s : Shape) (code : CodeParts) (seat : Seat) where
   -- at the end of a row, by whether what its restart names is there
@@ -49,14 +87,16 @@ module _ (s : Shape) (code : CodeParts) (seat : Seat) where
   wants_end Broken is = absurd is
 
   -- the restart word is stored
-  pub end_next : (next : Then) (at word : ℕ) (restart : Restart) → IsEnd next → restart ≡ restart_of seat next → at ≡ address s (RestartWord seat.place)
-      → word ≡ restart_word restart
-      → IsNext s seat (Now next) (Stores at word)
-  end_next next at word restart is r a w =
+  pub end_next : (next : Then) (at word : ℕ) (restart : Restart) (mark : Mark) → IsEnd next → restart ≡ restart_of seat next
+      → at ≡ address s (RestartWord seat.place) → word ≡ restart_word restart → mark ≡ mark_of next → IsNext s seat (Now next) (Stores at word) mark
+  end_next next at word restart mark is r a w m =
       let h = wants_end next is in (
         h.0 ∙ ap (λ (x : Restart). Stores (address s (RestartWord seat.place)) (restart_word x)) (sym r)
             ∙ ap (λ (x : ℕ). Stores x (restart_word restart)) (sym a) ∙ ap (λ (x : ℕ). Stores at x) (sym w),
         h.1,
+        inl (subst (λ (x : ℕ). 0 < x) (sym a) (spared s (RestartWord seat.place) tt)),
+        forks_there next ∙ ap forks_by (sym m),
+        takes_there next ∙ ap takes_by (sym m),
       )
 
   pub ended : (next : Then) (found : ℕ) (restart : Restart) → IsEnd next → restart ≡ restart_of seat next → went_then s code seat 0 found next
@@ -79,15 +119,40 @@ module _ (s : Shape) (code : CodeParts) (seat : Seat) where
       → stands s code seat (Exchange cell old new next) ≡ within_if seat (Exchange cell old new next) b
   exchanges_if cell old new next b e = ap (λ (x : Bool). within_if seat (Exchange cell old new next) x) (sym e)
 
-  pub store_next : (cell : Cell) (content : Content) (next : Then) (at word : ℕ) → at ≡ address s cell → word ≡ word_of content
-      → IsNext s seat (Store cell content next) (Stores at word)
-  store_next cell content next at word a w = (ap (λ (x : ℕ). Stores x (word_of content)) (sym a) ∙ ap (λ (x : ℕ). Stores at x) (sym w), refl)
+  pub store_next : (cell : Cell) (content : Content) (next : Then) (at word : ℕ) → IsSpared cell → at ≡ address s cell → word ≡ word_of content
+      → IsNext s seat (Store cell content next) (Stores at word) marks.Plain
+  store_next cell content next at word is a w = (
+    ap (λ (x : ℕ). Stores x (word_of content)) (sym a) ∙ ap (λ (x : ℕ). Stores at x) (sym w),
+    refl,
+    inl (subst (λ (x : ℕ). 0 < x) (sym a) (spared s cell is)),
+    refl,
+    refl,
+  )
 
-  pub exchange_next : (cell : Cell) (old new : Content) (next : Then) (at was becomes : ℕ) → at ≡ address s cell → was ≡ word_of old → becomes ≡ word_of new
-      → IsNext s seat (Exchange cell old new next) (Exchanges at was becomes)
-  exchange_next cell old new next at was becomes a o n = (
+  -- a change of the finish word ends its row
+  keeps : (cell : Cell) (old new : Content) (next : Then) (at was becomes : ℕ) → Spares cell next → at ≡ address s cell
+      → IsSparing (Exchanges at was becomes) ⊎ IsLast (IsWithin seat (Exchange cell old new next))
+  keeps FinishWord old new next at was becomes is a =
+      inr (subst (λ (x : Then). IsLast (IsWithin seat (Exchange FinishWord old new x))) (sym is) tt)
+  keeps (CarryWord processor) old new next at was becomes is a = inl (subst (λ (x : ℕ). 0 < x) (sym a) (spared s (CarryWord processor) tt))
+  keeps (DeadWord processor) old new next at was becomes is a = inl (subst (λ (x : ℕ). 0 < x) (sym a) (spared s (DeadWord processor) tt))
+  keeps (RestartWord place) old new next at was becomes is a = inl (subst (λ (x : ℕ). 0 < x) (sym a) (spared s (RestartWord place) tt))
+  keeps (MessageWord place) old new next at was becomes is a = inl (subst (λ (x : ℕ). 0 < x) (sym a) (spared s (MessageWord place) tt))
+  keeps (HolderWord place) old new next at was becomes is a = inl (subst (λ (x : ℕ). 0 < x) (sym a) (spared s (HolderWord place) tt))
+  keeps (Top place) old new next at was becomes is a = inl (subst (λ (x : ℕ). 0 < x) (sym a) (spared s (Top place) tt))
+  keeps (RoomCounter place) old new next at was becomes is a = inl (subst (λ (x : ℕ). 0 < x) (sym a) (spared s (RoomCounter place) tt))
+  keeps (EntryWord place slot) old new next at was becomes is a = inl (subst (λ (x : ℕ). 0 < x) (sym a) (spared s (EntryWord place slot) tt))
+  keeps (BlockWord to) old new next at was becomes is a = inl (subst (λ (x : ℕ). 0 < x) (sym a) is)
+  keeps (ArrayWord index) old new next at was becomes is a = inl (subst (λ (x : ℕ). 0 < x) (sym a) (spared s (ArrayWord index) tt))
+
+  pub exchange_next : (cell : Cell) (old new : Content) (next : Then) (at was becomes : ℕ) → Spares cell next → at ≡ address s cell → was ≡ word_of old
+      → becomes ≡ word_of new → IsNext s seat (Exchange cell old new next) (Exchanges at was becomes) marks.Plain
+  exchange_next cell old new next at was becomes is a o n = (
     ap (λ (x : ℕ). Exchanges x (word_of old) (word_of new)) (sym a) ∙ ap (λ (x : ℕ). Exchanges at x (word_of new)) (sym o)
         ∙ ap (λ (x : ℕ). Exchanges at was x) (sym n),
+    refl,
+    keeps cell old new next at was becomes is a,
+    refl,
     refl,
   )
 

@@ -1,5 +1,5 @@
 -- The loads of the rows.
-use Rattle.std.proofs.Common.{◌≡◌, ◌∙◌, ◌<◌, ◌≤◌, ℕ, Bool, true, false, Option, sym, refl, ap}
+use Rattle.std.proofs.Common.{◌≡◌, ◌∙◌, ◌<◌, ◌≤◌, ◌⊎◌, inl, ℕ, Bool, true, false, Option, sym, refl, ap}
 use Rattle.std.specs.Prelude.{nat_lt, nat_le, ◌&&◌}
 use Rattle.std.proofs.lemmas.Bool.{ltb-true, leb-true}
 use Rattle.ppm_cells.specs.Cells.{address}
@@ -30,6 +30,7 @@ use Rattle.ppm_step.specs.Standings.{IsWithin, IsBroken, point_is_there, stands,
 use Rattle.ppm_step.specs.State.{seeks_holder}
 use Rattle.ppm_step.specs.There.{is_there, kind_is_there}
 use Rattle.ppm_step.specs.declared.ask.Want.TheVariants.{Loads}
+use Rattle.ppm_engine.specs.declared.tally.Mark.TheVariants.{Plain}
 use Rattle.ppm_engine.specs.Steps.{IsNext, IsOfWork}
 
 -- no victim is due for a load of work, and its word is there if the cell is
@@ -102,8 +103,8 @@ point_there s seat (BidAgain a) w = refl
 point_there s seat (BidHolder a b) w = refl
 
 -- it comes next
-pub load_next : (s : Shape) (seat : Seat) (p : Point) (at : ℕ) → IsOfWork p → at ≡ address s (cell_at seat 0 p) → IsNext s seat (Now (Load p)) (Loads at)
-load_next s seat p at w e = (ap (λ (x : ℕ). Loads x) (sym e), not_due seat p w)
+pub load_next : (s : Shape) (seat : Seat) (p : Point) (at : ℕ) → IsOfWork p → at ≡ address s (cell_at seat 0 p) → IsNext s seat (Now (Load p)) (Loads at) Plain
+load_next s seat p at w e = (ap (λ (x : ℕ). Loads x) (sym e), not_due seat p w, inl tt, refl, refl)
 
 -- what can't be read is broken
 pub unreadable : (s : Shape) (seat : Seat) (p : Point) → found_at s seat 0 p Unreadable ≡ Now Broken

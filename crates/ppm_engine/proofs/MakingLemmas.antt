@@ -1,5 +1,5 @@
 -- The next step within a row.
-use Rattle.std.proofs.Common.{◌≡◌, ◌≢◌, ◌∙◌, ◌+◌, ◌≤◌, ℕ, Bool, if◌then◌else◌, true, false, Option, Some, None, List, Result, Err, slice_get, sym, refl, ap, subst, arith}
+use Rattle.std.proofs.Common.{◌≡◌, ◌≢◌, ◌∙◌, ◌+◌, ◌≤◌, ◌||◌, ℕ, Bool, if◌then◌else◌, true, false, length, Option, Some, None, List, Result, Err, slice_get, sym, refl, ap, subst, arith}
 use Rattle.std.specs.Result.{IsErrAnd}
 use Rattle.std.proofs.lemmas.Result.{err_from_is_err_and}
 use Rattle.ppm_cells.specs.declared.restart.RestartKind.{RestartKind}
@@ -20,20 +20,22 @@ use Rattle.ppm_step.specs.Frames.{Rest}
 use Rattle.ppm_step.specs.Points.{reading_at}
 use Rattle.ppm_step.specs.Rows.{found_at}
 use Rattle.ppm_step.specs.Standings.{Standing, IsWithin, IsDone, within_if, running_if, enters, stands_then, stands, went_then, went_row}
-use Rattle.ppm_step.specs.State.{is_work, is_work_next}
+use Rattle.ppm_step.specs.State.{is_work, is_work_next, fork_row, take_row}
 use Rattle.ppm_engine.specs.declared.memory.Stop.{Stop}
 use Rattle.ppm_engine.specs.declared.memory.Stop.TheVariants as stops
+use Rattle.ppm_engine.specs.declared.tally.Mark.{Mark}
+use Rattle.ppm_engine.specs.declared.tally.Mark.TheVariants as marks
 use Rattle.ppm_engine.specs.declared.tally.Tally.{Tally}
-use Rattle.ppm_engine.specs.Memory.{Counts, Spot, spot, IsToMake, CameOf, is_exchange, one, one_if, works}
+use Rattle.ppm_engine.specs.Memory.{Counts, Spot, spot, IsToMake, CameOf, is_exchange, both, one, one_if, settles, forks_by, takes_by, works}
 use Rattle.ppm_engine.specs.Steps.{IsWorking, IsNext, IsStep, Led, StopsAt}
 
 no_seek : (b : Bool) → (if b then Work else Look) ≢ Seek
 no_seek true = λ e. cc
 no_seek false = λ e. cc
 
-pub to_make : (s : Shape) (seat : Seat) (row : Row) (want : Want) → IsWorking s seat → IsStep s want → IsNext s seat row want
+pub to_make : (s : Shape) (seat : Seat) (row : Row) (want : Want) (mark : Mark) → IsWorking s seat → IsStep s want → IsNext s seat row want mark
     → IsToMake s seat.own seat.place (IsWithin seat row) want
-to_make s seat row want is step next = record {
+to_make s seat row want mark is step next = record {
   carrier = is.0.own;
   lives = λ e. cc;
   due = next.1;
@@ -42,11 +44,23 @@ to_make s seat row want is step next = record {
   asked = step.0;
   within = step.1;
   carried = refl;
+  row = refl;
+  keeps = next.2;
 }
 
 -- a step of work
-pub one_works : (seat : Seat) (row : Row) (want : Want) → is_work seat.restart.kind ≡ true → one (IsWithin seat row) want ≡ works 1 (is_exchange want)
-one_works seat row want work = ap (λ (b : Bool). one_if (is_work_next (if b then Work else Look)) (is_exchange want)) work
+pub one_works : (s : Shape) (seat : Seat) (row : Row) (want : Want) (mark : Mark) → is_work seat.restart.kind ≡ true → IsNext s seat row want mark
+    → one (IsWithin seat row) want ≡ settles 1 (is_exchange want) mark
+one_works s seat row want mark work next =
+    ap (λ (b : Bool). one_if (is_work_next (if b then Work else Look)) (is_exchange want) (length (fork_row row)) (length (take_row row))) work
+    ∙ ap (λ (n : ℕ). one_if true (is_exchange want) n (length (take_row row))) next.3
+    ∙ ap (λ (n : ℕ). one_if true (is_exchange want) (forks_by mark) n) next.4
+
+-- after others
+pub settles_after : (n : ℕ) (e x : Bool) (mark : Mark) → both (works n e) (settles 1 x mark) ≡ settles (n + 1) (e || x) mark
+settles_after n e x marks.Plain = refl
+settles_after n e x marks.Fork = refl
+settles_after n e x marks.Take = refl
 
 -- nobody is done within a row
 within_lives : (seat : Seat) (row : Row) (b : Bool) → within_if seat row b ≢ IsDone

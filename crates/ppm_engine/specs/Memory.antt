@@ -1,32 +1,55 @@
 -- Steps that a processor makes in a row, on words of any kind.
-use Rattle.std.specs.Prelude.{◌≡◌, ◌≢◌, ℕ, ◌+◌, ◌<◌, ◌==◌, ◌||◌, if◌then◌else◌, Bool, true, false, List, Option, Result, Ok, Err}
+use Rattle.std.specs.Prelude.{◌≡◌, ◌≢◌, ℕ, ◌+◌, ◌<◌, ◌==◌, ◌||◌, ◌⊎◌, if◌then◌else◌, Bool, true, false, List, length, Option, Result, Ok, Err}
 use Rattle.ppm_cells.specs.declared.shape.Shape.{Shape}
 use Rattle.ppm_words.specs.declared.event.Event.{Event}
 use Rattle.ppm_step.specs.declared.ask.Want.{Want}
 use Rattle.ppm_step.specs.declared.ask.Want.TheVariants.{Loads, Stores, Exchanges, Nothing}
+use Rattle.ppm_step.specs.declared.row.Row.TheVariants.{Exchange}
+use Rattle.ppm_step.specs.declared.row.Then.TheVariants.{Again}
 use Rattle.ppm_step.specs.declared.turn.Next.TheVariants.{Seek}
-use Rattle.ppm_step.specs.Standings.{Standing, IsDone, wanted, WantIsWithin}
-use Rattle.ppm_step.specs.State.{seeks_holder, next_of, is_work_next}
+use Rattle.ppm_step.specs.Standings.{Standing, IsDone, IsWithin, wanted, WantIsWithin}
+use Rattle.ppm_step.specs.State.{seeks_holder, next_of, is_work_next, row_by, fork_row, take_row}
 use Rattle.ppm_step.specs.Told.{place_of}
 use Rattle.ppm_engine.specs.declared.memory.Stop.{Stop}
 use Rattle.ppm_engine.specs.declared.memory.Stop.TheVariants.{Over, Refused, Broken}
+use Rattle.ppm_engine.specs.declared.tally.Mark.{Mark}
+use Rattle.ppm_engine.specs.declared.tally.Mark.TheVariants.{Plain, Fork, Take}
 
--- so many steps, of which so many are work, and so many looks since the last of these; whether one is a compare-and-modify
+-- so many steps, of which so many are work, and so many looks since the last of these; whether one is a compare-and-modify; how many
+-- forks and takes there are
 pub record Counts : Type 0 where
   pub made : ℕ
   pub work : ℕ
   pub looks : ℕ
   pub exchanged : Bool
+  pub forks : ℕ
+  pub takes : ℕ
 
-abbrev pub counts : (made work looks : ℕ) → Bool → Counts
-counts made work looks exchanged = record { made = made; work = work; looks = looks; exchanged = exchanged }
+abbrev pub counts : (made work looks : ℕ) → Bool → (forks takes : ℕ) → Counts
+counts made work looks exchanged forks takes =
+    record { made = made; work = work; looks = looks; exchanged = exchanged; forks = forks; takes = takes }
 
 abbrev pub none : Counts
-none = counts 0 0 0 false
+none = counts 0 0 0 false 0 0
 
--- all of them work
+-- the forks and the takes of a step with a mark
+abbrev pub forks_by : Mark → ℕ
+forks_by Plain = 0
+forks_by Fork = 1
+forks_by Take = 0
+
+abbrev pub takes_by : Mark → ℕ
+takes_by Plain = 0
+takes_by Fork = 0
+takes_by Take = 1
+
+-- all of them work, and the last one with a mark
+abbrev pub settles : ℕ → Bool → Mark → Counts
+settles n exchanged mark = counts n n 0 exchanged (forks_by mark) (takes_by mark)
+
+-- all of them work, and no fork and no take among them
 abbrev pub works : ℕ → Bool → Counts
-works n exchanged = counts n n 0 exchanged
+works n exchanged = counts n n 0 exchanged 0 0
 
 -- so many looks more, or the first since the last work
 abbrev pub looks_after : (before work looks : ℕ) → ℕ
@@ -34,7 +57,8 @@ looks_after before work looks = if work == 0 then before + looks else looks
 
 -- these, and then those
 abbrev pub both : Counts → Counts → Counts
-both c d = counts (c.made + d.made) (c.work + d.work) (looks_after c.looks d.work d.looks) (c.exchanged || d.exchanged)
+both c d =
+    counts (c.made + d.made) (c.work + d.work) (looks_after c.looks d.work d.looks) (c.exchanged || d.exchanged) (c.forks + d.forks) (c.takes + d.takes)
 
 abbrev pub is_exchange : Want → Bool
 is_exchange (Loads at) = false
@@ -43,11 +67,12 @@ is_exchange (Exchanges at old new) = true
 is_exchange Nothing = false
 
 -- one step of a processor that stands there
-abbrev pub one_if : Bool → Bool → Counts
-one_if work exchanged = counts 1 (if work then 1 else 0) (if work then 0 else 1) exchanged
+abbrev pub one_if : Bool → Bool → (forks takes : ℕ) → Counts
+one_if work exchanged forks takes = counts 1 (if work then 1 else 0) (if work then 0 else 1) exchanged forks takes
 
 abbrev pub one : Standing → Want → Counts
-one standing want = one_if (is_work_next (next_of standing)) (is_exchange want)
+one standing want =
+    one_if (is_work_next (next_of standing)) (is_exchange want) (length (row_by fork_row standing)) (length (row_by take_row standing))
 
 -- what a processor has of its own, where it stands, and what its watcher shows
 pub record Spot (Own : Type 0) : Type 0 where
@@ -65,7 +90,25 @@ IsAsked (Stores at word) = Unit {0}
 IsAsked (Exchanges at old new) = Unit {0}
 IsAsked Nothing = ⊥
 
--- a processor at a place that stands there is to make this step, for which no victim is due; it neither is done nor would seek work
+-- a step that stores nothing in the finish word
+abbrev pub IsSparing : Want → Type 0
+IsSparing (Loads at) = Unit {0}
+IsSparing (Stores at word) = 0 < at
+IsSparing (Exchanges at old new) = 0 < at
+IsSparing Nothing = Unit {0}
+
+-- a processor stands within a row
+abbrev pub is_within : Standing → Bool
+is_within (IsWithin seat row) = true
+is_within standing = false
+
+-- before a compare-and-modify after which its restart begins again
+abbrev pub IsLast : Standing → Type 0
+IsLast (IsWithin seat (Exchange cell old new Again)) = Unit {0}
+IsLast standing = ⊥
+
+-- a processor at a place that stands there, within a row, is to make this step, for which no victim is due; it would not seek work. The
+-- finish word stays as it is within a row
 pub record IsToMake (s : Shape) (own place : ℕ) (standing : Standing) (want : Want) : Type 0 where
   pub carrier : own < s.processors
   pub lives : standing ≢ IsDone
@@ -75,6 +118,8 @@ pub record IsToMake (s : Shape) (own place : ℕ) (standing : Standing) (want : 
   pub asked : IsAsked want
   pub within : WantIsWithin s want
   pub carried : place_of standing ≡ place
+  pub row : is_within standing ≡ true
+  pub keeps : IsSparing want ⊎ IsLast standing
 
 module _ {Own : Type 0} (led : Spot Own → Spot Own → Counts → Type 0) (refused : Spot Own → Spot Own → ℕ → Type 0) (over : Type 0) where
   -- what came of one step: it was made and told, and leads by the word that it found; or the watcher refused it; or the run is over, and nothing was done

@@ -1,12 +1,11 @@
 //! The stores of the rows of work, and the restart word at a row's end.
 ghost use Rattle.std.specs.Prelude.{◌≡◌, ◌<◌, ◌≤◌, ◌+◌, ◌^◌, ℕ, nat_lt, Some};
 ghost use Rattle.ppm_cells.specs.Entry.{IsEntry};
-ghost use Rattle.ppm_cells.specs.Restart.{IsRestart};
 ghost use Rattle.ppm_cells.specs.declared.cell.Cell.TheVariants.{EntryWord};
 ghost use Rattle.ppm_cells.specs.declared.restart.Restart.{Restart};
 ghost use Rattle.ppm_cells.specs.DequeChange.{CanRise, tag_of};
 ghost use Rattle.ppm_engine.specs.Memory.{Spot};
-ghost use Rattle.ppm_engine.specs.Steps.{Any, Came, IsEnd, IsWorking, Led, restart_of};
+ghost use Rattle.ppm_engine.specs.Steps.{Any, Came, IsEnd, IsSpared, IsWorking, Led, Settles, Spares, mark_of, restart_of};
 ghost use Rattle.ppm_step.specs.Contents.{IsContent};
 ghost use Rattle.ppm_step.specs.Rows.{raised};
 ghost use Rattle.ppm_step.specs.Standings.{IsAt, stands, stands_then};
@@ -15,7 +14,7 @@ ghost use Rattle.ppm_step.specs.declared.row.Then.{Then};
 
 use crate::making::make;
 use crate::memory::{Memory, Stop};
-use crate::tally::Tally;
+use crate::tally::{Mark, Settled, Tally};
 use ppm_cells::{Cell, Entry, Restart, RestartKind, entry_can_rise};
 use ppm_ports::Watch;
 use ppm_step::{Content, Put, Seat, Then, Want, address, cell_is_there, restart_there};
@@ -56,6 +55,18 @@ fn restart_of(seat: &Seat, next: Then) -> Restart
     }
 }
 
+/// How the machine counts the store with which a row ends.
+#[inline(always)]
+fn mark_of(next: Then) -> Mark
+    ensures { result ≡ mark_of next }
+{
+    match next {
+        Then::Fork { .. } => Mark::Fork,
+        Then::Begin { .. } => Mark::Take,
+        _ => Mark::Plain,
+    }
+}
+
 /// Stores the restart word with which the place goes on, if what it names is there.
 #[inline(always)]
 pub(crate) fn install<M: Memory, W: Watch>(
@@ -65,7 +76,7 @@ pub(crate) fn install<M: Memory, W: Watch>(
     tally: &mut Tally,
     seat: &Seat,
     next: Then,
-) -> Result<Restart, Stop>
+) -> Result<Settled, Stop>
     requires seat { IsWorking (M.shape memory.now) seat.now }
     requires next { IsEnd next }
     requires few { tally.old.made < 64 }
@@ -74,9 +85,8 @@ pub(crate) fn install<M: Memory, W: Watch>(
     ensures few { tally.new.made ≤ tally.old.made + 1 }
     ensures came { (first : Spot M.Own) → Led (M.led memory.now seat.now.own) first own.old (W.told watch.old) tally.old
         (stands_then (M.shape memory.now) (M.code memory.now) seat.now next)
-        → Came (M.led memory.now seat.now.own) first (M.refused memory.now seat.now.own) (M.over memory.now)
-        seat.now.place own.new (W.told watch.new) tally.new
-        IsRestart (λ restart. IsAt seat.now.place (Some restart)) result }
+        → Settles (M.led memory.now seat.now.own) first (M.refused memory.now seat.now.own) (M.over memory.now)
+        seat.now.place own.new (W.told watch.new) tally.new result }
 {
     let shape = memory.shape();
     let _ = shape.word_count();
@@ -85,6 +95,7 @@ pub(crate) fn install<M: Memory, W: Watch>(
         return Err(Stop::Broken);
     }
     let at = shape.address(Cell::RestartWord { place: seat.place });
+    let mark = mark_of(next);
     if let Err(stop) = make(
         memory,
         own,
@@ -92,10 +103,11 @@ pub(crate) fn install<M: Memory, W: Watch>(
         tally,
         seat,
         Want::Stores(at, restart.pack()),
+        mark,
     ) {
         return Err(stop);
     }
-    Ok(restart)
+    Ok(Settled { restart, mark })
 }
 
 /// Stores a word, if it is there.
@@ -109,7 +121,7 @@ pub(crate) fn store<M: Memory, W: Watch>(
     put: Put,
 ) -> Result<(), Stop>
     requires seat { IsWorking (M.shape memory.now) seat.now }
-    requires put { IsContent put.content }
+    requires put { IsContent put.content × IsSpared put.cell }
     requires few { tally.old.made < 64 }
     requires stands { (first : Spot M.Own) × (next : Then) × Led (M.led memory.now seat.now.own) first own.old (W.told watch.old) tally.old
         (stands (M.shape memory.now) (M.code memory.now) seat.now (Store put.cell put.content next)) }
@@ -133,6 +145,7 @@ pub(crate) fn store<M: Memory, W: Watch>(
         tally,
         seat,
         Want::Stores(at, put.content.word()),
+        Mark::Plain,
     ) {
         return Err(stop);
     }
@@ -149,18 +162,17 @@ pub(crate) fn store_then<M: Memory, W: Watch>(
     seat: &Seat,
     put: Put,
     next: Then,
-) -> Result<Restart, Stop>
+) -> Result<Settled, Stop>
     requires seat { IsWorking (M.shape memory.now) seat.now }
-    requires put { IsContent put.content × IsEnd next }
+    requires put { IsContent put.content × IsSpared put.cell × IsEnd next }
     requires few { tally.old.made < 32 }
     requires stands { (first : Spot M.Own) × Led (M.led memory.now seat.now.own) first own.old (W.told watch.old) tally.old
         (stands (M.shape memory.now) (M.code memory.now) seat.now (Store put.cell put.content next)) }
     ensures few { tally.new.made ≤ tally.old.made + 2 }
     ensures came { (first : Spot M.Own) → Led (M.led memory.now seat.now.own) first own.old (W.told watch.old) tally.old
         (stands (M.shape memory.now) (M.code memory.now) seat.now (Store put.cell put.content next))
-        → Came (M.led memory.now seat.now.own) first (M.refused memory.now seat.now.own) (M.over memory.now)
-        seat.now.place own.new (W.told watch.new) tally.new
-        IsRestart (λ restart. IsAt seat.now.place (Some restart)) result }
+        → Settles (M.led memory.now seat.now.own) first (M.refused memory.now seat.now.own) (M.over memory.now)
+        seat.now.place own.new (W.told watch.new) tally.new result }
 {
     if let Err(stop) = store(memory, own, watch, tally, seat, put) {
         return Err(stop);
@@ -181,10 +193,10 @@ pub(crate) fn exchange<M: Memory, W: Watch>(
     requires seat { IsWorking (M.shape memory.now) seat.now }
     requires change { IsContent change.old × IsContent change.new }
     requires few { tally.old.made < 64 }
-    requires stands { (first : Spot M.Own) × (next : Then) × Led (M.led memory.now seat.now.own) first own.old (W.told watch.old) tally.old
+    requires stands { (first : Spot M.Own) × (next : Then) × Spares change.cell next × Led (M.led memory.now seat.now.own) first own.old (W.told watch.old) tally.old
         (stands (M.shape memory.now) (M.code memory.now) seat.now (Exchange change.cell change.old change.new next)) }
     ensures few { tally.new.made ≤ tally.old.made + 1 }
-    ensures came { (first : Spot M.Own) (next : Then)
+    ensures came { (first : Spot M.Own) (next : Then) → Spares change.cell next
         → Led (M.led memory.now seat.now.own) first own.old (W.told watch.old) tally.old
         (stands (M.shape memory.now) (M.code memory.now) seat.now (Exchange change.cell change.old change.new next))
         → Came (M.led memory.now seat.now.own) first (M.refused memory.now seat.now.own) (M.over memory.now)
@@ -197,7 +209,7 @@ pub(crate) fn exchange<M: Memory, W: Watch>(
     }
     let at = address(&shape, change.cell);
     let want = Want::Exchanges(at, change.old.word(), change.new.word());
-    if let Err(stop) = make(memory, own, watch, tally, seat, want) {
+    if let Err(stop) = make(memory, own, watch, tally, seat, want, Mark::Plain) {
         return Err(stop);
     }
     Ok(())
@@ -213,18 +225,17 @@ pub(crate) fn exchange_then<M: Memory, W: Watch>(
     seat: &Seat,
     change: Change,
     next: Then,
-) -> Result<Restart, Stop>
+) -> Result<Settled, Stop>
     requires seat { IsWorking (M.shape memory.now) seat.now }
-    requires change { IsContent change.old × IsContent change.new × IsEnd next }
+    requires change { IsContent change.old × IsContent change.new × IsEnd next × Spares change.cell next }
     requires few { tally.old.made < 32 }
     requires stands { (first : Spot M.Own) × Led (M.led memory.now seat.now.own) first own.old (W.told watch.old) tally.old
         (stands (M.shape memory.now) (M.code memory.now) seat.now (Exchange change.cell change.old change.new next)) }
     ensures few { tally.new.made ≤ tally.old.made + 2 }
     ensures came { (first : Spot M.Own) → Led (M.led memory.now seat.now.own) first own.old (W.told watch.old) tally.old
         (stands (M.shape memory.now) (M.code memory.now) seat.now (Exchange change.cell change.old change.new next))
-        → Came (M.led memory.now seat.now.own) first (M.refused memory.now seat.now.own) (M.over memory.now)
-        seat.now.place own.new (W.told watch.new) tally.new
-        IsRestart (λ restart. IsAt seat.now.place (Some restart)) result }
+        → Settles (M.led memory.now seat.now.own) first (M.refused memory.now seat.now.own) (M.over memory.now)
+        seat.now.place own.new (W.told watch.new) tally.new result }
 {
     if let Err(stop) = exchange(memory, own, watch, tally, seat, change) {
         return Err(stop);
@@ -281,7 +292,7 @@ pub(crate) fn raise_then<M: Memory, W: Watch>(
     seat: &Seat,
     change: Raise,
     next: Then,
-) -> Result<Restart, Stop>
+) -> Result<Settled, Stop>
     requires seat { IsWorking (M.shape memory.now) seat.now }
     requires entries { IsEntry change.old × (CanRise change.old → IsEntry change.new) × IsEnd next }
     requires few { tally.old.made < 32 }
@@ -292,9 +303,8 @@ pub(crate) fn raise_then<M: Memory, W: Watch>(
     ensures came { (first : Spot M.Own) → Led (M.led memory.now seat.now.own) first own.old (W.told watch.old) tally.old
         (stands (M.shape memory.now) (M.code memory.now) seat.now
         (raised (EntryWord seat.now.place change.slot) change.old change.new next (nat_lt (tag_of change.old + 1) (2 ^ 34))))
-        → Came (M.led memory.now seat.now.own) first (M.refused memory.now seat.now.own) (M.over memory.now)
-        seat.now.place own.new (W.told watch.new) tally.new
-        IsRestart (λ restart. IsAt seat.now.place (Some restart)) result }
+        → Settles (M.led memory.now seat.now.own) first (M.refused memory.now seat.now.own) (M.over memory.now)
+        seat.now.place own.new (W.told watch.new) tally.new result }
 {
     if let Err(stop) = raise_entry(memory, own, watch, tally, seat, change) {
         return Err(stop);

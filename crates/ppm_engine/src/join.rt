@@ -1,11 +1,10 @@
 //! The rows of a branch that has come to its join.
 ghost use Rattle.std.specs.Prelude.{◌≡◌, ◌<◌, ◌≤◌, ◌+◌, ◌==◌, ℕ, Some};
 ghost use Rattle.ppm_cells.specs.JoinOrder.{first as first_of};
-ghost use Rattle.ppm_cells.specs.Restart.{IsRestart};
 ghost use Rattle.ppm_cells.specs.declared.restart.Restart.{Restart};
 ghost use Rattle.ppm_cells.specs.declared.restart.RestartKind.TheVariants.{Arrive, Join};
 ghost use Rattle.ppm_engine.specs.Memory.{Spot};
-ghost use Rattle.ppm_engine.specs.Steps.{Came, IsBack, IsWorking, Led};
+ghost use Rattle.ppm_engine.specs.Steps.{Came, IsBack, IsWorking, Led, Settles};
 ghost use Rattle.ppm_step.specs.Facts.{IsAddress};
 ghost use Rattle.ppm_step.specs.Rows.{is_inline, is_last, row_of};
 ghost use Rattle.ppm_step.specs.Standings.{IsAt, stands, stands_then};
@@ -16,7 +15,7 @@ use crate::ends::{Change, exchange_then, install};
 use crate::loads::{address_after, load_link, load_number, load_outcome};
 use crate::memory::{Memory, Stop};
 use crate::pop::begin_right;
-use crate::tally::Tally;
+use crate::tally::{Settled, Tally};
 use crate::unwind::{Back, Gift, give, take_over};
 use ppm_cells::{Cell, Finish, LinkKind, Restart, RestartKind, Side, joined};
 use ppm_ports::Watch;
@@ -32,7 +31,7 @@ pub(crate) fn arrive<M: Memory, W: Watch>(
     seat: &Seat,
     block: u32,
     side: Side,
-) -> Result<Restart, Stop>
+) -> Result<Settled, Stop>
     requires seat { IsWorking (M.shape memory.now) seat.now }
     requires block { IsAddress block }
     requires few { tally.old.made < 16 }
@@ -41,9 +40,8 @@ pub(crate) fn arrive<M: Memory, W: Watch>(
     ensures few { tally.new.made ≤ tally.old.made + 2 }
     ensures came { (first : Spot M.Own) → Led (M.led memory.now seat.now.own) first own.old (W.told watch.old) tally.old
         (stands (M.shape memory.now) (M.code memory.now) seat.now (row_of (M.shape memory.now) seat.now (Arrive block side)))
-        → Came (M.led memory.now seat.now.own) first (M.refused memory.now seat.now.own) (M.over memory.now)
-        seat.now.place own.new (W.told watch.new) tally.new
-        IsRestart (λ restart. IsAt seat.now.place (Some restart)) result }
+        → Settles (M.led memory.now seat.now.own) first (M.refused memory.now seat.now.own) (M.over memory.now)
+        seat.now.place own.new (W.told watch.new) tally.new result }
 {
     let change = Change {
         cell: Cell::BlockWord { address: block + 1 },
@@ -103,7 +101,7 @@ fn join_values<M: Memory, W: Watch>(
     seat: &Seat,
     block: u32,
     back: Back,
-) -> Result<Restart, Stop>
+) -> Result<Settled, Stop>
     requires seat { IsWorking (M.shape memory.now) seat.now }
     requires block { IsAddress block × IsBack back }
     requires few { tally.old.made < 24 }
@@ -112,9 +110,8 @@ fn join_values<M: Memory, W: Watch>(
     ensures few { tally.new.made ≤ tally.old.made + 8 }
     ensures came { (first : Spot M.Own) → Led (M.led memory.now seat.now.own) first own.old (W.told watch.old) tally.old
         (stands_then (M.shape memory.now) (M.code memory.now) seat.now (Load (Target (block + 5) back.to back.copy (Some block))))
-        → Came (M.led memory.now seat.now.own) first (M.refused memory.now seat.now.own) (M.over memory.now)
-        seat.now.place own.new (W.told watch.new) tally.new
-        IsRestart (λ restart. IsAt seat.now.place (Some restart)) result }
+        → Settles (M.led memory.now seat.now.own) first (M.refused memory.now seat.now.own) (M.over memory.now)
+        seat.now.place own.new (W.told watch.new) tally.new result }
 {
     let Back { to, copy } = back;
     let left = Gift {
@@ -162,7 +159,7 @@ fn join_last<M: Memory, W: Watch>(
     tally: &mut Tally,
     seat: &Seat,
     block: u32,
-) -> Result<Restart, Stop>
+) -> Result<Settled, Stop>
     requires seat { IsWorking (M.shape memory.now) seat.now }
     requires block { IsAddress block }
     requires few { tally.old.made < 20 }
@@ -171,9 +168,8 @@ fn join_last<M: Memory, W: Watch>(
     ensures few { tally.new.made ≤ tally.old.made + 11 }
     ensures came { (first : Spot M.Own) → Led (M.led memory.now seat.now.own) first own.old (W.told watch.old) tally.old
         (stands_then (M.shape memory.now) (M.code memory.now) seat.now (Load (JoinLink block)))
-        → Came (M.led memory.now seat.now.own) first (M.refused memory.now seat.now.own) (M.over memory.now)
-        seat.now.place own.new (W.told watch.new) tally.new
-        IsRestart (λ restart. IsAt seat.now.place (Some restart)) result }
+        → Settles (M.led memory.now seat.now.own) first (M.refused memory.now seat.now.own) (M.over memory.now)
+        seat.now.place own.new (W.told watch.new) tally.new result }
 {
     let link = load_link(memory, own, watch, tally, seat, Point::JoinLink { block })?;
     let LinkKind::Fork { frame: to, copy } = link.kind else {
@@ -205,7 +201,7 @@ pub(crate) fn join<M: Memory, W: Watch>(
     seat: &Seat,
     block: u32,
     side: Side,
-) -> Result<Restart, Stop>
+) -> Result<Settled, Stop>
     requires seat { IsWorking (M.shape memory.now) seat.now }
     requires block { IsAddress block }
     requires few { tally.old.made < 16 }
@@ -214,9 +210,8 @@ pub(crate) fn join<M: Memory, W: Watch>(
     ensures few { tally.new.made ≤ tally.old.made + 12 }
     ensures came { (first : Spot M.Own) → Led (M.led memory.now seat.now.own) first own.old (W.told watch.old) tally.old
         (stands (M.shape memory.now) (M.code memory.now) seat.now (row_of (M.shape memory.now) seat.now (Join block side)))
-        → Came (M.led memory.now seat.now.own) first (M.refused memory.now seat.now.own) (M.over memory.now)
-        seat.now.place own.new (W.told watch.new) tally.new
-        IsRestart (λ restart. IsAt seat.now.place (Some restart)) result }
+        → Settles (M.led memory.now seat.now.own) first (M.refused memory.now seat.now.own) (M.over memory.now)
+        seat.now.place own.new (W.told watch.new) tally.new result }
 {
     let bottom = seat.restart.bottom;
     let looked = Point::JoinOrder { block, side };

@@ -1,14 +1,18 @@
 //! Steps of a processor in a row, on words of any kind.
 //! Model: a relation between where a processor stood and where it stands (`Memory::led`), which
 //! each kind of words has for itself.
-//! Contract: a row of work of the scheduler leads where its steps lead, one by one.
-//! Stands on `ppm_step`; `ppm_stretch` makes the rows on words that threads share.
+//! Contract: a row of work of the scheduler leads where its steps lead, one by one. `wait_at` and its
+//! like put a processor where steps in a row have led it, and `address_of` is the address of a
+//! location of its capsule.
+//! Stands on `ppm_step` and `ppm_widths`; `ppm_core` makes steps in a row on a machine's words, and
+//! `ppm_stretch` on words that threads share.
 //! After the parallel persistent memory of Blelloch et al., SPAA 2018.
 #![tactic(auto)]
 
 mod ends;
 mod join;
 mod loads;
+mod locations;
 mod making;
 mod memory;
 mod pop;
@@ -16,7 +20,10 @@ mod push;
 mod rows;
 mod tally;
 mod unwind;
+mod waiting;
 
+pub use locations::address_of;
 pub use memory::{Memory, Stop};
-pub use rows::make_row;
-pub use tally::Tally;
+pub use rows::{has_row, make_row};
+pub use tally::{Mark, Settled, Tally};
+pub use waiting::{wait_at, wait_broken, wait_ending, wait_full, wait_midway, wait_stopped};

@@ -19,7 +19,7 @@ ghost use Rattle.ppm_step.specs.declared.row.Then.TheVariants.{Load};
 
 use crate::making::make;
 use crate::memory::{Memory, Stop};
-use crate::tally::Tally;
+use crate::tally::{Mark, Tally};
 use ppm_cells::{Cell, Entry, Finish, Link, Shape};
 use ppm_ports::Watch;
 use ppm_step::{Point, Seat, Want, address, cell_is_there};
@@ -106,7 +106,15 @@ fn load<M: Memory, W: Watch>(
         return Err(Stop::Broken);
     }
     let at = address(&shape, cell);
-    make(memory, own, watch, tally, seat, Want::Loads(at))
+    make(
+        memory,
+        own,
+        watch,
+        tally,
+        seat,
+        Want::Loads(at),
+        Mark::Plain,
+    )
 }
 
 /// Loads a number.

@@ -1,10 +1,9 @@
 //! The rows by which a place gets its job back, and the right branch of a block begins.
 ghost use Rattle.std.specs.Prelude.{◌≡◌, ◌<◌, ◌≤◌, ◌+◌, ℕ, Some};
-ghost use Rattle.ppm_cells.specs.Restart.{IsRestart};
 ghost use Rattle.ppm_cells.specs.declared.restart.Restart.{Restart};
 ghost use Rattle.ppm_cells.specs.declared.restart.RestartKind.TheVariants.{Pop1, Pop2};
 ghost use Rattle.ppm_engine.specs.Memory.{Spot};
-ghost use Rattle.ppm_engine.specs.Steps.{Came, IsWorking, Led};
+ghost use Rattle.ppm_engine.specs.Steps.{Came, IsWorking, Led, Settles};
 ghost use Rattle.ppm_step.specs.Facts.{IsAddress};
 ghost use Rattle.ppm_step.specs.Rows.{row_of};
 ghost use Rattle.ppm_step.specs.Standings.{IsAt, stands, stands_then};
@@ -14,7 +13,7 @@ ghost use Rattle.ppm_step.specs.declared.row.Point.TheVariants.{Offset, PopAbove
 use crate::ends::{Raise, install, raise_entry, raise_then};
 use crate::loads::{address_after, load_entry, load_number};
 use crate::memory::{Memory, Stop};
-use crate::tally::Tally;
+use crate::tally::{Settled, Tally};
 use ppm_cells::{Entry, Restart, RestartKind};
 use ppm_ports::Watch;
 use ppm_step::{Point, Seat, Then};
@@ -29,7 +28,7 @@ pub(crate) fn begin_right<M: Memory, W: Watch>(
     seat: &Seat,
     block: u32,
     bottom: u32,
-) -> Result<Restart, Stop>
+) -> Result<Settled, Stop>
     requires seat { IsWorking (M.shape memory.now) seat.now }
     requires block { IsAddress block }
     requires few { tally.old.made < 32 }
@@ -38,9 +37,8 @@ pub(crate) fn begin_right<M: Memory, W: Watch>(
     ensures few { tally.new.made ≤ tally.old.made + 2 }
     ensures came { (first : Spot M.Own) → Led (M.led memory.now seat.now.own) first own.old (W.told watch.old) tally.old
         (stands_then (M.shape memory.now) (M.code memory.now) seat.now (Load (Offset block bottom)))
-        → Came (M.led memory.now seat.now.own) first (M.refused memory.now seat.now.own) (M.over memory.now)
-        seat.now.place own.new (W.told watch.new) tally.new
-        IsRestart (λ restart. IsAt seat.now.place (Some restart)) result }
+        → Settles (M.led memory.now seat.now.own) first (M.refused memory.now seat.now.own) (M.over memory.now)
+        seat.now.place own.new (W.told watch.new) tally.new result }
 {
     let offset = load_number(
         memory,
@@ -70,7 +68,7 @@ pub(crate) fn pop1<M: Memory, W: Watch>(
     watch: &mut W,
     tally: &mut Tally,
     seat: &Seat,
-) -> Result<Restart, Stop>
+) -> Result<Settled, Stop>
     requires seat { IsWorking (M.shape memory.now) seat.now }
     requires few { tally.old.made < 16 }
     requires stands { (first : Spot M.Own) × Led (M.led memory.now seat.now.own) first own.old (W.told watch.old) tally.old
@@ -78,9 +76,8 @@ pub(crate) fn pop1<M: Memory, W: Watch>(
     ensures few { tally.new.made ≤ tally.old.made + 3 }
     ensures came { (first : Spot M.Own) → Led (M.led memory.now seat.now.own) first own.old (W.told watch.old) tally.old
         (stands (M.shape memory.now) (M.code memory.now) seat.now (row_of (M.shape memory.now) seat.now (Pop1)))
-        → Came (M.led memory.now seat.now.own) first (M.refused memory.now seat.now.own) (M.over memory.now)
-        seat.now.place own.new (W.told watch.new) tally.new
-        IsRestart (λ restart. IsAt seat.now.place (Some restart)) result }
+        → Settles (M.led memory.now seat.now.own) first (M.refused memory.now seat.now.own) (M.over memory.now)
+        seat.now.place own.new (W.told watch.new) tally.new result }
 {
     let bottom = seat.restart.bottom;
     let entry = load_entry(memory, own, watch, tally, seat, Point::PopBelow)?;
@@ -133,7 +130,7 @@ fn empty_above<M: Memory, W: Watch>(
     tally: &mut Tally,
     seat: &Seat,
     block: u32,
-) -> Result<Restart, Stop>
+) -> Result<Settled, Stop>
     requires seat { IsWorking (M.shape memory.now) seat.now }
     requires block { IsAddress block }
     requires few { tally.old.made < 24 }
@@ -142,9 +139,8 @@ fn empty_above<M: Memory, W: Watch>(
     ensures few { tally.new.made ≤ tally.old.made + 4 }
     ensures came { (first : Spot M.Own) → Led (M.led memory.now seat.now.own) first own.old (W.told watch.old) tally.old
         (stands_then (M.shape memory.now) (M.code memory.now) seat.now (Load (PopAbove block)))
-        → Came (M.led memory.now seat.now.own) first (M.refused memory.now seat.now.own) (M.over memory.now)
-        seat.now.place own.new (W.told watch.new) tally.new
-        IsRestart (λ restart. IsAt seat.now.place (Some restart)) result }
+        → Settles (M.led memory.now seat.now.own) first (M.refused memory.now seat.now.own) (M.over memory.now)
+        seat.now.place own.new (W.told watch.new) tally.new result }
 {
     let bottom = seat.restart.bottom;
     let entry = load_entry(memory, own, watch, tally, seat, Point::PopAbove { block })?;
@@ -171,7 +167,7 @@ pub(crate) fn pop2<M: Memory, W: Watch>(
     tally: &mut Tally,
     seat: &Seat,
     block: u32,
-) -> Result<Restart, Stop>
+) -> Result<Settled, Stop>
     requires seat { IsWorking (M.shape memory.now) seat.now }
     requires block { IsAddress block }
     requires few { tally.old.made < 16 }
@@ -180,9 +176,8 @@ pub(crate) fn pop2<M: Memory, W: Watch>(
     ensures few { tally.new.made ≤ tally.old.made + 5 }
     ensures came { (first : Spot M.Own) → Led (M.led memory.now seat.now.own) first own.old (W.told watch.old) tally.old
         (stands (M.shape memory.now) (M.code memory.now) seat.now (row_of (M.shape memory.now) seat.now (Pop2 block)))
-        → Came (M.led memory.now seat.now.own) first (M.refused memory.now seat.now.own) (M.over memory.now)
-        seat.now.place own.new (W.told watch.new) tally.new
-        IsRestart (λ restart. IsAt seat.now.place (Some restart)) result }
+        → Settles (M.led memory.now seat.now.own) first (M.refused memory.now seat.now.own) (M.over memory.now)
+        seat.now.place own.new (W.told watch.new) tally.new result }
 {
     let bottom = seat.restart.bottom;
     let entry = load_entry(memory, own, watch, tally, seat, Point::PopAgain { block })?;

@@ -1,11 +1,10 @@
 //! The rows that take a new block in: its words are taken from the pool, and the right branch of a
 //! fork becomes a job.
 ghost use Rattle.std.specs.Prelude.{◌≡◌, ◌<◌, ◌≤◌, ◌+◌, ◌^◌, ◌==◌, ℕ, true, Some};
-ghost use Rattle.ppm_cells.specs.Restart.{IsRestart};
 ghost use Rattle.ppm_cells.specs.declared.restart.Restart.{Restart};
 ghost use Rattle.ppm_cells.specs.declared.restart.RestartKind.TheVariants.{Bump, Push1, Push2};
 ghost use Rattle.ppm_engine.specs.Memory.{Spot};
-ghost use Rattle.ppm_engine.specs.Steps.{Came, IsWorking, Led};
+ghost use Rattle.ppm_engine.specs.Steps.{Came, IsWorking, Led, Settles};
 ghost use Rattle.ppm_step.specs.Facts.{IsAddress};
 ghost use Rattle.ppm_step.specs.Rows.{push_at, row_of};
 ghost use Rattle.ppm_step.specs.Standings.{IsAt, stands, stands_then};
@@ -15,7 +14,7 @@ ghost use Rattle.ppm_step.specs.declared.row.Point.TheVariants.{PushAbove, PushO
 use crate::ends::{Raise, install, raise_then, store_then};
 use crate::loads::{load_entry, load_link, load_number};
 use crate::memory::{Memory, Stop};
-use crate::tally::Tally;
+use crate::tally::{Settled, Tally};
 use ppm_cells::{Cell, Entry, LinkKind, Restart, RestartKind, Takeover};
 use ppm_ports::Watch;
 use ppm_step::{Content, Point, Put, Seat, Then};
@@ -29,7 +28,7 @@ pub(crate) fn bump<M: Memory, W: Watch>(
     tally: &mut Tally,
     seat: &Seat,
     block: u32,
-) -> Result<Restart, Stop>
+) -> Result<Settled, Stop>
     requires seat { IsWorking (M.shape memory.now) seat.now }
     requires block { IsAddress block }
     requires few { tally.old.made < 16 }
@@ -38,9 +37,8 @@ pub(crate) fn bump<M: Memory, W: Watch>(
     ensures few { tally.new.made ≤ tally.old.made + 3 }
     ensures came { (first : Spot M.Own) → Led (M.led memory.now seat.now.own) first own.old (W.told watch.old) tally.old
         (stands (M.shape memory.now) (M.code memory.now) seat.now (row_of (M.shape memory.now) seat.now (Bump block)))
-        → Came (M.led memory.now seat.now.own) first (M.refused memory.now seat.now.own) (M.over memory.now)
-        seat.now.place own.new (W.told watch.new) tally.new
-        IsRestart (λ restart. IsAt seat.now.place (Some restart)) result }
+        → Settles (M.led memory.now seat.now.own) first (M.refused memory.now seat.now.own) (M.over memory.now)
+        seat.now.place own.new (W.told watch.new) tally.new result }
 {
     let bottom = seat.restart.bottom;
     let link = load_link(memory, own, watch, tally, seat, Point::BumpLink { block })?;
@@ -73,7 +71,7 @@ fn push_inline<M: Memory, W: Watch>(
     tally: &mut Tally,
     seat: &Seat,
     block: u32,
-) -> Result<Restart, Stop>
+) -> Result<Settled, Stop>
     requires seat { IsWorking (M.shape memory.now) seat.now }
     requires block { IsAddress block }
     requires few { tally.old.made < 32 }
@@ -82,9 +80,8 @@ fn push_inline<M: Memory, W: Watch>(
     ensures few { tally.new.made ≤ tally.old.made + 2 }
     ensures came { (first : Spot M.Own) → Led (M.led memory.now seat.now.own) first own.old (W.told watch.old) tally.old
         (stands (M.shape memory.now) (M.code memory.now) seat.now (push_at seat.now (M.shape memory.now).takeover block true))
-        → Came (M.led memory.now seat.now.own) first (M.refused memory.now seat.now.own) (M.over memory.now)
-        seat.now.place own.new (W.told watch.new) tally.new
-        IsRestart (λ restart. IsAt seat.now.place (Some restart)) result }
+        → Settles (M.led memory.now seat.now.own) first (M.refused memory.now seat.now.own) (M.over memory.now)
+        seat.now.place own.new (W.told watch.new) tally.new result }
 {
     let put = Put {
         cell: Cell::BlockWord { address: block + 1 },
@@ -115,7 +112,7 @@ fn push_above<M: Memory, W: Watch>(
     tally: &mut Tally,
     seat: &Seat,
     block: u32,
-) -> Result<Restart, Stop>
+) -> Result<Settled, Stop>
     requires seat { IsWorking (M.shape memory.now) seat.now }
     requires block { IsAddress block }
     requires few { tally.old.made < 24 }
@@ -124,9 +121,8 @@ fn push_above<M: Memory, W: Watch>(
     ensures few { tally.new.made ≤ tally.old.made + 3 }
     ensures came { (first : Spot M.Own) → Led (M.led memory.now seat.now.own) first own.old (W.told watch.old) tally.old
         (stands_then (M.shape memory.now) (M.code memory.now) seat.now (Load (PushAbove block)))
-        → Came (M.led memory.now seat.now.own) first (M.refused memory.now seat.now.own) (M.over memory.now)
-        seat.now.place own.new (W.told watch.new) tally.new
-        IsRestart (λ restart. IsAt seat.now.place (Some restart)) result }
+        → Settles (M.led memory.now seat.now.own) first (M.refused memory.now seat.now.own) (M.over memory.now)
+        seat.now.place own.new (W.told watch.new) tally.new result }
 {
     let entry = load_entry(memory, own, watch, tally, seat, Point::PushAbove { block })?;
     let kind = RestartKind::Push2 { block };
@@ -155,7 +151,7 @@ fn push_by_order<M: Memory, W: Watch>(
     tally: &mut Tally,
     seat: &Seat,
     block: u32,
-) -> Result<Restart, Stop>
+) -> Result<Settled, Stop>
     requires seat { IsWorking (M.shape memory.now) seat.now }
     requires block { IsAddress block }
     requires few { tally.old.made < 16 }
@@ -164,9 +160,8 @@ fn push_by_order<M: Memory, W: Watch>(
     ensures few { tally.new.made ≤ tally.old.made + 4 }
     ensures came { (first : Spot M.Own) → Led (M.led memory.now seat.now.own) first own.old (W.told watch.old) tally.old
         (stands_then (M.shape memory.now) (M.code memory.now) seat.now (Load (PushOrder block)))
-        → Came (M.led memory.now seat.now.own) first (M.refused memory.now seat.now.own) (M.over memory.now)
-        seat.now.place own.new (W.told watch.new) tally.new
-        IsRestart (λ restart. IsAt seat.now.place (Some restart)) result }
+        → Settles (M.led memory.now seat.now.own) first (M.refused memory.now seat.now.own) (M.over memory.now)
+        seat.now.place own.new (W.told watch.new) tally.new result }
 {
     let order = load_number(memory, own, watch, tally, seat, Point::PushOrder { block })?;
     if order == 3 {
@@ -205,7 +200,7 @@ pub(crate) fn push1<M: Memory, W: Watch>(
     tally: &mut Tally,
     seat: &Seat,
     block: u32,
-) -> Result<Restart, Stop>
+) -> Result<Settled, Stop>
     requires seat { IsWorking (M.shape memory.now) seat.now }
     requires block { IsAddress block }
     requires few { tally.old.made < 16 }
@@ -214,9 +209,8 @@ pub(crate) fn push1<M: Memory, W: Watch>(
     ensures few { tally.new.made ≤ tally.old.made + 4 }
     ensures came { (first : Spot M.Own) → Led (M.led memory.now seat.now.own) first own.old (W.told watch.old) tally.old
         (stands (M.shape memory.now) (M.code memory.now) seat.now (row_of (M.shape memory.now) seat.now (Push1 block)))
-        → Came (M.led memory.now seat.now.own) first (M.refused memory.now seat.now.own) (M.over memory.now)
-        seat.now.place own.new (W.told watch.new) tally.new
-        IsRestart (λ restart. IsAt seat.now.place (Some restart)) result }
+        → Settles (M.led memory.now seat.now.own) first (M.refused memory.now seat.now.own) (M.over memory.now)
+        seat.now.place own.new (W.told watch.new) tally.new result }
 {
     let shape = memory.shape();
     if is_last(seat.restart.bottom, shape.slots) {
@@ -237,7 +231,7 @@ pub(crate) fn push2<M: Memory, W: Watch>(
     tally: &mut Tally,
     seat: &Seat,
     block: u32,
-) -> Result<Restart, Stop>
+) -> Result<Settled, Stop>
     requires seat { IsWorking (M.shape memory.now) seat.now }
     requires block { IsAddress block }
     requires few { tally.old.made < 16 }
@@ -246,9 +240,8 @@ pub(crate) fn push2<M: Memory, W: Watch>(
     ensures few { tally.new.made ≤ tally.old.made + 3 }
     ensures came { (first : Spot M.Own) → Led (M.led memory.now seat.now.own) first own.old (W.told watch.old) tally.old
         (stands (M.shape memory.now) (M.code memory.now) seat.now (row_of (M.shape memory.now) seat.now (Push2 block)))
-        → Came (M.led memory.now seat.now.own) first (M.refused memory.now seat.now.own) (M.over memory.now)
-        seat.now.place own.new (W.told watch.new) tally.new
-        IsRestart (λ restart. IsAt seat.now.place (Some restart)) result }
+        → Settles (M.led memory.now seat.now.own) first (M.refused memory.now seat.now.own) (M.over memory.now)
+        seat.now.place own.new (W.told watch.new) tally.new result }
 {
     let entry = load_entry(memory, own, watch, tally, seat, Point::PushBottom { block })?;
     let kind = RestartKind::Run {

@@ -1,9 +1,8 @@
 //! The row of a restart of work, whole.
-ghost use Rattle.std.specs.Prelude.{◌≡◌, ◌<◌, ◌≤◌, ◌+◌, ℕ, Some};
-ghost use Rattle.ppm_cells.specs.Restart.{IsRestart};
+ghost use Rattle.std.specs.Prelude.{◌≡◌, ◌<◌, ◌≤◌, ◌+◌, ℕ, true, Some};
 ghost use Rattle.ppm_cells.specs.declared.restart.Restart.{Restart};
 ghost use Rattle.ppm_engine.specs.Memory.{Spot};
-ghost use Rattle.ppm_engine.specs.Steps.{Came, HasRow, IsWorking, Led};
+ghost use Rattle.ppm_engine.specs.Steps.{Came, HasRow, IsWorking, Led, Settles};
 ghost use Rattle.ppm_step.specs.Rows.{row_of};
 ghost use Rattle.ppm_step.specs.Standings.{IsAt, stands};
 
@@ -11,14 +10,37 @@ use crate::join::{arrive, join};
 use crate::memory::{Memory, Stop};
 use crate::pop::{pop1, pop2};
 use crate::push::{bump, push1, push2};
-use crate::tally::Tally;
+use crate::tally::{Settled, Tally};
 use crate::unwind::unwind;
 use ppm_cells::{Restart, RestartKind};
 use ppm_ports::Watch;
 use ppm_step::Seat;
 
+/// Whether a restart is one of work that isn't a frame's.
+#[inline(always)]
+pub fn has_row(kind: RestartKind) -> bool
+    ensures { result ≡ true → HasRow kind }
+{
+    match kind {
+        RestartKind::Bump { .. } => true,
+        RestartKind::Push1 { .. } => true,
+        RestartKind::Push2 { .. } => true,
+        RestartKind::Unwind { .. } => true,
+        RestartKind::Arrive { .. } => true,
+        RestartKind::Join { .. } => true,
+        RestartKind::Pop1 => true,
+        RestartKind::Pop2 { .. } => true,
+        RestartKind::Run { .. } => false,
+        RestartKind::Seek => false,
+        RestartKind::Steal { .. } => false,
+        RestartKind::Check { .. } => false,
+        RestartKind::Take { .. } => false,
+        RestartKind::Take2 { .. } => false,
+    }
+}
+
 /// Makes the row of a restart of work that isn't a frame's, after the load of the finish word: the
-/// restart with which the place goes on.
+/// restart with which the place goes on, and what its last step is counted as.
 #[inline(always)]
 pub fn make_row<M: Memory, W: Watch>(
     memory: &M,
@@ -26,7 +48,7 @@ pub fn make_row<M: Memory, W: Watch>(
     watch: &mut W,
     tally: &mut Tally,
     seat: &Seat,
-) -> Result<Restart, Stop>
+) -> Result<Settled, Stop>
     requires seat { IsWorking (M.shape memory.now) seat.now }
     requires kind { HasRow seat.now.restart.kind }
     requires few { tally.old.made < 16 }
@@ -35,9 +57,8 @@ pub fn make_row<M: Memory, W: Watch>(
     ensures few { tally.new.made ≤ tally.old.made + 12 }
     ensures came { (first : Spot M.Own) → Led (M.led memory.now seat.now.own) first own.old (W.told watch.old) tally.old
         (stands (M.shape memory.now) (M.code memory.now) seat.now (row_of (M.shape memory.now) seat.now seat.now.restart.kind))
-        → Came (M.led memory.now seat.now.own) first (M.refused memory.now seat.now.own) (M.over memory.now)
-        seat.now.place own.new (W.told watch.new) tally.new
-        IsRestart (λ restart. IsAt seat.now.place (Some restart)) result }
+        → Settles (M.led memory.now seat.now.own) first (M.refused memory.now seat.now.own) (M.over memory.now)
+        seat.now.place own.new (W.told watch.new) tally.new result }
 {
     match seat.restart.kind {
         RestartKind::Bump { block } => bump(memory, own, watch, tally, seat, block),

@@ -2,6 +2,7 @@
 ghost use Rattle.std.specs.Prelude.{◌≡◌, ◌+◌, ◌<◌, ◌||◌};
 ghost use Rattle.ppm_engine.specs.Memory.{is_exchange};
 
+use ppm_cells::Restart;
 use ppm_step::Want;
 
 /// The steps of a row so far, all of them work.
@@ -11,6 +12,24 @@ pub struct Tally {
     pub made: u64,
     /// Whether one was a compare-and-modify.
     pub exchanged: bool,
+}
+
+/// What the machine counts of a step beside its kind.
+#[derive(Clone, Copy, Debug, PartialEq, Eq)]
+pub enum Mark {
+    /// Nothing.
+    Plain,
+    /// A fork: the store of the restart word that begins to push a block.
+    Fork,
+    /// A take: that of the one that begins a right branch.
+    Take,
+}
+
+/// How a row ended: the place goes on with this restart, and its last step had this mark.
+#[derive(Clone, Copy, Debug, PartialEq, Eq)]
+pub struct Settled {
+    pub restart: Restart,
+    pub mark: Mark,
 }
 
 /// Whether a word step is a compare-and-modify.

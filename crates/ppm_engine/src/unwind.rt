@@ -1,11 +1,10 @@
 //! The rows of a frame that is over, and of the values that frames give.
 ghost use Rattle.std.specs.Prelude.{◌≡◌, ◌<◌, ◌≤◌, ◌+◌, ℕ, Some};
-ghost use Rattle.ppm_cells.specs.Restart.{IsRestart};
 ghost use Rattle.ppm_cells.specs.declared.link.LinkKind.TheVariants.{Root, Call, Branch};
 ghost use Rattle.ppm_cells.specs.declared.restart.Restart.{Restart};
 ghost use Rattle.ppm_cells.specs.declared.restart.RestartKind.TheVariants.{Unwind};
 ghost use Rattle.ppm_engine.specs.Memory.{Spot};
-ghost use Rattle.ppm_engine.specs.Steps.{Any, Came, IsBack, IsGift, IsOutcomeWord, IsWorking, Led};
+ghost use Rattle.ppm_engine.specs.Steps.{Any, Came, IsBack, IsGift, IsOutcomeWord, IsWorking, Led, Settles};
 ghost use Rattle.ppm_step.specs.Facts.{IsAddress};
 ghost use Rattle.ppm_step.specs.Rows.{after_value, branch_outcome, row_of, trapped};
 ghost use Rattle.ppm_step.specs.Standings.{IsAt, stands, stands_then};
@@ -15,7 +14,7 @@ ghost use Rattle.ppm_step.specs.declared.row.Point.TheVariants.{Target, UnwindOu
 use crate::ends::{Change, exchange, install, store, store_then};
 use crate::loads::{address_after, load_link, load_number, load_outcome};
 use crate::memory::{Memory, Stop};
-use crate::tally::Tally;
+use crate::tally::{Mark, Settled, Tally};
 use ppm_cells::{Cell, Finish, LinkKind, Restart, RestartKind, Side};
 use ppm_ports::Watch;
 use ppm_step::{Content, Point, Put, Seat, Then};
@@ -111,7 +110,7 @@ pub(crate) fn take_over<M: Memory, W: Watch>(
     seat: &Seat,
     to: u32,
     outcome: Finish,
-) -> Result<Restart, Stop>
+) -> Result<Settled, Stop>
     requires seat { IsWorking (M.shape memory.now) seat.now }
     requires to { IsAddress to × IsOutcomeWord outcome }
     requires few { tally.old.made < 32 }
@@ -120,9 +119,8 @@ pub(crate) fn take_over<M: Memory, W: Watch>(
     ensures few { tally.new.made ≤ tally.old.made + 2 }
     ensures came { (first : Spot M.Own) → Led (M.led memory.now seat.now.own) first own.old (W.told watch.old) tally.old
         (stands (M.shape memory.now) (M.code memory.now) seat.now (trapped seat.now to outcome))
-        → Came (M.led memory.now seat.now.own) first (M.refused memory.now seat.now.own) (M.over memory.now)
-        seat.now.place own.new (W.told watch.new) tally.new
-        IsRestart (λ restart. IsAt seat.now.place (Some restart)) result }
+        → Settles (M.led memory.now seat.now.own) first (M.refused memory.now seat.now.own) (M.over memory.now)
+        seat.now.place own.new (W.told watch.new) tally.new result }
 {
     let put = Put {
         cell: Cell::BlockWord { address: to + 1 },
@@ -150,7 +148,7 @@ fn end_root<M: Memory, W: Watch>(
     tally: &mut Tally,
     seat: &Seat,
     frame: u32,
-) -> Result<Restart, Stop>
+) -> Result<Settled, Stop>
     requires seat { IsWorking (M.shape memory.now) seat.now }
     requires frame { IsAddress frame }
     requires few { tally.old.made < 32 }
@@ -159,9 +157,8 @@ fn end_root<M: Memory, W: Watch>(
     ensures few { tally.new.made ≤ tally.old.made + 2 }
     ensures came { (first : Spot M.Own) → Led (M.led memory.now seat.now.own) first own.old (W.told watch.old) tally.old
         (stands_then (M.shape memory.now) (M.code memory.now) seat.now (Load (UnwindOutcome frame Root)))
-        → Came (M.led memory.now seat.now.own) first (M.refused memory.now seat.now.own) (M.over memory.now)
-        seat.now.place own.new (W.told watch.new) tally.new
-        IsRestart (λ restart. IsAt seat.now.place (Some restart)) result }
+        → Settles (M.led memory.now seat.now.own) first (M.refused memory.now seat.now.own) (M.over memory.now)
+        seat.now.place own.new (W.told watch.new) tally.new result }
 {
     let looked = Point::UnwindOutcome {
         frame,
@@ -176,7 +173,11 @@ fn end_root<M: Memory, W: Watch>(
     if let Err(stop) = exchange(memory, own, watch, tally, seat, change) {
         return Err(stop);
     }
-    Ok(seat.restart)
+    let restart = seat.restart;
+    Ok(Settled {
+        restart,
+        mark: Mark::Plain,
+    })
 }
 
 /// A called frame is over: its caller goes on, or takes a trap over.
@@ -189,7 +190,7 @@ fn return_to<M: Memory, W: Watch>(
     seat: &Seat,
     frame: u32,
     back: Back,
-) -> Result<Restart, Stop>
+) -> Result<Settled, Stop>
     requires seat { IsWorking (M.shape memory.now) seat.now }
     requires frame { IsAddress frame × IsBack back }
     requires few { tally.old.made < 24 }
@@ -198,9 +199,8 @@ fn return_to<M: Memory, W: Watch>(
     ensures few { tally.new.made ≤ tally.old.made + 5 }
     ensures came { (first : Spot M.Own) → Led (M.led memory.now seat.now.own) first own.old (W.told watch.old) tally.old
         (stands_then (M.shape memory.now) (M.code memory.now) seat.now (Load (UnwindOutcome frame (Call back.to back.copy))))
-        → Came (M.led memory.now seat.now.own) first (M.refused memory.now seat.now.own) (M.over memory.now)
-        seat.now.place own.new (W.told watch.new) tally.new
-        IsRestart (λ restart. IsAt seat.now.place (Some restart)) result }
+        → Settles (M.led memory.now seat.now.own) first (M.refused memory.now seat.now.own) (M.over memory.now)
+        seat.now.place own.new (W.told watch.new) tally.new result }
 {
     let Back { to, copy } = back;
     let looked = Point::UnwindOutcome {
@@ -242,7 +242,7 @@ fn come_to<M: Memory, W: Watch>(
     seat: &Seat,
     frame: u32,
     arm: Arm,
-) -> Result<Restart, Stop>
+) -> Result<Settled, Stop>
     requires seat { IsWorking (M.shape memory.now) seat.now }
     requires frame { IsAddress frame × IsAddress arm.block }
     requires few { tally.old.made < 24 }
@@ -251,9 +251,8 @@ fn come_to<M: Memory, W: Watch>(
     ensures few { tally.new.made ≤ tally.old.made + 3 }
     ensures came { (first : Spot M.Own) → Led (M.led memory.now seat.now.own) first own.old (W.told watch.old) tally.old
         (stands_then (M.shape memory.now) (M.code memory.now) seat.now (Load (UnwindOutcome frame (Branch arm.side arm.block))))
-        → Came (M.led memory.now seat.now.own) first (M.refused memory.now seat.now.own) (M.over memory.now)
-        seat.now.place own.new (W.told watch.new) tally.new
-        IsRestart (λ restart. IsAt seat.now.place (Some restart)) result }
+        → Settles (M.led memory.now seat.now.own) first (M.refused memory.now seat.now.own) (M.over memory.now)
+        seat.now.place own.new (W.told watch.new) tally.new result }
 {
     let Arm { side, block } = arm;
     let looked = Point::UnwindOutcome {
@@ -299,7 +298,7 @@ pub(crate) fn unwind<M: Memory, W: Watch>(
     tally: &mut Tally,
     seat: &Seat,
     frame: u32,
-) -> Result<Restart, Stop>
+) -> Result<Settled, Stop>
     requires seat { IsWorking (M.shape memory.now) seat.now }
     requires frame { IsAddress frame }
     requires few { tally.old.made < 16 }
@@ -308,9 +307,8 @@ pub(crate) fn unwind<M: Memory, W: Watch>(
     ensures few { tally.new.made ≤ tally.old.made + 6 }
     ensures came { (first : Spot M.Own) → Led (M.led memory.now seat.now.own) first own.old (W.told watch.old) tally.old
         (stands (M.shape memory.now) (M.code memory.now) seat.now (row_of (M.shape memory.now) seat.now (Unwind frame)))
-        → Came (M.led memory.now seat.now.own) first (M.refused memory.now seat.now.own) (M.over memory.now)
-        seat.now.place own.new (W.told watch.new) tally.new
-        IsRestart (λ restart. IsAt seat.now.place (Some restart)) result }
+        → Settles (M.led memory.now seat.now.own) first (M.refused memory.now seat.now.own) (M.over memory.now)
+        seat.now.place own.new (W.told watch.new) tally.new result }
 {
     let link = load_link(memory, own, watch, tally, seat, Point::UnwindLink { frame })?;
     match link.kind {

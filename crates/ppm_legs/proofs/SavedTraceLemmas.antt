@@ -13,7 +13,7 @@ use Rattle.ppm_saved.specs.declared.saved.Saved.{Saved}
 use Rattle.ppm_saved_reader.specs.Correct.{FaultsTellSavedTexts}
 use Rattle.ppm_show.specs.Names.{saved_names}
 use Rattle.ppm_trace.specs.Json.{trace_as}
-use Rattle.ppm_trace.specs.declared.form.Form.{Form}
+use Rattle.ppm_lines.specs.declared.form.Form.{Form}
 use Rattle.ppm_answers.specs.declared.answer.Answer.{Answer}
 use Rattle.ppm_answers.specs.declared.answer.Answer.TheVariants as answers
 use Rattle.ppm_cli.specs.declared.trace.TraceSavedOptions.{TraceSavedOptions}

@@ -6,7 +6,8 @@
 //! is, and whether an exchange is made (`specs/Marks`).
 //! Contract: `push_line` appends exactly the line of the turn, `push_events` its events, and each
 //! fails only where memory is refused. `marks_at` gives exactly the marks of a turn, `is_shown_at`
-//! whether a reader is shown it; no mark needs where the processor stands after the turn.
+//! whether a reader is shown it; no mark needs where the processor stands after the turn. `Form` says
+//! in which form a run is told.
 //! Stands on `ppm_naming` and `ppm_step`; `ppm_trace` writes a run by it.
 //! The text form and the words of the marks are this project's; the events are those of the trace event format, in JSON.
 #![tactic(auto)]
@@ -16,6 +17,7 @@ mod doing;
 mod edge;
 mod event;
 mod flow;
+mod form;
 mod json;
 mod line;
 mod mark;
@@ -32,6 +34,7 @@ pub use doing::{Doing, doing_of, push_of_row};
 pub use edge::{Edge, edge_of};
 pub use event::{Moment, push_begun, push_events};
 pub use flow::Flow;
+pub use form::Form;
 pub use json::{push_json_head, push_json_tail};
 pub use line::push_line;
 pub use mark::{Mark, Marks, push_marks};

@@ -1,4 +1,4 @@
--- Runs behind the lock: one more turn, and what is counted of it.
+-- Runs under the lock: one more turn, and what is counted of it.
 use Rattle.std.proofs.Common.{◌≡◌, ◌≢◌, ◌∙◌, ◌==◌, ◌+◌, ◌<◌, ◌≤◌, ◌⊎◌, inl, inr, if◌then◌else◌, ℕ, Bool, true, false, List, [], ◌∷◌, ◌++◌, length, take, get_or, set, replicate, Some, None, slice_get, refl, sym, ap, subst, arith}
 use Rattle.std.specs.List.{sum_by}
 use Rattle.std.proofs.lemmas.Bool.Decides.{nat_tests}
@@ -51,19 +51,19 @@ one f x true = omega (arith, sum_by-cons f x [])
 one f x false = refl
 
 module _ (first : Situation) where
-  -- whether the turn is work, behind these
-  abbrev works_behind : List Turn → Turn → Bool
-  works_behind turns turn = is_work_turn turn.act (stand_of (after first.shape first.code first.state turns) turn.processor)
+  -- whether the turn is work, after these
+  abbrev works_after : List Turn → Turn → Bool
+  works_after turns turn = is_work_turn turn.act (stand_of (after first.shape first.code first.state turns) turn.processor)
 
   pub spent_more : (turns : List Turn) (turn : Turn) (processor : ℕ)
-      → spent_by first processor (turns ++ turn ∷ []) ≡ spent_by first processor turns + (if works_behind turns turn then (if turn.processor == processor then 1 else 0) else 0)
+      → spent_by first processor (turns ++ turn ∷ []) ≡ spent_by first processor turns + (if works_after turns turn then (if turn.processor == processor then 1 else 0) else 0)
   spent_more turns turn processor =
       let f : ℕ → ℕ = λ own. if own == processor then 1 else 0 in
       let now = after first.shape first.code first.state turns in
       let done = along first.shape first.code work_of first.state turns in
       ap (sum_by f) (tell_on ℕ first.shape first.code work_of first.state turns (turn ∷ []))
       ∙ sum_by-append f done (work_of now turn ++ [])
-      ∙ ap (λ n. sum_by f done + n) (one f turn.processor (works_behind turns turn))
+      ∙ ap (λ n. sum_by f done + n) (one f turn.processor (works_after turns turn))
 
 -- where the turns are spent, nothing that is done is work
 idle_step : (b : Bool) (victim : ℕ) (standing : Standing) → is_work_next (next_of standing) ≡ b → is_work_turn (if b then Quit Turns else Step victim) standing ≡ false
@@ -202,7 +202,7 @@ module _ (first : Situation) (most : ℕ) (turns : List Turn) (spent : List ℕ)
         ∙ sym (spent_more first turns done own);
   }
 
--- behind a turn that is done where one was asked, and whose work was counted
+-- after a turn that is done where one was asked, and whose work was counted
 pub goes_on : (first : Situation) (most : ℕ) (m : Situation) (spent : List ℕ) (processor : ℕ) (act : Act) (n : Situation) (counts : List ℕ)
     → processor < first.shape.processors → IsActAmong first.shape.processors act → HasCountedRun first most m spent
     → n ≡ turned m (turn_done most m (get_or spent processor 0) processor act)
@@ -259,9 +259,9 @@ worked true x = refl
 worked false x = refl
 
 -- the book is kept
-pub books : (m n : Situation) (turn : Turn) (work : Bool) (before between behind : ℕ) → n ≡ turned m turn
-    → work ≡ is_work_turn turn.act (stand_of m.state turn.processor) → before ≡ m.work → between ≡ before → behind ≡ between + (if work then 1 else 0) → behind ≡ n.work
-books m n turn work before between behind comes work_is at_first then_is last =
+pub books : (m n : Situation) (turn : Turn) (work : Bool) (before between later : ℕ) → n ≡ turned m turn
+    → work ≡ is_work_turn turn.act (stand_of m.state turn.processor) → before ≡ m.work → between ≡ before → later ≡ between + (if work then 1 else 0) → later ≡ n.work
+books m n turn work before between later comes work_is at_first then_is last =
     let made = ap (λ x. x.work) comes in
     let one_more = worked (is_work_turn turn.act (stand_of m.state turn.processor)) turn.processor in
     let same = ap (λ (b : Bool). if b then 1 else 0) work_is in

@@ -1,18 +1,21 @@
--- What stands behind a lock: the words and processors after one run from an opening, of which each work turn is booked.
-use Rattle.std.specs.Prelude.{◌≡◌, ◌==◌, ◌+◌, ◌≤◌, ◌<◌, if◌then◌else◌, ℕ, Bool, true, false, List, [], length, get_or, take, Some, slice_get}
+-- What stands under a lock: the words and processors after one run from an opening, of which each work turn is booked.
+use Rattle.std.specs.Prelude.{◌≡◌, ◌==◌, ◌+◌, ◌≤◌, ◌<◌, ◌≢◌, if◌then◌else◌, not, ℕ, Bool, true, false, List, [], length, get_or, take, Some, None, slice_get}
 use Rattle.std.specs.List.{All, sum_by}
 use Rattle.std.proofs.Common.{arith}
 use Rattle.ppm_cells.specs.Limits.{IsWithinLimits}
 use Rattle.ppm_cells.specs.declared.shape.Takeover.TheVariants.{ByPlaces}
+use Rattle.ppm_code.specs.Code.{IsCode}
 use Rattle.ppm_step.specs.declared.turn.Act.{Act}
 use Rattle.ppm_step.specs.declared.turn.Act.TheVariants.{Step, Soft, Hard, Quit}
 use Rattle.ppm_step.specs.declared.turn.Next.{Next}
+use Rattle.ppm_step.specs.declared.turn.Next.TheVariants.{Done}
+use Rattle.ppm_step.specs.declared.turn.Told.{Told}
 use Rattle.ppm_step.specs.declared.turn.Turn.{Turn}
 use Rattle.ppm_step.specs.declared.turn.Why.TheVariants.{Turns, Watch}
 use Rattle.ppm_step.specs.Among.{IsTurnAmong}
-use Rattle.ppm_step.specs.State.{along, is_work_next, next_of, stand_of, work_of}
+use Rattle.ppm_step.specs.State.{along, is_work_next, next_of, opening, stand_of, work_of}
 use Rattle.ppm_core.specs.Machine.{Holding}
-use Rattle.ppm_core.specs.Situation.{Situation, run_on}
+use Rattle.ppm_core.specs.Situation.{Situation, finish_in, run_on}
 
 -- how many work turns a processor makes in a list of turns from an opening
 abbrev pub spent_by : Situation → (processor : ℕ) → List Turn → ℕ
@@ -22,7 +25,7 @@ spent_by first processor turns = sum_by (λ own. if own == processor then 1 else
 abbrev pub quit_of : (processor : ℕ) → Turn
 quit_of processor = record { processor = processor; act = Quit Turns }
 
--- each such quit stands behind so many work turns of its processor
+-- each such quit stands after so many work turns of its processor
 abbrev pub QuitWhenSpent : (most : ℕ) → Situation → List Turn → Type 0
 QuitWhenSpent most first turns =
     (before processor : ℕ) → slice_get turns before ≡ Some (quit_of processor) → spent_by first processor (take before turns) ≡ most
@@ -69,17 +72,55 @@ turn_done most m made processor act = record {
   act = act_done (made == most) (next_of (stand_of m.state processor)) act;
 }
 
--- a seat: its processor, and the work turns that are booked for it
+-- whether a finish word says that the run has ended
+abbrev pub is_set : (finish : ℕ) → Bool
+is_set finish = not (finish == 0)
+
+-- a seat: its processor, the work turns that are booked for it, whether the run had ended after a turn of its processor, and whether a victim is
+-- due for the coming step
 pub record Seated : Type 0 where
   pub processor : ℕ
   pub made : ℕ
+  pub has_ended : Bool
+  pub is_due : Bool
 
 abbrev pub unused : (processor : ℕ) → Seated
-unused processor = record { processor = processor; made = 0 }
+unused processor = record { processor = processor; made = 0; has_ended = false; is_due = false }
 
--- behind a turn, which was work or wasn't
+-- after a turn, which was work or wasn't
 abbrev pub booked : Seated → (work : Bool) → Seated
-booked seat work = record { processor = seat.processor; made = seat.made + (if work then 1 else 0) }
+booked seat work = record {
+  processor = seat.processor;
+  made = seat.made + (if work then 1 else 0);
+  has_ended = seat.has_ended;
+  is_due = seat.is_due;
+}
+
+-- with what is found after a turn: the finish word, and whether a victim is due
+abbrev pub noted : Seated → (finish : ℕ) → (due : Bool) → Seated
+noted seat finish due = record {
+  processor = seat.processor;
+  made = seat.made;
+  has_ended = if is_set finish then true else seat.has_ended;
+  is_due = due;
+}
+
+-- the units that are booked for the end of the run
+abbrev pub units : (has_ended : Bool) → ℕ
+units has_ended = if has_ended then 1 else 0
+
+-- if a processor is done after a turn, before which it wasn't, and the turn was no hard fault, the run has ended
+abbrev pub EndsWhereDone : Act → Told → (has_ended : Bool) → Type 0
+EndsWhereDone act told has_ended = told.event ≢ None → told.next ≡ Done → act ≢ Hard → has_ended ≡ true
+
+-- what seats have noted of the end holds: if the run had ended after a turn of one of them, the finish word isn't 0
+abbrev pub EndsHold : List Seated → Situation → Type 0
+EndsHold seats m = (number : ℕ) (seat : Seated) → slice_get seats number ≡ Some seat → seat.has_ended ≡ true → finish_in m ≢ 0
+
+-- an opening: its code is one, and no processor knows anything
+pub record IsOpening (first : Situation) : Type 0 where
+  pub is_code : IsCode first.code
+  pub lost : first.state ≡ opening first.state.words first.shape.processors
 
 -- the least sizes are within the limits
 abbrev pub small : IsWithinLimits 1 64 2 0

@@ -1,11 +1,12 @@
 //! What stands under the lock.
-ghost use Rattle.std.specs.Prelude.{◌≡◌, ◌+◌, ◌<◌, ◌==◌, ℕ, get_or, replicate, vec_len};
+ghost use Rattle.std.specs.Prelude.{◌≡◌, ◌+◌, ◌==◌, ℕ, get_or, replicate, vec_len};
 ghost use Rattle.std.specs.List.{sum_by};
 ghost use Rattle.ppm_core.specs.Acts.{IsActAmong};
 ghost use Rattle.ppm_core.specs.Machine.{seen};
-ghost use Rattle.ppm_core.specs.Situation.{Situation, turned};
+ghost use Rattle.ppm_core.specs.Situation.{Situation, finish_in, turned};
+ghost use Rattle.ppm_step.specs.State.{opening, seeks_holder, stand_of};
 ghost use Rattle.ppm_step.specs.Told.{told_of};
-ghost use Rattle.ppm_locked.specs.Held.{HasCountedRun, HasRun, act_done, booked, nothing, turn_done};
+ghost use Rattle.ppm_locked.specs.Held.{EndsHold, EndsWhereDone, HasCountedRun, HasRun, IsOpening, act_done, booked, is_set, noted, nothing, turn_done, units};
 
 use crate::seat::Seat;
 use ppm_core::{Act, Machine, Next, Told, Turn, Why};
@@ -16,7 +17,7 @@ use std::sync::ledger::{Book, Ledger, Share};
 /// After so many turns a machine makes no more.
 const TURN_LIMIT: u64 = 1 << 62;
 
-/// Which machine stands behind a lock: each lock has a type for it, which also names the ledger in
+/// Which machine stands under a lock: each lock has a type for it, which also names the ledger in
 /// which the work turns are booked.
 pub trait Keeping: Ledger {
     /// The machine before its first turn.
@@ -38,27 +39,32 @@ impl Keeping for Brand {
 }
 
 /// A machine some run has come to, what each of its processors has spent in that run, the book of
-/// all work turns, and the parts of the ledger that no seat has.
+/// all work turns, the book of the seats that have found the run ended, and the parts of both
+/// ledgers that no seat has.
 #[derive(Drop)]
-pub(crate) struct Held<L: Keeping> {
+pub(crate) struct Held<L: Keeping, E: Ledger> {
     machine: Machine,
     most: u64,
     spent: Vec<u64>,
     book: Book<L>,
+    ends: Book<E>,
     rest: Share<L>,
+    rest_of_ends: Share<E>,
 }
 
-impl<L: Keeping> Model for Held<L> {
-    ghost use Rattle.std.specs.Prelude.{◌≡◌, ◌+◌};
+impl<L: Keeping, E: Ledger> Model for Held<L, E> {
+    ghost use Rattle.std.specs.Prelude.{◌≡◌, ◌+◌, false};
     ghost use Rattle.ppm_core.specs.Machine.{seen};
-    ghost use Rattle.ppm_locked.specs.Held.{HasCountedRun, Kept};
+    ghost use Rattle.ppm_core.specs.Situation.{finish_in};
+    ghost use Rattle.ppm_locked.specs.Held.{HasCountedRun, IsOpening, Kept, is_set};
 
     ghost Value = { Kept };
 
     ghost view = { λ h. record { machine = h.machine; spent = h.spent.items } };
 
     ghost invariant = { λ h. HasCountedRun L.first L.most (seen h.machine) h.spent.items × (h.most ≡ L.most) × (h.book.total ≡ h.machine.work)
-        × (h.rest.parts + L.first.shape.processors ≡ L.all) × (h.rest.amount ≡ 0) };
+        × (h.rest.parts + L.first.shape.processors ≡ L.all) × (h.rest.amount ≡ 0)
+        × (is_set (finish_in (seen h.machine)) ≡ false → h.ends.total ≡ 0) × IsOpening L.first };
 }
 
 /// Never comes back.
@@ -96,50 +102,82 @@ fn act_done(is_spent: bool, next: Next, act: Act) -> Act
 }
 
 /// All that is booked for some seats.
-fn gather<L: Keeping>(all: &mut Share<L>, mut seats: Vec<Seat<L>>)
+fn gather<L: Keeping, E: Ledger>(
+    all: &mut Share<L>,
+    ends: &mut Share<E>,
+    mut seats: Vec<Seat<L, E>>,
+)
     ensures parts { all.new.parts ≡ all.old.parts + vec_len seats }
     ensures amount { all.new.amount ≡ all.old.amount + sum_by (λ seat. seat.made) seats.items }
+    ensures ends { ends.new.amount ≡ ends.old.amount + sum_by (λ seat. units seat.has_ended) seats.items }
 {
     if let Some(seat) = seats.pop() {
-        all.merge(seat.into_share());
-        gather(all, seats);
+        let (share, end) = seat.into_shares();
+        all.merge(share);
+        ends.merge(end);
+        gather(all, ends, seats);
     }
 }
 
-impl<L: Keeping> Held<L> {
+impl<L: Keeping, E: Ledger> Held<L, E> {
     /// A machine before its first turn, of which nothing is booked.
     pub(crate) fn new(
         machine: Machine,
         most: u64,
         spent: Vec<u64>,
         book: Book<L>,
+        ends: Book<E>,
         rest: Share<L>,
-    ) -> Held<L>
+        rest_of_ends: Share<E>,
+    ) -> Held<L, E>
         requires first { (seen machine ≡ L.first) × (machine.work ≡ 0) }
+        requires opening { L.first.state ≡ opening L.first.state.words L.first.shape.processors }
         requires most { most ≡ L.most }
         requires spent { spent.items ≡ replicate L.first.shape.processors 0 }
-        requires books { (book.total ≡ 0) × ((rest.parts + L.first.shape.processors ≡ L.all) × (rest.amount ≡ 0)) }
+        requires books { (book.total ≡ 0) × (ends.total ≡ 0) × ((rest.parts + L.first.shape.processors ≡ L.all) × (rest.amount ≡ 0)) }
     {
+        let _ = machine.code().parts();
         Held {
             machine,
             most,
             spent,
             book,
+            ends,
             rest,
+            rest_of_ends,
         }
     }
 
-    /// One turn of a seat's processor, which is booked for the seat where it is work. Where the
-    /// processor has made all its work turns and the act would be one more it quits, and a quit for
-    /// spent turns that is asked before is a step. Behind 2^62 turns the call never comes back.
-    pub(crate) fn turn<R: Wait>(&mut self, rt: &R, seat: &mut Seat<L>, act: Act) -> Told
+    /// One turn of a seat's processor, which is booked for the seat where it is work, and what the
+    /// seat notes after it. Where the processor has made all its work turns and the act would be one
+    /// more it quits, and a quit for spent turns that is asked before is a step. After 2^62 turns the
+    /// call never comes back.
+    pub(crate) fn turn<R: Wait>(&mut self, rt: &R, seat: &mut Seat<L, E>, act: Act) -> Told
+        requires { IsActAmong L.first.shape.processors act }
+        ensures machine { seen self.new.machine ≡ turned (seen self.old.machine)
+            (turn_done L.most (seen self.old.machine) (get_or self.old.spent seat.old.processor 0) seat.old.processor act) }
+        ensures told { result ≡ told_of self.old.machine.shape self.old.machine.code (seen self.old.machine).state
+            (turn_done L.most (seen self.old.machine) (get_or self.old.spent seat.old.processor 0) seat.old.processor act) }
+        ensures seat { seat.new ≡ noted (booked seat.old result.work) (finish_in (seen self.new.machine))
+            (seeks_holder (stand_of (seen self.new.machine).state seat.old.processor)) }
+        ensures ended { EndsWhereDone act result (is_set (finish_in (seen self.new.machine))) }
+    {
+        let told = self.make(rt, seat, act);
+        self.note(seat);
+        told
+    }
+
+    /// The turn, which is booked.
+    fn make<R: Wait>(&mut self, rt: &R, seat: &mut Seat<L, E>, act: Act) -> Told
         requires { IsActAmong L.first.shape.processors act }
         ensures machine { seen self.new.machine ≡ turned (seen self.old.machine)
             (turn_done L.most (seen self.old.machine) (get_or self.old.spent seat.old.processor 0) seat.old.processor act) }
         ensures told { result ≡ told_of self.old.machine.shape self.old.machine.code (seen self.old.machine).state
             (turn_done L.most (seen self.old.machine) (get_or self.old.spent seat.old.processor 0) seat.old.processor act) }
         ensures seat { seat.new ≡ booked seat.old result.work }
+        ensures ended { EndsWhereDone act result (is_set (finish_in (seen self.new.machine))) }
     {
+        let _ = self.machine.array_lengths();
         if self.machine.turns() >= TURN_LIMIT {
             wait_for_good(rt);
         }
@@ -155,22 +193,37 @@ impl<L: Keeping> Held<L> {
         told
     }
 
+    /// What a seat notes after a turn of its processor.
+    fn note(&mut self, seat: &mut Seat<L, E>)
+        ensures machine { self.new.machine ≡ self.old.machine }
+        ensures seat { seat.new ≡ noted seat.old (finish_in (seen self.old.machine))
+            (seeks_holder (stand_of (seen self.old.machine).state seat.old.processor)) }
+    {
+        let finish = self.machine.finish_word();
+        let is_due = self.machine.seeks_holder(seat.processor());
+        seat.note(&mut self.ends, finish, is_due);
+    }
+
     /// The machine, once all seats are back.
-    pub(crate) fn into_machine(self, seats: Vec<Seat<L>>) -> Machine
+    pub(crate) fn into_machine(self, seats: Vec<Seat<L, E>>) -> Machine
         requires seats { vec_len seats ≡ L.first.shape.processors }
         requires ledger { L.all ≡ L.parts }
         ensures run { HasRun L.first L.most (seen result) }
         ensures work { result.work ≡ sum_by (λ seat. seat.made) seats.items }
+        ensures ended { EndsHold seats.items (seen result) }
     {
         let Held {
             machine,
             most: _,
             spent: _,
             mut book,
+            mut ends,
             mut rest,
+            mut rest_of_ends,
         } = self;
-        gather(&mut rest, seats);
+        gather(&mut rest, &mut rest_of_ends, seats);
         book.audit(&mut rest);
+        ends.audit(&mut rest_of_ends);
         machine
     }
 }

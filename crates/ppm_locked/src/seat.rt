@@ -3,38 +3,50 @@ ghost use Rattle.std.specs.Prelude.{if◌then◌else◌};
 
 use crate::held::Keeping;
 use std::marker::Model;
-use std::sync::ledger::{Book, Share};
+use std::sync::ledger::{Book, Ledger, Share};
 
-/// From where one processor makes its turns behind the lock. It is seen as its processor's number,
-/// and the work turns that are booked for it.
+/// From where one processor makes its turns under the lock. It is seen as its processor's number,
+/// the work turns that are booked for it, whether the run is booked as ended, and whether a victim
+/// is due for the processor's coming step.
 #[derive(Drop)]
-pub struct Seat<L: Keeping> {
+pub struct Seat<L: Keeping, E: Ledger> {
     processor: u32,
+    has_ended: bool,
+    is_due: bool,
     share: Share<L>,
+    ends: Share<E>,
 }
 
-impl<L: Keeping> Model for Seat<L> {
+impl<L: Keeping, E: Ledger> Model for Seat<L, E> {
     ghost use Rattle.std.specs.Prelude.{◌≡◌, ◌<◌};
-    ghost use Rattle.ppm_locked.specs.Held.{Seated};
+    ghost use Rattle.ppm_locked.specs.Held.{Seated, units};
 
     ghost Value = { Seated };
 
-    ghost view = { λ s. record { processor = s.processor; made = s.share.amount } };
+    ghost view = { λ s. record { processor = s.processor; made = s.share.amount; has_ended = s.has_ended; is_due = s.is_due } };
 
-    ghost invariant = { λ s. (s.processor < L.first.shape.processors) × (s.share.parts ≡ 1) };
+    ghost invariant = { λ s. (s.processor < L.first.shape.processors) × (s.share.parts ≡ 1) × (s.ends.parts ≡ 1)
+        × (s.ends.amount ≡ units s.has_ended) };
 }
 
-impl<L: Keeping> Seat<L> {
-    ghost use Rattle.std.specs.Prelude.{◌≡◌, ◌<◌, ◌+◌};
-    ghost use Rattle.ppm_locked.specs.Held.{booked, unused};
+impl<L: Keeping, E: Ledger> Seat<L, E> {
+    ghost use Rattle.std.specs.Prelude.{◌≡◌, ◌<◌, ◌+◌, false};
+    ghost use Rattle.ppm_locked.specs.Held.{booked, is_set, noted, units, unused};
 
     /// The seat of a processor, for which nothing is booked.
-    pub(crate) fn new(processor: u32, share: Share<L>) -> Seat<L>
+    pub(crate) fn new(processor: u32, share: Share<L>, ends: Share<E>) -> Seat<L, E>
         requires processor { processor < L.first.shape.processors }
         requires share { (share.parts ≡ 1) × (share.amount ≡ 0) }
+        requires ends { (ends.parts ≡ 1) × (ends.amount ≡ 0) }
         ensures { result ≡ unused processor }
     {
-        Seat { processor, share }
+        Seat {
+            processor,
+            has_ended: false,
+            is_due: false,
+            share,
+            ends,
+        }
     }
 
     /// Books a turn of its processor, which was work or wasn't.
@@ -47,16 +59,36 @@ impl<L: Keeping> Seat<L> {
         }
     }
 
+    /// Notes what is found after a turn of its processor: the finish word, and whether a victim is
+    /// due. The first finish word that isn't 0 is booked.
+    pub(crate) fn note(&mut self, ends: &mut Book<E>, finish: u64, is_due: bool)
+        ensures seat { self.new ≡ noted self.old finish is_due }
+        ensures still { is_set finish ≡ false → ends.new.total ≡ ends.old.total }
+    {
+        self.is_due = is_due;
+        if finish == 0 {
+            return;
+        }
+        if self.has_ended {
+            return;
+        }
+        ends.add(&mut self.ends, 1);
+        self.has_ended = true;
+    }
+
     /// What is booked for it.
-    pub(crate) fn into_share(self) -> Share<L>
-        ensures parts { result.parts ≡ 1 }
-        ensures amount { result.amount ≡ self.made }
+    pub(crate) fn into_shares(self) -> (Share<L>, Share<E>)
+        ensures made { (result.0.parts ≡ 1) × (result.0.amount ≡ self.made) }
+        ensures ends { result.1.amount ≡ units self.has_ended }
     {
         let Seat {
             processor: _,
+            has_ended: _,
+            is_due: _,
             share,
+            ends,
         } = self;
-        share
+        (share, ends)
     }
 
     /// The number of its processor.
@@ -65,5 +97,20 @@ impl<L: Keeping> Seat<L> {
         ensures range { result < L.first.shape.processors }
     {
         self.processor
+    }
+
+    /// Whether the run had ended after a turn of its processor.
+    pub fn has_ended(&self) -> bool
+        ensures { result ≡ self.now.has_ended }
+    {
+        self.has_ended
+    }
+
+    /// Whether the coming step of its processor is the load of a holder word: the one step for which
+    /// its turn names the victim.
+    pub fn is_due(&self) -> bool
+        ensures { result ≡ self.now.is_due }
+    {
+        self.is_due
     }
 }

@@ -5,8 +5,8 @@ use Rattle.ppm_cli.specs.declared.trace.TracedLines.{TracedLines}
 use Rattle.ppm_cli.specs.declared.trace.TracedLines.TheVariants as asked
 use Rattle.ppm_lines.specs.declared.shown.Only.{Only}
 use Rattle.ppm_lines.specs.declared.shown.Only.TheVariants as shown
-use Rattle.ppm_trace.specs.declared.form.Form.{Form}
-use Rattle.ppm_trace.specs.declared.form.Form.TheVariants.{Lines, Events, Picture}
+use Rattle.ppm_lines.specs.declared.form.Form.{Form}
+use Rattle.ppm_lines.specs.declared.form.Form.TheVariants.{Lines, Events, Picture}
 
 -- which lines are written, as the options say it
 abbrev pub only_of : TracedLines → Only

@@ -3,8 +3,7 @@ ghost use Rattle.std.specs.Prelude.{◌≡◌};
 ghost use Rattle.ppm_orders.specs.TraceForms.{form_by as form_in, only_of as only_in};
 
 use ppm_cli::{TracedForm, TracedLines};
-use ppm_lines::Only;
-use ppm_trace::Form;
+use ppm_lines::{Form, Only};
 
 /// The form in which a run is told, as the options say it.
 pub fn form_by(form: TracedForm, lines: TracedLines) -> Form

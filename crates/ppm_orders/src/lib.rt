@@ -6,7 +6,7 @@
 //! it is an answer of each command that reads them (`proofs/OrdersLemmas`, `RamTaskLemmas`).
 //! `form_by` gives the form in which `trace` tells a run (`specs/TraceForms`). What is written where
 //! the text is of no case: `specs/CaseRefusals`.
-//! Stands on `ppm_plan`, `ppm_loading`, `ppm_case`, `ppm_ram` and `ppm_trace`; the commands that run
+//! Stands on `ppm_plan`, `ppm_loading`, `ppm_case`, `ppm_ram` and `ppm_lines`; the commands that run
 //! a machine call it. That orders are judged before the text is this project's.
 #![tactic(auto)]
 

@@ -1,7 +1,7 @@
 -- The first of the conflicts of a code with puts, and of its exchanges after which array words are written.
-use Rattle.std.proofs.Common.{◌≡◌, ◌⊎◌, ◌<◌, ◌≤◌, ℕ, true, false, List, map, Option, Some, None, MatchOption, inl, inr, refl, sym, ap, ◌∙◌, subst, arith}
+use Rattle.std.proofs.Common.{◌≡◌, ◌⊎◌, ◌<◌, ◌≤◌, ℕ, true, List, map, Option, Some, None, MatchOption, inl, inr, sym, ap, ◌∙◌, subst, arith}
 use Rattle.std.specs.Prelude.{slice_get}
-use Rattle.std.proofs.lemmas.Option.{same_Some, slice_get-map}
+use Rattle.std.proofs.lemmas.Option.{same_Some}
 use Rattle.ppm_code.specs.declared.class.Class.{Class}
 use Rattle.ppm_code.specs.declared.class.Class.TheVariants.{Array}
 use Rattle.ppm_code.specs.declared.class.May.TheVariants.{Read}

@@ -1,5 +1,5 @@
 -- Exchanges after which array words are written, by the instruction that stands there.
-use Rattle.std.proofs.Common.{◌≡◌, ◌<◌, ◌≤◌, ℕ, ◌+◌, true, false, List, map, length, Option, Some, None, refl, sym, ap, ◌∙◌, subst, arith, ◌⊎◌, inl, inr}
+use Rattle.std.proofs.Common.{◌≡◌, ◌<◌, ℕ, ◌+◌, true, false, List, map, length, Option, Some, None, refl, sym, ap, ◌∙◌, ◌⊎◌, inl, inr}
 use Rattle.std.specs.Prelude.{slice_get}
 use Rattle.std.proofs.lemmas.Bool.{cases_lt}
 use Rattle.std.proofs.lemmas.Option.{same_Some, slice_get_within}
@@ -7,7 +7,6 @@ use Rattle.ppm_code.specs.declared.class.Class.TheVariants.{Array}
 use Rattle.ppm_code.specs.declared.instr.Instr.{Instr}
 use Rattle.ppm_code.specs.Paths.{Any, Path}
 use Rattle.ppm_war.specs.Search.{IsFirst, LeadsToWrite}
-use Rattle.ppm_war.proofs.FirstLemmas.{first_none}
 use Rattle.ppm_racy.specs.declared.instr.RacyInstr.{RacyInstr}
 use Rattle.ppm_racy.specs.Acts.{plain_of}
 use Rattle.ppm_racy_gaps.specs.Conflicts.{is_exchange}

@@ -5,7 +5,7 @@ use Rattle.ppm_code.specs.Code.{IsCode}
 use Rattle.ppm_code.specs.declared.act.End.{End}
 use Rattle.ppm_code.specs.declared.code.CodeParts.{CodeParts}
 use Rattle.ppm_code.specs.declared.work.Reached.TheVariants.{AtEnd, Before}
-use Rattle.ppm_core.proofs.WaitingLemmas.{stage_fits}
+use Rattle.ppm_engine.proofs.WaitingLemmas.{stage_fits}
 use Rattle.ppm_step.specs.declared.frame.Home.{Home}
 use Rattle.ppm_step.specs.declared.local.Local.{Local}
 use Rattle.ppm_step.specs.declared.row.Seat.{Seat}

@@ -1,8 +1,6 @@
 -- The rows of work of the scheduler.
 use Rattle.std.proofs.Common.{◌≡◌, ◌≢◌, ◌∙◌, ◌+◌, ◌≤◌, ◌==◌, ◌||◌, ℕ, Bool, true, false, if◌then◌else◌, List, Option, Some, Result, Ok, Err, sym, refl, ap, subst, arith}
 use Rattle.atomic_table.specs.Seated.{TableId}
-use Rattle.ppm_cells.specs.declared.restart.RestartKind.{RestartKind}
-use Rattle.ppm_cells.specs.declared.restart.RestartKind.TheVariants.{Run, Bump, Push1, Push2, Unwind, Arrive, Join, Pop1, Pop2, Seek, Steal, Check, Take, Take2}
 use Rattle.ppm_cells.specs.declared.shape.Shape.{Shape}
 use Rattle.ppm_code.specs.declared.code.CodeParts.{CodeParts}
 use Rattle.ppm_engine.proofs.MakingLemmas.{stands_lives}
@@ -10,9 +8,10 @@ use Rattle.ppm_cells.specs.Restart.{IsRestart}
 use Rattle.ppm_cells.specs.declared.restart.Restart.{Restart}
 use Rattle.ppm_engine.specs.declared.memory.Stop.{Stop}
 use Rattle.ppm_engine.specs.declared.memory.Stop.TheVariants as stops
+use Rattle.ppm_engine.specs.declared.tally.Settled.{Settled}
 use Rattle.ppm_engine.specs.declared.tally.Tally.{Tally}
 use Rattle.ppm_engine.specs.Memory.{Counts, Spot, spot}
-use Rattle.ppm_engine.specs.Steps.{Came, HasRow}
+use Rattle.ppm_engine.specs.Steps.{Settles}
 use Rattle.ppm_table.specs.Moves.{Moves, Refuses, itself, looks_behind}
 use Rattle.ppm_table.proofs.MovesLemmas.{moves_both, of_told, refuses_then, refuses_within}
 use Rattle.ppm_stretch.specs.Seated.{Led, Refused}
@@ -20,8 +19,6 @@ use Rattle.ppm_step.specs.declared.row.Seat.{Seat}
 use Rattle.ppm_step.specs.Rows.{row_of}
 use Rattle.ppm_step.specs.Standings.{Standing, IsAt, IsDone, at_finish, begins_if}
 use Rattle.ppm_step.specs.There.{restart_is_there}
-use Rattle.ppm_step.specs.State.{before_kind, is_work}
-use Rattle.ppm_step.specs.declared.turn.Next.TheVariants.{Look}
 use Rattle.ppm_table.specs.declared.view.Opening.{Opening}
 use Rattle.ppm_table.specs.Run.{Mine}
 use Rattle.ppm_stretch.specs.declared.way.RowEnd.{RowEnd}
@@ -30,39 +27,6 @@ use Rattle.ppm_stretch.specs.declared.way.Steps.{Steps}
 use Rattle.ppm_stretch.specs.Rows.{GivesUpIfRefused}
 use Rattle.ppm_stretch.specs.Scheduling.{HasRowed, HasWorked, end_by, most_of_a_row}
 use Rattle.ppm_words.specs.declared.event.Event.{Event}
-
--- the load of the finish word before a row of work is a look, and its steps are work
-pub row_looks : (kind : RestartKind) → HasRow kind → before_kind kind ≡ Look
-row_looks (Run frame copy) h = refl
-row_looks (Bump block) h = refl
-row_looks (Push1 block) h = refl
-row_looks (Push2 block) h = refl
-row_looks (Unwind frame) h = refl
-row_looks (Arrive block side) h = refl
-row_looks (Join block side) h = refl
-row_looks Pop1 h = refl
-row_looks (Pop2 block) h = refl
-row_looks Seek h = absurd h
-row_looks (Steal victim slot) h = refl
-row_looks (Check victim slot) h = refl
-row_looks (Take victim dead) h = refl
-row_looks (Take2 victim) h = refl
-
-pub row_works : (kind : RestartKind) → HasRow kind → is_work kind ≡ true
-row_works (Run frame copy) h = refl
-row_works (Bump block) h = refl
-row_works (Push1 block) h = refl
-row_works (Push2 block) h = refl
-row_works (Unwind frame) h = refl
-row_works (Arrive block side) h = refl
-row_works (Join block side) h = refl
-row_works Pop1 h = refl
-row_works (Pop2 block) h = refl
-row_works Seek h = absurd h
-row_works (Steal victim slot) h = absurd h
-row_works (Check victim slot) h = absurd h
-row_works (Take victim dead) h = absurd h
-row_works (Take2 victim) h = absurd h
 
 -- a watcher refused a step after which the processor is still to take one
 module _ {W : Type 0} (told : W → Option (List Event)) (table : TableId) (k : Opening) (own : ℕ) where
@@ -179,11 +143,10 @@ refused_by table k place id me a b most = Refused table k place.own (id a.own) (
 -- by what came of a row
 pub made_so : {W Own : Type 0} (told : W → Option (List Event)) (table : TableId) (k : Opening) (place : Seat) (x : Standing) (o o' : Own)
     (id : Own → TableId) (me : Own → Mine) (w w' : W)
-    (tally : Tally) (r : Result Restart Stop) → tally.made ≤ 12
-    → Came (led_by table k place id me) (spot o x (told w)) (refused_by table k place id me) ⊥ place.place o' (told w') tally IsRestart
-    (λ restart. IsAt place.place (Some restart)) r
+    (tally : Tally) (r : Result Settled Stop) → tally.made ≤ 12
+    → Settles (led_by table k place id me) (spot o x (told w)) (refused_by table k place id me) ⊥ place.place o' (told w') tally r
     → HasWorked told k place (me o) (me o') w w' tally.made tally.exchanged (end_by r)
-made_so told table k place x o o' id me w w' tally (Ok restart) few h =
+made_so told table k place x o o' id me w w' tally (Ok settled) few h =
     (of_told told k place.own (me o) (me o') w w' tally.made tally.made 0 tally.exchanged h.1.moves, h.1.to.stands, h.0)
 made_so told table k place x o o' id me w w' tally (Err stops.Broken) few h =
     (of_told told k place.own (me o) (me o') w w' tally.made tally.made 0 tally.exchanged h.moves, h.to.stands)
@@ -194,10 +157,9 @@ made_so told table k place x o o' id me w w' tally (Err stops.Over) few h = absu
 -- the seat is still one of the table
 pub made_at : {W Own : Type 0} (told : W → Option (List Event)) (table : TableId) (k : Opening) (place : Seat) (x : Standing) (o o' : Own)
     (id : Own → TableId) (me : Own → Mine) (w w' : W)
-    (tally : Tally) (r : Result Restart Stop)
-    → Came (led_by table k place id me) (spot o x (told w)) (refused_by table k place id me) ⊥ place.place o' (told w') tally IsRestart
-    (λ restart. IsAt place.place (Some restart)) r → id o' ≡ table
-made_at told table k place x o o' id me w w' tally (Ok restart) h = h.1.to.of_table
+    (tally : Tally) (r : Result Settled Stop)
+    → Settles (led_by table k place id me) (spot o x (told w)) (refused_by table k place id me) ⊥ place.place o' (told w') tally r → id o' ≡ table
+made_at told table k place x o o' id me w w' tally (Ok settled) h = h.1.to.of_table
 made_at told table k place x o o' id me w w' tally (Err stops.Broken) h = h.to.of_table
 made_at told table k place x o o' id me w w' tally (Err stops.Refused) h = h.2.to.of_table
 made_at told table k place x o o' id me w w' tally (Err stops.Over) h = absurd h.1

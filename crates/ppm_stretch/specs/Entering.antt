@@ -24,7 +24,7 @@ use Rattle.ppm_stretch.specs.declared.way.Turned.TheVariants as turned
 use Rattle.ppm_stretch.specs.declared.way.Begun.{Begun}
 use Rattle.ppm_stretch.specs.declared.way.Begun.TheVariants as begun
 use Rattle.ppm_words.specs.declared.event.Event.{Event}
-use Rattle.ppm_core.specs.Rounds.{HasReached, goes_round, stands_before, stands_in}
+use Rattle.ppm_engine.specs.Waiting.{HasReached, goes_round, stands_before, stands_in}
 use Rattle.ppm_stretch.specs.Steady.{Moves, Refuses, LedTo}
 use Rattle.ppm_step.specs.Standings.{Standing, IsDone, IsBroken, enters, IsAt, IsWithin, IsRunning, running, wanted_rest}
 use Rattle.ppm_table.specs.declared.view.Opening.{Opening}

@@ -7,3 +7,4 @@ pub mod Scheduling
 pub mod Seated
 pub mod SeatedLaws
 pub mod Framing
+pub mod Looking

@@ -1,9 +1,9 @@
 -- The rows of work of the scheduler.
 use Rattle.std.specs.Prelude.{◌≡◌, ℕ, ◌+◌, Bool, true, List, Option, Some, Result, Ok, Err}
 use Rattle.ppm_cells.specs.Restart.{IsRestart}
-use Rattle.ppm_cells.specs.declared.restart.Restart.{Restart}
 use Rattle.ppm_engine.specs.declared.memory.Stop.{Stop}
 use Rattle.ppm_engine.specs.declared.memory.Stop.TheVariants as stops
+use Rattle.ppm_engine.specs.declared.tally.Settled.{Settled}
 use Rattle.ppm_words.specs.declared.event.Event.{Event}
 use Rattle.ppm_step.specs.declared.row.Seat.{Seat}
 use Rattle.ppm_step.specs.Standings.{IsAt, IsBroken, IsDone}
@@ -18,8 +18,8 @@ abbrev pub most_of_a_row : ℕ
 most_of_a_row = 16
 
 -- how a row ends, by what came of its steps
-abbrev pub end_by : Result Restart Stop → RowEnd
-end_by (Ok restart) = Installed restart
+abbrev pub end_by : Result Settled Stop → RowEnd
+end_by (Ok settled) = Installed settled.restart
 end_by (Err stops.Broken) = Broken
 end_by (Err stops.Over) = Over
 end_by (Err stops.Refused) = Refused true

@@ -13,7 +13,7 @@ use Rattle.ppm_code.specs.declared.code.CodeParts.{CodeParts}
 use Rattle.ppm_code.specs.declared.instr.Instr.{Instr}
 use Rattle.ppm_step.specs.declared.frame.Home.{Home}
 use Rattle.ppm_step.specs.declared.row.Seat.{Seat}
-use Rattle.ppm_core.specs.Rounds.{HasReached, stands_in}
+use Rattle.ppm_engine.specs.Waiting.{HasReached, stands_in}
 use Rattle.ppm_step.specs.Frames.{Rest, Loads, Stores}
 use Rattle.ppm_step.specs.Standings.{IsBroken, running}
 use Rattle.ppm_table.specs.declared.view.Opening.{Opening}

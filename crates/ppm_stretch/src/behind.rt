@@ -15,7 +15,7 @@ use crate::way::{EndStep, FrameEnd, Framed, Halt, RoundEnd};
 use atomic_table::Seat;
 use ppm_cells::Shape;
 use ppm_code::{Code, End, Reached, Step};
-use ppm_core::wait_broken;
+use ppm_engine::wait_broken;
 use ppm_ports::Watch;
 use ppm_step::{Home, Local, Seat as Place};
 use ppm_table::{View, Words};

@@ -13,7 +13,7 @@ use crate::way::{Load, Store, Stretch, Way};
 use atomic_table::Seat;
 use ppm_cells::Shape;
 use ppm_code::{Code, Instr, Location, Reached, Step, reach};
-use ppm_core::address_of;
+use ppm_engine::address_of;
 use ppm_ports::Watch;
 use ppm_step::{Home, Seat as Place, Want, location_is_there};
 use ppm_table::{View, Words, tell};

@@ -20,7 +20,7 @@ use crate::way::{EndStep, FrameEnd, Framed, Halt, REFUSED, RoundEnd, Steps, look
 use atomic_table::Seat;
 use ppm_cells::{Restart, RestartKind, Shape};
 use ppm_code::{Code, End};
-use ppm_core::{wait_at, wait_broken, wait_ending};
+use ppm_engine::{wait_at, wait_broken, wait_ending};
 use ppm_ports::Watch;
 use ppm_step::{Home, Local, Running, Seat as Place, header_of};
 use ppm_table::{View, Words};

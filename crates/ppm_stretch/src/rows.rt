@@ -16,13 +16,15 @@ ghost use Rattle.ppm_stretch.specs.Steady.{Moves, Refuses, is_exchange, looks_be
 
 use crate::asking::fills;
 use crate::frames::ends;
+use crate::looking::{is_look, looks_along};
 use crate::refusing::give_way;
-use crate::scheduling::{MOST_OF_A_ROW, has_row, work_along};
+use crate::scheduling::{MOST_OF_A_ROW, work_along};
 use crate::seated::Seated;
 use crate::way::{NONE, OneStep, REFUSED, Steps, looks_behind, one_of, row};
 use atomic_table::Seat;
 use ppm_cells::{RestartKind, Shape};
 use ppm_code::{Code, Step};
+use ppm_engine::has_row;
 use ppm_ports::Watch;
 use ppm_step::{Local, Next, Point, Row, Seat as Place, Stage, Stand, Then, Want};
 use ppm_table::{Processor, Shared, View, Words, tell};
@@ -177,6 +179,46 @@ fn stands_within(local: &Local) -> bool {
     matches!(local.stand, Stand::Within { .. })
 }
 
+/// Goes on by the loads with which a place looks for a job, where the processor stands before one
+/// of them; where it stands elsewhere, by one step for which nothing is to be chosen, or by none.
+#[inline(always)]
+fn steps_within<W: Watch>(
+    local: &mut Local,
+    words: &Words,
+    mine: &mut Seat<(), View>,
+    watch: &mut W,
+    shape: &Shape,
+    code: &Code,
+    most: u64,
+) -> Steps
+    requires table { IsAtCode mine.old.table_id words.now.shared.table_id words.now.shared.key shape.now code.now }
+    requires most { 0 < most }
+    requires local { IsLocal shape.now code.now local.old }
+    requires sits { IsSeat local.old.own mine.old.me }
+    requires stands { standing_of shape.now code.now local.old ≡ stands_by words.now.shared.key local.old.own (deeds_in mine.old.me.0) }
+    ensures table { mine.new.table_id ≡ mine.old.table_id }
+    ensures few { (result.made ≤ most) × (result.work ≤ result.made) × (result.looks ≤ result.made) }
+    ensures makes { Makes W.told words.now.shared.key local.old.own mine.old.me mine.new.me watch.old watch.new result }
+    ensures stops { GivesUpIfRefused W.told words.now.shared.key local.old.own mine.old.me mine.new.me watch.old watch.new most result }
+    ensures on { result.refused ≡ false → result.made ≡ 0 → IsChoosing (standing_of shape.now code.now local.new) }
+    ensures sits_on { IsSeat local.old.own mine.new.me }
+    ensures stands_on { standing_of shape.now code.now local.new ≡ stands_by words.now.shared.key local.old.own (deeds_in mine.new.me.0) }
+    ensures holds { IsLocal shape.now code.now local.new }
+    ensures own_stays { local.new.own ≡ local.old.own }
+{
+    let _ = code.parts().root;
+    if let Stand::Within { seat, row } = local.stand {
+        if let Row::Now(next) = row {
+            if let Then::Load(point) = next {
+                if is_look(seat.restart.kind, point) {
+                    return looks_along(local, words, mine, watch, shape, code, &seat, point, most);
+                }
+            }
+        }
+    }
+    other_step(local, words, mine, watch, shape, code)
+}
+
 /// Goes on by the capsules of frames before which the processor stands, by the stores of an end, or
 /// by one step for which nothing is to be chosen; where it is to choose, by none.
 #[inline(always)]
@@ -207,7 +249,7 @@ fn some_steps<W: Watch>(
     ensures own_stays { local.new.own ≡ local.old.own }
 {
     if stands_within(local) {
-        return other_step(local, words, mine, watch, shape, code);
+        return steps_within(local, words, mine, watch, shape, code, most);
     }
     let framed = frame_steps(local, words, mine, watch, shape, code, widths, most);
     if is_any(framed) {

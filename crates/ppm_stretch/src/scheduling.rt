@@ -21,8 +21,7 @@ use crate::way::{FrameEnd, Framed, NONE, REFUSED, RowEnd, Rowed, Steps, looks_be
 use atomic_table::Seat;
 use ppm_cells::{Restart, RestartKind};
 use ppm_code::Code;
-use ppm_core::{wait_at, wait_broken};
-use ppm_engine::{Stop, Tally, make_row};
+use ppm_engine::{Settled, Stop, Tally, has_row, make_row, wait_at, wait_broken};
 use ppm_ports::Watch;
 use ppm_step::{Local, Seat as Place, Stand, restart_there};
 use ppm_table::View;
@@ -30,36 +29,13 @@ use ppm_table::View;
 /// The most steps that a row of work has, with the load of the finish word.
 pub(crate) const MOST_OF_A_ROW: u64 = 16;
 
-/// Whether a restart is one of work that isn't a frame's.
-#[inline(always)]
-pub(crate) fn has_row(kind: RestartKind) -> bool
-    ensures { result ≡ true → HasRow kind }
-{
-    match kind {
-        RestartKind::Bump { .. } => true,
-        RestartKind::Push1 { .. } => true,
-        RestartKind::Push2 { .. } => true,
-        RestartKind::Unwind { .. } => true,
-        RestartKind::Arrive { .. } => true,
-        RestartKind::Join { .. } => true,
-        RestartKind::Pop1 => true,
-        RestartKind::Pop2 { .. } => true,
-        RestartKind::Run { .. } => false,
-        RestartKind::Seek => false,
-        RestartKind::Steal { .. } => false,
-        RestartKind::Check { .. } => false,
-        RestartKind::Take { .. } => false,
-        RestartKind::Take2 { .. } => false,
-    }
-}
-
 /// How a row ends, by what came of its steps.
 #[inline(always)]
-fn end_by(made: Result<Restart, Stop>) -> RowEnd
+fn end_by(made: Result<Settled, Stop>) -> RowEnd
     ensures { result ≡ end_by made }
 {
     match made {
-        Ok(restart) => RowEnd::Installed(restart),
+        Ok(settled) => RowEnd::Installed(settled.restart),
         Err(stop) => match stop {
             Stop::Broken => RowEnd::Broken,
             Stop::Over => RowEnd::Over,

@@ -8,7 +8,7 @@ ghost use Rattle.ppm_stretch.specs.Entering.{HaltsAt};
 use crate::way::Halt;
 use ppm_cells::Shape;
 use ppm_code::Code;
-use ppm_core::{wait_broken, wait_full, wait_midway, wait_stopped};
+use ppm_engine::{wait_broken, wait_full, wait_midway, wait_stopped};
 use ppm_step::{Home, Local, Seat as Place, Stand};
 
 /// Stands where a round of a frame has halted.

@@ -7,6 +7,7 @@ ghost use Rattle.ppm_step.specs.Told.{place_of};
 ghost use Rattle.ppm_plan.specs.Draws.{Drawing};
 ghost use Rattle.ppm_plan.specs.Schedules.{Planned};
 ghost use Rattle.ppm_choice.specs.Obeying.{Past, is_park};
+ghost use Rattle.ppm_choice.specs.Paces.{AreClear, IsPace};
 ghost use Rattle.ppm_choice.specs.Tells.{parked};
 ghost use Rattle.ppm_table.specs.Run.{IsActAt};
 ghost use Rattle.ppm_table.specs.Shown.{IsOf, deeds_of_processor, opening_of};
@@ -22,7 +23,7 @@ use ppm_choice::{Idle, Limits, Pace, clear_steps, is_over, next_act};
 use ppm_plan::Victims;
 use ppm_ports::Watch;
 use ppm_step::{Act, Next, Why};
-use ppm_stretch::{is_due, steps};
+use ppm_stretch::{is_due, steps, turn};
 use ppm_table::{Processor, hear};
 use ppm_words::Event;
 use std::sync::Wait;
@@ -63,6 +64,23 @@ fn most_at_once(limits: Limits) -> u64 {
     }
 }
 
+/// Whether something is to be chosen for the coming step, as it looks for a job. For speed alone:
+/// either answer is right.
+fn is_chosen(pace: &Pace) -> bool {
+    pace.due || matches!(pace.next, Next::Seek)
+}
+
+/// How many acts surely need no choice, as `clear_steps` says. A plan without faults isn't searched.
+fn clear_acts(crew: &Crew, pace: &Pace) -> u64
+    ensures { (past : Past) (stood : Standing) → IsPace crew.now.plan.now crew.now.limits past stood pace.now
+        → AreClear crew.now.plan.now crew.now.limits pace.now.processor past result }
+{
+    if crew.plan.items().len() == 0 {
+        return crew.limits.turns.saturating_sub(pace.work);
+    }
+    clear_steps(pace, crew.plan, crew.limits)
+}
+
 /// Makes steps in a row, as many as surely obey: how many, and none where acts are counted. `None`
 /// where the watcher refused one.
 fn go_ahead<W: Watch>(
@@ -84,7 +102,11 @@ fn go_ahead<W: Watch>(
         // Each of its acts is a turn of its own, which counts.
         return Some(0);
     }
-    let most = clear_steps(pace, crew.plan, crew.limits).min(most_at_once(crew.limits));
+    if is_chosen(pace) {
+        // Steps in a row would end before the first one.
+        return Some(0);
+    }
+    let most = clear_acts(crew, pace).min(most_at_once(crew.limits));
     let row = steps(processor, &crew.shared, most, watch);
     if row.refused {
         wake(crew);
@@ -154,7 +176,7 @@ fn make<W: Watch>(
         (told_so_far plan crew.now.limits (opening_of crew.now.shared) processor.old.local.own (deeds_of_processor processor.old) past)
         (deeds_of_processor processor.new) }
 {
-    let told = processor.turn(&crew.shared, act);
+    let told = turn(processor, &crew.shared, act);
     let due = is_due(&processor.local);
     pace.count(crew.limits, told, due);
     let Some(event) = told.event else {

@@ -20,7 +20,7 @@ use Rattle.ppm_trace.specs.Counts.{no_counts}
 use Rattle.ppm_trace.specs.Picture.{canvas_of, picture_text, told_dead, told_drawn, trace_picture}
 use Rattle.ppm_trace.specs.Telling.{telling, Telling, Tells}
 use Rattle.ppm_trace.specs.Trace.{along_turns, counts_along, is_told}
-use Rattle.ppm_trace.specs.declared.form.Form.TheVariants.{Picture}
+use Rattle.ppm_lines.specs.declared.form.Form.TheVariants.{Picture}
 use Rattle.ppm_trace.specs.declared.tale.Excerpt.{Excerpt}
 use Rattle.ppm_trace.specs.declared.tale.Tale.{Tale}
 

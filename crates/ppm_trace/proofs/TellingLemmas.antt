@@ -19,7 +19,7 @@ use Rattle.ppm_trace.specs.Counts.{no_counts}
 use Rattle.ppm_trace.specs.Json.{told_events, trace_events}
 use Rattle.ppm_trace.specs.Telling.{telling, HasTold, LeadsTo, Telling, Tells}
 use Rattle.ppm_trace.specs.Trace.{along_turns, counts_along, head_text, shown_line, tail_text, trace_text}
-use Rattle.ppm_trace.specs.declared.form.Form.TheVariants.{Lines, Events}
+use Rattle.ppm_lines.specs.declared.form.Form.TheVariants.{Lines, Events}
 use Rattle.ppm_trace.specs.declared.tale.Tale.{Tale}
 use Rattle.ppm_trace.specs.declared.tale.Excerpt.{Excerpt}
 

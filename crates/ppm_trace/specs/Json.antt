@@ -10,8 +10,8 @@ use Rattle.ppm_naming.specs.declared.names.Names.{Names}
 use Rattle.ppm_step.specs.declared.turn.Turn.{Turn}
 use Rattle.ppm_trace.specs.Picture.{dead_lanes, told_dead, told_drawn, trace_picture}
 use Rattle.ppm_trace.specs.Trace.{along_turns, is_told, shown_line, trace_text}
-use Rattle.ppm_trace.specs.declared.form.Form.{Form}
-use Rattle.ppm_trace.specs.declared.form.Form.TheVariants.{Lines, Events, Picture}
+use Rattle.ppm_lines.specs.declared.form.Form.{Form}
+use Rattle.ppm_lines.specs.declared.form.Form.TheVariants.{Lines, Events, Picture}
 
 -- the beginning of the row within which a processor stands
 abbrev pub begun_of : Names → Situation → (processor : ℕ) → List ℕ

@@ -14,7 +14,6 @@ mod counting;
 mod counts;
 mod ends;
 mod events;
-mod form;
 mod laws;
 mod picture;
 mod strokes;
@@ -24,7 +23,6 @@ mod tracing;
 
 pub use counting::count_run;
 pub use counts::Counts;
-pub use form::Form;
 pub use laws::{
     counts_are_the_machines, lines_follow_on, thinner_lines_are_among, windows_are_parts,
 };

@@ -9,13 +9,12 @@ ghost use Rattle.ppm_trace.specs.Trace.{trace_text};
 
 use crate::counts::Counts;
 use crate::ends::{push_head, push_tail};
-use crate::form::Form;
 use crate::picture::picture;
 use crate::tale::{Excerpt, Tale};
 use crate::telling::follow_told;
 use ppm_core::Machine;
 use ppm_following::Way;
-use ppm_lines::{Only, push_json_head, push_json_tail};
+use ppm_lines::{Form, Only, push_json_head, push_json_tail};
 use ppm_naming::Names;
 use ppm_plan::Schedule;
 use ppm_words::NoMemory;

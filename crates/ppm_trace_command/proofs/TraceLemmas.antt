@@ -19,7 +19,7 @@ use Rattle.ppm_loading.proofs.CaseLemmas.{AreCaseKinds}
 use Rattle.ppm_loading.proofs.ProgramLemmas.{AreKinds}
 use Rattle.ppm_naming.specs.declared.names.Names.{Names}
 use Rattle.ppm_trace.specs.Json.{trace_as}
-use Rattle.ppm_trace.specs.declared.form.Form.{Form}
+use Rattle.ppm_lines.specs.declared.form.Form.{Form}
 use Rattle.ppm_trace_command.specs.TraceNames.{case_names, program_names}
 use Rattle.ppm_trace_command.specs.Traces.{sizes_of, form_of, turns_by, text_of, CodeHas, ProgramHas}
 use Rattle.ppm_trace_command.specs.CaseTraces.{CaseHas}

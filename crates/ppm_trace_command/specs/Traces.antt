@@ -23,7 +23,7 @@ use Rattle.ppm_loading.specs.Planned.{PlannedHas, PlannedMay, HasSomeAnswer}
 use Rattle.ppm_loading.specs.Programs as programs
 use Rattle.ppm_choice.specs.Schedules.{schedule_turns}
 use Rattle.ppm_naming.specs.declared.names.Names.{Names}
-use Rattle.ppm_trace.specs.declared.form.Form.{Form}
+use Rattle.ppm_lines.specs.declared.form.Form.{Form}
 use Rattle.ppm_trace.specs.Json.{trace_as}
 use Rattle.ppm_orders.specs.TraceForms.{form_by}
 use Rattle.ppm_trace_command.specs.TraceNames.{program_names}

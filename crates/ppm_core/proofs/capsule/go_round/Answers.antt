@@ -1,7 +1,7 @@
 use Rattle.std.proofs.Common.{◌≡◌, ◌∙◌, sym, ap, arith}
 use Rattle.ppm_cells.specs.Restart.{restart_word}
 use Rattle.ppm_cells.specs.declared.restart.Restart.{Restart}
-use Rattle.ppm_core.specs.Rounds.{goes_round}
+use Rattle.ppm_engine.specs.Waiting.{goes_round}
 use Rattle.ppm_core.specs.Moments.{moment}
 use Rattle.ppm_core.proofs.CapsuleLemmas.{block_same, none, turned_back, turned_once, turned_twice, finish_stays}
 use Rattle.ppm_core.proofs.MomentLemmas.{both}

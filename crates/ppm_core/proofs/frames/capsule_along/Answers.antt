@@ -5,7 +5,7 @@ use Rattle.ppm_code.specs.declared.instr.Instr.{Instr}
 use Rattle.ppm_step.specs.Standings.{enters}
 use Rattle.ppm_core.specs.Rounds.{LedTo, stands_at}
 use Rattle.ppm_widths.proofs.WidthLemmas.{width_at}
-use Rattle.ppm_core.proofs.WidthLemmas.{enters_with_zeros}
+use Rattle.ppm_engine.proofs.WidthLemmas.{enters_with_zeros}
 use Rattle.ppm_core.proofs.frames.capsule_along.Goals as goal
 
 -- a capsule goes as from 0 in all registers, where those hold 0 that it reads

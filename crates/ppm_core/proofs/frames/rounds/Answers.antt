@@ -2,11 +2,12 @@ use Rattle.std.proofs.Common.{◌≡◌, ◌+◌, sym, ap, subst, arith, Some}
 use Rattle.ppm_cells.specs.declared.restart.RestartKind.{RestartKind}
 use Rattle.ppm_step.specs.declared.row.Seat.{Seat}
 use Rattle.ppm_step.specs.Standings.{Standing, IsAt}
-use Rattle.ppm_core.specs.Rounds.{Circled, goes_round}
+use Rattle.ppm_engine.specs.Waiting.{goes_round}
+use Rattle.ppm_core.specs.Rounds.{Circled}
 use Rattle.ppm_core.specs.declared.frames.RoundEnd.{RoundEnd}
 use Rattle.ppm_core.specs.Moments.{moment, StepsTo, NoFurther}
 use Rattle.ppm_core.proofs.CapsuleLemmas.{round_more}
-use Rattle.ppm_core.proofs.WaitingLemmas.{goes_round_fits}
+use Rattle.ppm_engine.proofs.WaitingLemmas.{goes_round_fits}
 use Rattle.ppm_core.proofs.frames.rounds.Goals as goal
 
 -- a round more, behind which the place goes on with a restart

@@ -1,7 +1,7 @@
 use Rattle.std.proofs.Common.{◌∙◌, subst, arith}
-use Rattle.ppm_core.specs.Moments.{moment, StepsTo}
+use Rattle.ppm_core.specs.Moments.{moment, Leads}
 use Rattle.ppm_step.specs.Locals.{standing_of}
-use Rattle.ppm_core.proofs.MomentLemmas.{both}
+use Rattle.ppm_core.proofs.MomentLemmas.{leads_both}
 use Rattle.ppm_core.proofs.steps.step_along.Goals as goal
 
 -- some steps more
@@ -12,9 +12,9 @@ loop-steps-preserved c =
     let inv = c.loop-steps.invariant in
     let more = c.steps_from-more.result in
     let new = c.steps_from-more.new in (
-      both s code c.args.local.now.own inv.0
+      leads_both s code c.args.local.now.own inv.0
           (subst
-          (λ own. StepsTo s code own more.made more.work
+          (λ own. Leads s code own more.made more.work more.forks more.takes
           (moment c.loop-steps.words.items (standing_of s code c.loop-steps.local)) (moment new.words.items (standing_of s code new.local)))
           inv.3 c.steps_from-more.ensures.leads),
       c.steps_from-more.ensures.holds,
@@ -22,4 +22,6 @@ loop-steps-preserved c =
       c.steps_from-more.ensures.own ∙ inv.3,
       omega (arith, c.loop-steps-test.true, c.steps_from-more.ensures.few.0),
       omega (arith, inv.5, c.steps_from-more.ensures.few.1),
+      omega (arith, inv.6, c.steps_from-more.ensures.few.2),
+      omega (arith, inv.7, c.steps_from-more.ensures.few.3),
     )

@@ -24,13 +24,13 @@ make-requires-clause-stands g c κs within =
       c.requires.stands.0,
       Exchange change.cell change.old change.new c.requires.stands.1,
       exchange_next s code place change.cell change.old change.new
-          c.requires.stands.1 c.address-at.result c.word.result c.word-2.result at c.word.ensures c.word-2.ensures,
+          c.requires.stands.1 c.address-at.result c.word.result c.word-2.result c.requires.stands.2 at c.word.ensures c.word-2.ensures,
       moved led c.requires.stands.0
-          (exchanges_if s code place change.cell change.old change.new c.requires.stands.1 true there) (c.requires.stands.2),
+          (exchanges_if s code place change.cell change.old change.new c.requires.stands.1 true there) (c.requires.stands.3),
     )
 
 pub returns-then-not-cell_is_there-clause-came : goal.returns-then-not-cell_is_there-clause-came
-returns-then-not-cell_is_there-clause-came g c = λ first next l.
+returns-then-not-cell_is_there-clause-came g c = λ first next is l.
     let m = c.args.memory.now in
     let s = g.M.Memory.shape m in
     let code = g.M.Memory.code m in
@@ -41,7 +41,7 @@ returns-then-not-cell_is_there-clause-came g c = λ first next l.
     moved led first (exchanges_if s code place change.cell change.old change.new next false there) (l)
 
 pub returns-in-Err-clause-came : goal.returns-in-Err-clause-came
-returns-in-Err-clause-came g c = λ first next l.
+returns-in-Err-clause-came g c = λ first next is l.
     let m = c.args.memory.now in
     let s = g.M.Memory.shape m in
     let code = g.M.Memory.code m in
@@ -51,11 +51,11 @@ returns-in-Err-clause-came g c = λ first next l.
     let there = c.if-not-cell_is_there.ensures ∙ ap (λ (x : Shape). is_there x change.cell) c.shape-shape.ensures in
     let at = c.address-at.ensures.value ∙ ap (λ (x : Shape). address x change.cell) c.shape-shape.ensures in
     c.in-Err.ensures.came first (Exchange change.cell change.old change.new next) (exchange_next s code place change.cell change.old change.new next
-    c.address-at.result c.word.result c.word-2.result at c.word.ensures c.word-2.ensures)
+    c.address-at.result c.word.result c.word-2.result is at c.word.ensures c.word-2.ensures)
     (moved led first (exchanges_if s code place change.cell change.old change.new next true there) (l))
 
 pub returns-clause-came : goal.returns-clause-came
-returns-clause-came g c = λ first next l.
+returns-clause-came g c = λ first next is l.
     let m = c.args.memory.now in
     let s = g.M.Memory.shape m in
     let code = g.M.Memory.code m in
@@ -66,6 +66,6 @@ returns-clause-came g c = λ first next l.
     let at = c.address-at.ensures.value ∙ ap (λ (x : Shape). address x change.cell) c.shape-shape.ensures in (
       tt,
       (c.in_default.ensures.came first (Exchange change.cell change.old change.new next) (exchange_next s code place change.cell change.old
-          change.new next c.address-at.result c.word.result c.word-2.result at c.word.ensures c.word-2.ensures)
+          change.new next c.address-at.result c.word.result c.word-2.result is at c.word.ensures c.word-2.ensures)
           (moved led first (exchanges_if s code place change.cell change.old change.new next true there) (l))).1,
     )

@@ -33,8 +33,8 @@ make-requires-clause-stands g c κs within =
     let at = c.address-at.ensures.value ∙ ap (λ (x : Shape). address x (RestartWord place.place)) c.shape-shape.ensures in (
       c.requires.stands.0,
       Now next,
-      end_next s code place next c.address-at.result c.pack.result restart c.requires.next c.restart_of-restart.ensures at
-          c.pack.ensures,
+      end_next s code place next c.address-at.result c.pack.result restart c.mark_of-mark.result c.requires.next c.restart_of-restart.ensures at
+          c.pack.ensures c.mark_of-mark.ensures,
       moved led c.requires.stands.0 (ends_if s code place next true c.requires.next there) (c.requires.stands.1),
     )
 
@@ -63,8 +63,8 @@ returns-in-Err-clause-came g c = λ first l.
     let there = c.if-not-restart_there.ensures ∙ ap (λ (x : Shape). restart_is_there x restart) c.shape-shape.ensures ∙ ap
     (λ (x : Restart). restart_is_there s x) c.restart_of-restart.ensures in
     let at = c.address-at.ensures.value ∙ ap (λ (x : Shape). address x (RestartWord place.place)) c.shape-shape.ensures in
-    c.in-Err.ensures.came first (Now next) (end_next s code place next c.address-at.result c.pack.result restart c.requires.next
-    c.restart_of-restart.ensures at c.pack.ensures) (moved led first (ends_if s code place next true c.requires.next there) (l))
+    c.in-Err.ensures.came first (Now next) (end_next s code place next c.address-at.result c.pack.result restart c.mark_of-mark.result c.requires.next
+    c.restart_of-restart.ensures at c.pack.ensures c.mark_of-mark.ensures) (moved led first (ends_if s code place next true c.requires.next there) (l))
 
 pub returns-clause-came : goal.returns-clause-came
 returns-clause-came g c = λ first l.
@@ -82,6 +82,6 @@ returns-clause-came g c = λ first l.
       restart_fits c.shape-shape.result small c.restart_of-restart.result (sym c.if-not-restart_there.ensures),
       moved led first
           (ended s code place next c.in_default.field-0 restart c.requires.next c.restart_of-restart.ensures)
-          ((c.in_default.ensures.came first (Now next) (end_next s code place next c.address-at.result c.pack.result restart c.requires.next
-          c.restart_of-restart.ensures at c.pack.ensures) (moved led first (ends_if s code place next true c.requires.next there) (l))).1),
+          ((c.in_default.ensures.came first (Now next) (end_next s code place next c.address-at.result c.pack.result restart c.mark_of-mark.result c.requires.next
+          c.restart_of-restart.ensures at c.pack.ensures c.mark_of-mark.ensures) (moved led first (ends_if s code place next true c.requires.next there) (l))).1),
     )

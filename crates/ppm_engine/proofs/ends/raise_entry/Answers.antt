@@ -18,6 +18,7 @@ exchange-requires-clause-stands g c κs within =
     let change = c.args.change in (
       c.requires.stands.0,
       c.requires.stands.1,
+      tt,
       moved led c.requires.stands.0 (raised_if s code place (EntryWord place.place change.slot) change.old
           change.new c.requires.stands.1 true (rises change.old (c.if-not-entry_can_rise.ensures.0 refl))) (c.requires.stands.2),
     )
@@ -41,5 +42,5 @@ returns-clause-came g c = λ first next l.
     let place = c.args.seat.now in
     let led = g.M.Memory.led m place.own in
     let change = c.args.change in
-    c.exchange.ensures.came first next (moved led first (raised_if s code place (EntryWord place.place change.slot) change.old change.new next true
+    c.exchange.ensures.came first next tt (moved led first (raised_if s code place (EntryWord place.place change.slot) change.old change.new next true
     (rises change.old (c.if-not-entry_can_rise.ensures.0 refl))) (l))

@@ -24,7 +24,7 @@ make-requires-clause-stands g c κs within =
       c.requires.stands.0,
       Store put.cell put.content c.requires.stands.1,
       store_next s code place put.cell put.content c.requires.stands.1
-          c.address-at.result c.word.result at c.word.ensures,
+          c.address-at.result c.word.result c.requires.put.1 at c.word.ensures,
       moved led c.requires.stands.0
           (stores_if s code place put.cell put.content c.requires.stands.1 true there) (c.requires.stands.2),
     )
@@ -51,7 +51,7 @@ returns-in-Err-clause-came g c = λ first next l.
     let there = c.if-not-cell_is_there.ensures ∙ ap (λ (x : Shape). is_there x put.cell) c.shape-shape.ensures in
     let at = c.address-at.ensures.value ∙ ap (λ (x : Shape). address x put.cell) c.shape-shape.ensures in
     c.in-Err.ensures.came first (Store put.cell put.content next) (store_next s code place put.cell put.content next c.address-at.result
-    c.word.result at c.word.ensures) (moved led first (stores_if s code place put.cell put.content next true there) (l))
+    c.word.result c.requires.put.1 at c.word.ensures) (moved led first (stores_if s code place put.cell put.content next true there) (l))
 
 pub returns-clause-came : goal.returns-clause-came
 returns-clause-came g c = λ first next l.
@@ -65,5 +65,5 @@ returns-clause-came g c = λ first next l.
     let at = c.address-at.ensures.value ∙ ap (λ (x : Shape). address x put.cell) c.shape-shape.ensures in (
       tt,
       (c.in_default.ensures.came first (Store put.cell put.content next) (store_next s code place put.cell put.content next c.address-at.result
-          c.word.result at c.word.ensures) (moved led first (stores_if s code place put.cell put.content next true there) (l))).1,
+          c.word.result c.requires.put.1 at c.word.ensures) (moved led first (stores_if s code place put.cell put.content next true there) (l))).1,
     )

@@ -10,9 +10,8 @@ use Rattle.ppm_step.specs.declared.row.Then.TheVariants.{Load}
 use Rattle.ppm_step.specs.Rows.{join_by, join_outcome}
 use Rattle.ppm_engine.proofs.RowLemmas.{goes_by_outcome, join_breaks, join_traps}
 use Rattle.ppm_engine.specs.declared.memory.Stop.{Stop}
-use Rattle.ppm_engine.specs.Steps.{Came}
-use Rattle.ppm_cells.specs.Restart.{IsRestart}
-use Rattle.ppm_cells.specs.declared.restart.Restart.{Restart}
+use Rattle.ppm_engine.specs.Steps.{Settles}
+use Rattle.ppm_engine.specs.declared.tally.Settled.{Settled}
 use Rattle.ppm_step.specs.Standings.{IsAt}
 use Rattle.ppm_engine.proofs.MakingLemmas.{exit_by, moved}
 use Rattle.ppm_engine.proofs.join.join_last.Goals as goal
@@ -24,8 +23,8 @@ returns-in_err-link-clause-came g c = λ first l.
     let code = g.M.Memory.code m in
     let place = c.args.seat.now in
     let led = g.M.Memory.led m place.own in
-    exit_by (λ (r : Result Restart Stop). Came led first (g.M.Memory.refused m place.own) (g.M.Memory.over m) place.place c.load_link.new.own
-    (g.W.Watch.told c.load_link.new.watch) c.load_link.new.tally IsRestart (λ restart. IsAt place.place (Some restart)) r) _ _ c.from_residual.ensures.1
+    exit_by (λ (r : Result Settled Stop). Settles led first (g.M.Memory.refused m place.own) (g.M.Memory.over m) place.place c.load_link.new.own
+    (g.W.Watch.told c.load_link.new.watch) c.load_link.new.tally r) _ _ c.from_residual.ensures.1
     (c.in_err-link.ensures.came first l)
 
 pub returns-in_default-clause-came : goal.returns-in_default-clause-came
@@ -58,8 +57,8 @@ returns-in_err-left-clause-came g c = λ first l.
     let code = g.M.Memory.code m in
     let place = c.args.seat.now in
     let led = g.M.Memory.led m place.own in
-    exit_by (λ (r : Result Restart Stop). Came led first (g.M.Memory.refused m place.own) (g.M.Memory.over m) place.place c.load_outcome.new.own
-    (g.W.Watch.told c.load_outcome.new.watch) c.load_outcome.new.tally IsRestart (λ restart. IsAt place.place (Some restart)) r) _ _
+    exit_by (λ (r : Result Settled Stop). Settles led first (g.M.Memory.refused m place.own) (g.M.Memory.over m) place.place c.load_outcome.new.own
+    (g.W.Watch.told c.load_outcome.new.watch) c.load_outcome.new.tally r) _ _
     c.from_residual-in_err-left.ensures.1
     (c.in_err-left.ensures.came first
     (moved led first (ap (λ (r : Row). stands s code place r) (ap (λ (k : LinkKind). join_by c.args.block k) c.in-Fork.is))
@@ -91,8 +90,8 @@ returns-in_err-right-clause-came g c = λ first l.
     let code = g.M.Memory.code m in
     let place = c.args.seat.now in
     let led = g.M.Memory.led m place.own in
-    exit_by (λ (r : Result Restart Stop). Came led first (g.M.Memory.refused m place.own) (g.M.Memory.over m) place.place c.load_outcome-2.new.own
-    (g.W.Watch.told c.load_outcome-2.new.watch) c.load_outcome-2.new.tally IsRestart (λ restart. IsAt place.place (Some restart)) r) _ _
+    exit_by (λ (r : Result Settled Stop). Settles led first (g.M.Memory.refused m place.own) (g.M.Memory.over m) place.place c.load_outcome-2.new.own
+    (g.W.Watch.told c.load_outcome-2.new.watch) c.load_outcome-2.new.tally r) _ _
     c.from_residual-in_err-right.ensures.1
     (c.in_err-right.ensures.came first
     (moved led first (ap (λ (r : Row). stands s code place r)

@@ -6,9 +6,8 @@ use Rattle.ppm_step.specs.declared.row.Point.TheVariants.{Offset}
 use Rattle.ppm_engine.proofs.RowLemmas.{emptied_fits, empties, empties_none}
 use Rattle.ppm_cells.specs.Entry.{IsEntry}
 use Rattle.ppm_engine.specs.declared.memory.Stop.{Stop}
-use Rattle.ppm_engine.specs.Steps.{Came}
-use Rattle.ppm_cells.specs.Restart.{IsRestart}
-use Rattle.ppm_cells.specs.declared.restart.Restart.{Restart}
+use Rattle.ppm_engine.specs.Steps.{Settles}
+use Rattle.ppm_engine.specs.declared.tally.Settled.{Settled}
 use Rattle.ppm_step.specs.Standings.{IsAt}
 use Rattle.ppm_engine.proofs.MakingLemmas.{exit_by, moved}
 use Rattle.ppm_engine.proofs.pop.empty_above.Goals as goal
@@ -20,8 +19,8 @@ returns-in_err-entry-clause-came g c = λ first l.
     let code = g.M.Memory.code m in
     let place = c.args.seat.now in
     let led = g.M.Memory.led m place.own in
-    exit_by (λ (r : Result Restart Stop). Came led first (g.M.Memory.refused m place.own) (g.M.Memory.over m) place.place c.load_entry.new.own
-    (g.W.Watch.told c.load_entry.new.watch) c.load_entry.new.tally IsRestart (λ restart. IsAt place.place (Some restart)) r) _ _ c.from_residual.ensures.1
+    exit_by (λ (r : Result Settled Stop). Settles led first (g.M.Memory.refused m place.own) (g.M.Memory.over m) place.place c.load_entry.new.own
+    (g.W.Watch.told c.load_entry.new.watch) c.load_entry.new.tally r) _ _ c.from_residual.ensures.1
     (c.in_err-entry.ensures.came first l)
 
 pub begin_right-requires-clause-stands : goal.begin_right-requires-clause-stands

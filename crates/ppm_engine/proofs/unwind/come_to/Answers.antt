@@ -10,9 +10,8 @@ use Rattle.ppm_step.specs.declared.content.Content.TheVariants.{AFinish}
 use Rattle.ppm_step.specs.declared.row.Row.TheVariants.{Store}
 use Rattle.ppm_step.specs.Rows.{with_kind}
 use Rattle.ppm_engine.specs.declared.memory.Stop.{Stop}
-use Rattle.ppm_engine.specs.Steps.{Came}
-use Rattle.ppm_cells.specs.Restart.{IsRestart}
-use Rattle.ppm_cells.specs.declared.restart.Restart.{Restart}
+use Rattle.ppm_engine.specs.Steps.{Settles}
+use Rattle.ppm_engine.specs.declared.tally.Settled.{Settled}
 use Rattle.ppm_step.specs.Standings.{IsAt}
 use Rattle.ppm_engine.proofs.MakingLemmas.{exit_by, moved}
 use Rattle.ppm_engine.proofs.unwind.come_to.Goals as goal
@@ -25,8 +24,8 @@ returns-in_err-outcome-clause-came g c = λ first l.
     let place = c.args.seat.now in
     let led = g.M.Memory.led m place.own in
     let arm = c.args.arm in
-    exit_by (λ (r : Result Restart Stop). Came led first (g.M.Memory.refused m place.own) (g.M.Memory.over m) place.place c.load_outcome.new.own
-    (g.W.Watch.told c.load_outcome.new.watch) c.load_outcome.new.tally IsRestart (λ restart. IsAt place.place (Some restart)) r) _ _
+    exit_by (λ (r : Result Settled Stop). Settles led first (g.M.Memory.refused m place.own) (g.M.Memory.over m) place.place c.load_outcome.new.own
+    (g.W.Watch.told c.load_outcome.new.watch) c.load_outcome.new.tally r) _ _
     c.from_residual.ensures.1
     (c.in_err-outcome.ensures.came first l)
 

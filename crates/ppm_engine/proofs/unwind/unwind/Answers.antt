@@ -4,9 +4,8 @@ use Rattle.ppm_step.specs.Standings.{stands}
 use Rattle.ppm_cells.specs.declared.link.LinkKind.{LinkKind}
 use Rattle.ppm_step.specs.Rows.{unwind_by}
 use Rattle.ppm_engine.specs.declared.memory.Stop.{Stop}
-use Rattle.ppm_engine.specs.Steps.{Came}
-use Rattle.ppm_cells.specs.Restart.{IsRestart}
-use Rattle.ppm_cells.specs.declared.restart.Restart.{Restart}
+use Rattle.ppm_engine.specs.Steps.{Settles}
+use Rattle.ppm_engine.specs.declared.tally.Settled.{Settled}
 use Rattle.ppm_step.specs.Standings.{IsAt}
 use Rattle.ppm_engine.proofs.MakingLemmas.{exit_by, moved}
 use Rattle.ppm_engine.proofs.unwind.unwind.Goals as goal
@@ -18,8 +17,8 @@ returns-in_err-link-clause-came g c = λ first l.
     let code = g.M.Memory.code m in
     let place = c.args.seat.now in
     let led = g.M.Memory.led m place.own in
-    exit_by (λ (r : Result Restart Stop). Came led first (g.M.Memory.refused m place.own) (g.M.Memory.over m) place.place c.load_link.new.own
-    (g.W.Watch.told c.load_link.new.watch) c.load_link.new.tally IsRestart (λ restart. IsAt place.place (Some restart)) r) _ _ c.from_residual.ensures.1
+    exit_by (λ (r : Result Settled Stop). Settles led first (g.M.Memory.refused m place.own) (g.M.Memory.over m) place.place c.load_link.new.own
+    (g.W.Watch.told c.load_link.new.watch) c.load_link.new.tally r) _ _ c.from_residual.ensures.1
     (c.in_err-link.ensures.came first l)
 
 pub end_root-requires-clause-stands : goal.end_root-requires-clause-stands

@@ -2,7 +2,7 @@ use Rattle.std.proofs.Common.{◌≡◌, ◌∙◌, ℕ, Option, take, replicate
 use Rattle.ppm_cells.specs.declared.restart.RestartKind.TheVariants.{Run}
 use Rattle.ppm_code.specs.declared.code.Capsule.{Capsule}
 use Rattle.ppm_step.specs.Standings.{enters}
-use Rattle.ppm_core.proofs.WidthLemmas.{enters_with_zeros}
+use Rattle.ppm_engine.proofs.WidthLemmas.{enters_with_zeros}
 use Rattle.ppm_widths.proofs.WidthLemmas.{width_at}
 use Rattle.ppm_stretch.proofs.entering.capsule_along.Goals as goal
 

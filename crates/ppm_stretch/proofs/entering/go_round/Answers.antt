@@ -4,7 +4,7 @@ use Rattle.ppm_cells.specs.declared.cell.Cell.TheVariants.{BlockWord}
 use Rattle.ppm_cells.specs.declared.restart.Restart.{Restart}
 use Rattle.ppm_code.specs.declared.act.End.TheVariants.{Next}
 use Rattle.ppm_step.specs.Frames.{ending}
-use Rattle.ppm_core.specs.Rounds.{goes_round}
+use Rattle.ppm_engine.specs.Waiting.{goes_round}
 use Rattle.ppm_stretch.proofs.SteadyLemmas.{moves_then, moves_none, refuses_one, refuses_then, went_lives, stands_there, stands_broken, stores_same}
 use Rattle.ppm_stretch.proofs.entering.go_round.Goals as goal
 

@@ -13,7 +13,7 @@ use Rattle.ppm_stretch.specs.Steady.{looks_behind}
 use Rattle.ppm_stretch.proofs.FramingLemmas.{framed_as, framed_few, framed_then, framed_works, looks_within}
 use Rattle.ppm_stretch.proofs.RoundLemmas.{looks_few}
 use Rattle.ppm_stretch.proofs.SteadyLemmas.{moves_then, refuses_then, from_none}
-use Rattle.ppm_core.proofs.WaitingLemmas.{goes_round_fits}
+use Rattle.ppm_engine.proofs.WaitingLemmas.{goes_round_fits}
 use Rattle.ppm_stretch.proofs.frames.rounds.Goals as goal
 
 pub loop-made-preserved : goal.loop-made-preserved

@@ -14,7 +14,7 @@ returns-clause-makes g c = λ fine.
     let k = c.args.words.now.shared.key in
     let own = c.args.local.now.own in
     let first = c.frame_steps-framed in
-    let other = c.other_step-2 in
+    let other = c.other_step in
     let none = c.if-is_any.ensures.none refl in
     moves_behind g.W.Watch.told k own c.args.mine.now.me first.new.mine.me other.new.mine.me c.args.watch.now first.new.watch other.new.watch
     first.result.made other.result.made first.result.work other.result.work first.result.looks other.result.looks first.result.exchanged other.result.exchanged
@@ -27,7 +27,7 @@ returns-clause-stops g c = λ refused.
     let k = c.args.words.now.shared.key in
     let own = c.args.local.now.own in
     let first = c.frame_steps-framed in
-    let other = c.other_step-2 in
+    let other = c.other_step in
     let none = c.if-is_any.ensures.none refl in
     gives_up_behind g.W.Watch.told k own c.args.mine.now.me first.new.mine.me other.new.mine.me c.args.watch.now first.new.watch other.new.watch
     first.result.made first.result.work first.result.looks first.result.exchanged 1 c.args.most (omega (arith, none.1, c.requires.most)) (first.ensures.makes none.0)

@@ -1,7 +1,8 @@
 use Rattle.std.proofs.Common.{◌≡◌, ◌∙◌, Bool, true, false, not, Some, sym, refl, arith}
 use Rattle.ppm_stretch.proofs.EnteringLemmas.{finish_is_over}
 use Rattle.ppm_stretch.proofs.SteadyLemmas.{refuses_one}
-use Rattle.ppm_stretch.proofs.SchedulingLemmas.{begins_lives, finish_goes_on, row_after, row_looks}
+use Rattle.ppm_stretch.proofs.SchedulingLemmas.{begins_lives, finish_goes_on, row_after}
+use Rattle.ppm_engine.proofs.KindLemmas.{row_looks}
 use Rattle.ppm_stretch.proofs.scheduling.row_at.Goals as goal
 
 fine_is : (b : Bool) → not b ≡ false → b ≡ true

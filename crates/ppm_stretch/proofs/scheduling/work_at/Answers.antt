@@ -6,7 +6,8 @@ use Rattle.ppm_step.specs.Rows.{row_of}
 use Rattle.ppm_step.specs.Standings.{stands}
 use Rattle.ppm_stretch.specs.declared.way.RowEnd.{RowEnd}
 use Rattle.ppm_stretch.specs.Scheduling.{HasWorked}
-use Rattle.ppm_stretch.proofs.SchedulingLemmas.{made_at, made_so, row_works}
+use Rattle.ppm_stretch.proofs.SchedulingLemmas.{made_at, made_so}
+use Rattle.ppm_engine.proofs.KindLemmas.{row_works}
 use Rattle.ppm_stretch.proofs.scheduling.work_at.Goals as goal
 
 pub make_row-made-requires-clause-seat : goal.make_row-made-requires-clause-seat

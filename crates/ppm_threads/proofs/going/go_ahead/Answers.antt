@@ -11,15 +11,19 @@ use Rattle.ppm_threads.proofs.going.go_ahead.Goals as goal
 pub returns-then-crew-clause-goes : goal.returns-then-crew-clause-goes
 returns-then-crew-clause-goes g c victims o = (o, λ list e. e, omega arith)
 
+-- something is to be chosen, and none was made
+pub returns-then-is_chosen-clause-goes : goal.returns-then-is_chosen-clause-goes
+returns-then-is_chosen-clause-goes g c victims o = (o, λ list e. e, omega arith)
+
 -- the watcher refused one
 pub returns-then-row-clause-goes : goal.returns-then-row-clause-goes
 returns-then-row-clause-goes g c victims o =
     let k = opening_of c.args.crew.now.shared in
     let p = c.args.processor.now in
-    let clear = subst (λ (n : ℕ). AreClear c.args.crew.now.plan.now c.args.crew.now.limits n o.past c.clear_steps.result) o.number
-    (c.clear_steps.ensures.clear o.past (stands_by k p.local.own (deeds_of_processor p)) o.pace_is) in
+    let clear = subst (λ (n : ℕ). AreClear c.args.crew.now.plan.now c.args.crew.now.limits n o.past c.clear_acts.result) o.number
+    (c.clear_acts.ensures o.past (stands_by k p.local.own (deeds_of_processor p)) o.pace_is) in
     row_quits g.W.Watch.told c.args.crew.now.plan.now c.args.crew.now.limits k p.local.own p.seat.me c.steps-row.new.processor.seat.me
-    c.args.watch.now c.steps-row.new.watch c.min-most.result c.clear_steps.result c.args.pace.now victims o (c.steps-row.ensures.stops c.if-row.true)
+    c.args.watch.now c.steps-row.new.watch c.min-most.result c.clear_acts.result c.args.pace.now victims o (c.steps-row.ensures.stops c.if-row.true)
     (let m = c.min-most.ensures in omega (arith, m)) clear
 
 -- none was made
@@ -50,11 +54,11 @@ returns-clause-goes g c victims o =
     let row = c.steps-row.result in
     let moves = c.steps-row.ensures.makes c.if-row.false in
     let stands = c.steps-row.ensures.of.stands ∙ ap (λ (n : ℕ). stands_by k n (deeds_of_processor q)) c.steps-row.ensures.own in
-    let clear = subst (λ (n : ℕ). AreClear c.args.crew.now.plan.now c.args.crew.now.limits n o.past c.clear_steps.result) o.number
-    (c.clear_steps.ensures.clear o.past (stands_by k own (deeds_of_processor p)) o.pace_is) in
-    let most : row.made ≤ c.clear_steps.result = let f = c.steps-row.ensures.few.0 in let m = c.min-most.ensures in omega (arith, f, m) in (
+    let clear = subst (λ (n : ℕ). AreClear c.args.crew.now.plan.now c.args.crew.now.limits n o.past c.clear_acts.result) o.number
+    (c.clear_acts.ensures o.past (stands_by k own (deeds_of_processor p)) o.pace_is) in
+    let most : row.made ≤ c.clear_acts.result = let f = c.steps-row.ensures.few.0 in let m = c.min-most.ensures in omega (arith, f, m) in (
       obeying_along c.args.crew.now.plan.now c.args.crew.now.limits k own p.seat.me q.seat.me c.args.pace.now c.count_steps.new.self victims row.made row.work row.looks
-          c.clear_steps.result o
+          c.clear_acts.result o
           moves.goes most clear c.count_steps.ensures.number
           (λ past' acts works looked.
           c.count_steps.ensures.pace c.args.crew.now.plan.now o.past past' (stands_by k own (deeds_of_processor p)) (stands_by k own (deeds_of_processor q))

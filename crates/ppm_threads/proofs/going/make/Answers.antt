@@ -13,7 +13,7 @@ pub returns-then-hear-clause-obeys : goal.returns-then-hear-clause-obeys
 returns-then-hear-clause-obeys g c = λ taken plan past victims a.
     let shared = c.args.crew.now.shared in
     let p = c.args.processor.now in
-    let q = c.turn-told.new.self in
+    let q = c.turn-told.new.processor in
     let acted = c.turn-told.ensures.acted c.requires.lives in (
       acts_obey shared p q c.args.act c.turn-told.result c.requires.of c.turn-told.ensures.of c.turn-told.ensures.own acted c.requires.lives c.requires.may
           plan c.args.crew.now.limits past c.args.pace.now c.count.new.self victims c.is_due-due.result a c.count.ensures.number
@@ -29,7 +29,7 @@ pub returns-clause-quits : goal.returns-clause-quits
 returns-clause-quits g c = λ refused plan past victims a.
     let shared = c.args.crew.now.shared in
     let p = c.args.processor.now in
-    let q = c.turn-told.new.self in
+    let q = c.turn-told.new.processor in
     let acted = c.turn-told.ensures.acted c.requires.lives in
     acts_refused shared p q c.args.act c.turn-told.result c.requires.of c.turn-told.ensures.of c.turn-told.ensures.own acted c.requires.lives c.requires.may
     plan c.args.crew.now.limits past c.args.pace.now c.count.new.self victims c.is_due-due.result (g.W.Watch.told c.args.watch.now) (g.W.Watch.told c.hear.new.watch)

@@ -19,8 +19,8 @@ invariant_of-self c =
       one_changed c.self.inside.shape c.self.inside.code c.self.inside.locals.items c.args.processor c.step_along-steps.new.local c.self.invariant.1
           c.step_along-steps.ensures.holds (c.step_along-steps.ensures.own ∙ own),
       record {
-        forks_at_most = omega (arith, c.self.invariant.2.forks_at_most);
-        takes_at_most = omega (arith, c.self.invariant.2.takes_at_most);
+        forks_at_most = omega (arith, c.self.invariant.2.forks_at_most, c.step_along-steps.ensures.few.2);
+        takes_at_most = omega (arith, c.self.invariant.2.takes_at_most, c.step_along-steps.ensures.few.3);
         work_at_most = omega (arith, c.self.invariant.2.work_at_most, c.step_along-steps.ensures.few.1);
       },
       c.self.invariant.3,
@@ -36,8 +36,8 @@ returns-clause-machine c =
     let own = (c.self.invariant.1.each c.args.processor c.index_mut-local.result.now at).own in
     rw (sym c.self.view_is) (
     run_is _ c.args.processor c.index_mut-local.result.now c.step_along-steps.new.local c.step_along-steps.new.words.items
-    c.step_along-steps.result.made c.step_along-steps.result.work
-    (has_made _ c.args.processor _ _ _ _ _ at own c.step_along-steps.ensures.leads)
+    c.step_along-steps.result.made c.step_along-steps.result.work c.step_along-steps.result.forks c.step_along-steps.result.takes
+    (has_made _ c.args.processor _ _ _ _ _ _ _ at own c.step_along-steps.ensures.leads)
     )
 
 -- each of them plain
@@ -50,8 +50,8 @@ returns-clause-steady c =
     let own = (c.self.invariant.1.each c.args.processor c.index_mut-local.result.now at).own in
     rw (sym c.self.view_is) (
     steady_is _ c.args.processor c.index_mut-local.result.now c.step_along-steps.new.local c.step_along-steps.new.words.items
-    c.step_along-steps.result.made c.step_along-steps.result.work
-    (has_made _ c.args.processor _ _ _ _ _ at own c.step_along-steps.ensures.leads)
+    c.step_along-steps.result.made c.step_along-steps.result.work c.step_along-steps.result.forks c.step_along-steps.result.takes
+    (has_made _ c.args.processor _ _ _ _ _ _ _ at own c.step_along-steps.ensures.leads)
     )
 
 -- and the last work
@@ -64,8 +64,8 @@ returns-clause-work c =
     let own = (c.self.invariant.1.each c.args.processor c.index_mut-local.result.now at).own in
     rw (sym c.self.view_is) (
     work_is_last _ c.args.processor c.index_mut-local.result.now c.step_along-steps.new.local c.step_along-steps.new.words.items
-    c.step_along-steps.result.made c.step_along-steps.result.work
-    (has_made _ c.args.processor _ _ _ _ _ at own c.step_along-steps.ensures.leads)
+    c.step_along-steps.result.made c.step_along-steps.result.work c.step_along-steps.result.forks c.step_along-steps.result.takes
+    (has_made _ c.args.processor _ _ _ _ _ _ _ at own c.step_along-steps.ensures.leads)
     )
 
 -- and more would lead no further
@@ -77,8 +77,8 @@ returns-clause-no_further c =
     let at = slice_get_read c.self.inside.locals.items _ c.args.processor c.index_mut-local.result.now refl less c.index_mut-local.ensures.value in
     let own = (c.self.invariant.1.each c.args.processor c.index_mut-local.result.now at).own in
     goes_no_further_is _ c.args.processor c.index_mut-local.result.now c.step_along-steps.new.local c.step_along-steps.new.words.items
-    c.step_along-steps.result.made c.step_along-steps.result.work (c.args.most - c.step_along-steps.result.made)
-    (has_made _ c.args.processor _ _ _ _ _ at own c.step_along-steps.ensures.leads)
+    c.step_along-steps.result.made c.step_along-steps.result.work c.step_along-steps.result.forks c.step_along-steps.result.takes (c.args.most - c.step_along-steps.result.made)
+    (has_made _ c.args.processor _ _ _ _ _ _ _ at own c.step_along-steps.ensures.leads)
     (subst
     (λ n. NoFurther c.self.inside.shape c.self.inside.code n (c.args.most - c.step_along-steps.result.made)
     (moment c.step_along-steps.new.words.items (standing_of c.self.inside.shape c.self.inside.code c.step_along-steps.new.local)))

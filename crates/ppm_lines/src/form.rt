@@ -1,5 +1,5 @@
 //! In which form a run is told.
-use ppm_lines::Only;
+use crate::shown::Only;
 
 /// In which form a run is told.
 #[derive(Clone, Copy, Debug, PartialEq, Eq)]

@@ -1,8 +1,8 @@
 use Rattle.std.proofs.Common.{ℕ, ◌<◌, ◌∙◌, ap, sym, subst}
 use Rattle.ppm_step.specs.declared.running.Running.{Running}
 use Rattle.ppm_step.specs.declared.running.Stage.{Stage}
-use Rattle.ppm_core.proofs.WaitingLemmas.{stage_fits, under_way}
-use Rattle.ppm_core.proofs.waiting.wait_stopped.Goals as goal
+use Rattle.ppm_engine.proofs.WaitingLemmas.{stage_fits, under_way}
+use Rattle.ppm_engine.proofs.waiting.wait_stopped.Goals as goal
 
 pub what_is_there-there-requires-clause-stage : goal.what_is_there-there-requires-clause-stage
 what_is_there-there-requires-clause-stage c =

@@ -10,7 +10,7 @@ ghost use Rattle.ppm_step.specs.Frames.{Full, ending};
 ghost use Rattle.ppm_step.specs.Locals.{IsLocal, standing_of};
 ghost use Rattle.ppm_step.specs.Standings.{IsAt, IsBroken, running, rest_is_there};
 ghost use Rattle.ppm_step.specs.Stages.{IsStage, rest_at};
-ghost use Rattle.ppm_core.specs.Rounds.{HasReached, stage_of, stands_before, stands_in};
+ghost use Rattle.ppm_engine.specs.Waiting.{HasReached, stage_of, stands_before, stands_in};
 
 use ppm_cells::{Restart, Shape};
 use ppm_code::{Code, End, Reached, Step};

@@ -21,7 +21,7 @@ use Rattle.ppm_step.specs.Frames.{other_copy}
 use Rattle.ppm_step.specs.Stages.{IsStage, IsUnderWay, rest_at}
 use Rattle.ppm_step.specs.Standings.{rest_is_there}
 use Rattle.ppm_step.proofs.EndLemmas.{reached_end}
-use Rattle.ppm_core.specs.Rounds.{HasReached, stage_of}
+use Rattle.ppm_engine.specs.Waiting.{HasReached, stage_of}
 
 stage_by : (what : Reached) → ((e : End) → what ≡ AtEnd e → IsEnd e) → IsStage (stage_of what)
 stage_by (Before step) h = tt
