@@ -110,8 +110,7 @@ pub(crate) fn counted_code<R: Threads + Wait + Sync>(
     requires names { NamesArrays code input.now }
     ensures { IfOk result (CodeHas options plan.now.items code input.now) }
 {
-    let keeper = plan.keeper();
-    let table = share_code_to_count(alloc, sizes_of(options), code, input, keeper, true)?;
+    let table = share_code_to_count(alloc, sizes_of(options), code, input, plan.keeper(), true)?;
     let (shared, processors) = table;
     // What the type of its code keeps is known once its parts were seen.
     let _ = shared.code.parts();

@@ -16,4 +16,4 @@ returns g c =
     _ _ (c.in_ok-driven.ensures.counted c.in_ok-table.ensures.counted) _ _ _
     c.in_ok-table.ensures.arrays (c.in_ok-driven.ensures.sizes.0 ∙ sym c.in_ok-table.table.0.told.0) c.in_ok-driven.ensures.sizes.1 refl
     c.in_ok-ran.ensures
-    (c.run_counts.ensures ∙ ap (λ l. counts_told c.in_ok-driven.driven.1 (fault_count l) c.in_ok-driven.driven.0.shape c.in_ok-driven.driven.0.words) c.items.ensures)
+    (c.run_counts-counts.ensures ∙ ap (λ l. counts_told c.in_ok-driven.driven.1 (fault_count l) c.in_ok-driven.driven.0.shape c.in_ok-driven.driven.0.words) c.items.ensures)
