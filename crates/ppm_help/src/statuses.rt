@@ -44,6 +44,7 @@ fn meaning_of(status: Status) -> &'static str {
             "ended: the arrays, and of `replay` its forks and takes, of `depth` its counts; of `code`\n       \
              the listing or the case; of `check` and `explain` `ok`, of `races` the line `sound: ..`, of\n       \
              `sweep` the line `ok: R runs, M met, A acts`, and with more than 0 `, L left out`;\n       \
+             of `strands` its lines too, or `ok: R runs` (docs/RACES.md);\n       \
              of `stop` the saved text (docs/SAVED.md); of `trace` the trace (docs/TRACE.md); of `show`\n       \
              the state's lines (docs/SHOW.md); of `self` `size n forks g sum s last l`;\n       \
              of `ram` a line `m v ..`"
@@ -63,7 +64,7 @@ fn meaning_of(status: Status) -> &'static str {
         }
         Status::OutOfTurns => {
             "of `run`, `ram` and `resume` `out of turns: processor C`, which spent --turns; of\n       \
-             `replay` `unfinished after N turns`"
+             `replay` and `strands` `unfinished after N turns`"
         }
         Status::OutOfRoom => {
             "out of room: the run needed more words than the pool of that place has, which are\n       \
@@ -74,8 +75,9 @@ fn meaning_of(status: Status) -> &'static str {
         Status::NoMemory => "out of memory",
         Status::CodeRefused => {
             "code refused: of `check`, `depth` or `races` a conflict, a gap, an untidy store or a race,\n       \
-             the first one, of `sweep` an untidy store; of these, and wherever `--input case` stands,\n       \
-             why what was read is no listing or no case (docs/CODE.md)"
+             the first one, of `sweep` an untidy store, of `strands` a run with `fallen: ..`, a change\n       \
+             that did not stand; of these, and wherever `--input case` stands, why what was read is no\n       \
+             listing or no case (docs/CODE.md)"
         }
         Status::NotWithin => {
             "not within: `serial` did not end within --turns, or the depth-first run of `depth`,\n       \

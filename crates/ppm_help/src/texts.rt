@@ -11,7 +11,7 @@ Ppm: a small fork-join language, its capsules, and the machine that runs them wh
   ./ppm --version                      the kit, the sum of the sources, and whether they are built
 
 Input is standard input alone: a source (docs/LANGUAGE.md), of `check` a listing, of `depth`,
-`races` and wherever `--input case` stands a case, which is arrays and a listing (docs/CODE.md),
+`races`, `strands` and wherever `--input case` stands a case: arrays and a listing (docs/CODE.md),
 of `resume` and `show`, and wherever `--input saved` stands, a saved text (docs/SAVED.md), of `ram`
 a RAM (docs/RAM.md), of `self` nothing. A source and a RAM have at most 1,048,576 bytes, a listing
 and a case 536,870,912, a saved text 671,088,640.
@@ -27,6 +27,7 @@ pub(crate) fn purpose_of(command: &str) -> &'static str {
         "check" => "whether the capsules of a listing may be run again, or also where strands race",
         "depth" => "runs the code of a case alone, left branch first, and counts what it takes",
         "races" => "whether the code of a case is sound with its arrays, or its first race",
+        "strands" => "runs the strands of a case, which may race, and names what does not stand",
         "replay" => "compiles a source, and processors run its capsules along a schedule",
         "self" => "makes a source that sums so many values, runs it, and says what came of it",
         "stop" => "makes acts along a schedule, and writes the machine's words as a saved text",
@@ -49,6 +50,7 @@ pub(crate) fn example_of(command: &str) -> &'static str {
         "check" => "< examples/conflict.listing",
         "depth" => "< examples/race.case",
         "races" => "--capsules 1000 < examples/race.case",
+        "strands" => "--form text --schedule 0*8,1*5,2*5 < examples/exchange.case",
         "replay" => "--processors 3 --schedule '0*200,1*30,1!h' < examples/sum.ppm",
         "self" => "--size 1000 --seed 7 --count 50",
         "stop" => "--processors 3 --after 300 < examples/sum.ppm > sum.saved",
@@ -79,12 +81,14 @@ pub(crate) fn meaning_of(command: &str, option: &str) -> &'static str {
         "faults" => faults_of(command),
         "from" => from_of(command),
         "acts" => acts_of(command),
-        "runs" => "acts of these that are drawn; with 0 all are taken",
+        "runs" => runs_of(command),
+        "strands" => "steps that are drawn are of strands below it",
+        "steps" => "steps of a schedule that is drawn",
         "schedule" => schedule_of(command),
         "plan" => "to be explained, as 0@5s,1@9h",
         "takeover" => takeover_of(command),
         "idle" => "one that rests makes no more acts, or sleeps",
-        "form" => "lines, events for a viewer of traces, or a picture",
+        "form" => form_of(command),
         "only" => "lines: all, those that end a row, or those with a mark",
         "input" => input_of(command),
         "racy" => "with yes strands may race, and gaps are told too",
@@ -97,6 +101,7 @@ pub(crate) fn meaning_of(command: &str, option: &str) -> &'static str {
 fn schedule_of(command: &str) -> &'static str {
     match command {
         "explain" => "to be explained, as 0*9,1>0,1!h",
+        "strands" => "as 0*9,1,1!s: steps and soft faults of strands",
         _ => "as 0*9,1>0,1!h: acts, a victim, a hard fault",
     }
 }
@@ -125,7 +130,24 @@ fn turns_of(command: &str) -> &'static str {
         "serial" => "turns of the meaning (docs/LANGUAGE.md)",
         "replay" => "acts that all processors may make together",
         "sweep" => "acts that all processors of a run may make",
+        "strands" => "turns that all strands of a run may have",
         _ => NO_WORDS,
+    }
+}
+
+/// What the runs of a command are.
+fn runs_of(command: &str) -> &'static str {
+    match command {
+        "strands" => "schedules that are drawn; with 0 the stated one runs",
+        _ => "acts of these that are drawn; with 0 all are taken",
+    }
+}
+
+/// What the form of a command is.
+fn form_of(command: &str) -> &'static str {
+    match command {
+        "strands" => "what a run comes to, or with what others saw of it",
+        _ => "lines, events for a viewer of traces, or a picture",
     }
 }
 
@@ -174,6 +196,7 @@ fn seed_of(command: &str) -> &'static str {
     match command {
         "self" => "where values, random victims and drawn faults begin",
         "sweep" => "where the random acts begin",
+        "strands" => "of the first schedule that is drawn",
         _ => "where the random victims begin",
     }
 }

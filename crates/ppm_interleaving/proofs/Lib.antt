@@ -11,7 +11,7 @@ mod EndLemmas
 pub mod FallenLemmas
 mod ForkLemmas
 mod MachineLemmas
-mod OnceLemmas
+pub mod OnceLemmas
 mod OneRunLemmas
 mod OpenLemmas
 mod OwnLemmas

@@ -2,8 +2,9 @@
 use crate::said::Said;
 use ppm_cells::Takeover;
 use ppm_cli::{
-    Command, ExplainedOrders, ExplainedText, ReplayOptions, ResumeOptions, RunOptions, StopOptions,
-    SweepOptions, SweptTakeovers, TraceOptions, TracedForm, TracedLines, read_words,
+    Command, DrawnStrandsOptions, ExplainedOrders, ExplainedText, ReplayOptions, ResumeOptions,
+    RunOptions, StopOptions, StrandsForm, SweepOptions, SweptTakeovers, TraceOptions, TracedForm,
+    TracedLines, read_words,
 };
 use ppm_sheets::Fault;
 use ppm_words::Idle;
@@ -32,6 +33,14 @@ fn form_word(form: TracedForm) -> &'static str {
         TracedForm::Text => "text",
         TracedForm::Json => "json",
         TracedForm::Svg => "svg",
+    }
+}
+
+/// The word of the form of a run of strands.
+fn strands_word(form: StrandsForm) -> &'static str {
+    match form {
+        StrandsForm::Arrays => "arrays",
+        StrandsForm::Text => "text",
     }
 }
 
@@ -147,6 +156,16 @@ fn trace_line(alloc: Global, name: &str, it: &TraceOptions) -> Result<String, Fa
     Ok(line)
 }
 
+/// The line of `strands` by drawn schedules.
+fn drawn_line(alloc: Global, it: &DrawnStrandsOptions) -> Result<String, Fault> {
+    let form = strands_word(it.form);
+    let line = format!(in alloc;
+        "strands turns {} form {form} runs {} seed {} strands {} steps {}",
+        it.turns, it.runs, it.seed, it.strands, it.steps
+    )?;
+    Ok(line)
+}
+
 /// The line of a command: its name and its options, the plan or the schedule last.
 fn line_of(alloc: Global, command: &Command) -> Result<Vec<u8>, Fault> {
     let mut plan: &[u8] = b"";
@@ -195,6 +214,12 @@ fn line_of(alloc: Global, command: &Command) -> Result<Vec<u8>, Fault> {
         }
         Command::Depth(it) => format!(in alloc; "depth capsules {}", it.capsules)?,
         Command::Races(it) => format!(in alloc; "races capsules {}", it.capsules)?,
+        Command::Strands(it, schedule) => {
+            front = " schedule=";
+            plan = schedule.as_slice();
+            format!(in alloc; "strands turns {} form {}", it.turns, strands_word(it.form))?
+        }
+        Command::DrawnStrands(it) => drawn_line(alloc, it)?,
         Command::Replay(it, schedule) => {
             front = " schedule=";
             plan = schedule.as_slice();

@@ -71,6 +71,9 @@ told_none (answers.Raced race) lists = tt
 told_none (answers.Gapped g) lists = tt
 told_none (answers.Swept sweep) lists = tt
 told_none (answers.Differs difference) lists = tt
+told_none (answers.Stood lines came) lists = tt
+told_none (answers.Fell lines came fall) lists = tt
+told_none (answers.AllStood runs) lists = tt
 
 pub others_still : (watching : ℕ) (lists : ToldLists) → OthersKeep watching lists lists
 others_still watching lists c least = stays (get_or lists c None)

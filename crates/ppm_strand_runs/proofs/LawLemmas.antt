@@ -60,7 +60,7 @@ module _ (s : System OwnWord Place Exit Result) where
   before_free (m ∷ later) h f = before_free later h (rest_free m.turn (turns (later ++ h)) f)
 
   -- and are a run
-  tail_of : {i : ℕ} {m : Moment} {h : List Moment} {σ : State OwnWord Place Exit} → ComesBy s i (m ∷ h) σ → (τ : State OwnWord Place Exit) × ComesBy s i h τ
+  pub tail_of : {i : ℕ} {m : Moment} {h : List Moment} {σ : State OwnWord Place Exit} → ComesBy s i (m ∷ h) σ → (τ : State OwnWord Place Exit) × ComesBy s i h τ
   tail_of (Others turn d other done c) = (_, c)
   tail_of (Goes c ready step) = (_, c)
   tail_of (Does c ready deed) = (_, c)

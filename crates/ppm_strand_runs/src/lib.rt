@@ -19,6 +19,6 @@ mod running;
 
 pub use done::{Done, Fall};
 pub use drawn::{DrawnRun, Draws, drawn_steps, first_drawn_fall};
-pub use laws::falls_of_runs_refute;
+pub use laws::{falls_of_runs_refute, runs_are_one};
 pub use run::StrandRun;
 pub use running::run_strands;

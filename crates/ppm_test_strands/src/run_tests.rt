@@ -5,6 +5,7 @@ use ppm_plan::read_strands;
 use ppm_racy_case::{racy_faults_tell_cases, read_racy_case};
 use ppm_strand_runs::{
     Draws, Fall, StrandRun, drawn_steps, falls_of_runs_refute, first_drawn_fall, run_strands,
+    runs_are_one,
 };
 use std::alloc::Global;
 use std::test::Fail;
@@ -112,4 +113,5 @@ fn a_drawn_run_that_falls_is_told(rt: HostRuntime) -> Result<(), Fail> {
 fn laws_of_racy_cases_hold() {
     racy_faults_tell_cases();
     falls_of_runs_refute();
+    runs_are_one();
 }

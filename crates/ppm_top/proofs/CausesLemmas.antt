@@ -26,6 +26,7 @@ use Rattle.ppm_commands.specs.Show.{ShowHas}
 use Rattle.ppm_cli.specs.Words.{command_of}
 use Rattle.ppm_top.specs.Causes.{CommandMay, CommandTells, IsAnswered}
 use Rattle.ppm_plan.specs.Forms.{plan_form, schedule_form}
+use Rattle.ppm_plan.specs.Strands.{strand_form}
 use Rattle.ppm_cli.specs.declared.example.SelfOptions.{SelfOptions}
 use Rattle.ppm_replay_command.specs.CaseReplays.{TextHas as ReplayCaseTextHas}
 use Rattle.ppm_driver.specs.CaseRuns.{TextHas as RunCaseTextHas}
@@ -42,6 +43,8 @@ use Rattle.ppm_driver.specs.RamRuns.{TextHas as RamTextHas}
 use Rattle.ppm_outcomes.specs.Replays.{TextHas as ReplayTextHas}
 use Rattle.ppm_outcomes.specs.Resumes.{TextHas as ResumeTextHas}
 use Rattle.ppm_outcomes.specs.Stops.{TextReads as StopTextReads}
+use Rattle.ppm_strands_command.specs.Drawn.{DrawnHas}
+use Rattle.ppm_strands_command.specs.Strands.{TextHas as StrandsTextHas}
 use Rattle.ppm_sweep_command.specs.Sweeps.{TextHas as SweepTextHas}
 use Rattle.ppm_trace_command.specs.Traces.{TextHas as TraceTextHas}
 use Rattle.ppm_outcomes.specs.Runs.{TextHas as RunTextHas}
@@ -68,6 +71,9 @@ memory_before (Some (commands.Explain text)) o h = judged.memory_before (limit_o
 memory_before (Some (commands.ExplainOrders options text)) o h = h
 memory_before (Some (commands.Depth limit)) o h = judged.memory_before case_limit (DepthHas limit.capsules) o.source h
 memory_before (Some (commands.Races limit)) o h = judged.memory_before case_limit (RacesHas limit.capsules) o.source h
+memory_before (Some (commands.Strands options schedule)) o h =
+    planned.memory_before strand_form schedule 1 (StrandsTextHas options) case_limit o.source h
+memory_before (Some (commands.DrawnStrands options)) o h = judged.memory_before case_limit (DrawnHas options) o.source h
 memory_before (Some (commands.Replay options schedule)) o h =
     planned.memory_before schedule_form schedule options.processors (ReplayTextHas options) text_limit o.source h
 memory_before (Some (commands.Resume options plan)) o h =
@@ -139,6 +145,8 @@ told_nothing (Some (commands.Explain text)) o answer lists = refl
 told_nothing (Some (commands.ExplainOrders options text)) o answer lists = refl
 told_nothing (Some (commands.Depth limit)) o answer lists = refl
 told_nothing (Some (commands.Races limit)) o answer lists = refl
+told_nothing (Some (commands.Strands options schedule)) o answer lists = refl
+told_nothing (Some (commands.DrawnStrands options)) o answer lists = refl
 told_nothing (Some (commands.Replay options schedule)) o answer lists = refl
 told_nothing (Some (commands.Resume options plan)) o answer lists = untold_source options plan o.source answer lists
 told_nothing (Some (commands.Stop options schedule)) o answer lists = refl

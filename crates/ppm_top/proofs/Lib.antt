@@ -1,6 +1,7 @@
 pub mod CausesLemmas
 pub mod OfCases
 pub mod OfRams
+pub mod OfStrands
 pub mod OfSweeps
 pub mod OfTraces
 pub mod OfCounts

@@ -40,6 +40,7 @@ use Rattle.ppm_commands.proofs.RacingRows.{racing_check_rows}
 use Rattle.ppm_commands.proofs.SerialRows.{serial_rows}
 use Rattle.ppm_commands.proofs.ShowRows.{show_rows}
 use Rattle.ppm_plan.specs.Forms.{Form, plan_form, schedule_form}
+use Rattle.ppm_plan.specs.Strands.{strand_form}
 use Rattle.ppm_loading.specs.Planned.{PlannedMay}
 use Rattle.ppm_replay_command.specs.CaseReplays.{TextHas as ReplayCaseTextHas}
 use Rattle.ppm_driver.specs.CaseRuns.{TextHas as RunCaseTextHas}
@@ -56,6 +57,8 @@ use Rattle.ppm_outcomes.specs.Replays.{TextHas as ReplayTextHas}
 use Rattle.ppm_outcomes.specs.Resumes.{TextHas as ResumeTextHas}
 use Rattle.ppm_outcomes.specs.Runs.{TextHas as RunTextHas}
 use Rattle.ppm_outcomes.specs.Stops.{TextReads as StopTextReads}
+use Rattle.ppm_strands_command.specs.Drawn.{DrawnHas}
+use Rattle.ppm_strands_command.specs.Strands.{TextHas as StrandsTextHas}
 use Rattle.ppm_sweep_command.specs.Sweeps.{TextHas as SweepTextHas}
 use Rattle.ppm_trace_command.specs.Traces.{TextHas as TraceTextHas}
 use Rattle.ppm_legs.specs.SavedReplays.{ReplayHas as ReplaySavedHas}
@@ -80,6 +83,7 @@ use Rattle.ppm_top.proofs.OfCases as of_cases
 use Rattle.ppm_top.proofs.OfCounts as of_counts
 use Rattle.ppm_top.proofs.OfLegs as of_legs
 use Rattle.ppm_top.proofs.OfRams as of_rams
+use Rattle.ppm_top.proofs.OfStrands as of_strands
 use Rattle.ppm_top.proofs.OfSweeps as of_sweeps
 use Rattle.ppm_top.proofs.OfTraces as of_traces
 use Rattle.ppm_top.proofs.Refusing.{refuses_words}
@@ -159,6 +163,9 @@ command_reports o (Some (commands.Explain text)) = judging_reports (limit_of tex
 command_reports o (Some (commands.ExplainOrders options text)) = orders_reports options text o
 command_reports o (Some (commands.Depth limit)) = judging_reports case_limit (DepthHas limit.capsules) o
 command_reports o (Some (commands.Races limit)) = judging_reports case_limit (RacesHas limit.capsules) o
+command_reports o (Some (commands.Strands options schedule)) =
+    planned_reports strand_form schedule 1 (StrandsTextHas options) case_limit o
+command_reports o (Some (commands.DrawnStrands options)) = judging_reports case_limit (DrawnHas options) o
 command_reports o (Some (commands.Replay options schedule)) =
     planned_reports schedule_form schedule options.processors (ReplayTextHas options) text_limit o
 command_reports o (Some (commands.Resume options plan)) = judging_reports saved_limit (ResumeTextHas options plan o.told_before o.told_now) o
@@ -174,6 +181,7 @@ read_answer : (may : Answer → Type 0) (answer : Answer) → may answer → sta
 read_answer may answers.ReadFault h e = h
 read_answer may (answers.ReplayedWith c counts) h e = absurd (delivered.came_no_fault c e)
 read_answer may (answers.RanWith r counts) h e = absurd (delivered.ran_no_fault r e)
+read_answer may (answers.Stood lines c) h e = absurd (delivered.came_no_fault c e)
 read_answer may (answers.Explained r notes) h e = absurd (delivered.refused_no_fault r e)
 read_answer may answer h e = cc
 
@@ -234,6 +242,8 @@ program_rows laws words o status a = record {
     is_in_range words (commands.Races limit) e,
     races_rows limit.capsules (ports_of o) (laws.races limit.capsules) status (by_words (Some (commands.Races limit)) e),
   );
+  strands = of_strands.runs_strands laws words o status a;
+  drawn_strands = of_strands.draws_strands laws words o status a;
   replay = λ options schedule e.
       let are = is_in_range words (commands.Replay options schedule) e in
       let rows = of_replay.replay_rows laws.meant options are schedule (ports_of o) status (by_words (Some (commands.Replay options schedule)) e)

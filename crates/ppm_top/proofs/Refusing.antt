@@ -16,6 +16,7 @@ use Rattle.ppm_cli.specs.declared.command.Command.TheVariants as commands
 use Rattle.ppm_cli.specs.declared.resume.ResumeOptions.{ResumeOptions}
 use Rattle.ppm_cli.specs.Words.{command_of}
 use Rattle.ppm_cli.proofs.RangeLemmas.{is_in_range}
+use Rattle.ppm_cli.specs.declared.strands.StrandsOptions.{StrandsOptions}
 use Rattle.ppm_plan.specs.Forms.{plan_form, schedule_form}
 use Rattle.ppm_loading.specs.MachineRows.{RefusesPlan}
 use Rattle.ppm_driver.proofs.OfExample as of_example
@@ -24,6 +25,7 @@ use Rattle.ppm_stop_command.proofs.OfResume as of_resume
 use Rattle.ppm_driver.proofs.OfRun as of_run
 use Rattle.ppm_stop_command.proofs.OfStop as of_stop
 use Rattle.ppm_legs.specs.SavedTexts.{RefusesSchedule}
+use Rattle.ppm_strands_command.proofs.OneDrawnAnswer.{of_draws}
 use Rattle.ppm_top.specs.Causes.{NoCommandMay, CommandMay, CommandTells, IsAnswered}
 use Rattle.ppm_top.specs.Laws.{ProgramLaws}
 use Rattle.ppm_top.specs.Orders.{Orders, plan_of, saved_schedule_of, schedule_of}
@@ -32,11 +34,12 @@ use Rattle.ppm_explained.specs.Orders.{OrdersSay, WritesNotes}
 use Rattle.ppm_explained.specs.Texts.{IsRefused}
 use Rattle.ppm_explained.proofs.ExplainRows.{no_plan}
 use Rattle.ppm_explained.proofs.OrdersRows.{orders_rows}
-use Rattle.ppm_top.specs.Rows.{HasRefusedPlan, OfPlan, OfSchedule, OfCountedResume, OfResume, OfSaved, OfExplained, RefusesWords}
+use Rattle.ppm_top.specs.Rows.{HasRefusedPlan, OfPlan, OfSchedule, OfCountedResume, OfResume, OfSaved, OfStrands, OfExplained, RefusesWords}
 use Rattle.ppm_top.proofs.OfCases as of_cases
 use Rattle.ppm_top.proofs.OfCounts as of_counts
 use Rattle.ppm_top.proofs.OfLegs as of_legs
 use Rattle.ppm_top.proofs.OfRams as of_rams
+use Rattle.ppm_top.proofs.OfStrands as of_strands
 use Rattle.ppm_top.proofs.OfSweeps as of_sweeps
 use Rattle.ppm_top.proofs.OfTraces as of_traces
 
@@ -46,6 +49,7 @@ data IsPlanned (command : Option Command) : Type 0 where
   BySchedule : (c : Command) (orders : Orders) → command ≡ Some c → schedule_of c ≡ Some orders → IsPlanned command
   IsResume : (options : ResumeOptions) (plan : List ℕ) → command ≡ Some (commands.Resume options plan) → IsPlanned command
   IsCountedResume : (options : ResumeOptions) (plan : List ℕ) → command ≡ Some (commands.CountedResume options plan) → IsPlanned command
+  IsStrands : (options : StrandsOptions) (schedule : List ℕ) → command ≡ Some (commands.Strands options schedule) → IsPlanned command
   ByExplained : (options : ExplainOptions) (text : List ℕ) → command ≡ Some (commands.ExplainOrders options text) → IsPlanned command
   BySaved : (c : Command) (schedule : List ℕ) → command ≡ Some c → saved_schedule_of c ≡ Some schedule → IsPlanned command
 
@@ -55,6 +59,7 @@ no_command None o answer h e = inl refl
 no_command (Some (commands.Run options plan)) o answer h e = inr (ByPlan (commands.Run options plan) _ refl refl)
 no_command (Some (commands.RunCase options plan)) o answer h e = inr (ByPlan (commands.RunCase options plan) _ refl refl)
 no_command (Some (commands.Resume options plan)) o answer h e = inr (IsResume options plan refl)
+no_command (Some (commands.Strands options schedule)) o answer h e = inr (IsStrands options schedule refl)
 no_command (Some (commands.ReplaySaved options schedule)) o answer h e = inr (BySaved (commands.ReplaySaved options schedule) schedule refl refl)
 no_command (Some (commands.StopSaved options schedule)) o answer h e = inr (BySaved (commands.StopSaved options schedule) schedule refl refl)
 no_command (Some (commands.TraceSaved options schedule)) o answer h e = inr (BySaved (commands.TraceSaved options schedule) schedule refl refl)
@@ -83,6 +88,8 @@ no_command (Some commands.Show) o answers.WordsRefused h e = absurd h.2
 no_command (Some (commands.Explain text)) o answers.WordsRefused h e = absurd h.2
 no_command (Some (commands.Depth limit)) o answers.WordsRefused h e = absurd h.2.1
 no_command (Some (commands.Races limit)) o answers.WordsRefused h e = absurd h.2.1
+no_command (Some (commands.DrawnStrands options)) o answers.WordsRefused h e =
+    absurd (of_draws options h.2.0.code h.2.0.input answers.WordsRefused h.2.1)
 no_command (Some (commands.Example options)) o answers.WordsRefused h e =
     absurd (of_example.no_words_refused options o.told_before o.told_now h.1)
 no_command (Some (commands.Serial options)) o (answers.PlanRefused number) h e = absurd h.2
@@ -94,10 +101,13 @@ no_command (Some commands.Show) o (answers.PlanRefused number) h e = absurd h.2
 no_command (Some (commands.Explain text)) o (answers.PlanRefused number) h e = absurd h.2
 no_command (Some (commands.Depth limit)) o (answers.PlanRefused number) h e = absurd h.2.1
 no_command (Some (commands.Races limit)) o (answers.PlanRefused number) h e = absurd h.2.1
+no_command (Some (commands.DrawnStrands options)) o (answers.PlanRefused number) h e =
+    absurd (of_draws options h.2.0.code h.2.0.input (answers.PlanRefused number) h.2.1)
 no_command (Some (commands.Example options)) o (answers.PlanRefused number) h e =
     absurd (of_example.no_plan_refused options o.told_before o.told_now number h.1)
 no_command command o (answers.ReplayedWith c counts) h e = absurd (delivered.came_no_refusal c e)
 no_command command o (answers.RanWith r counts) h e = absurd (delivered.ran_no_refusal r e)
+no_command command o (answers.Stood lines c) h e = absurd (delivered.came_no_refusal c e)
 no_command (Some (commands.Serial options)) o (answers.Explained r notes) h e = absurd h.2
 no_command (Some commands.Code) o (answers.Explained r notes) h e = absurd h.2
 no_command (Some commands.CodeCase) o (answers.Explained r notes) h e = absurd h.2
@@ -109,6 +119,8 @@ no_command (Some (commands.Explain text)) o (answers.Explained r notes) h e =
     absurd (no_plan text h.0 p.0 (subst (λ x. IsRefused text h.0 x) p.1 h.2.refusal))
 no_command (Some (commands.Depth limit)) o (answers.Explained r notes) h e = absurd h.2.1
 no_command (Some (commands.Races limit)) o (answers.Explained r notes) h e = absurd h.2.1
+no_command (Some (commands.DrawnStrands options)) o (answers.Explained r notes) h e =
+    absurd (of_draws options h.2.0.code h.2.0.input (answers.Explained r notes) h.2.1)
 no_command (Some (commands.Example options)) o (answers.Explained r notes) h e =
     absurd (of_example.none_explained options o.told_before o.told_now r notes h.1)
 no_command command o answer h e = cc
@@ -223,6 +235,8 @@ module _ (laws : ProgramLaws) (words : List (List ℕ)) (o : Outside) (status : 
         (of_resume.plan_refused laws.resumes options plan o status (answered (Some (commands.Resume options plan)) c) refused))
     by_words (inr (IsCountedResume options plan c)) =
         inr (OfCountedResume options plan c (of_counts.counted_resume_refused laws words o status a options plan c refused))
+    by_words (inr (IsStrands options schedule c)) =
+        inr (OfStrands options schedule c (of_strands.strands_refused laws words o status a options schedule c refused))
     by_words (inr (ByExplained options text c)) = inr (OfExplained options text c (orders_refused options text c))
     by_words (inr (BySaved command schedule c is)) = inr (OfSaved command schedule c is (saved_refused command schedule c is))
 

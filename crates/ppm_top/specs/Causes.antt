@@ -34,6 +34,8 @@ use Rattle.ppm_outcomes.specs.Replays.{ReplayMay}
 use Rattle.ppm_outcomes.specs.Resumes.{ResumeMay, ResumeTells}
 use Rattle.ppm_outcomes.specs.Runs.{RunMay, RunTells}
 use Rattle.ppm_outcomes.specs.Stops.{StopMay}
+use Rattle.ppm_strands_command.specs.Drawn.{DrawnMay}
+use Rattle.ppm_strands_command.specs.Strands.{StrandsMay}
 use Rattle.ppm_sweep_command.specs.Sweeps.{SweepMay}
 use Rattle.ppm_trace_command.specs.Traces.{TraceMay}
 use Rattle.ppm_legs.specs.SavedReplays.{ReplayMay as ReplaySavedMay}
@@ -60,6 +62,8 @@ CommandMay (Some (commands.Explain text)) o answer = ExplainMay text o.source an
 CommandMay (Some (commands.ExplainOrders options text)) o answer = OrdersMay options text o.source answer
 CommandMay (Some (commands.Depth limit)) o answer = DepthMay limit.capsules o.source answer
 CommandMay (Some (commands.Races limit)) o answer = RacesMay limit.capsules o.source answer
+CommandMay (Some (commands.Strands options schedule)) o answer = StrandsMay options schedule o.source answer
+CommandMay (Some (commands.DrawnStrands options)) o answer = DrawnMay options o.source answer
 CommandMay (Some (commands.Replay options schedule)) o answer = ReplayMay options schedule o.source answer
 CommandMay (Some (commands.Resume options plan)) o answer = ResumeMay options plan o.told_before o.told_now o.source answer
 CommandMay (Some (commands.Stop options schedule)) o answer = StopMay options schedule o.source answer
@@ -96,6 +100,8 @@ CommandTells (Some (commands.Explain text)) o = TellsNothing
 CommandTells (Some (commands.ExplainOrders options text)) o = TellsNothing
 CommandTells (Some (commands.Depth limit)) o = TellsNothing
 CommandTells (Some (commands.Races limit)) o = TellsNothing
+CommandTells (Some (commands.Strands options schedule)) o = TellsNothing
+CommandTells (Some (commands.DrawnStrands options)) o = TellsNothing
 CommandTells (Some (commands.Replay options schedule)) o = TellsNothing
 CommandTells (Some (commands.Resume options plan)) o = ResumeTells options plan o.source
 CommandTells (Some (commands.Stop options schedule)) o = TellsNothing

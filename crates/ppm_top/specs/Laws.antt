@@ -35,6 +35,8 @@ use Rattle.ppm_outcomes.specs.ResumeLaws.{ResumeLaws}
 use Rattle.ppm_outcomes.specs.Resumes.{StopsLeaveStates}
 use Rattle.ppm_outcomes.specs.Runs.{AnswersAreOne, FrontsDecideAnswers}
 use Rattle.ppm_outcomes.specs.Stops.{HaveOneAnswer as StopsHaveOneAnswer}
+use Rattle.ppm_strands_command.specs.Drawn.{HaveOneDrawnAnswer}
+use Rattle.ppm_strands_command.specs.Strands.{HaveOneAnswer as StrandsHaveOneAnswer}
 use Rattle.ppm_sweep_command.specs.SweepRows.{SweepsAreAsCode}
 use Rattle.ppm_sweep_command.specs.Sweeps.{HaveOneAnswer as SweepsHaveOneAnswer}
 use Rattle.ppm_trace_command.specs.Traces.{HaveOneAnswer as TracesHaveOneAnswer}
@@ -70,6 +72,8 @@ pub record ProgramLaws : Type 0 where
   pub explained_orders : ExplainedOrdersHaveOneAnswer
   pub depths : DepthRunsHaveOneAnswer
   pub races : CasesHaveOneAnswer
+  pub strands : StrandsHaveOneAnswer
+  pub drawn_strands : HaveOneDrawnAnswer
   pub texts : CaseTextsHaveOneAnswer
   pub cases : AreCases
   pub plans : PlansHaveOneAnswer

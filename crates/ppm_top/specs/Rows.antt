@@ -21,10 +21,12 @@ use Rattle.ppm_cli.specs.declared.resume.ResumeOptions.{ResumeOptions}
 use Rattle.ppm_cli.specs.declared.run.RunOptions.{RunOptions}
 use Rattle.ppm_cli.specs.declared.stop.StopOptions.{StopOptions}
 use Rattle.ppm_cli.specs.declared.stop.StopSavedOptions.{StopSavedOptions}
+use Rattle.ppm_cli.specs.declared.strands.DrawnStrandsOptions.{DrawnStrandsOptions}
+use Rattle.ppm_cli.specs.declared.strands.StrandsOptions.{StrandsOptions}
 use Rattle.ppm_cli.specs.declared.sweep.SweepOptions.{SweepOptions}
 use Rattle.ppm_cli.specs.declared.trace.TraceOptions.{TraceOptions}
 use Rattle.ppm_cli.specs.declared.trace.TraceSavedOptions.{TraceSavedOptions}
-use Rattle.ppm_cli.specs.Words.{command_of, AreExplained, AreReplayed, AreResumed, AreRun, AreSavedReplayed, AreSavedStopped, AreSavedTraced, AreSelf, AreStopped, AreSwept, AreTraced, IsLimit}
+use Rattle.ppm_cli.specs.Words.{command_of, AreDrawn, AreExplained, AreOfStrands, AreReplayed, AreResumed, AreRun, AreSavedReplayed, AreSavedStopped, AreSavedTraced, AreSelf, AreStopped, AreSwept, AreTraced, IsLimit}
 use Rattle.ppm_commands.specs.Case.{CaseRows}
 use Rattle.ppm_commands.specs.Check.{CheckRows}
 use Rattle.ppm_commands.specs.Show.{ShowRows}
@@ -57,6 +59,8 @@ use Rattle.ppm_driver.specs.RunRows.{RunRows}
 use Rattle.ppm_stop_command.specs.CaseStopRows.{HasRead as HasCaseRead, StopCaseRows}
 use Rattle.ppm_outcomes.specs.CodeResumes.{IsTextLeftByCode}
 use Rattle.ppm_stop_command.specs.StopRows.{HasRead, StopRows}
+use Rattle.ppm_strands_command.specs.DrawnRows.{DrawnRows}
+use Rattle.ppm_strands_command.specs.StrandsRows.{StrandsRows}
 use Rattle.ppm_sweep_command.specs.SweepRows.{SweepRows}
 use Rattle.ppm_trace_command.specs.TraceRows.{TraceRows}
 use Rattle.ppm_legs.specs.SavedReplayRows.{SavedReplayRows}
@@ -64,6 +68,7 @@ use Rattle.ppm_legs.specs.SavedTexts.{RefusesSchedule}
 use Rattle.ppm_legs.specs.SavedStopRows.{SavedStopRows}
 use Rattle.ppm_legs.specs.SavedTraceRows.{SavedTraceRows}
 use Rattle.ppm_plan.specs.Forms.{plan_form, schedule_form}
+use Rattle.ppm_plan.specs.Strands.{strand_form}
 use Rattle.ppm_top.specs.Orders.{Orders, plan_of, saved_schedule_of, schedule_of}
 use Rattle.ppm_top.specs.SavedReplayEnds.{SavedReplayEnds}
 
@@ -99,6 +104,16 @@ RunsDepthFirstByWords words o status = (limit : CapsuleLimit) → command_of wor
 abbrev pub SeeksRacesByWords : List (List ℕ) → Outside → Status → Type 0
 SeeksRacesByWords words o status = (limit : CapsuleLimit) → command_of words ≡ Some (commands.Races limit)
     → IsLimit limit × RacesRows limit.capsules (ports_of o) status
+
+-- those of `strands` where they ask for that, with these options, which are in their ranges, and this schedule
+abbrev pub RunsStrandsByWords : List (List ℕ) → Outside → Status → Type 0
+RunsStrandsByWords words o status = (options : StrandsOptions) (schedule : List ℕ) → command_of words ≡ Some (commands.Strands options schedule)
+    → AreOfStrands options × StrandsRows options schedule (ports_of o) status
+
+-- and with schedules that are drawn
+abbrev pub DrawsStrandsByWords : List (List ℕ) → Outside → Status → Type 0
+DrawsStrandsByWords words o status = (options : DrawnStrandsOptions) → command_of words ≡ Some (commands.DrawnStrands options)
+    → AreDrawn options × DrawnRows options (ports_of o) status
 
 -- and those of `check` where they ask for that
 abbrev pub ChecksByWords : List (List ℕ) → Outside → Status → Type 0
@@ -251,6 +266,8 @@ pub data HasRefusedPlan (words : List (List ℕ)) (o : Outside) : Type 0 where
       → RefusesCountedResume options plan (ports_of o) → HasRefusedPlan words o
   OfSaved : (command : Command) (schedule : List ℕ) → command_of words ≡ Some command → saved_schedule_of command ≡ Some schedule
       → RefusesSchedule schedule (ports_of o) → HasRefusedPlan words o
+  OfStrands : (options : StrandsOptions) (schedule : List ℕ) → command_of words ≡ Some (commands.Strands options schedule)
+      → RefusesPlan strand_form schedule 1 (ports_of o) → HasRefusedPlan words o
   OfExplained : (options : ExplainOptions) (text : List ℕ) → command_of words ≡ Some (commands.ExplainOrders options text)
       → WritesNotes options text (ports_of o) → HasRefusedPlan words o
 
@@ -289,6 +306,8 @@ pub record ProgramRows (words : List (List ℕ)) (o : Outside) (status : Status)
   pub explain_orders : ExplainsOrdersByWords words o status
   pub depth : RunsDepthFirstByWords words o status
   pub races : SeeksRacesByWords words o status
+  pub strands : RunsStrandsByWords words o status
+  pub drawn_strands : DrawsStrandsByWords words o status
   pub replay : ReplaysByWords words o status
   pub replay_case : ReplaysCaseByWords words o status
   pub counted : CountsByWords words o status

@@ -30,6 +30,7 @@ use ppm_replay_command::{
     replays_of_code_complete,
 };
 use ppm_stop_command::{case_stops_have_one_answer, stops_have_one_answer, stops_leave_states};
+use ppm_strands_command::{drawn_strands_have_one_answer, strands_have_one_answer};
 use ppm_sweep_command::{case_sweeps_have_one_answer, sweeps_are_as_code, sweeps_have_one_answer};
 use ppm_takeover::{legs_replayed_end_by_places, replays_end_by_places};
 use ppm_trace_command::{case_traces_have_one_answer, traces_have_one_answer};
@@ -60,6 +61,8 @@ pub fn program_laws()
     orders_have_one_answer();
     depth_runs_have_one_answer();
     cases_have_one_answer();
+    strands_have_one_answer();
+    drawn_strands_have_one_answer();
     case_texts_have_one_answer();
     case_texts_are_cases();
     plans_have_one_answer();

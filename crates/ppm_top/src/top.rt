@@ -25,6 +25,7 @@ use ppm_replay_command::{
     counted_replay_case_command, counted_replay_command, replay_case_command, replay_command,
 };
 use ppm_stop_command::{counted_resume_command, resume_command, stop_case_command, stop_command};
+use ppm_strands_command::{drawn_strands_command, strands_command};
 use ppm_sweep_command::{sweep_case_command, sweep_command};
 use ppm_trace_command::{trace_case_command, trace_command};
 use ppm_words::NoMemory;
@@ -123,6 +124,17 @@ fn answer_words<R: Threads + Wait + Sync, S: Source, K: Sink, E: Sink, W: Watch>
         ),
         Ok(Some(Command::Depth(limit))) => depth_command(alloc, limit.capsules, source, out, err),
         Ok(Some(Command::Races(limit))) => races_command(alloc, limit.capsules, source, out, err),
+        Ok(Some(Command::Strands(options, strands))) => strands_command(
+            alloc,
+            options,
+            strands.as_slice(),
+            source,
+            out,
+            err,
+        ),
+        Ok(Some(Command::DrawnStrands(options))) => drawn_strands_command(
+            alloc, options, source, out, err,
+        ),
         Ok(Some(Command::Replay(options, schedule))) => replay_command(
             alloc,
             options,

@@ -37,6 +37,18 @@ returns-in-Ok-Some-Races-clause-answers g c = by_ports (map string_bytes c.args.
     (cc (c.in-Ok-Some-Races.ensures.value, c.in-Ok-Some-Races.field-0-is, c.in-Ok-Some-Races.field-0-0-is)) refl refl
     c.races_command.ensures.delivers
 
+-- the words ask to run strands by a schedule, which was answered
+pub returns-in-Ok-Some-Strands-clause-answers : goal.returns-in-Ok-Some-Strands-clause-answers
+returns-in-Ok-Some-Strands-clause-answers g c = by_ports (map string_bytes c.args.words.now) _ _ (Some (commands.Strands _ _))
+    (cc (c.in-Ok-Some-Strands.ensures.value, c.in-Ok-Some-Strands.field-0-is, c.in-Ok-Some-Strands.field-0-0-is)) refl refl
+    c.strands_command.ensures.delivers
+
+-- the words ask to run strands by schedules that are drawn, which was answered
+pub returns-in-Ok-Some-DrawnStrands-clause-answers : goal.returns-in-Ok-Some-DrawnStrands-clause-answers
+returns-in-Ok-Some-DrawnStrands-clause-answers g c = by_ports (map string_bytes c.args.words.now) _ _ (Some (commands.DrawnStrands _))
+    (cc (c.in-Ok-Some-DrawnStrands.ensures.value, c.in-Ok-Some-DrawnStrands.field-0-is, c.in-Ok-Some-DrawnStrands.field-0-0-is)) refl refl
+    c.drawn_strands_command.ensures.delivers
+
 -- the words ask for a check, which was answered
 pub returns-in-Ok-Some-Check-clause-answers : goal.returns-in-Ok-Some-Check-clause-answers
 returns-in-Ok-Some-Check-clause-answers g c = by_ports (map string_bytes c.args.words.now) _ _ (Some commands.Check)
