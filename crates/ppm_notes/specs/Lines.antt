@@ -1,7 +1,7 @@
 -- What is said of a case or a saved text that is refused, after the line of the refusal.
-use Rattle.std.specs.Prelude.{ℕ, ◌+◌, ◌==◌, if◌then◌else◌, nat_lt, Bool, List, [], ◌∷◌, ◌++◌, length, codes}
+use Rattle.std.specs.Prelude.{ℕ, ◌+◌, ◌==◌, if◌then◌else◌, nat_lt, Bool, true, List, [], ◌∷◌, ◌++◌, length, codes, Option, Some, None}
 use Rattle.std.specs.Str.{bytes_eq}
-use Rattle.ppm_pieces.specs.Pieces.{split}
+use Rattle.ppm_pieces.specs.Pieces.{halves_of, split}
 use Rattle.ppm_case.specs.Rules.{case_limit}
 use Rattle.ppm_saved_reader.specs.Rules.{saved_limit}
 use Rattle.ppm_answers.specs.declared.case.InputRefusal.{InputRefusal}
@@ -13,9 +13,15 @@ use Rattle.ppm_explain.specs.Places.{line_bytes, line_text, shown_text}
 use Rattle.ppm_notes.specs.Listings.{fault_notes}
 use Rattle.ppm_notes.specs.Words.{first_word}
 
+-- that a carriage return parts a line
+abbrev pub return_notes : Option (List ℕ × List ℕ) → List ℕ
+return_notes None = []
+return_notes (Some halves) = note_text (codes "a carriage return stands in this line; lines end with a line feed alone")
+
 -- a line, and what is said of it
 abbrev pub line_notes : List ℕ → ℕ → List ℕ → List ℕ
-line_notes text line words = line_text line ++ shown_text (line_bytes text line) ++ note_text words
+line_notes text line words =
+    line_text line ++ shown_text (line_bytes text line) ++ return_notes (halves_of 13 (line_bytes text line)) ++ note_text words
 
 -- that alone, of a text that is too long
 abbrev pub short_notes : ℕ → List ℕ → (long words : List ℕ) → List ℕ
@@ -49,7 +55,7 @@ input_notes text r = short_notes case_limit text long_case (line_notes text r.li
 
 -- what is said of a fault of a case's listing
 abbrev pub case_notes : List ℕ → ListingRefusal → List ℕ
-case_notes text r = short_notes case_limit text long_case (fault_notes (arrays_in (split 10 text)) text r)
+case_notes text r = short_notes case_limit text long_case (fault_notes true (arrays_in (split 10 text)) text r)
 
 abbrev pub untidy_meaning : List ℕ
 untidy_meaning =

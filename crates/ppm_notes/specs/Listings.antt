@@ -1,7 +1,8 @@
 -- What is said of the text of a listing that is refused, after the line of the refusal.
-use Rattle.std.specs.Prelude.{ℕ, ◌+◌, ◌-◌, ◌==◌, if◌then◌else◌, nat_lt, List, [], ◌∷◌, ◌++◌, length, codes, decimal, Option, Some, None}
+use Rattle.std.specs.Prelude.{ℕ, ◌+◌, ◌-◌, ◌==◌, if◌then◌else◌, nat_lt, Bool, true, false, List, [], ◌∷◌, ◌++◌, length, codes, decimal, Option, Some, None}
 use Rattle.ppm_pieces.specs.Pieces.{split}
 use Rattle.ppm_listing.specs.declared.keyword.Keyword.{Keyword}
+use Rattle.ppm_listing.specs.declared.keyword.Keyword.TheVariants as keyword
 use Rattle.ppm_listing.specs.Tokens.{keyword_text}
 use Rattle.ppm_listing_reader.specs.declared.form.Sort.{Sort}
 use Rattle.ppm_listing_reader.specs.Limits.{listing_limit}
@@ -22,7 +23,7 @@ worded words text = words ++ text ++ codes "\n"
 abbrev pub spot_of : List ℕ → ℕ → Option (List ℕ) → List ℕ
 spot_of text line rest =
     marked_text line (line_bytes text line) (column_in (line_bytes text line) rest)
-    ++ worded (codes "found: ") (thing_text (is_last_line text line) rest)
+    ++ worded (codes "found: ") (thing_text (is_last_line text line) (line_bytes text line) rest)
 
 -- the words that could stand there
 abbrev pub stop_text : List ℕ → ℕ → Option (List ℕ) → List ℕ → List ℕ
@@ -42,10 +43,15 @@ abbrev pub stop_count : (at capsules : ℕ) → Option Keyword → List ℕ → 
 stop_count at capsules None bytes = 0
 stop_count at capsules (Some k) bytes = count_in at capsules k bytes + 1
 
--- and what could stand behind these
-abbrev pub stop_words : (at capsules : ℕ) → Option Keyword → List ℕ → List ℕ
-stop_words at capsules None bytes = keywords_text (leads at capsules)
-stop_words at capsules (Some k) bytes = wanted_in at capsules k bytes
+-- in front of the first line of a case's listing one more array may stand
+abbrev pub array_word : (case : Bool) → (at : ℕ) → List ℕ
+array_word true at = if at == 1 then codes "`array`, " else []
+array_word false at = []
+
+-- and what could stand behind these, in a case or in a listing alone
+abbrev pub stop_words : (case : Bool) → (at capsules : ℕ) → Option Keyword → List ℕ → List ℕ
+stop_words case at capsules None bytes = array_word case at ++ keywords_text (leads at capsules)
+stop_words case at capsules (Some k) bytes = wanted_in at capsules k bytes
 
 -- how many capsules begin above a line
 abbrev pub capsules_above : List ℕ → ℕ → ℕ
@@ -56,40 +62,45 @@ abbrev pub lead_at : (above : ℕ) → List ℕ → ℕ → Option Keyword
 lead_at above text line = lead_of (line - above) (capsules_above text line) (line_bytes text line)
 
 -- by the keyword with which a line begins: the first word that may not stand there, and what could in its place
-abbrev pub stop_by : List ℕ → ℕ → (at capsules : ℕ) → Option Keyword → List ℕ
-stop_by text line at capsules k =
+abbrev pub stop_by : (case : Bool) → List ℕ → ℕ → (at capsules : ℕ) → Option Keyword → List ℕ
+stop_by case text line at capsules k =
     stop_text text line (after_words (stop_count at capsules k (line_bytes text line)) (line_bytes text line))
-    (stop_words at capsules k (line_bytes text line))
+    (stop_words case at capsules k (line_bytes text line))
 
 -- a line of no form that may stand there
-abbrev pub stop_notes : (above : ℕ) → List ℕ → ℕ → List ℕ
-stop_notes above text line = stop_by text line (line - above) (capsules_above text line) (lead_at above text line)
+abbrev pub stop_notes : (case : Bool) (above : ℕ) → List ℕ → ℕ → List ℕ
+stop_notes case above text line = stop_by case text line (line - above) (capsules_above text line) (lead_at above text line)
 
 -- the sorts of the words behind a keyword
 abbrev pub sorts_text : List Sort → List ℕ
 sorts_text [] = []
 sorts_text (s ∷ ss) = codes ", " ++ sort_text s ++ sorts_text ss
 
+-- what the form of the root's line has behind its number
+abbrev pub form_end : Keyword → List ℕ
+form_end keyword.Root = codes ", then a number for each array"
+form_end k = []
+
 -- the form of a line by its keyword
 abbrev pub form_text : Option Keyword → List ℕ
 form_text None = []
-form_text (Some k) = worded (codes "form: ") (quoted (keyword_text k) ++ sorts_text (sorts k))
+form_text (Some k) = worded (codes "form: ") (quoted (keyword_text k) ++ sorts_text (sorts k) ++ form_end k)
 
 -- a line that breaks another rule, and its form
 abbrev pub rule_notes : (above : ℕ) → List ℕ → ℕ → List ℕ
 rule_notes above text line = line_text line ++ shown_text (line_bytes text line) ++ form_text (lead_at above text line)
 
 -- the line of a fault
-abbrev pub fault_line : (above : ℕ) → List ℕ → ListingRefusal → List ℕ
-fault_line above text r = if r.number == 1 then stop_notes above text r.line else rule_notes above text r.line
+abbrev pub fault_line : (case : Bool) (above : ℕ) → List ℕ → ListingRefusal → List ℕ
+fault_line case above text r = if r.number == 1 then stop_notes case above text r.line else rule_notes above text r.line
 
 -- what is said of a fault of a listing that stands below so many lines: its line, and what the refusal means
-abbrev pub fault_notes : (above : ℕ) → List ℕ → ListingRefusal → List ℕ
-fault_notes above text r = fault_line above text r ++ note_text (listing_meaning r.number)
+abbrev pub fault_notes : (case : Bool) (above : ℕ) → List ℕ → ListingRefusal → List ℕ
+fault_notes case above text r = fault_line case above text r ++ note_text (listing_meaning r.number)
 
 -- what is said of a text that is no listing; of one that is too long that alone
 abbrev pub listing_notes : List ℕ → ListingRefusal → List ℕ
-listing_notes text r = if nat_lt listing_limit (length text) then note_text long_listing else fault_notes 0 text r
+listing_notes text r = if nat_lt listing_limit (length text) then note_text long_listing else fault_notes false 0 text r
 
 -- a line of a listing, behind words
 abbrev pub row_text : List ℕ → List ℕ → ℕ → List ℕ

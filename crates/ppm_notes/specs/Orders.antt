@@ -28,8 +28,9 @@ item_meaning orders.Schedule =
     codes "an item of a schedule is `C` or `C>V`, a step of processor C that may look at place V, with `*N` behind it N such steps, 1 to 268435456, or `C!s` or `C!h`, a soft or a hard fault; items have commas between them, and `none` is no item"
 
 -- which processors there are
-abbrev pub processors_meaning : ℕ → List ℕ
-processors_meaning p = codes "processors and victims are 0 to " ++ decimal (p - 1)
+abbrev pub processors_meaning : ExplainedOrders → ℕ → List ℕ
+processors_meaning orders.Plan p = codes "processors are 0 to " ++ decimal (p - 1)
+processors_meaning orders.Schedule p = codes "processors and places are 0 to " ++ decimal (p - 1)
 
 abbrev pub many_meaning : List ℕ
 many_meaning = codes "there are more than 4096 items"
@@ -40,7 +41,7 @@ killed_meaning = codes "each processor has a hard fault; one has to be spared"
 -- what is said of a plan or a schedule for so many processors
 abbrev pub orders_notes : ExplainedOrders → (processors : ℕ) → List ℕ → PlanError → List ℕ
 orders_notes o p text (error.BadItem n) = item_notes text n ++ note_text (item_meaning o)
-orders_notes o p text (error.NoSuchProcessor n) = item_notes text n ++ note_text (processors_meaning p)
+orders_notes o p text (error.NoSuchProcessor n) = item_notes text n ++ note_text (processors_meaning o p)
 orders_notes o p text error.TooManyFaults = note_text many_meaning
 orders_notes o p text error.AllKilled = note_text killed_meaning
 orders_notes o p text error.NoMemory = []

@@ -93,12 +93,32 @@ abbrev pub end_name : Bool → List ℕ
 end_name true = codes "the end of the text"
 end_name false = codes "the end of the line"
 
+-- what stands in front of a carriage return, and that
+abbrev pub return_text : List ℕ → List ℕ
+return_text [] = codes "a carriage return"
+return_text (b ∷ bs) = codes "the word " ++ quoted (b ∷ bs) ++ codes ", then a carriage return"
+
+-- some bytes, which a carriage return may part
+abbrev pub parted_text : Option (List ℕ × List ℕ) → List ℕ → List ℕ
+parted_text None bytes = codes "the word " ++ quoted bytes
+parted_text (Some halves) bytes = return_text halves.0
+
 -- a word; between two blanks there may be none
 abbrev pub word_text : List ℕ → List ℕ
 word_text [] = codes "a blank"
-word_text (b ∷ bs) = codes "the word " ++ quoted (b ∷ bs)
+word_text (b ∷ bs) = parted_text (halves_of 13 (b ∷ bs)) (b ∷ bs)
 
 -- what stands behind some words: another one, or the end of the line, which may be that of the text
-abbrev pub thing_text : (last : Bool) → Option (List ℕ) → List ℕ
-thing_text last None = end_name last
-thing_text last (Some rest) = word_text (first_word rest)
+abbrev pub behind_text : (last : Bool) → Option (List ℕ) → List ℕ
+behind_text last None = end_name last
+behind_text last (Some rest) = word_text (first_word rest)
+
+-- an empty line, or the end of the text
+abbrev pub empty_name : Bool → List ℕ
+empty_name true = codes "the end of the text"
+empty_name false = codes "an empty line"
+
+-- what stands in a line behind some words
+abbrev pub thing_text : (last : Bool) → (line : List ℕ) → Option (List ℕ) → List ℕ
+thing_text last [] rest = empty_name last
+thing_text last (b ∷ bs) rest = behind_text last rest

@@ -1,10 +1,10 @@
 //! What is said of a case or a saved text that is refused.
 ghost use Rattle.std.specs.Prelude.{◌≡◌, ◌++◌, IfOk, OnOk};
-ghost use Rattle.ppm_pieces.specs.Pieces.{split};
+ghost use Rattle.ppm_pieces.specs.Pieces.{halves_of, split};
 ghost use Rattle.ppm_notes.specs.Lines.{arrays_in, case_notes as notes_of_case};
 ghost use Rattle.ppm_notes.specs.Lines.{input_meaning as input_words, input_notes as notes_of_input};
 ghost use Rattle.ppm_notes.specs.Lines.{is_array as is_array_line, line_notes as notes_of_line};
-ghost use Rattle.ppm_notes.specs.Lines.{long_case, long_saved, saved_meaning as saved_words};
+ghost use Rattle.ppm_notes.specs.Lines.{long_case, long_saved, return_notes, saved_meaning as saved_words};
 ghost use Rattle.ppm_notes.specs.Lines.{saved_notes as notes_of_saved, untidy_meaning};
 ghost use Rattle.ppm_notes.specs.Lines.{untidy_notes as notes_of_untidy};
 
@@ -13,7 +13,7 @@ use crate::meaning::{note_of, push_note};
 use crate::words::first_word;
 use ppm_answers::{InputRefusal, ListingRefusal, SavedRefusal, UntidyStore};
 use ppm_case::CASE_LIMIT;
-use ppm_explain::push_line;
+use ppm_explain::{line_bytes, push_line};
 use ppm_pieces::{same_bytes, split_once};
 use ppm_saved_reader::SAVED_LIMIT;
 use ppm_words::NoMemory;
@@ -100,12 +100,27 @@ fn saved_meaning(number: u32) -> &'static str
     }
 }
 
+/// Appends that a carriage return parts a line, if one does.
+fn push_return_note(notes: &mut Vec<u8>, line: &[u8]) -> Result<(), NoMemory>
+    ensures { OnOk result (notes.new.items
+        ≡ notes.old.items ++ return_notes (halves_of 13 line.now)) }
+{
+    match split_once(line, b'\r') {
+        Some(_) => push_note(
+            notes,
+            "a carriage return stands in this line; lines end with a line feed alone",
+        ),
+        None => Ok(()),
+    }
+}
+
 /// A line, and what is said of it.
 fn line_notes(alloc: Global, text: &[u8], line: u32, words: &str) -> Result<Vec<u8>, NoMemory>
     ensures { IfOk result (λ notes. notes.items ≡ notes_of_line text.now line words.now) }
 {
     let mut notes = Vec::new(alloc);
     push_line(&mut notes, text, line)?;
+    push_return_note(&mut notes, line_bytes(text, line as usize))?;
     push_note(&mut notes, words)?;
     Ok(notes)
 }
@@ -129,7 +144,7 @@ pub fn case_notes(alloc: Global, text: &[u8], refusal: ListingRefusal) -> Result
     if text.len() > CASE_LIMIT {
         return note_of(alloc, long_case_words());
     }
-    fault_notes(alloc, text, arrays_above(text), refusal)
+    fault_notes(alloc, text, true, arrays_above(text), refusal)
 }
 
 /// What is said, after its line, of a case with a store that is not tidy: the store, and what it

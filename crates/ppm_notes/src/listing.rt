@@ -1,6 +1,6 @@
 //! What is said of the text of a listing that is refused.
 ghost use Rattle.std.specs.Prelude.{◌≡◌, ◌++◌, ◌+◌, IfOk, OnOk, option_map};
-ghost use Rattle.ppm_notes.specs.Listings.{conflict_notes as notes_of_conflict, count_in, fault_line};
+ghost use Rattle.ppm_notes.specs.Listings.{array_word as array_word_at, conflict_notes as notes_of_conflict, count_in, fault_line};
 ghost use Rattle.ppm_notes.specs.Listings.{fault_notes as notes_of_fault, stop_count};
 ghost use Rattle.ppm_notes.specs.Listings.{listing_notes as notes_of_listing, row_text, rule_notes};
 ghost use Rattle.ppm_notes.specs.Listings.{spot_of, stop_notes, stop_text, stop_words, wanted_in};
@@ -31,7 +31,7 @@ fn push_spot(
     let bytes = line_bytes(listing, line as usize);
     push_marked(text, line as usize, bytes, column(bytes, rest))?;
     push_word(text, "found: ")?;
-    push_thing(text, is_last_line(listing, line as usize), rest)?;
+    push_thing(text, is_last_line(listing, line as usize), bytes, rest)?;
     push_word(text, "\n")
 }
 
@@ -56,21 +56,31 @@ fn expected_in(
     Ok((count + 1, words))
 }
 
+/// What could stand beside the version in the first line of a listing, by the line's number in it:
+/// in a case one more array.
+fn array_word(in_case: bool, at: usize) -> &'static str
+    ensures { result.now ≡ array_word_at in_case at }
+{
+    if in_case && at == 1 { "`array`, " } else { "" }
+}
+
 /// What could stand at the place of a line at which it departs from every form, and after how many
 /// words this place is.
 fn stop_in(
     alloc: Global,
+    in_case: bool,
     at: usize,
     capsules: u32,
     keyword: Option<Keyword>,
     bytes: &[u8],
 ) -> Result<(usize, Vec<u8>), NoMemory>
     ensures count { IfOk result (λ e. e.0 ≡ stop_count at capsules keyword bytes.now) }
-    ensures words { IfOk result (λ e. e.1.items ≡ stop_words at capsules keyword bytes.now) }
+    ensures words { IfOk result (λ e. e.1.items ≡ stop_words in_case at capsules keyword bytes.now) }
 {
     match keyword {
         None => {
             let mut words = Vec::new(alloc);
+            push_word(&mut words, array_word(in_case, at))?;
             push_keywords(&mut words, leads(at, capsules))?;
             Ok((0, words))
         }
@@ -100,15 +110,23 @@ fn push_stop(
     alloc: Global,
     text: &mut Vec<u8>,
     listing: &[u8],
+    in_case: bool,
     above: usize,
     line: u32,
 ) -> Result<(), NoMemory>
-    ensures { OnOk result (text.new.items ≡ text.old.items ++ stop_notes above listing.now line) }
+    ensures { OnOk result (text.new.items ≡ text.old.items ++ stop_notes in_case above listing.now line) }
 {
     let bytes = line_bytes(listing, line as usize);
     let at = (line as usize).saturating_sub(above);
     let capsules = capsules_above(listing, line.saturating_sub(1));
-    let (count, words) = stop_in(alloc, at, capsules, lead(at, capsules, bytes), bytes)?;
+    let (count, words) = stop_in(
+        alloc,
+        in_case,
+        at,
+        capsules,
+        lead(at, capsules, bytes),
+        bytes,
+    )?;
     push_stop_text(text, listing, line, after_words(bytes, count), &words)
 }
 
@@ -130,29 +148,31 @@ fn push_fault(
     alloc: Global,
     text: &mut Vec<u8>,
     listing: &[u8],
+    in_case: bool,
     above: usize,
     refusal: ListingRefusal,
 ) -> Result<(), NoMemory>
-    ensures { OnOk result (text.new.items ≡ text.old.items ++ fault_line above listing.now refusal) }
+    ensures { OnOk result (text.new.items ≡ text.old.items ++ fault_line in_case above listing.now refusal) }
 {
     if refusal.number == 1 {
-        return push_stop(alloc, text, listing, above, refusal.line);
+        return push_stop(alloc, text, listing, in_case, above, refusal.line);
     }
     push_rule(text, listing, above, refusal.line)
 }
 
-/// What is said of a fault of a listing that stands below so many lines of a text: its line, and
-/// what the refusal means.
+/// What is said of a fault of a listing that stands below so many lines of a text, those of arrays
+/// where it is in a case: its line, and what the refusal means.
 pub(crate) fn fault_notes(
     alloc: Global,
     text: &[u8],
+    in_case: bool,
     above: usize,
     refusal: ListingRefusal,
 ) -> Result<Vec<u8>, NoMemory>
-    ensures { IfOk result (λ notes. notes.items ≡ notes_of_fault above text.now refusal) }
+    ensures { IfOk result (λ notes. notes.items ≡ notes_of_fault in_case above text.now refusal) }
 {
     let mut notes = Vec::new(alloc);
-    push_fault(alloc, &mut notes, text, above, refusal)?;
+    push_fault(alloc, &mut notes, text, in_case, above, refusal)?;
     push_note(&mut notes, listing_meaning(refusal.number))?;
     Ok(notes)
 }
@@ -172,7 +192,7 @@ pub fn listing_notes(
         push_note(&mut notes, long_words())?;
         return Ok(notes);
     }
-    fault_notes(alloc, text, 0, refusal)
+    fault_notes(alloc, text, false, 0, refusal)
 }
 
 /// Appends a line of a listing, with its number, from 1, after words.

@@ -72,16 +72,22 @@ fn push_counted_note(notes: &mut Vec<u8>, words: &str, number: u64) -> Result<()
     push_word(notes, "\n")
 }
 
-/// Appends which processors there are.
-fn push_processors(notes: &mut Vec<u8>, processors: u32) -> Result<(), NoMemory>
+/// Appends which processors there are, and in a schedule places.
+fn push_processors(
+    notes: &mut Vec<u8>,
+    orders: ExplainedOrders,
+    processors: u32,
+) -> Result<(), NoMemory>
     ensures { OnOk result (notes.new.items
-        ≡ notes.old.items ++ note_text (processors_meaning processors)) }
+        ≡ notes.old.items ++ note_text (processors_meaning orders processors)) }
 {
-    push_counted_note(
-        notes,
-        "processors and victims are 0 to ",
-        last_processor(processors),
-    )
+    let last = last_processor(processors);
+    match orders {
+        ExplainedOrders::Plan => push_counted_note(notes, "processors are 0 to ", last),
+        ExplainedOrders::Schedule => {
+            push_counted_note(notes, "processors and places are 0 to ", last)
+        }
+    }
 }
 
 /// What is said of too many items.
@@ -117,16 +123,17 @@ fn bad_item_notes(
 /// What is said of an item that names a processor which is not there.
 fn no_processor_notes(
     alloc: Global,
+    orders: ExplainedOrders,
     processors: u32,
     text: &[u8],
     number: u64,
 ) -> Result<Vec<u8>, NoMemory>
     ensures { IfOk result (λ notes. notes.items
-        ≡ item_notes text.now number ++ note_text (processors_meaning processors)) }
+        ≡ item_notes text.now number ++ note_text (processors_meaning orders processors)) }
 {
     let mut notes = Vec::new(alloc);
     push_item_notes(&mut notes, text, number)?;
-    push_processors(&mut notes, processors)?;
+    push_processors(&mut notes, orders, processors)?;
     Ok(notes)
 }
 
@@ -144,7 +151,9 @@ pub fn orders_notes(
 {
     match error {
         PlanError::BadItem(number) => bad_item_notes(alloc, orders, text, number),
-        PlanError::NoSuchProcessor(number) => no_processor_notes(alloc, processors, text, number),
+        PlanError::NoSuchProcessor(number) => no_processor_notes(
+            alloc, orders, processors, text, number,
+        ),
         PlanError::TooManyFaults => note_of(alloc, many_words()),
         PlanError::AllKilled => note_of(alloc, killed_words()),
         PlanError::NoMemory => Ok(Vec::new(alloc)),

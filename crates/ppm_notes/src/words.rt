@@ -1,11 +1,13 @@
 //! The words of a line.
-ghost use Rattle.std.specs.Prelude.{◌≡◌, ◌++◌, IfOk, OnOk, map, option_map};
-ghost use Rattle.ppm_pieces.specs.Pieces.{split};
+ghost use Rattle.std.specs.Prelude.{◌≡◌, ◌++◌, IfOk, OnOk, codes, map, option_map};
+ghost use Rattle.ppm_explain.specs.Words.{quoted};
+ghost use Rattle.ppm_pieces.specs.Pieces.{halves_of, split};
 ghost use Rattle.ppm_listing_reader.specs.Tokens.{token_of};
 ghost use Rattle.ppm_notes.specs.Words.{after_pieces as behind_pieces, after_words as behind_words};
 ghost use Rattle.ppm_notes.specs.Words.{begins_capsule as is_capsule, first_piece as piece_in_front};
-ghost use Rattle.ppm_notes.specs.Words.{capsules_in, column_in, end_name as name_of_end, one_if as one_where};
-ghost use Rattle.ppm_notes.specs.Words.{first_word as word_in_front, thing_text, tokens_in, word_text};
+ghost use Rattle.ppm_notes.specs.Words.{behind_text, capsules_in, column_in};
+ghost use Rattle.ppm_notes.specs.Words.{empty_name as name_of_empty, end_name as name_of_end, one_if as one_where};
+ghost use Rattle.ppm_notes.specs.Words.{first_word as word_in_front, parted_text, return_text, thing_text, tokens_in, word_text};
 
 use ppm_explain::push_word;
 use ppm_listing_reader::{Token, token_in};
@@ -135,6 +137,49 @@ fn end_name(is_last: bool) -> &'static str
     }
 }
 
+/// What an empty line is called; after the last line it is the end of the text.
+fn empty_name(is_last: bool) -> &'static str
+    ensures { result.now ≡ name_of_empty is_last }
+{
+    if is_last {
+        "the end of the text"
+    } else {
+        "an empty line"
+    }
+}
+
+/// Appends a word.
+fn push_plain_word(text: &mut Vec<u8>, word: &[u8]) -> Result<(), NoMemory>
+    ensures { OnOk result (text.new.items ≡ text.old.items ++ (codes "the word " ++ quoted word.now)) }
+{
+    push_word(text, "the word `")?;
+    text.extend_from_slice(word)?;
+    push_word(text, "`")
+}
+
+/// Appends what stands before a carriage return, and that.
+fn push_return(text: &mut Vec<u8>, front: &[u8]) -> Result<(), NoMemory>
+    ensures { OnOk result (text.new.items ≡ text.old.items ++ return_text front.now) }
+{
+    if front.is_empty() {
+        return push_word(text, "a carriage return");
+    }
+    push_word(text, "the word `")?;
+    text.extend_from_slice(front)?;
+    push_word(text, "`, then a carriage return")
+}
+
+/// Appends some bytes, which a carriage return may part.
+fn push_parted(text: &mut Vec<u8>, bytes: &[u8]) -> Result<(), NoMemory>
+    ensures { OnOk result (text.new.items
+        ≡ text.old.items ++ parted_text (halves_of 13 bytes.now) bytes.now) }
+{
+    match split_once(bytes, b'\r') {
+        Some((front, _)) => push_return(text, front),
+        None => push_plain_word(text, bytes),
+    }
+}
+
 /// Appends a word, or that there is none.
 fn push_some_word(text: &mut Vec<u8>, word: &[u8]) -> Result<(), NoMemory>
     ensures { OnOk result (text.new.items ≡ text.old.items ++ word_text word.now) }
@@ -142,19 +187,29 @@ fn push_some_word(text: &mut Vec<u8>, word: &[u8]) -> Result<(), NoMemory>
     if word.is_empty() {
         return push_word(text, "a blank");
     }
-    push_word(text, "the word `")?;
-    text.extend_from_slice(word)?;
-    push_word(text, "`")
+    push_parted(text, word)
 }
 
-/// Appends what a line has after some words: another one, or its end.
+/// Appends what a line has after some words: an empty line is told as such.
 pub(crate) fn push_thing(
     text: &mut Vec<u8>,
     is_last: bool,
+    line: &[u8],
     rest: Option<&[u8]>,
 ) -> Result<(), NoMemory>
     ensures { OnOk result (text.new.items
-        ≡ text.old.items ++ thing_text is_last (option_map (λ r. r.now) rest.entry)) }
+        ≡ text.old.items ++ thing_text is_last line.now (option_map (λ r. r.now) rest.entry)) }
+{
+    if line.is_empty() {
+        return push_word(text, empty_name(is_last));
+    }
+    push_behind(text, is_last, rest)
+}
+
+/// Appends what a line has after some words: another one, or its end.
+fn push_behind(text: &mut Vec<u8>, is_last: bool, rest: Option<&[u8]>) -> Result<(), NoMemory>
+    ensures { OnOk result (text.new.items
+        ≡ text.old.items ++ behind_text is_last (option_map (λ r. r.now) rest.entry)) }
 {
     match rest {
         Some(rest) => push_some_word(text, first_word(rest)),
