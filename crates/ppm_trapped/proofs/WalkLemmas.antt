@@ -320,10 +320,11 @@ module _ (ps : List Procedure) (p : Procedure) where
 
   -- one block more
   pub swept_on : (i x : Named) (s : Block) (r : Region) (f : Frame) (a a' a'' : Arrays) (n : ℕ) (l : Locals) (j : Counts) → Sweeping i x s r f a n a'
-      → Runs Plain ps s (with_element f r n i x) a' j (Ended l a'') → Sweeping i x s r f a (suc n) a''
+      → Runs Plain ps s (with_element f r n i x) a' j (Ended l a'') → Sweeping i x s r f a (n + 1) a''
   swept_on i x s r f a a' a'' n l j g w m k y q =
-      let t = g (suc m) (both (spent 8) (both j k)) y (Sweep i x s r f n m a' w refl q) in
-      let e : n + suc m ≡ suc n + m = omega arith in
+      let o : n + 1 ≡ suc n = omega arith in
+      let t = g (suc m) (both (spent 8) (both j k)) y (Sweep i x s r f n m a' w refl (subst (λ (c : ℕ). Sweeps Plain ps i x s r f c m a'' k y) o q)) in
+      let e : n + suc m ≡ (n + 1) + m = omega arith in
       (t.0, subst (λ (o : ℕ). Sweeps Plain ps i x s r f 0 o a t.0 y) e t.1)
 
   -- their end

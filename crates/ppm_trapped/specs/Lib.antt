@@ -3,4 +3,3 @@ pub mod Frames
 pub mod Sites
 pub mod Readings
 pub mod Walks
-pub mod Correct

@@ -11,7 +11,6 @@ mod entering;
 mod evaluating;
 mod frame;
 mod halt;
-mod laws;
 mod program;
 mod reading;
 mod region;
@@ -19,6 +18,5 @@ mod store;
 mod told;
 mod walking;
 
-pub use laws::trap_points_trap;
 pub use program::{LEVEL_LIMIT, trap};
 pub use told::{Held, Reading, Told};
