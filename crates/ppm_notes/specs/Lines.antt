@@ -20,7 +20,11 @@ return_notes (Some halves) = note_text (codes "a carriage return stands in this 
 
 -- a line, and what is said of it
 abbrev pub line_notes : List ℕ → ℕ → List ℕ → List ℕ
-line_notes text line words =
+line_notes text line words = line_text line ++ shown_text (line_bytes text line) ++ note_text words
+
+-- a line of a text in which a carriage return may stand, and what is said of it
+abbrev pub read_notes : List ℕ → ℕ → List ℕ → List ℕ
+read_notes text line words =
     line_text line ++ shown_text (line_bytes text line) ++ return_notes (halves_of 13 (line_bytes text line)) ++ note_text words
 
 -- that alone, of a text that is too long
@@ -51,7 +55,7 @@ input_meaning n =
 
 -- what is said of such a fault
 abbrev pub input_notes : List ℕ → InputRefusal → List ℕ
-input_notes text r = short_notes case_limit text long_case (line_notes text r.line (input_meaning r.number))
+input_notes text r = short_notes case_limit text long_case (read_notes text r.line (input_meaning r.number))
 
 -- what is said of a fault of a case's listing
 abbrev pub case_notes : List ℕ → ListingRefusal → List ℕ
@@ -80,4 +84,4 @@ saved_meaning n =
 
 -- what is said of such a fault
 abbrev pub saved_notes : List ℕ → SavedRefusal → List ℕ
-saved_notes text r = short_notes saved_limit text long_saved (line_notes text r.line (saved_meaning r.number))
+saved_notes text r = short_notes saved_limit text long_saved (read_notes text r.line (saved_meaning r.number))

@@ -3,7 +3,7 @@ ghost use Rattle.std.specs.Prelude.{◌≡◌, ◌++◌, IfOk, OnOk};
 ghost use Rattle.ppm_pieces.specs.Pieces.{halves_of, split};
 ghost use Rattle.ppm_notes.specs.Lines.{arrays_in, case_notes as notes_of_case};
 ghost use Rattle.ppm_notes.specs.Lines.{input_meaning as input_words, input_notes as notes_of_input};
-ghost use Rattle.ppm_notes.specs.Lines.{is_array as is_array_line, line_notes as notes_of_line};
+ghost use Rattle.ppm_notes.specs.Lines.{is_array as is_array_line, read_notes as notes_of_line};
 ghost use Rattle.ppm_notes.specs.Lines.{long_case, long_saved, return_notes, saved_meaning as saved_words};
 ghost use Rattle.ppm_notes.specs.Lines.{saved_notes as notes_of_saved, untidy_meaning};
 ghost use Rattle.ppm_notes.specs.Lines.{untidy_notes as notes_of_untidy};

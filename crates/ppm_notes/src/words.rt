@@ -164,9 +164,8 @@ fn push_return(text: &mut Vec<u8>, front: &[u8]) -> Result<(), NoMemory>
     if front.is_empty() {
         return push_word(text, "a carriage return");
     }
-    push_word(text, "the word `")?;
-    text.extend_from_slice(front)?;
-    push_word(text, "`, then a carriage return")
+    push_plain_word(text, front)?;
+    push_word(text, ", then a carriage return")
 }
 
 /// Appends some bytes, which a carriage return may part.
