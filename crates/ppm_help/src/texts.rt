@@ -41,7 +41,7 @@ pub(crate) fn purpose_of(command: &str) -> &'static str {
     }
 }
 
-/// The words behind the command in an example.
+/// The words after the command in an example.
 pub(crate) fn example_of(command: &str) -> &'static str {
     match command {
         "run" => "--processors 3 --faults 0@5s,0@40s,1@90h < examples/sum.ppm",
@@ -50,7 +50,7 @@ pub(crate) fn example_of(command: &str) -> &'static str {
         "check" => "< examples/conflict.listing",
         "depth" => "< examples/race.case",
         "races" => "--capsules 1000 < examples/race.case",
-        "strands" => "--form text --schedule 0*8,1*5,2*5 < examples/exchange.case",
+        "strands" => "--form text --schedule '0*8,1*4,2*4' < examples/exchange.case",
         "replay" => "--processors 3 --schedule '0*200,1*30,1!h' < examples/sum.ppm",
         "self" => "--size 1000 --seed 7 --count 50",
         "stop" => "--processors 3 --after 300 < examples/sum.ppm > sum.saved",
