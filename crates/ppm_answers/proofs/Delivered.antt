@@ -10,11 +10,13 @@ use Rattle.ppm_answers.specs.declared.refused.Refused.{Refused}
 use Rattle.ppm_answers.specs.declared.refused.Refused.TheVariants as refused
 use Rattle.ppm_answers.specs.declared.status.Status.{Status}
 use Rattle.ppm_answers.specs.declared.status.Status.TheVariants as statuses
+use Rattle.ppm_answers.specs.declared.ran.Ran.{Ran}
+use Rattle.ppm_answers.specs.declared.ran.Ran.TheVariants as ran
 use Rattle.ppm_answers.specs.declared.run_counts.RunCounts.{RunCounts}
 use Rattle.ppm_answers.specs.declared.sweep.Came.{Came}
 use Rattle.ppm_answers.specs.declared.sweep.Came.TheVariants as came
-use Rattle.ppm_answers.specs.Texts.{IsFixed, counted_out, stood_out, out_text}
-use Rattle.ppm_answers.specs.Statuses.{came_status, refused_status, status_of}
+use Rattle.ppm_answers.specs.Texts.{IsFixed, counted_out, out_text, ran_out, stood_out}
+use Rattle.ppm_answers.specs.Statuses.{came_status, ran_status, refused_status, status_of}
 use Rattle.ppm_answers.specs.Delivery.{IsWritten, Delivers}
 use Rattle.ppm_answers.specs.Reading.{IsUnread, DeliversAnswer, TellsNothing, Answers}
 use Rattle.ppm_ports.specs.Outside.{ToldLists, Outside, ports_of}
@@ -59,6 +61,21 @@ came_no_refusal (came.Unfinished acts) e = cc
 came_no_refusal (came.OutOfRoom place) e = cc
 came_no_refusal (came.Broken place) e = cc
 
+-- nor is what a run on threads came to
+pub ran_no_fault : (r : Ran) → ran_status r ≡ statuses.ReadFault → ⊥
+ran_no_fault (ran.Ended arrays) e = cc
+ran_no_fault (ran.Trapped t line) e = cc
+ran_no_fault (ran.OutOfTurns processor) e = cc
+ran_no_fault (ran.OutOfRoom place) e = cc
+ran_no_fault (ran.Broken place) e = cc
+
+pub ran_no_refusal : (r : Ran) → ran_status r ≡ statuses.WordsRefused → ⊥
+ran_no_refusal (ran.Ended arrays) e = cc
+ran_no_refusal (ran.Trapped t line) e = cc
+ran_no_refusal (ran.OutOfTurns processor) e = cc
+ran_no_refusal (ran.OutOfRoom place) e = cc
+ran_no_refusal (ran.Broken place) e = cc
+
 -- neither is a refusal of a text
 pub refused_no_fault : (r : Refused) → refused_status r ≡ statuses.ReadFault → ⊥
 refused_no_fault (refused.Source r) e = cc
@@ -89,6 +106,14 @@ no_counted (came.Unfinished acts) counts n m = refl
 no_counted (came.OutOfRoom place) counts n m = refl
 no_counted (came.Broken place) counts n m = refl
 
+-- nor has a run on threads that has none
+no_ran : (r : Ran) (counts : RunCounts) → ran_status r ≢ statuses.Ended → ran_status r ≢ statuses.Trapped → ran_out r counts ≡ []
+no_ran (ran.Ended arrays) counts n m = absurd (n refl)
+no_ran (ran.Trapped t line) counts n m = absurd (m refl)
+no_ran (ran.OutOfTurns processor) counts n m = refl
+no_ran (ran.OutOfRoom place) counts n m = refl
+no_ran (ran.Broken place) counts n m = refl
+
 -- nor has a run of strands, its turns included
 no_stood : (lines : List ℕ) (c : Came) → came_status c ≢ statuses.Ended → came_status c ≢ statuses.Trapped → stood_out lines c ≡ []
 no_stood lines (came.Ended arrays) n m = absurd (n refl)
@@ -115,6 +140,7 @@ no_text (answers.TrappedAfter t line counts) status e n m = absurd (m e)
 no_text (answers.Sound counts) status e n m = absurd (n e)
 no_text (answers.Swept sweep) status e n m = absurd (n e)
 no_text (answers.ReplayedWith c counts) status e n m = no_counted c counts (λ is. n (e ∙ is)) (λ is. m (e ∙ is))
+no_text (answers.RanWith r counts) status e n m = no_ran r counts (λ is. n (e ∙ is)) (λ is. m (e ∙ is))
 no_text (answers.Stood lines c) status e n m = no_stood lines c (λ is. n (e ∙ is)) (λ is. m (e ∙ is))
 no_text (answers.AllStood runs) status e n m = absurd (n e)
 no_text answer status e n m = refl

@@ -11,7 +11,7 @@ use Rattle.ppm_answers.specs.Statuses.{status_of}
 use Rattle.ppm_answers.specs.Delivery.{IsWritten}
 use Rattle.ppm_answers.specs.Reading.{AreOne, DeliversAnswer}
 use Rattle.ppm_answers.specs.Rows.{GoesWell, IsJudged, JudgedRows, IsShown}
-use Rattle.ppm_answers.proofs.Delivered.{came_no_fault, own_or_fault, refused_no_fault, written, write_failed}
+use Rattle.ppm_answers.proofs.Delivered.{came_no_fault, own_or_fault, ran_no_fault, refused_no_fault, written, write_failed}
 
 -- what comes where: a read fault only where the source failed, and each other answer is want of memory, or that of what the source gave
 pub record AreCauses (May Reads : Port → Answer → Type 0) : Type 0 where
@@ -28,6 +28,7 @@ pub record SaysOfPorts (o : Ports) (Says : Status → Type 0) : Type 0 where
 is_read_fault : (a : Answer) → status_of a ≡ statuses.ReadFault → a ≡ answers.ReadFault
 is_read_fault answers.ReadFault e = refl
 is_read_fault (answers.ReplayedWith c counts) e = absurd (came_no_fault c e)
+is_read_fault (answers.RanWith r counts) e = absurd (ran_no_fault r e)
 is_read_fault (answers.Stood lines c) e = absurd (came_no_fault c e)
 is_read_fault (answers.Explained r notes) e = absurd (refused_no_fault r e)
 is_read_fault a e = cc

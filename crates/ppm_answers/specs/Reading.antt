@@ -90,6 +90,7 @@ TellsOfRun Tells (answers.EndedWith arrays tally) before now = Tells (answers.En
 TellsOfRun Tells (answers.TrappedWith t line tally) before now = Tells (answers.TrappedWith t line tally) before now
 TellsOfRun Tells (answers.Unfinished acts) before now = Tells (answers.Unfinished acts) before now
 TellsOfRun Tells (answers.ReplayedWith came counts) before now = Tells (answers.ReplayedWith came counts) before now
+TellsOfRun Tells (answers.RanWith ran counts) before now = Tells (answers.RanWith ran counts) before now
 TellsOfRun Tells (answers.NotWithin turns) before now = Tells (answers.NotWithin turns) before now
 TellsOfRun Tells (answers.OutOfTurns processor) before now = Tells (answers.OutOfTurns processor) before now
 TellsOfRun Tells (answers.OutOfRoom place) before now = Tells (answers.OutOfRoom place) before now

@@ -2,6 +2,8 @@
 use Rattle.std.specs.Prelude.{ℕ}
 use Rattle.ppm_answers.specs.declared.answer.Answer.{Answer}
 use Rattle.ppm_answers.specs.declared.answer.Answer.TheVariants as answers
+use Rattle.ppm_answers.specs.declared.ran.Ran.{Ran}
+use Rattle.ppm_answers.specs.declared.ran.Ran.TheVariants as ran
 use Rattle.ppm_answers.specs.declared.sweep.Came.{Came}
 use Rattle.ppm_answers.specs.declared.sweep.Came.TheVariants as came
 use Rattle.ppm_answers.specs.declared.refused.Refused.{Refused}
@@ -16,6 +18,14 @@ came_status (came.Trapped t line) = statuses.Trapped
 came_status (came.Unfinished acts) = statuses.OutOfTurns
 came_status (came.OutOfRoom place) = statuses.OutOfRoom
 came_status (came.Broken place) = statuses.Broken
+
+-- the status of what a run on threads came to
+abbrev pub ran_status : Ran → Status
+ran_status (ran.Ended arrays) = statuses.Ended
+ran_status (ran.Trapped t line) = statuses.Trapped
+ran_status (ran.OutOfTurns processor) = statuses.OutOfTurns
+ran_status (ran.OutOfRoom place) = statuses.OutOfRoom
+ran_status (ran.Broken place) = statuses.Broken
 
 -- the status of a refusal, which is that of the command that reads the text
 abbrev pub refused_status : Refused → Status
@@ -36,6 +46,7 @@ status_of (answers.EndedWith arrays tally) = statuses.Ended
 status_of (answers.TrappedWith t line tally) = statuses.Trapped
 status_of (answers.Unfinished acts) = statuses.OutOfTurns
 status_of (answers.ReplayedWith c counts) = came_status c
+status_of (answers.RanWith r counts) = ran_status r
 status_of (answers.NotWithin turns) = statuses.NotWithin
 status_of (answers.OutOfTurns processor) = statuses.OutOfTurns
 status_of (answers.OutOfRoom place) = statuses.OutOfRoom

@@ -32,6 +32,8 @@ use Rattle.ppm_answers.specs.declared.race.Opener.{Opener}
 use Rattle.ppm_answers.specs.declared.race.Visit.{Visit}
 use Rattle.ppm_answers.specs.declared.race.Touching.{Touching}
 use Rattle.ppm_answers.specs.declared.race.Race.{Race}
+use Rattle.ppm_answers.specs.declared.ran.Ran.{Ran}
+use Rattle.ppm_answers.specs.declared.ran.Ran.TheVariants as ran
 use Rattle.ppm_answers.specs.declared.run_counts.RunCounts.{RunCounts}
 use Rattle.ppm_answers.specs.declared.sums.Sums.{Sums}
 use Rattle.ppm_answers.specs.declared.sweep.Sweep.{Sweep}
@@ -301,6 +303,22 @@ counted_err (came.Broken place) c = broken_text place ++ run_counts_text c
 counted_err (came.Ended arrays) c = []
 counted_err (came.Trapped t line) c = []
 
+-- what is written on out of a run on threads that came to this, with the counts of its run: its end, and then the counts
+abbrev pub ran_out : Ran → RunCounts → List ℕ
+ran_out (ran.Ended arrays) c = arrays_text arrays ++ run_counts_text c
+ran_out (ran.Trapped t line) c = trap_text t line ++ run_counts_text c
+ran_out (ran.OutOfTurns processor) c = []
+ran_out (ran.OutOfRoom place) c = []
+ran_out (ran.Broken place) c = []
+
+-- and on err: why it has no end, and then the counts
+abbrev pub ran_err : Ran → RunCounts → List ℕ
+ran_err (ran.OutOfTurns processor) c = turns_text processor ++ run_counts_text c
+ran_err (ran.OutOfRoom place) c = room_text place ++ run_counts_text c
+ran_err (ran.Broken place) c = broken_text place ++ run_counts_text c
+ran_err (ran.Ended arrays) c = []
+ran_err (ran.Trapped t line) c = []
+
 -- a line with the schedule of a run that came to something else
 abbrev pub schedule_line : List ℕ → List ℕ
 schedule_line schedule = ended_line (codes "differs: " ++ schedule)
@@ -355,6 +373,7 @@ out_text (answers.Trapped t line) = trap_text t line
 out_text (answers.EndedWith arrays tally) = arrays_text arrays ++ tally_text tally
 out_text (answers.TrappedWith t line tally) = trap_text t line ++ tally_text tally
 out_text (answers.ReplayedWith c counts) = counted_out c counts
+out_text (answers.RanWith r counts) = ran_out r counts
 out_text (answers.Summed sums) = sums_text sums
 out_text (answers.Listed listing) = listing
 out_text (answers.Saved text) = text
@@ -397,6 +416,7 @@ err_text (answers.OutOfTurns processor) = turns_text processor
 err_text (answers.OutOfRoom place) = room_text place
 err_text (answers.Unfinished acts) = unfinished_text acts
 err_text (answers.ReplayedWith c counts) = counted_err c counts
+err_text (answers.RanWith r counts) = ran_err r counts
 err_text (answers.Broken place) = broken_text place
 err_text (answers.PlanRefused number) = plan_text number
 err_text (answers.SourceRefused r) = refusal_text r

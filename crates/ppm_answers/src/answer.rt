@@ -4,6 +4,7 @@ use crate::conflict::{Conflict, ListingRefusal};
 use crate::counts::Counts;
 use crate::gap::Gap;
 use crate::race::Race;
+use crate::ran::Ran;
 use crate::refusal::Refusal;
 use crate::refused::Refused;
 use crate::run_counts::RunCounts;
@@ -30,6 +31,8 @@ pub enum Answer {
     Unfinished(u64),
     /// The replay came to this, and this was counted in its run.
     ReplayedWith(Came, RunCounts),
+    /// The run came to this, and this was counted in it.
+    RanWith(Ran, RunCounts),
     /// The run did not end within so many turns.
     NotWithin(u64),
     /// This processor has no turns left, and the run has not ended; processors count from 0.

@@ -7,6 +7,7 @@ ghost use Rattle.ppm_answers.specs.Texts.{IsFixed, out_text, err_text};
 ghost use Rattle.ppm_answers.specs.declared.answer.Answer.TheVariants as answers;
 
 use crate::answer::Answer;
+use crate::ran::ran_status;
 use crate::refused::refused_status;
 use crate::replayed::came_status;
 use crate::status::Status;
@@ -62,6 +63,7 @@ fn own_status(answer: &Answer) -> Status
         Answer::Trapped(_, _) | Answer::TrappedWith(_, _, _) | Answer::TrappedAfter(_, _, _) =>
             Status::Trapped,
         Answer::ReplayedWith(came, _) => came_status(came),
+        Answer::RanWith(ran, _) => ran_status(ran),
         Answer::Stood(_, came) => came_status(came),
         Answer::Fell(_, _, _) => Status::CodeRefused,
         Answer::AllStood(_) => Status::Ended,

@@ -12,6 +12,7 @@ use crate::counts::{not_within_capsules_text_of, sound_text_of, with_counts};
 use crate::ends::{arrays_text_of, broken_text_of, room_text_of, trap_text_of, unfinished_text_of};
 use crate::gap::gap_text_of;
 use crate::race::race_text_of;
+use crate::ran::{ran_err_of, ran_out_of};
 use crate::refusal::{Pass, Refusal};
 use crate::refused::explained_text_of;
 use crate::replayed::{counted_err_of, counted_out_of};
@@ -70,6 +71,10 @@ pub fn texts_of(alloc: Global, answer: &Answer) -> Result<(Text, Text), AllocErr
         Answer::ReplayedWith(came, counts) => Ok((
             CowSlice::Owned(counted_out_of(alloc, came, *counts)?),
             CowSlice::Owned(counted_err_of(alloc, came, *counts)?),
+        )),
+        Answer::RanWith(ran, counts) => Ok((
+            CowSlice::Owned(ran_out_of(alloc, ran, *counts)?),
+            CowSlice::Owned(ran_err_of(alloc, ran, *counts)?),
         )),
         Answer::Counted(arrays, counts) => {
             let text = arrays_text_of(alloc, arrays.as_slice())?;
@@ -205,7 +210,7 @@ pub fn texts_of(alloc: Global, answer: &Answer) -> Result<(Text, Text), AllocErr
 }
 
 /// The line of a processor that has no turns left.
-fn turns_text_of(alloc: Global, processor: u32) -> Result<Vec<u8>, AllocError>
+pub(crate) fn turns_text_of(alloc: Global, processor: u32) -> Result<Vec<u8>, AllocError>
     ensures { IfOk result (λ text. text.items ≡ turns_text processor) }
 {
     let text = format!(in alloc; "out of turns: processor {processor}\n")?;

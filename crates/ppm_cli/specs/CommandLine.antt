@@ -213,7 +213,7 @@ stated_schedule = text "schedule" "unstated"
 abbrev pub command_line : List CommandRule
 command_line =
     command "run"
-    (processors ∷ turns ∷ room ∷ slots ∷ looks ∷ seed ∷ faults ∷ takeover ∷ idle ∷ input ∷ [])
+    (processors ∷ turns ∷ room ∷ slots ∷ looks ∷ seed ∷ faults ∷ takeover ∷ idle ∷ input ∷ counts ∷ [])
     ∷ command "serial" (turns ∷ [])
     ∷ command "code" (arrays ∷ [])
     ∷ command "check" (racy ∷ [])
@@ -223,7 +223,7 @@ command_line =
     ∷ command "replay" (processors ∷ turns ∷ room ∷ slots ∷ takeover ∷ schedule ∷ any_input ∷ counts ∷ [])
     ∷ command "self" (few_processors ∷ size ∷ seed ∷ count ∷ [])
     ∷ command "stop" (processors ∷ after ∷ saved_room ∷ few_slots ∷ schedule ∷ any_input ∷ [])
-    ∷ command "resume" (turns ∷ looks ∷ seed ∷ faults ∷ [])
+    ∷ command "resume" (turns ∷ looks ∷ seed ∷ faults ∷ counts ∷ [])
     ∷ command "sweep"
     (processors ∷ turns ∷ copied_room ∷ copied_slots ∷ swept_takeovers ∷ schedule ∷ met ∷ from ∷ acts ∷ runs ∷ seed ∷ capsules ∷ input ∷ [])
     ∷ command "ram" (processors ∷ turns ∷ room ∷ slots ∷ looks ∷ seed ∷ faults ∷ takeover ∷ idle ∷ [])

@@ -72,9 +72,16 @@ run_options rows =
     and_then (idle_given rows) (λ i.
     Some (record { processors = p; turns = n; room = w; slots = e; looks = l; seed = s; takeover = t; idle = i })))))))))
 
--- the command `run` with its options and its plan, over a source or over a case
+-- the command `run` with its options and its plan, over a source or over a case; if what is counted is told, it is another command
+abbrev pub run_by : (is_counted : Bool) → RunOptions → Text → List Row → Option Command
+run_by true options text rows = by_input (commands.CountedRun options text) (commands.CountedRunCase options text) rows
+run_by false options text rows = by_input (commands.Run options text) (commands.RunCase options text) rows
+
+abbrev pub run_with : RunOptions → Text → List Row → Option Command
+run_with options text rows = and_then (are_counts_given rows) (λ is_counted. run_by is_counted options text rows)
+
 abbrev pub run_in : List Row → Option Command
-run_in rows = with_input commands.Run commands.RunCase faults (run_options rows) rows
+run_in rows = and_then (run_options rows) (λ o. and_then (text_given faults rows) (λ t. run_with o t rows))
 
 -- the command `ram` with its options and its plan
 abbrev pub ram_in : List Row → Option Command
@@ -135,9 +142,13 @@ resume_options rows =
     and_then (number_given seed rows) (λ s.
     Some (record { turns = n; looks = l; seed = s }))))
 
--- the command `resume` with its options and its plan
+-- the command `resume` with its options and its plan; if what is counted is told, it is another command
+abbrev pub resume_with : ResumeOptions → Text → List Row → Option Command
+resume_with options text rows =
+    option_map (λ is_counted. if is_counted then commands.CountedResume options text else commands.Resume options text) (are_counts_given rows)
+
 abbrev pub resume_in : List Row → Option Command
-resume_in rows = with_text commands.Resume faults (resume_options rows) rows
+resume_in rows = and_then (resume_options rows) (λ o. and_then (text_given faults rows) (λ t. resume_with o t rows))
 
 -- the options of `sweep` but for its schedule, if each has a value of its form
 abbrev pub sweep_options : List Row → Option SweepOptions
@@ -402,6 +413,9 @@ IsInRange (commands.RunCase options _) = AreRun options
 IsInRange (commands.ReplayCase options _) = AreReplayed options
 IsInRange (commands.CountedReplay options _) = AreReplayed options
 IsInRange (commands.CountedReplayCase options _) = AreReplayed options
+IsInRange (commands.CountedRun options _) = AreRun options
+IsInRange (commands.CountedRunCase options _) = AreRun options
+IsInRange (commands.CountedResume options _) = AreResumed options
 IsInRange (commands.StopCase options _) = AreStopped options
 IsInRange (commands.Sweep options _) = AreSwept options
 IsInRange (commands.SweepCase options _) = AreSwept options

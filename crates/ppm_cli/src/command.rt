@@ -65,6 +65,15 @@ pub enum Command {
     /// To replay the case that is read, by a schedule, of which these are the bytes, and to tell
     /// what is counted in its run.
     CountedReplayCase(ReplayOptions, Items<u8>),
+    /// To run the source that is read, under a plan of faults, of which these are the bytes, and to
+    /// tell what is counted in its run.
+    CountedRun(RunOptions, Items<u8>),
+    /// To run the case that is read, under a plan of faults, of which these are the bytes, and to
+    /// tell what is counted in its run.
+    CountedRunCase(RunOptions, Items<u8>),
+    /// To go on from the words of the saved text that is read, under a plan of faults, of which
+    /// these are the bytes, and to tell what is counted in that run.
+    CountedResume(ResumeOptions, Items<u8>),
     /// To stop the case that is read in mid-run, by a schedule, of which these are the bytes, and to
     /// save the machine's words.
     StopCase(StopOptions, Items<u8>),

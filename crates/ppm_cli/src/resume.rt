@@ -1,13 +1,15 @@
 //! The command `resume`, as its words give it.
 ghost use Rattle.std.specs.Prelude.{◌≡◌, IfOk, IfSome};
 ghost use Rattle.clap.specs.Words.{found_of, rows_of};
-ghost use Rattle.ppm_cli.specs.Words.{AreResumed, IsInRange, resume_in};
+ghost use Rattle.ppm_cli.specs.Words.{AreResumed, IsInRange, resume_in, resume_with};
 ghost use Rattle.ppm_cli.specs.Words.{resume_options as options_in};
 
 use crate::command::Command;
+use crate::counts::are_counted;
 use crate::getters::{bytes_of, number_of};
 use crate::table::{FAULTS, LOOKS, SEED, TURNS};
 use clap::ArgMatches;
+use ppm_words::Items;
 use std::alloc::{AllocError, Global};
 
 /// The options of `resume` but for its plan of faults.
@@ -32,10 +34,24 @@ pub(crate) fn resume_from(
 {
     match resume_options(matches) {
         Some(options) => match bytes_of(alloc, matches, FAULTS)? {
-            Some(plan) => Ok(Some(Command::Resume(options, plan))),
+            Some(plan) => Ok(resume_of(matches, options, plan)),
             None => Ok(None),
         },
         None => Ok(None),
+    }
+}
+
+/// The command with these options and this plan: with counts or without them, as the matches say.
+fn resume_of(matches: &ArgMatches<'_>, options: ResumeOptions, plan: Items<u8>) -> Option<Command>
+    requires { AreResumed options }
+    ensures value { result ≡ resume_with options plan (rows_of (found_of matches.now)) }
+    ensures in_range { IfSome result IsInRange }
+{
+    let counted = are_counted(matches)?;
+    if counted {
+        Some(Command::CountedResume(options, plan))
+    } else {
+        Some(Command::Resume(options, plan))
     }
 }
 

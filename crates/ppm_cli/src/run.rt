@@ -2,11 +2,12 @@
 ghost use Rattle.std.specs.Prelude.{◌≡◌, IfOk, IfSome};
 ghost use Rattle.clap.specs.Words.{found_of, rows_of};
 ghost use Rattle.ppm_cli.specs.declared.command.Command.TheVariants as commands;
-ghost use Rattle.ppm_cli.specs.Words.{AreRun, IsInRange, by_input, run_in};
+ghost use Rattle.ppm_cli.specs.Words.{AreRun, IsInRange, by_input, run_in, run_with};
 ghost use Rattle.ppm_cli.specs.Values.{idle_given};
 ghost use Rattle.ppm_cli.specs.Words.{run_options as options_in};
 
 use crate::command::Command;
+use crate::counts::are_counted;
 use crate::getters::{bytes_of, choice_of, number_of};
 use crate::input::is_case;
 use crate::room::room_of;
@@ -57,8 +58,38 @@ pub(crate) fn run_from(
     }
 }
 
-/// The command with these options and this plan: over a source or over a case, as the matches say.
+/// The command with these options and this plan: with counts or without them, as the matches say.
 fn run_of(matches: &ArgMatches<'_>, options: RunOptions, plan: Items<u8>) -> Option<Command>
+    requires { AreRun options }
+    ensures value { result ≡ run_with options plan (rows_of (found_of matches.now)) }
+    ensures in_range { IfSome result IsInRange }
+{
+    let counted = are_counted(matches)?;
+    if counted {
+        counted_run_of(matches, options, plan)
+    } else {
+        plain_run_of(matches, options, plan)
+    }
+}
+
+/// The command that tells its counts: over a source or over a case, as the matches say.
+fn counted_run_of(matches: &ArgMatches<'_>, options: RunOptions, plan: Items<u8>) -> Option<Command>
+    requires { AreRun options }
+    ensures value { result
+        ≡ by_input (commands.CountedRun options plan) (commands.CountedRunCase options plan)
+        (rows_of (found_of matches.now)) }
+    ensures in_range { IfSome result IsInRange }
+{
+    let of_case = is_case(matches)?;
+    if of_case {
+        Some(Command::CountedRunCase(options, plan))
+    } else {
+        Some(Command::CountedRun(options, plan))
+    }
+}
+
+/// The command that tells none: over a source or over a case, as the matches say.
+fn plain_run_of(matches: &ArgMatches<'_>, options: RunOptions, plan: Items<u8>) -> Option<Command>
     requires { AreRun options }
     ensures value { result
         ≡ by_input (commands.Run options plan) (commands.RunCase options plan)

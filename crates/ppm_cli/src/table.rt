@@ -386,6 +386,7 @@ pub const COMMANDS: [CommandRow; 16] = [
             OptionRow::Choice(TAKEOVER),
             OptionRow::Choice(IDLE),
             OptionRow::Choice(INPUT),
+            OptionRow::Choice(COUNTS),
         ],
     },
     CommandRow {
@@ -460,6 +461,7 @@ pub const COMMANDS: [CommandRow; 16] = [
             OptionRow::Number(LOOKS),
             OptionRow::Number(SEED),
             OptionRow::Text(FAULTS),
+            OptionRow::Choice(COUNTS),
         ],
     },
     CommandRow {

@@ -51,14 +51,14 @@ module _ (law : AnswersAreAsCode) (fronts : CaseFrontsDecide) (options : RunOpti
   Made a = RunCaseMade options watching plan o.told_before o.told_now o.source a
 
   -- the run that an answer is of
-  made_of : (a : Answer) (text : List ℕ) → Reads case_limit o.source text → (items : List PlanItem) → IsAccepted plan_form plan options.processors items
+  abbrev pub made_of : (a : Answer) (text : List ℕ) → Reads case_limit o.source text → (items : List PlanItem) → IsAccepted plan_form plan options.processors items
       → OfCase text (λ code input. CodeHas options watching o.told_before o.told_now items code input a) → Made a
   made_of a text read items accepted c =
       of_case options plan o.source (λ items code input. CodeHas options watching o.told_before o.told_now items code input a) text read c.code c.input
       c.is items accepted c.has
 
   -- if its case is sound, it is as the code, and its answer says so
-  as_code : (a : Answer) (m : Made a) → IsSound m.code m.input → IsAsCode m.ran.start m.ran.run.turns m.code m.input
+  pub as_code : (a : Answer) (m : Made a) → IsSound m.code m.input → IsAsCode m.ran.start m.ran.run.turns m.code m.input
       × SaysAsCode options m.items m.code m.input m.ran.start m.ran.run.turns a
   as_code a m sound =
       law options are m.items m.code m.input (may_run m.text m.code m.input m.is sound) watching o.told_before o.told_now a m.ran
@@ -75,11 +75,11 @@ module _ (law : AnswersAreAsCode) (fronts : CaseFrontsDecide) (options : RunOpti
       let mine = of_all m.ran.start.shape m.ran.start.code c m.ran.start.state m.ran.run.turns in
       omega (arith, within, mine, made)
 
-  ends_so : (a : Answer) (outcome : Outcome) (m : Made a)
+  abbrev pub ends_so : (a : Answer) (outcome : Outcome) (m : Made a)
       → (IsSound m.code m.input → EndsAsCode m.ran.start m.ran.run.turns m.code m.input outcome) → EndsSo options watching plan o a outcome
   ends_so a outcome m ends = record { made = m; ends = ends }
 
-  spends : (c : ℕ) (m : Made (answers.OutOfTurns c)) → SpendsTurns options watching plan o c
+  abbrev pub spends : (c : ℕ) (m : Made (answers.OutOfTurns c)) → SpendsTurns options watching plan o c
   spends c m =
       let spent = spent_has options watching o.told_before o.told_now m.items m.code m.input c m.ran in
       record {
@@ -92,7 +92,7 @@ module _ (law : AnswersAreAsCode) (fronts : CaseFrontsDecide) (options : RunOpti
         once = λ sound. (as_code (answers.OutOfTurns c) m sound).0.once;
       }
 
-  fills : (place : ℕ) (m : Made (answers.OutOfRoom place)) → FillsPool options watching plan o place
+  abbrev pub fills : (place : ℕ) (m : Made (answers.OutOfRoom place)) → FillsPool options watching plan o place
   fills place m = record {
     made = m;
     there = of_code options watching o.told_before o.told_now m.items m.code m.input (answers.OutOfRoom place) m.ran;
@@ -101,7 +101,7 @@ module _ (law : AnswersAreAsCode) (fronts : CaseFrontsDecide) (options : RunOpti
     once = λ sound. (as_code (answers.OutOfRoom place) m sound).0.once;
   }
 
-  breaks : (place : ℕ) (m : Made (answers.Broken place)) → BreaksWords options watching plan o place
+  abbrev pub breaks : (place : ℕ) (m : Made (answers.Broken place)) → BreaksWords options watching plan o place
   breaks place m = record {
     made = m;
     there = of_code options watching o.told_before o.told_now m.items m.code m.input (answers.Broken place) m.ran;

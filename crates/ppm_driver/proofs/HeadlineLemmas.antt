@@ -43,7 +43,7 @@ module _ (law : RunsAreAsPrograms) (fronts : FrontsDecideAnswers) (options : Run
   Has text a = PlannedHas plan_form plan options.processors (TextHas options watching o.told_before o.told_now) text a
 
   -- what holds of an answer
-  holds : (a : Answer) → May a → Tells a → HoldsOf options watching plan o a
+  abbrev pub holds : (a : Answer) → May a → Tells a → HoldsOf options watching plan o a
   holds answers.NoMemory h told = told.2
   holds answers.ReadFault h told = record { fails = h.0.0; front = h.0.1; accepted = h.1; untold = told.0 }
   holds (answers.PlanRefused number) h told = record { refused = h.0; unread = h.1; untold = told.0 }

@@ -2,6 +2,7 @@
 -- program has by the lemmas of `ppm_outcomes`. That a run with turns and room enough ends is what each other answer would say (`CompleteLemmas`,
 -- `CompleteOfCode`). An answer of a run of a sound code says that it is as its code (`CodeRows`); the rows follow (`HeadlineLemmas`, `OfRun`). What
 -- watchers were told with an answer: `MadeLemmas`. With one processor a text has one answer (`AllLemmas`, `OneRun`).
+-- Where its counts are told, a run is one without them (`OneCountedRun`, `OfCountedRun`, `OfCountedRunCase`).
 -- `run` of a case is shown as `run` of a program, with the code and the input of the case in their place (`RunCaseLemmas`, `OneCase`,
 -- `CaseHeadlineLemmas`, `OfRunCase`).
 -- What a RAM's code comes to is what the RAM does (`AsRamLemmas`); so the rows of `ram` are shown as those of a case (`RamLemmas`, `OneRam`,
@@ -15,10 +16,13 @@ pub mod CompleteOfCode
 pub mod MadeLemmas
 pub mod HeadlineLemmas
 pub mod OfRun
+pub mod OneCountedRun
+pub mod OfCountedRun
 pub mod RunCaseLemmas
 pub mod OneCase
 pub mod CaseHeadlineLemmas
 pub mod OfRunCase
+pub mod OfCountedRunCase
 pub mod AsRamLemmas
 pub mod RamLemmas
 pub mod OneRam

@@ -61,17 +61,22 @@ module _ (images : ImagesAreOne) (runs : RunsAreOne) (options : RunOptions) (alo
       let k = of_all (plan_of options items) (limits_of options) start.shape start.code start.state second there other in
       runs start.shape start.code (plan_of options items) (limits_of options) 0 start.state first second h.0 k.0 h.1 k.1
 
-  -- a code has one answer on an input by items
-  pub code_one : (a b : Answer) → CodeHas options 0 [] [] items code input a → CodeHas options 0 [] [] items code input b → a ≡ b
-  code_one a b h k =
+  -- two answers of a code on an input by items are of one run
+  pub one_made : (a b : Answer) (h : CodeHas options 0 [] [] items code input a) (k : CodeHas options 0 [] [] items code input b)
+      → (k.start ≡ h.start) × (k.run.turns ≡ h.run.turns)
+  one_made a b h k =
       let keeper : k.keeper ≡ h.keeper = one_keeper plan_form items k.keeper h.keeper k.spared h.spared in
       let begins : Begins h.keeper k.start = subst (λ (n : ℕ). Begins n k.start) keeper k.opens in
       let start : k.start ≡ h.start =
       sym (one_opening (sizes_of options) code input h.keeper images h.start k.start h.opens begins) in
-      let turns : k.run.turns ≡ h.run.turns =
-      one_run h.keeper h.start h.opens k.run.turns h.run.turns (subst (λ (m : Situation). Obey m k.run.turns) start k.run.obey) h.run.obey in
+      (start, one_run h.keeper h.start h.opens k.run.turns h.run.turns (subst (λ (m : Situation). Obey m k.run.turns) start k.run.obey) h.run.obey)
+
+  -- and so they are one
+  pub code_one : (a b : Answer) → CodeHas options 0 [] [] items code input a → CodeHas options 0 [] [] items code input b → a ≡ b
+  code_one a b h k =
+      let made = one_made a b h k in
       let says : Says h.start h.run.turns b =
-      subst (λ (l : List Turn). Says h.start l b) turns (subst (λ (m : Situation). Says m k.run.turns b) start k.run.says) in
+      subst (λ (l : List Turn). Says h.start l b) made.1 (subst (λ (m : Situation). Says m k.run.turns b) made.0 k.run.says) in
       one_said h.start.shape h.start.array_lengths (words_behind h.start h.run.turns) input a b h.run.says says
 
 -- this holds with all plans

@@ -1,9 +1,12 @@
 pub mod CodeRuns
 pub mod Headline
 pub mod RunRows
+pub mod CountedRunRows
 pub mod CaseRuns
 pub mod CaseHeadline
 pub mod CaseRows
+pub mod CountedCaseRuns
+pub mod CountedRunCaseRows
 pub mod RamEnds
 pub mod RamRuns
 pub mod RamHeadline

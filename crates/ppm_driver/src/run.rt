@@ -169,7 +169,7 @@ pub(crate) fn ran_code<R: Threads + Wait + Sync, W: Watch>(
 }
 
 /// The machine's sizes, as the options say them.
-fn sizes_of(options: RunOptions) -> Sizes
+pub(crate) fn sizes_of(options: RunOptions) -> Sizes
     ensures { result ≡ sizes_in options }
 {
     Sizes {
@@ -181,7 +181,7 @@ fn sizes_of(options: RunOptions) -> Sizes
 }
 
 /// The limits, as the options say them.
-fn limits_of(options: RunOptions) -> Limits
+pub(crate) fn limits_of(options: RunOptions) -> Limits
     ensures { result ≡ limits_in options }
 {
     Limits {

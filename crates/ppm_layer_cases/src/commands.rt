@@ -2,9 +2,9 @@
 use crate::said::Said;
 use ppm_cells::Takeover;
 use ppm_cli::{
-    Command, DrawnStrandsOptions, ExplainedOrders, ExplainedText, ReplayOptions, RunOptions,
-    StopOptions, StrandsForm, SweepOptions, SweptTakeovers, TraceOptions, TracedForm, TracedLines,
-    read_words,
+    Command, DrawnStrandsOptions, ExplainedOrders, ExplainedText, ReplayOptions, ResumeOptions,
+    RunOptions, StopOptions, StrandsForm, SweepOptions, SweptTakeovers, TraceOptions, TracedForm,
+    TracedLines, read_words,
 };
 use ppm_sheets::Fault;
 use ppm_words::Idle;
@@ -117,6 +117,15 @@ fn stop_line(alloc: Global, name: &str, it: &StopOptions) -> Result<String, Faul
     Ok(line)
 }
 
+/// The line of a command with the options of `resume`.
+fn resume_line(alloc: Global, name: &str, it: &ResumeOptions) -> Result<String, Fault> {
+    let line = format!(in alloc;
+        "{name} turns {} looks {} seed {}",
+        it.turns, it.looks, it.seed
+    )?;
+    Ok(line)
+}
+
 /// The line of a command with the options of `sweep`.
 fn sweep_line(alloc: Global, name: &str, it: &SweepOptions) -> Result<String, Fault> {
     let takeover = swept_word(it.takeover);
@@ -171,6 +180,16 @@ fn line_of(alloc: Global, command: &Command) -> Result<Vec<u8>, Fault> {
             front = " faults=";
             plan = faults.as_slice();
             run_line(alloc, "run of a case", it)?
+        }
+        Command::CountedRun(it, faults) => {
+            front = " faults=";
+            plan = faults.as_slice();
+            run_line(alloc, "run with counts", it)?
+        }
+        Command::CountedRunCase(it, faults) => {
+            front = " faults=";
+            plan = faults.as_slice();
+            run_line(alloc, "run of a case with counts", it)?
         }
         Command::Ram(it, faults) => {
             front = " faults=";
@@ -279,10 +298,12 @@ fn line_of(alloc: Global, command: &Command) -> Result<Vec<u8>, Fault> {
         Command::Resume(it, faults) => {
             front = " faults=";
             plan = faults.as_slice();
-            format!(in alloc;
-                "resume turns {} looks {} seed {}",
-                it.turns, it.looks, it.seed
-            )?
+            resume_line(alloc, "resume", it)?
+        }
+        Command::CountedResume(it, faults) => {
+            front = " faults=";
+            plan = faults.as_slice();
+            resume_line(alloc, "resume with counts", it)?
         }
     };
     let mut text = line.as_bytes().to_vec(alloc)?;

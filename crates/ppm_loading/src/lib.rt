@@ -21,7 +21,7 @@ mod telling;
 
 pub use arrays::{arrays_of, arrays_of_closed, to_values};
 pub use cases::{case_of_source, text_case};
-pub use loading::{Sizes, load, load_code, program_code, share_code};
+pub use loading::{Sizes, load, load_code, program_code, share_code, share_code_to_count};
 pub use planned::refusal_answer;
 pub use programs::{read_program, text_program};
 pub use telling::{array_count, counts_told, line_at, store_told};

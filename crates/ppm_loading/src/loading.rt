@@ -142,7 +142,26 @@ pub fn share_code(
     ensures opens { IfOk result (λ r. OpensRun sizes code input.now keeper (opened_by r.0)) }
     ensures processors { IfOk result (λ r. AreNewOf r.0 r.1.items) }
 {
+    share_code_to_count(alloc, sizes, code, input, keeper, false)
+}
+
+/// That table, whose processors count their acts, or don't. `Err` only where memory is refused.
+pub fn share_code_to_count(
+    alloc: Global,
+    sizes: Sizes,
+    code: Code,
+    input: &Input,
+    keeper: u32,
+    counted: bool,
+) -> Result<(Shared, Vec<Processor>), NoMemory>
+    requires sizes { AreSizes sizes }
+    requires keeper { keeper < sizes.processors }
+    requires names { NamesArrays code input.now }
+    ensures opens { IfOk result (λ r. OpensRun sizes code input.now keeper (opened_by r.0)) }
+    ensures processors { IfOk result (λ r. AreNewOf r.0 r.1.items) }
+    ensures counted { IfOk result (λ r. r.0.counted ≡ counted) }
+{
     let image = opened(alloc, sizes, &code, input, keeper)?;
-    let table = Shared::load(alloc, image, code)?;
+    let table = Shared::load_to_count(alloc, image, code, counted)?;
     Ok(table)
 }

@@ -6,6 +6,8 @@
 -- program says more is added to it (`MeantLemmas`, `LegsMeant`). An answer of a replay says so (`CodeReplayRows`), and what it says of a program
 -- comes from the law of runs (`MeantRows`). A law of a run reaches a command's rows as a field of what the program has (`ProgramHas`); an answer that
 -- no run gives is left out of the kinds of answers, and all rows of the crates above close by their last case.
+-- Where what is counted in a run is told, its answer is the one without counts, and they are those of its turns (`CountedLemmas`, `CountedResumeLemmas`), of its words
+-- (`GivenLemmas`) and of its plan (`PlannedFaults`).
 -- A resumed run (`ResumeLemmas`) is the latest leg of each run that left its state (`ResumedOfCode`), whose words come back (`LeftLemmas`); so it is
 -- complete as a run is (`ResumeComplete`). That is shown of each sound code; of programs it is said by their codes.
 
@@ -27,9 +29,13 @@ pub mod LegsOfCode
 pub mod LegsMeant
 pub mod MeantRows
 pub mod RunLemmas
+pub mod CountedLemmas
+pub mod GivenLemmas
+pub mod PlannedFaults
 pub mod CodeReplayRows
 pub mod StrikeLemmas
 pub mod ResumeLemmas
+pub mod CountedResumeLemmas
 pub mod TellLemmas
 pub mod LeftLemmas
 pub mod ResumedOfCode

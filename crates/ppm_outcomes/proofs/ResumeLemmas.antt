@@ -474,7 +474,7 @@ fronts_decide options plan before now text rest a long h = let short = h.is.shor
 -- ---- the run of a table
 
 -- a plan for so many processors
-same_plan : (z : SavedState) (plan : Planned) → plan.processors ≡ z.shape.processors → plan ≡ plan_of z plan.items
+pub same_plan : (z : SavedState) (plan : Planned) → plan.processors ≡ z.shape.processors → plan ≡ plan_of z plan.items
 same_plan z plan same = λ i. record { processors = same i; items = plan.items }
 
 -- some answer is that of a state, and it is what is said of the words behind its run

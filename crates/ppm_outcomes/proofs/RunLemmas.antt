@@ -191,7 +191,7 @@ module _ (limits : Limits) (start : Situation) (unset : finish_in start ≡ 0) (
   filled_said place (Stood same some) h = absurd (some (same ∙ unset))
 
   -- there is one
-  some_said : HasEnd → (a : Answer) × Said a
+  pub some_said : HasEnd → (a : Answer) × Said a
   some_said (Proposed w filled) =
       some_of_proposed answers.Ended answers.Trapped IsOutOfTurns HasNoEnd start.shape start.array_lengths (words_behind start turns) arrays
       start.shape.processors (finish_behind start turns) w
@@ -232,7 +232,7 @@ module _ (options : RunOptions) (watching : ℕ) (before now : ToldLists) (items
       filled_said (limits_of options) h.start (says_nothing (answers.OutOfRoom place) h) h.run.turns input place h.run.finished h.run.says
 
   -- it is one whatever watchers were told
-  untold : (start : Situation) (turns : List Turn) → AreTold 0 (plan_of options items) (limits_of options) [] [] start turns
+  pub untold : (start : Situation) (turns : List Turn) → AreTold 0 (plan_of options items) (limits_of options) [] [] start turns
   untold start turns = record { records = λ c less. absurd (none_watched c less); others = λ c least. stays (get_or [] c None) }
 
   pub forgets : (a : Answer) → CodeHas options watching before now items code input a → CodeHas options 0 [] [] items code input a

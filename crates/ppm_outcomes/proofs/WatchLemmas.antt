@@ -61,6 +61,7 @@ told_none (answers.Saved text) lists = tt
 told_none (answers.Traced text) lists = tt
 told_none (answers.Shown text) lists = tt
 told_none (answers.ReplayedWith came counts) lists = tt
+told_none (answers.RanWith r counts) lists = tt
 told_none answers.Accepted lists = tt
 told_none (answers.Counted arrays counts) lists = tt
 told_none (answers.TrappedAfter t line counts) lists = tt

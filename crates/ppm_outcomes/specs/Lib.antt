@@ -5,6 +5,9 @@ pub mod AsCode
 pub mod Runs
 pub mod OrderedFaults
 pub mod Strikes
+pub mod Room
+pub mod RunCounts
+pub mod CountedRuns
 pub mod Completeness
 pub mod CompleteAsCode
 pub mod Replays
@@ -17,3 +20,4 @@ pub mod ResumeCompleteness
 pub mod ProgramsAsCode
 pub mod CodeResumes
 pub mod ResumeLaws
+pub mod CountedResumes

@@ -1,16 +1,17 @@
 //! What is answered behind a run, by the finish word: these arrays with their values, the trap, or
 //! why there are none. `Err` comes only where memory is refused.
-ghost use Rattle.std.specs.Prelude.{◌≡◌, IfOk, length, map};
+ghost use Rattle.std.specs.Prelude.{◌≡◌, IfOk, length, map, option_map};
 ghost use Rattle.ppm_core.specs.Machine.{seen};
 ghost use Rattle.ppm_loading.specs.Says.{IsTheOne};
 ghost use Rattle.ppm_saved.specs.Names.{lengths_of};
+ghost use Rattle.ppm_outcomes.specs.CountedRuns.{answer_of};
 ghost use Rattle.ppm_outcomes.specs.Replays.{with_tally};
 ghost use Rattle.ppm_outcomes.specs.Replays.{IsSaid as IsSaidOfReplay, tally_of};
 ghost use Rattle.ppm_outcomes.specs.Resumes.{named};
 ghost use Rattle.ppm_outcomes.specs.Runs.{IsSaid as IsSaidOfRun, SaysWhyNone};
 
 use crate::names::arrays_of_names;
-use ppm_answers::{Answer, Came, Tally};
+use ppm_answers::{Answer, Came, Ran, Tally};
 use ppm_cells::{Ending, Finish, UNKNOWN_PLACE};
 use ppm_core::Machine;
 use ppm_loading::{arrays_of, arrays_of_closed};
@@ -56,6 +57,46 @@ fn unended_answer(closed: &Closed) -> Option<Answer>
             Finish::Stopped | Finish::Unset => Some(Answer::Broken(UNKNOWN_PLACE)),
         },
         Ending::NotYet | Ending::Unknown => Some(Answer::Broken(UNKNOWN_PLACE)),
+    }
+}
+
+/// What a run in which processors obey came to: its answer, without counts.
+pub fn run_came(alloc: Global, closed: &Closed, arrays: &[NamedArray]) -> Result<Ran, NoMemory>
+    requires lengths { closed.now.array_lengths ≡ map (λ a. length a.values) arrays.now }
+    ensures { IfOk result (λ ran. IsTheOne (IsSaidOfRun closed.now.shape closed.now.array_lengths arrays.now closed.now.words) (answer_of ran)) }
+{
+    if let Some(ran) = why_unended(closed) {
+        return Ok(ran);
+    }
+    Ok(Ran::Ended(arrays_of_closed(alloc, closed, arrays)?))
+}
+
+/// What a run from a saved state came to, with the arrays of its names.
+pub fn resumed_came(alloc: Global, closed: &Closed, names: &Names) -> Result<Ran, NoMemory>
+    requires lengths { closed.now.array_lengths ≡ lengths_of names.now }
+    ensures { IfOk result (λ ran. IsTheOne (IsSaidOfRun closed.now.shape closed.now.array_lengths (named names.now) closed.now.words) (answer_of ran)) }
+{
+    if let Some(ran) = why_unended(closed) {
+        return Ok(ran);
+    }
+    Ok(Ran::Ended(arrays_of_names(alloc, closed, names.as_slice())?))
+}
+
+/// Why a run in which processors obey has no arrays, by the finish word; `None` where it has them.
+fn why_unended(closed: &Closed) -> Option<Ran>
+    ensures { SaysWhyNone closed.now.shape closed.now.array_lengths closed.now.words (option_map answer_of result) }
+{
+    match closed.outcome() {
+        Ending::With(finish) => match finish {
+            Finish::Ended => None,
+            Finish::Trapped { trap, line } => Some(Ran::Trapped(trap, line)),
+            Finish::OutOfRoom { place } => Some(Ran::OutOfRoom(place)),
+            Finish::OutOfTurns { processor } => Some(Ran::OutOfTurns(processor)),
+            Finish::Broken { place } => Some(Ran::Broken(place)),
+            // Of no run, as what follows.
+            Finish::Stopped | Finish::Unset => Some(Ran::Broken(UNKNOWN_PLACE)),
+        },
+        Ending::NotYet | Ending::Unknown => Some(Ran::Broken(UNKNOWN_PLACE)),
     }
 }
 

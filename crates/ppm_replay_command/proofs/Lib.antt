@@ -1,7 +1,7 @@
 -- How replays are shown. `replay` rests on `follow` of `ppm_following`; that a text has one answer, and that it is as its code, the lemmas of
 -- `ppm_outcomes` show, and the rows follow (`OfReplay`). `replay` of a case is shown likewise (`OneReplayCase`, `OfReplayCase`).
 -- Where the counts of a replay are told, its answer is the one without them, and they are those of its turns (`CountedLemmas`, `CountTurnLemmas`), of
--- its words (`GivenLemmas`) and of its schedule (`OrderedLemmas`); so its laws (`OneCounted`) and its rows (`OfCounted`, `OfCountedCase`) are those
+-- its words (`GivenLemmas` of `ppm_outcomes`) and of its schedule (`OrderedLemmas`); so its laws (`OneCounted`) and its rows (`OfCounted`, `OfCountedCase`) are those
 -- of `replay`.
 -- A replay without hard faults that has made all its acts needs more of them (`UnfinishedLemmas`, `ActsAmong`); so with acts and room enough it ends
 -- (`CompleteReplay`), also where it is counted (`CountedComplete`).
@@ -10,7 +10,6 @@ pub mod OfReplay
 pub mod OneReplayCase
 pub mod OfReplayCase
 pub mod OrderedLemmas
-pub mod GivenLemmas
 pub mod CountTurnLemmas
 pub mod CountedLemmas
 pub mod OneCounted

@@ -1,28 +1,12 @@
 -- What is counted in a run: each number as a function of the machine before it and of its turns.
-use Rattle.std.specs.Prelude.{ℕ, zero, suc, ◌-◌, nat_lt, if◌then◌else◌, List}
+use Rattle.std.specs.Prelude.{ℕ, ◌-◌, List}
 use Rattle.ppm_answers.specs.declared.run_counts.RunCounts.{RunCounts}
-use Rattle.ppm_cells.specs.Cells.{pool_at}
-use Rattle.ppm_cells.specs.Memory.{read}
-use Rattle.ppm_cells.specs.declared.cell.Cell.TheVariants.{RoomCounter}
-use Rattle.ppm_cells.specs.declared.shape.Shape.{Shape}
 use Rattle.ppm_core.specs.Situation.{Situation, run_on}
+use Rattle.ppm_outcomes.specs.Room.{most_given}
 use Rattle.ppm_step.specs.declared.turn.Turn.{Turn}
 use Rattle.ppm_trace.specs.Counts.{no_counts}
 use Rattle.ppm_trace.specs.Trace.{counts_along}
 use Rattle.ppm_trace.specs.declared.counts.Counts.{Counts}
-
--- how many words the pool of a place has given out, by its room counter
-abbrev pub given_by : Shape → (words : List ℕ) → (place : ℕ) → ℕ
-given_by s words place = read s words (RoomCounter place) - pool_at s place
-
--- the larger of two numbers
-abbrev pub larger : ℕ → ℕ → ℕ
-larger a b = if nat_lt a b then b else a
-
--- the most that a pool has given out, of those of so many places
-abbrev pub most_given : Shape → (words : List ℕ) → (places : ℕ) → ℕ
-most_given s words zero = 0
-most_given s words (suc n) = larger (most_given s words n) (given_by s words n)
 
 -- The counts of a run that is counted so, from a machine that had made so much work, to this one, in which so many faults were ordered. Acts, forks,
 -- takes, faults and takeovers are those of the tail of its trace. A theft is stolen where it is won there. A look is an act that is no work turn. A

@@ -68,37 +68,37 @@ module _ (laws : ResumeLaws) (options : ResumeOptions) (before now : ToldLists) 
       as_program left.tree its left.start (legs_with left h.start.state.words) h.run.turns
       (resumed_is laws.legs laws.comes code input its.may z (by_code left) options before now items a h)
 
-  program_ends : (arrays : List NamedArray) (h : Resumed (answers.Ended arrays))
+  pub program_ends : (arrays : List NamedArray) (h : Resumed (answers.Ended arrays))
       → EndsAsProgramInAll left.start (legs_with left h.start.state.words) h.run.turns left.tree (outcome.Ended arrays)
   program_ends arrays h =
       ends_as_program left.tree its left.start (legs_with left h.start.state.words) h.run.turns (outcome.Ended arrays)
       (resumed_ends laws.legs laws.comes code input its.may z (by_code left) options before now items arrays h)
 
-  program_traps : (trap : Trap) (line : ℕ) (h : Resumed (answers.Trapped trap line))
+  pub program_traps : (trap : Trap) (line : ℕ) (h : Resumed (answers.Trapped trap line))
       → EndsAsProgramInAll left.start (legs_with left h.start.state.words) h.run.turns left.tree (outcome.Trapped trap line)
   program_traps trap line h =
       ends_as_program left.tree its left.start (legs_with left h.start.state.words) h.run.turns (outcome.Trapped trap line)
       (resumed_traps laws.legs laws.comes code input its.may z (by_code left) options before now items trap line h)
 
   -- a full pool is one of a place, and the program needs more of it
-  program_full : (place : ℕ) (h : Resumed (answers.OutOfRoom place)) → (place < z.shape.processors) × NeedsMoreRoom left.tree z.shape.room
+  pub program_full : (place : ℕ) (h : Resumed (answers.OutOfRoom place)) → (place < z.shape.processors) × NeedsMoreRoom left.tree z.shape.room
   program_full place h =
       let k = resumed_full laws.legs laws.comes code input its.may z (by_code left) options before now items place h in
       (k.0, its.more_room z.shape.room k.1)
 
-  program_needs_turns : (c : ℕ) (h : Resumed (answers.OutOfTurns c)) → work_made h.start.shape h.start.code c h.start.state h.run.turns ≡ options.turns
+  pub program_needs_turns : (c : ℕ) (h : Resumed (answers.OutOfTurns c)) → work_made h.start.shape h.start.code c h.start.state h.run.turns ≡ options.turns
       → NeedsMoreTurns left.tree (lost_in_all left.start (legs_with left h.start.state.words) h.run.turns) options.turns
   program_needs_turns c h made =
       resumed_needs_turns laws.legs laws.comes code input its.may z (by_code left) options before now items c h made
 
-  program_breaks : (place : ℕ) (h : Resumed (answers.Broken place))
+  pub program_breaks : (place : ℕ) (h : Resumed (answers.Broken place))
       → 2 ^ 34 + 2 ^ 28 < worked_in_all left.start (legs_with left h.start.state.words) h.run.turns
   program_breaks place h = resumed_breaks laws.legs laws.comes code input its.may z (by_code left) options before now items place h
 
-  program_stands : finish_of (saved_finish z) ≢ None
+  pub program_stands : finish_of (saved_finish z) ≢ None
   program_stands = left_stands laws.legs laws.comes code input its.may z (by_code left)
 
-  program_once : (a : Answer) (h : Resumed a) → NoneIsTakenTwiceInAll left.start (legs_with left h.start.state.words) h.run.turns
+  pub program_once : (a : Answer) (h : Resumed a) → NoneIsTakenTwiceInAll left.start (legs_with left h.start.state.words) h.run.turns
   program_once a h = (program_is a h).once
 
 -- the state after turns of fresh processors is left by the source too
@@ -140,6 +140,12 @@ pub resume_delivered : (options : ResumeOptions) (plan : List ℕ) (o : Outside)
 resume_delivered options plan o a status kept told may d =
     judging_told saved_limit (TextHas options plan o.told_before o.told_now) (ResumeTells options plan o.source) o a status told
     (kept, told.1, wants options o.told_before o.told_now plan o.source a may told) may d
+
+-- what is known to end is written with the status of an end
+pub ended : (status : Status) (answer : Answer) → IsEnd answer → status ≡ status_of answer → IsOneOf status (statuses.Ended ∷ statuses.Trapped ∷ [])
+ended status (answers.Ended arrays) is own = inl own
+ended status (answers.Trapped trap line) is own = inr (inl own)
+ended status _ is own = absurd is
 
 module _ (laws : ResumeLaws) (options : ResumeOptions) (plan : List ℕ) (o : Outside) (status : Status)
     (a : Answers (ResumeMay options plan o.told_before o.told_now o.source) (ResumeTells options plan o.source) o status) where
@@ -212,22 +218,16 @@ module _ (laws : ResumeLaws) (options : ResumeOptions) (plan : List ℕ) (o : Ou
       text_rows saved_limit (Has options plan o) (fronts_decide options plan o.told_before o.told_now) (ResumeSays options plan o) (ports_of o) status
       (of_answers (ResumeMay options plan o.told_before o.told_now o.source) (ResumeTells options plan o.source) o status a) of_ports by
 
-  -- what is known to end is written with the status of an end
-  ended : (answer : Answer) → IsEnd answer → status ≡ status_of answer → IsOneOf status (statuses.Ended ∷ statuses.Trapped ∷ [])
-  ended (answers.Ended arrays) is own = inl own
-  ended (answers.Trapped trap line) is own = inr (inl own)
-  ended _ is own = absurd is
-
   completes_as_code : CompletesAsCode options plan o status
   completes_as_code are all e z is items accepted code input may left enough well =
       let k = rows_of.known all e well in
-      ended k.0 (laws.complete options are all z is plan items accepted code input may left enough o.told_before o.told_now k.0 k.1) k.2.own
+      ended status k.0 (laws.complete options are all z is plan items accepted code input may left enough o.told_before o.told_now k.0 k.1) k.2.own
 
   completes : Completes options plan o status
   completes are all e z is items accepted source left enough well =
       let k = rows_of.known all e well in
       let complete : ResumesComplete = resumes_complete laws.programs laws.complete in
-      ended k.0 (complete options are all z is plan items accepted source left enough o.told_before o.told_now k.0 k.1) k.2.own
+      ended status k.0 (complete options are all z is plan items accepted source left enough o.told_before o.told_now k.0 k.1) k.2.own
 
   pub resume_rows : ResumeRows options plan o status
   resume_rows = record {

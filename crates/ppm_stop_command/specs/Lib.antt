@@ -4,5 +4,6 @@ pub mod CaseStopRows
 pub mod CompleteLegsAsCode
 pub mod CodeResumeRows
 pub mod ResumeRows
+pub mod CountedResumeRows
 pub mod Stopped
 pub mod CaseStopped

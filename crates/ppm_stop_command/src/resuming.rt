@@ -119,7 +119,7 @@ fn text_answer<R: Threads + Wait + Sync, W: Watch>(
 }
 
 /// What is answered where a text is that of no state, or memory was refused.
-fn refused_answer(error: SavedError) -> Answer
+pub(crate) fn refused_answer(error: SavedError) -> Answer
     ensures { result ≡ refusal_of error }
 {
     match error {
@@ -223,7 +223,7 @@ fn resumed<R: Threads + Wait + Sync, W: Watch>(
 }
 
 /// The limits, as the options say them; who finds nothing to do leaves.
-fn limits_of(options: ResumeOptions) -> Limits
+pub(crate) fn limits_of(options: ResumeOptions) -> Limits
     ensures { result ≡ limits_in options }
 {
     Limits {

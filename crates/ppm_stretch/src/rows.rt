@@ -395,7 +395,7 @@ pub(crate) fn steps_along<W: Watch>(
 
 /// Makes steps of a processor in a row, at most so many, up to one for which something is to be
 /// chosen, and tells the watcher of each. Where it refuses one, the processor gives up, if it is
-/// still to take a step.
+/// still to take a step. The table's processors don't count their acts.
 pub fn steps<W: Watch>(
     processor: &mut Processor,
     shared: &Shared,
@@ -403,6 +403,7 @@ pub fn steps<W: Watch>(
     watch: &mut W,
 ) -> Steps
     requires of { IsOf shared.now processor.old }
+    requires plain { shared.now.counted ≡ false }
     ensures of { IsOf shared.now processor.new }
     ensures own { processor.new.local.own ≡ processor.old.local.own }
     ensures keeps { KeepsFront (W.told watch.old) (W.told watch.new) }

@@ -51,6 +51,7 @@ fn looked(place: u32, at: u32, word: u64, next: Next) -> Told
 #[inline(always)]
 fn load_finish(processor: &mut Processor, shared: &Shared, place: u32, restart: Restart) -> Told
     requires of { IsOf shared.now processor.old }
+    requires plain { shared.now.counted ≡ false }
     requires stands { standing_of shared.now.shape shared.now.code processor.old.local ≡ IsAt place (Some restart) }
     requires seeks { (restart.kind ≡ Seek) × (restart_is_there shared.now.shape restart ≡ true) }
     requires place { place < shared.now.shape.processors }
@@ -173,6 +174,7 @@ fn stand_after_holder(
 #[inline(always)]
 fn load_holder(processor: &mut Processor, shared: &Shared, place: &Place, victim: u32) -> Told
     requires of { IsOf shared.now processor.old }
+    requires plain { shared.now.counted ≡ false }
     requires stands { standing_of shared.now.shape shared.now.code processor.old.local ≡ IsWithin place.now (Now (Load SeekHolder)) }
     requires seeks { place.now.restart.kind ≡ Seek }
     requires victim { victim < shared.now.shape.processors }
@@ -231,7 +233,7 @@ fn is_of_holder(kind: RestartKind, point: Point) -> bool
 
 /// Makes an act, which is one atomic step of the table; none where the processor is done. A step
 /// names a processor as its victim, and 0 where no victim is due. It does what `Processor::turn`
-/// does, and faster where a place looks for a job.
+/// does, and faster where a place looks for a job and acts aren't counted.
 #[inline(always)]
 pub fn turn(processor: &mut Processor, shared: &Shared, act: Act) -> Told
     requires of { IsOf shared.now processor.old }
@@ -247,6 +249,9 @@ pub fn turn(processor: &mut Processor, shared: &Shared, act: Act) -> Told
         (deeds_of_processor processor.old) (deeds_of_processor processor.new) result }
 {
     let _ = (shared.shape.slots, shared.code.parts().root);
+    if shared.counted {
+        return processor.turn(shared, act);
+    }
     if let Act::Step { victim } = act {
         if let Stand::At { place, restart } = processor.local.stand {
             if let Some(restart) = restart {

@@ -12,6 +12,9 @@ mod Kept
 mod Owed
 pub mod StandLemmas
 pub mod AskedLemmas
+pub mod CountLemmas
+mod AddLemmas
+pub mod SumLemmas
 mod Orders
 pub mod TellingLemmas
 pub mod SaidLemmas

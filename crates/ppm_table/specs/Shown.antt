@@ -1,5 +1,5 @@
 -- What a table's processors show, and what is known when it is closed.
-use Rattle.std.specs.Prelude.{◌≡◌, ◌⊎◌, ℕ, suc, List, [], ◌∷◌, length}
+use Rattle.std.specs.Prelude.{◌≡◌, ◌⊎◌, ℕ, suc, true, List, [], ◌∷◌, length}
 use Rattle.atomic_table.specs.Seated.{TableId}
 use Rattle.ppm_step.specs.declared.turn.Turn.{Turn}
 use Rattle.ppm_step.specs.Locals.{IsLocal, standing_of}
@@ -7,8 +7,10 @@ use Rattle.ppm_table.specs.declared.view.Deed.{Deed}
 use Rattle.ppm_table.specs.declared.view.Opening.{Opening}
 use Rattle.ppm_table.specs.declared.view.Record.{Record}
 use Rattle.ppm_table.specs.declared.view.View.{View}
+use Rattle.ppm_table.specs.declared.act_counts.ActCounts.{ActCounts}
 use Rattle.ppm_table.specs.declared.processor.Processor.{Processor}
 use Rattle.ppm_table.specs.declared.processor.Shared.{Shared}
+use Rattle.ppm_table.specs.Counting.{both_counts, counts_by}
 use Rattle.ppm_table.specs.Run.{AllTold, start, behind_turns, deeds_in_run, stands_by, deeds_in, records_in, record_with}
 
 -- what a processor has done
@@ -20,10 +22,21 @@ abbrev pub opening_of : Shared → Opening
 opening_of s = s.words.shared.key
 
 -- a processor of this table, which stands where its deeds have led it
+pub record StandsIn (s : Shared) (p : Processor) : Type 0 where
+  pub table : p.seat.table_id ≡ s.words.shared.table_id
+  pub holds : IsLocal s.shape s.code p.local
+  pub stands : standing_of s.shape s.code p.local ≡ stands_by (opening_of s) p.local.own (deeds_of_processor p)
+
+-- it has counted its deeds, where its table's processors count
+abbrev pub HasCounted : Shared → Processor → Type 0
+HasCounted s p = s.counted ≡ true → p.counts ≡ counts_by (opening_of s) p.local.own (deeds_of_processor p)
+
+-- it stands there, and has
 pub record IsOf (s : Shared) (p : Processor) : Type 0 where
   pub table : p.seat.table_id ≡ s.words.shared.table_id
   pub holds : IsLocal s.shape s.code p.local
   pub stands : standing_of s.shape s.code p.local ≡ stands_by (opening_of s) p.local.own (deeds_of_processor p)
+  pub counts : HasCounted s p
 
 -- processors of this table, numbered from c on
 abbrev pub InOrder : Shared → ℕ → List Processor → Type 0
@@ -55,6 +68,11 @@ Grows v w = (r : Record) → Has r (records_in v) → Has r (records_in w)
 abbrev pub AllIn : Opening → List Turn → List Processor → Type 0
 AllIn k turns [] = Unit {0}
 AllIn k turns (p ∷ ps) = (deeds_of_processor p ≡ deeds_in_run k p.local.own turns) × AllIn k turns ps
+
+-- what these processors have counted, and this
+abbrev pub counts_with : ActCounts → List Processor → ActCounts
+counts_with t [] = t
+counts_with t (p ∷ ps) = counts_with (both_counts t p.counts) ps
 
 -- there is one run, with these words behind it, in which each processor does what it has done
 pub record ClosedRun (k : Opening) (words : List ℕ) (ps : List Processor) : Type 0 where

@@ -1,8 +1,10 @@
 //! How a table is closed, once all its processors are back.
 ghost use Rattle.std.specs.Prelude.{◌≡◌, ◌<◌, []};
 ghost use Rattle.ppm_table.specs.Run.{both_of};
-ghost use Rattle.ppm_table.specs.Shown.{AllHeld, AllOf, Grows};
+ghost use Rattle.ppm_table.specs.Counting.{none_counted};
+ghost use Rattle.ppm_table.specs.Shown.{AllHeld, AllOf, Grows, counts_with};
 
+use crate::act_counts::ActCounts;
 use crate::closed::{Closed, closed_over};
 use crate::processor::{Processor, Shared};
 use crate::view::{View, Wholes, Words};
@@ -15,6 +17,7 @@ impl Processor {
         let Processor {
             local: _,
             seat,
+            counts: _,
             apart: _,
         } = self;
         seat
@@ -47,6 +50,19 @@ fn gather(words: &Words, seat: &mut Seat<(), View>, mut rest: Vec<Processor>)
     }
 }
 
+/// What these processors have counted together.
+pub fn total_counts(processors: &[Processor]) -> ActCounts
+    ensures { result ≡ counts_with none_counted processors.now }
+{
+    let mut all = ActCounts::none();
+    let mut left = processors;
+    while let [first, rest @ ..] = left {
+        all = all.and(first.counts);
+        left = rest;
+    }
+    all
+}
+
 impl Shared {
     ghost use Rattle.std.specs.Prelude.{◌≡◌, ◌<◌, vec_len};
     ghost use Rattle.ppm_table.specs.Shown.{InOrder, ClosedRun, opening_of};
@@ -64,6 +80,7 @@ impl Shared {
             code: _,
             lengths,
             widths: _,
+            counted: _,
         } = self;
         let Some(last) = processors.pop() else {
             unreachable!()

@@ -7,8 +7,10 @@
 //! After the parallel persistent memory of Blelloch et al., SPAA 2018.
 #![tactic(auto)]
 
+mod act_counts;
 mod closed;
 mod closing;
+mod laws;
 mod opening;
 mod padded;
 mod processor;
@@ -16,7 +18,10 @@ mod touching;
 mod turning;
 mod view;
 
+pub use act_counts::ActCounts;
 pub use closed::Closed;
+pub use closing::total_counts;
+pub use laws::act_counts_tell_turns;
 pub use padded::Padded;
 pub use processor::{Processor, Shared};
 pub use touching::{Found, give_up, hear, step_event, tell, touch};

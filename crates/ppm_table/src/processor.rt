@@ -6,6 +6,7 @@ ghost use Rattle.ppm_cells.specs.Memory.{AreWordsOf};
 ghost use Rattle.ppm_table.specs.Run.{padding, IsSeat};
 ghost use Rattle.ppm_widths.specs.Widths.{AreWidths};
 
+use crate::act_counts::ActCounts;
 use crate::view::{View, Words};
 use atomic_table::Seat;
 use ppm_cells::Shape;
@@ -23,6 +24,8 @@ pub struct Shared {
     pub lengths: Items<u32>,
     /// For each capsule, by its number: one more than the highest register that it reads, or 0.
     pub widths: Items<u8>,
+    /// Whether its processors count their acts.
+    pub counted: bool,
     pub ghost told: { (words.shared.key.shape ≡ shape) × (words.shared.key.code ≡ code) },
     pub ghost opened: { AreWordsOf shape words.shared.key.words },
     pub ghost widths_are: { AreWidths code widths },
@@ -36,6 +39,8 @@ pub struct Shared {
 pub struct Processor {
     pub local: Local,
     pub seat: Seat<(), View>,
+    /// What is counted of its acts, where its table's processors count them.
+    pub counts: ActCounts,
     /// Keeps the registers of one processor off the cache line of the next one's stand.
     pub apart: [u64; 16],
     pub ghost mine: { IsSeat local.own seat.me },

@@ -10,6 +10,7 @@ ghost use Rattle.ppm_table.specs.Run.{IsActAt};
 ghost use Rattle.ppm_table.specs.Shown.{IsOf, deeds_of_processor};
 ghost use Rattle.ppm_table.specs.Events.{HasActed, HasMadeNone};
 
+use crate::act_counts::ActCounts;
 use crate::processor::{Processor, Shared};
 use crate::touching::{give_up, hard, soft, step_event, touch};
 use ppm_step::{Act, Local, Next, Stand, Told, Why};
@@ -32,21 +33,23 @@ pub fn is_done(local: &Local) -> bool
 }
 
 impl Processor {
-    ghost use Rattle.std.specs.Prelude.{◌≡◌, ◌≢◌, ◌<◌};
+    ghost use Rattle.std.specs.Prelude.{◌≡◌, ◌≢◌, ◌<◌, true};
     ghost use Rattle.ppm_step.specs.Locals.{IsLocal, standing_of};
     ghost use Rattle.ppm_step.specs.Standings.{IsDone};
     ghost use Rattle.ppm_step.specs.declared.turn.Act.TheVariants.{Step, Soft, Hard, Quit};
     ghost use Rattle.ppm_table.specs.Run.{IsActAt};
-    ghost use Rattle.ppm_table.specs.Shown.{IsOf, deeds_of_processor};
+    ghost use Rattle.ppm_table.specs.Counting.{counted};
+    ghost use Rattle.ppm_table.specs.Shown.{IsOf, StandsIn, deeds_of_processor};
     ghost use Rattle.ppm_table.specs.Events.{HasActed, HasMadeNone};
 
     /// Makes its coming step, where the turn names this victim.
     fn step(&mut self, shared: &Shared, victim: u32) -> Told
-        requires of { IsOf shared.now self.old }
+        requires of { StandsIn shared.now self.old }
         requires lives { standing_of shared.now.shape shared.now.code self.old.local ≢ IsDone }
         requires may { IsActAt shared.now.shape (standing_of shared.now.shape shared.now.code self.old.local) (Step victim) }
-        ensures of { IsOf shared.now self.new }
+        ensures of { StandsIn shared.now self.new }
         ensures own { self.new.local.own ≡ self.old.local.own }
+        ensures counts { self.new.counts ≡ self.old.counts }
         ensures acted { HasActed shared.now.shape shared.now.code self.old.local.own (Step victim)
             (standing_of shared.now.shape shared.now.code self.old.local) (standing_of shared.now.shape shared.now.code self.new.local)
             (deeds_of_processor self.old) (deeds_of_processor self.new) result }
@@ -66,10 +69,11 @@ impl Processor {
 
     /// It loses its registers: a load of the table that nothing looks at.
     fn soften(&mut self, shared: &Shared) -> Told
-        requires of { IsOf shared.now self.old }
+        requires of { StandsIn shared.now self.old }
         requires lives { standing_of shared.now.shape shared.now.code self.old.local ≢ IsDone }
-        ensures of { IsOf shared.now self.new }
+        ensures of { StandsIn shared.now self.new }
         ensures own { self.new.local.own ≡ self.old.local.own }
+        ensures counts { self.new.counts ≡ self.old.counts }
         ensures acted { HasActed shared.now.shape shared.now.code self.old.local.own Soft
             (standing_of shared.now.shape shared.now.code self.old.local) (standing_of shared.now.shape shared.now.code self.new.local)
             (deeds_of_processor self.old) (deeds_of_processor self.new) result }
@@ -91,10 +95,11 @@ impl Processor {
 
     /// It says that it is dead.
     fn harden(&mut self, shared: &Shared) -> Told
-        requires of { IsOf shared.now self.old }
+        requires of { StandsIn shared.now self.old }
         requires lives { standing_of shared.now.shape shared.now.code self.old.local ≢ IsDone }
-        ensures of { IsOf shared.now self.new }
+        ensures of { StandsIn shared.now self.new }
         ensures own { self.new.local.own ≡ self.old.local.own }
+        ensures counts { self.new.counts ≡ self.old.counts }
         ensures acted { HasActed shared.now.shape shared.now.code self.old.local.own Hard
             (standing_of shared.now.shape shared.now.code self.old.local) (standing_of shared.now.shape shared.now.code self.new.local)
             (deeds_of_processor self.old) (deeds_of_processor self.new) result }
@@ -116,10 +121,11 @@ impl Processor {
 
     /// It gives up.
     fn quit(&mut self, shared: &Shared, why: Why) -> Told
-        requires of { IsOf shared.now self.old }
+        requires of { StandsIn shared.now self.old }
         requires lives { standing_of shared.now.shape shared.now.code self.old.local ≢ IsDone }
-        ensures of { IsOf shared.now self.new }
+        ensures of { StandsIn shared.now self.new }
         ensures own { self.new.local.own ≡ self.old.local.own }
+        ensures counts { self.new.counts ≡ self.old.counts }
         ensures acted { HasActed shared.now.shape shared.now.code self.old.local.own (Quit why)
             (standing_of shared.now.shape shared.now.code self.old.local) (standing_of shared.now.shape shared.now.code self.new.local)
             (deeds_of_processor self.old) (deeds_of_processor self.new) result }
@@ -143,6 +149,37 @@ impl Processor {
             work: false,
             next: Next::Look,
         }
+    }
+
+    /// Makes an act of a processor that isn't done.
+    fn make(&mut self, shared: &Shared, act: Act) -> Told
+        requires of { StandsIn shared.now self.old }
+        requires lives { standing_of shared.now.shape shared.now.code self.old.local ≢ IsDone }
+        requires may { IsActAt shared.now.shape (standing_of shared.now.shape shared.now.code self.old.local) act }
+        ensures of { StandsIn shared.now self.new }
+        ensures own { self.new.local.own ≡ self.old.local.own }
+        ensures counts { self.new.counts ≡ self.old.counts }
+        ensures acted { HasActed shared.now.shape shared.now.code self.old.local.own act
+            (standing_of shared.now.shape shared.now.code self.old.local) (standing_of shared.now.shape shared.now.code self.new.local)
+            (deeds_of_processor self.old) (deeds_of_processor self.new) result }
+    {
+        match act {
+            Act::Step { victim } => self.step(shared, victim),
+            Act::Soft => self.soften(shared),
+            Act::Hard => self.harden(shared),
+            Act::Quit(why) => self.quit(shared, why),
+        }
+    }
+
+    /// What is counted of its acts, with this one, where its table's processors count.
+    fn counts_after(&self, shared: &Shared, act: Act) -> ActCounts
+        ensures { shared.now.counted ≡ true
+            → result ≡ counted act (standing_of shared.now.shape shared.now.code self.now.local) self.now.counts }
+    {
+        if !shared.counted {
+            return self.counts;
+        }
+        self.counts.after(&self.local, act)
     }
 
     /// Makes an act, which is one atomic step of the table; none where the processor is done. A step
@@ -169,11 +206,7 @@ impl Processor {
                 next: Next::Done,
             };
         }
-        match act {
-            Act::Step { victim } => self.step(shared, victim),
-            Act::Soft => self.soften(shared),
-            Act::Hard => self.harden(shared),
-            Act::Quit(why) => self.quit(shared, why),
-        }
+        self.counts = self.counts_after(shared, act);
+        self.make(shared, act)
     }
 }

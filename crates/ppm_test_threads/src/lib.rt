@@ -9,6 +9,8 @@
 
 mod alone;
 mod bounded;
+#[cfg(test)]
+mod counts;
 mod meeting;
 #[cfg(test)]
 mod meetings;

@@ -10,9 +10,9 @@ use ppm_core::Machine;
 use ppm_layout::{Image, image};
 use ppm_plan::{Plan, read_plan};
 use ppm_ports::{Recorder, Watch};
-use ppm_table::{Closed, Processor, Shared};
+use ppm_table::{ActCounts, Closed, Processor, Shared};
 use ppm_test_turns::{FORK, FORKED, code_of, four_words};
-use ppm_threads::drive;
+use ppm_threads::{drive, drive_counted};
 use std::alloc::Global;
 use std::sync::Wait;
 use std::test::Fail;
@@ -122,6 +122,27 @@ pub(crate) fn run_listing<W: Watch, R: Threads + Wait + Sync>(
     match drive(rt, alloc, shared, all, &plan, limits, watch) {
         Ok(closed) => Ok(Some(closed)),
         Err(_) => Ok(None),
+    }
+}
+
+/// What is counted where the listing that forks runs on so many threads.
+pub(crate) fn counted_run<R: Threads + Wait + Sync>(
+    rt: &R,
+    alloc: Global,
+    faults: &str,
+    processors: u32,
+) -> Result<ActCounts, Fail> {
+    let plan = plan_of(alloc, faults, processors)?;
+    let code = fork_code(alloc)?;
+    let made = image_of(alloc, &code, FORKED, processors)?;
+    let (shared, all) = Shared::load_to_count(alloc, made, code, true).map_err(|_| "memory")?;
+    let mut watch = recorders(alloc, processors)?;
+    if plan.processors() != shared.shape.processors || all.len() > watch.len() {
+        return Err(Fail::from("as many processors, and a watcher for each"));
+    }
+    match drive_counted(rt, alloc, shared, all, &plan, WIDE, &mut watch) {
+        Ok((_, counts)) => Ok(counts),
+        Err(_) => Err(Fail::from("memory")),
     }
 }
 

@@ -1,6 +1,5 @@
 -- Turns by which all processors obey name processors of the machine alone.
-use Rattle.std.proofs.Common.{◌≡◌, ◌≢◌, ◌∙◌, ◌<◌, ℕ, zero, suc, ◌==◌, Bool, true, false, if◌then◌else◌, List, [], ◌∷◌, ◌++◌, length, refl, sym, subst, arith, eq-eqb}
-use Rattle.std.specs.Prelude.{slice_get}
+use Rattle.std.proofs.Common.{◌≡◌, ◌∙◌, ◌<◌, ℕ, ◌==◌, Bool, true, false, if◌then◌else◌, List, [], ◌∷◌, ◌++◌, length, refl, sym, subst, arith, eq-eqb}
 use Rattle.std.specs.List.{All}
 use Rattle.std.proofs.lemmas.List.Elements.{All-cons, All-nil}
 use Rattle.ppm_cells.specs.declared.shape.Shape.{Shape}
@@ -8,20 +7,14 @@ use Rattle.ppm_code.specs.declared.code.CodeParts.{CodeParts}
 use Rattle.ppm_plan.specs.Schedules.{Planned}
 use Rattle.ppm_step.specs.declared.turn.Turn.{Turn}
 use Rattle.ppm_step.specs.Among.{IsActAmong, IsTurnAmong}
-use Rattle.ppm_step.specs.Standings.{Standing, IsDone}
-use Rattle.ppm_step.specs.State.{State, stand_in, stand_of, happens}
+use Rattle.ppm_step.specs.Standings.{Standing}
+use Rattle.ppm_step.specs.State.{State, stand_of, happens}
 use Rattle.ppm_choice.specs.declared.limits.Limits.{Limits}
 use Rattle.ppm_choice.specs.Deeds.{Deed as Acted, deeds_of as acts_in}
 use Rattle.ppm_choice.specs.Obeying.{Past, behind as past_behind, awake, Obeys}
 use Rattle.ppm_choice.proofs.DrawnLemmas.{is_among}
 use Rattle.ppm_table.specs.Run.{AllTold}
-use Rattle.ppm_table.proofs.RunLemmas.{length_stays}
-
--- one that isn't done is there
-pub live_below : (l : List Standing) (c : ℕ) → stand_in (slice_get l c) ≢ IsDone → c < length l
-live_below [] c lives = absurd (lives refl)
-live_below (x ∷ l) zero lives = omega arith
-live_below (x ∷ l) (suc c) lives = let hence = live_below l c lives in omega (arith, hence)
+use Rattle.ppm_table.proofs.RunLemmas.{length_stays, live_below}
 
 module _ (plan : Planned) (limits : Limits) (s : Shape) (code : CodeParts) (same : plan.processors ≡ s.processors) where
   -- each processor obeys from here on, whatever its past is

@@ -7,19 +7,23 @@ use Rattle.ppm_choice.specs.declared.limits.Limits.{Limits}
 use Rattle.ppm_choice.specs.Obeying.{nothing_done, ObeysIn}
 use Rattle.ppm_table.specs.declared.processor.Processor.{Processor}
 use Rattle.ppm_table.specs.declared.processor.Shared.{Shared}
+use Rattle.ppm_table.specs.declared.act_counts.ActCounts.{ActCounts}
 use Rattle.ppm_table.specs.declared.view.Deed.{Deed}
 use Rattle.ppm_table.specs.declared.view.Opening.{Opening}
 use Rattle.ppm_table.specs.Run.{AllTold, start, behind_turns, deeds_in_run}
-use Rattle.ppm_table.specs.Shown.{InOrder, AllNew, AllIn, ClosedRun, deeds_of_processor, opening_of}
+use Rattle.ppm_table.specs.Counting.{TellsTurns, none_counted, all_counts, counts_below}
+use Rattle.ppm_table.specs.Shown.{InOrder, AllNew, AllIn, ClosedRun, deeds_of_processor, opening_of, counts_with}
 use Rattle.ppm_ports.specs.Told.{KeepsFront}
 use Rattle.ppm_table.proofs.RunLemmas.{lost_length}
+use Rattle.ppm_table.proofs.SumLemmas.{tells_turns}
+use Rattle.ppm_table.proofs.CountLemmas.{counts_in}
 use Rattle.ppm_table.proofs.TellingLemmas.{keeps_still}
 use Rattle.ppm_threads.specs.Going.{OwnObeys, HasQuit, told_of_deeds}
-use Rattle.ppm_threads.specs.Driven.{AllBegin, Ends, AllEnd, AllKeep, IsToldOf, HasQuitIn, Driven, WasRefused}
+use Rattle.ppm_threads.specs.Driven.{AllBegin, Ends, AllEnd, AllKeep, IsToldOf, HasQuitIn, Driven, DrivenCounted, WasRefused}
 use Rattle.ppm_threads.proofs.AmongLemmas.{are_among}
 use Rattle.ppm_threads.proofs.ClosingLemmas.{obeys_in, tells_run}
 
-some_of : {W : Type 0} (ws : List W) → 0 < length ws → W
+pub some_of : {W : Type 0} (ws : List W) → 0 < length ws → W
 some_of [] some = absurd (omega (arith, some))
 some_of (w ∷ ws) some = w
 
@@ -235,14 +239,14 @@ module _ {W : Type 0} (told : W → Option (List Event)) (plan : Planned) (limit
   -- all of them, behind a run
   module _ (words : List ℕ) (ps : List Processor) (ws : List W) (qs : List Processor) (vs : List W) (len : length ps ≡ k.shape.processors)
       (i : InOrder s 0 ps) (n : AllBegin s ps) (run : ClosedRun k words qs) where
-    fares : (x : Bool) → AllEnd told plan limits s x ps ws qs vs → (c : ℕ) (d : W) → c < k.shape.processors
+    pub fares : (x : Bool) → AllEnd told plan limits s x ps ws qs vs → (c : ℕ) (d : W) → c < k.shape.processors
         → Fares run.turns x c (told (get_or ws c d)) (told (get_or vs c d))
     fares x h c d less =
         let e : 0 + c ≡ c = omega arith in
         subst (λ (m : ℕ). Fares run.turns x m (told (get_or ws c d)) (told (get_or vs c d))) e
         (fares_at run.turns x 0 ps ws qs vs run.told i n run.all h c d (omega (arith, len, less)) (omega (arith, less)))
 
-    pub driven : plan.processors ≡ k.shape.processors → AllEnd told plan limits s true ps ws qs vs → length ps ≤ length ws
+    abbrev pub driven : plan.processors ≡ k.shape.processors → AllEnd told plan limits s true ps ws qs vs → length ps ≤ length ws
         → Driven told plan limits k words ws vs
     driven same h enough =
         let at : (c : ℕ) (d : W) → c < k.shape.processors → TurnsTold run.turns c (told (get_or ws c d)) (told (get_or vs c d)) = λ c d less. (fares true h c d less).0 refl in
@@ -256,6 +260,20 @@ module _ {W : Type 0} (told : W → Option (List Event)) (plan : Planned) (limit
             obeys = obeys;
           };
           told_are = λ c d less. (at c d less).1;
+        }
+
+    -- and so much was counted
+    pub driven_counted : (counts : ActCounts) → s.counted ≡ true → counts ≡ counts_with none_counted qs → (same : plan.processors ≡ k.shape.processors)
+        → (h : AllEnd told plan limits s true ps ws qs vs) → (enough : length ps ≤ length ws) → DrivenCounted told plan limits k words counts ws vs
+    driven_counted counts on is same h enough =
+        let all : counts ≡ all_counts k run.turns = is
+        ∙ counts_in s run.turns 0 qs on (end_order true 0 ps ws qs vs i h) run.all
+        ∙ ap (λ (c : ℕ). counts_below k run.turns c)
+        (let e = (end_lengths true ps ws qs vs h).0 in let z : 0 + length qs ≡ k.shape.processors = omega (arith, e, len) in z) in
+        record {
+          driven = driven same h enough;
+          counted = all;
+          numbers = subst (λ (t : ActCounts). TellsTurns k run.turns t) (sym all) (tells_turns k run.turns run.told);
         }
 
     pub was_refused : AllEnd told plan limits s false ps ws qs vs → WasRefused told plan limits k ws vs

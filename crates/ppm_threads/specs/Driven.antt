@@ -13,7 +13,9 @@ use Rattle.ppm_choice.specs.Obeying.{ObeysIn, ObeyAll}
 use Rattle.ppm_choice.specs.Tells.{told_in}
 use Rattle.ppm_table.specs.declared.processor.Processor.{Processor}
 use Rattle.ppm_table.specs.declared.processor.Shared.{Shared}
+use Rattle.ppm_table.specs.declared.act_counts.ActCounts.{ActCounts}
 use Rattle.ppm_table.specs.declared.view.Opening.{Opening}
+use Rattle.ppm_table.specs.Counting.{TellsTurns, all_counts}
 use Rattle.ppm_table.specs.Run.{start, behind_turns, deeds_in_run}
 use Rattle.ppm_table.specs.Shown.{IsOf, deeds_of_processor, opening_of}
 use Rattle.ppm_threads.specs.Going.{TraceGrows, HasQuit, OwnObeys, told_of_deeds}
@@ -70,6 +72,13 @@ module _ {W : Type 0} (told : W → Option (List Event)) (plan : Planned) (limit
     pub obey : ObeyAll plan limits k.shape k.code (start k) turns
     pub told_are : (c : ℕ) (d : W) → c < k.shape.processors
         → AppendsList (told (slice_index_or old c d)) (told (slice_index_or new c d)) (told_in plan limits c k.shape k.code (start k) turns)
+
+  -- There is such a run, and this was counted in it: what each processor did, together. Acts, work turns, forks, takes and faults are as many as its
+  -- turns have.
+  pub record DrivenCounted (k : Opening) (words : List ℕ) (counts : ActCounts) (old new : List W) : Type 0 where
+    pub driven : Driven k words old new
+    pub counted : counts ≡ all_counts k driven.turns
+    pub numbers : TellsTurns k driven.turns counts
 
   -- There is one run, in which each processor obeys and its watcher is told of that, or its watcher refused and it has quit; so one did.
   pub record WasRefused (k : Opening) (old new : List W) : Type 0 where

@@ -1,8 +1,8 @@
 //! The threads.
-ghost use Rattle.std.specs.Prelude.{◌≡◌, ◌<◌, ◌≤◌, ◌⊎◌, ◌&&◌, ◌∷◌, [], IfErr, IfOk, vec_len, length};
+ghost use Rattle.std.specs.Prelude.{◌≡◌, ◌<◌, ◌≤◌, ◌⊎◌, ◌&&◌, ◌∷◌, [], IfErr, IfOk, true, vec_len, length};
 ghost use Rattle.std.specs.Thread.{IsSync, IsSend};
 ghost use Rattle.ppm_table.specs.Shown.{AreNewOf, opening_of};
-ghost use Rattle.ppm_threads.specs.Driven.{Begins, AllBegin, AllEnd, AllKeep, OthersStay, Driven, WasRefused, HasFinished};
+ghost use Rattle.ppm_threads.specs.Driven.{Begins, AllBegin, AllEnd, AllKeep, OthersStay, Driven, DrivenCounted, WasRefused, HasFinished};
 
 use crate::crew::Crew;
 use crate::going::{is_park, run};
@@ -10,7 +10,7 @@ use crate::parking::{IdleParker, parkers, unparkers};
 use ppm_choice::Limits;
 use ppm_plan::Plan;
 use ppm_ports::Watch;
-use ppm_table::{Closed, Processor, Shared};
+use ppm_table::{ActCounts, Closed, Processor, Shared, total_counts};
 use ppm_words::NoMemory;
 use std::alloc::Global;
 use std::sync::Wait;
@@ -138,11 +138,10 @@ fn run_over<W: Watch, R: Threads + Wait + Sync>(
     )
 }
 
-/// Runs each processor of a table on a thread of its own until it is done, or leaves where the
-/// limits say so, and closes the table. There is a watcher for each processor, and the plan is for
-/// as many. `Err` where memory is refused, or by a watcher, whose processor quits then. It may never
-/// return.
-pub fn drive<W: Watch, R: Threads + Wait + Sync>(
+/// Runs each processor of a table as `drive` does, and tells what was counted: the acts of all of
+/// them together. A table that was loaded to count has this of its run; each step is then a turn of
+/// its own, and none is made in a row. Of another table it says nothing.
+pub fn drive_counted<W: Watch, R: Threads + Wait + Sync>(
     rt: &R,
     alloc: Global,
     shared: Shared,
@@ -150,7 +149,7 @@ pub fn drive<W: Watch, R: Threads + Wait + Sync>(
     plan: &Plan,
     limits: Limits,
     watch: &mut Vec<W>,
-) -> Result<Closed, NoMemory>
+) -> Result<(Closed, ActCounts), NoMemory>
     requires processors { AreNewOf shared processors.items }
     requires plan { plan.now.processors ≡ shared.shape.processors }
     requires watchers { vec_len processors ≤ vec_len watch.old }
@@ -161,9 +160,13 @@ pub fn drive<W: Watch, R: Threads + Wait + Sync>(
         × AllKeep W.told watch.old.items watch.new.items }
     ensures others { OthersStay shared.shape.processors watch.old.items watch.new.items }
 
-    ensures sizes { IfOk result (λ c. (c.shape ≡ shared.shape) × (c.array_lengths ≡ shared.lengths)) }
-    ensures run { IfOk result (λ c. Driven W.told plan.now limits (opening_of shared) c.words watch.old.items watch.new.items) }
-    ensures finish { IfOk result (λ c. HasFinished (opening_of shared) c.words) }
+    ensures sizes { IfOk result (λ r. (r.0.shape ≡ shared.shape) × (r.0.array_lengths ≡ shared.lengths)) }
+    ensures run { IfOk result (λ r. Driven W.told plan.now limits (opening_of shared) r.0.words watch.old.items watch.new.items) }
+    ensures finish { IfOk result (λ r. HasFinished (opening_of shared) r.0.words) }
+
+    // What was counted is that of this run, where the table's processors count.
+    ensures counted { shared.counted ≡ true → IfOk result (λ r. DrivenCounted W.told plan.now limits (opening_of shared) r.0.words r.1
+        watch.old.items watch.new.items) }
 
     // Where memory was wanting, nobody was told anything; or a watcher refused.
     ensures refused { IfErr result (λ _. (watch.new.items ≡ watch.old.items)
@@ -185,9 +188,45 @@ pub fn drive<W: Watch, R: Threads + Wait + Sync>(
         limits: _,
         unparkers: _,
     } = crew;
+    let counts = total_counts(&processors);
     let closed = shared.close(processors);
     if !taken {
         return Err(NoMemory);
     }
+    Ok((closed, counts))
+}
+
+/// Runs each processor of a table on a thread of its own until it is done, or leaves where the
+/// limits say so, and closes the table. There is a watcher for each processor, and the plan is for
+/// as many. `Err` where memory is refused, or by a watcher, whose processor quits then. It may never
+/// return.
+pub fn drive<W: Watch, R: Threads + Wait + Sync>(
+    rt: &R,
+    alloc: Global,
+    shared: Shared,
+    processors: Vec<Processor>,
+    plan: &Plan,
+    limits: Limits,
+    watch: &mut Vec<W>,
+) -> Result<Closed, NoMemory>
+    requires processors { AreNewOf shared processors.items }
+    requires plan { plan.now.processors ≡ shared.shape.processors }
+    requires watchers { vec_len processors ≤ vec_len watch.old }
+
+    // Each list keeps what it had in front, and the watchers behind the last processor stay, whatever
+    // the answer is.
+    ensures kept { (vec_len watch.new ≡ vec_len watch.old)
+        × AllKeep W.told watch.old.items watch.new.items }
+    ensures others { OthersStay shared.shape.processors watch.old.items watch.new.items }
+
+    ensures sizes { IfOk result (λ c. (c.shape ≡ shared.shape) × (c.array_lengths ≡ shared.lengths)) }
+    ensures run { IfOk result (λ c. Driven W.told plan.now limits (opening_of shared) c.words watch.old.items watch.new.items) }
+    ensures finish { IfOk result (λ c. HasFinished (opening_of shared) c.words) }
+
+    // Where memory was wanting, nobody was told anything; or a watcher refused.
+    ensures refused { IfErr result (λ _. (watch.new.items ≡ watch.old.items)
+        ⊎ WasRefused W.told plan.now limits (opening_of shared) watch.old.items watch.new.items) }
+{
+    let (closed, _) = drive_counted(rt, alloc, shared, processors, plan, limits, watch)?;
     Ok(closed)
 }

@@ -81,7 +81,19 @@ fn clear_acts(crew: &Crew, pace: &Pace) -> u64
     clear_steps(pace, crew.plan, crew.limits)
 }
 
-/// Makes steps in a row, as many as surely obey: how many. `None` where the watcher refused one.
+/// Whether the coming step is made as a turn of its own: something is chosen for it, or acts are
+/// counted. Where none are, either answer is right.
+fn goes_by_turns(crew: &Crew, pace: &Pace) -> bool
+    ensures plain { result ≡ false → crew.now.shared.counted ≡ false }
+{
+    if crew.shared.counted {
+        return true;
+    }
+    is_chosen(pace)
+}
+
+/// Makes steps in a row, as many as surely obey: how many, and none where acts are counted. `None`
+/// where the watcher refused one.
 fn go_ahead<W: Watch>(
     crew: &Crew,
     processor: &mut Processor,
@@ -97,8 +109,7 @@ fn go_ahead<W: Watch>(
         → GoesAhead crew.now.plan.now crew.now.limits (opening_of crew.now.shared) processor.old.local.own (W.told watch.old) (W.told watch.new)
         processor.old.seat.me processor.new.seat.me pace.new victims result }
 {
-    if is_chosen(pace) {
-        // Steps in a row would end before the first one.
+    if goes_by_turns(crew, pace) {
         return Some(0);
     }
     let most = clear_acts(crew, pace).min(most_at_once(crew.limits));

@@ -15,5 +15,5 @@ mod driving;
 mod going;
 mod parking;
 
-pub use driving::drive;
+pub use driving::{drive, drive_counted};
 pub use parking::{Credit, Gave, IdleParker, IdlePass, IdleUnparker, Tokens, Took, sleep};

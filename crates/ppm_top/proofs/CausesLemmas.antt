@@ -35,6 +35,9 @@ use Rattle.ppm_sweep_command.specs.CaseSweeps.{TextHas as SweepCaseTextHas}
 use Rattle.ppm_trace_command.specs.CaseTraces.{TextHas as TraceCaseTextHas}
 use Rattle.ppm_replay_command.specs.CountedCases.{TextHas as CountedCaseTextHas}
 use Rattle.ppm_replay_command.specs.CountedReplays.{TextHas as CountedTextHas}
+use Rattle.ppm_driver.specs.CountedCaseRuns.{TextHas as CountedRunCaseTextHas}
+use Rattle.ppm_outcomes.specs.CountedResumes.{TextHas as CountedResumeTextHas}
+use Rattle.ppm_outcomes.specs.CountedRuns.{TextHas as CountedRunTextHas}
 use Rattle.ppm_driver.specs.Examples.{ExampleMay, ExampleTells}
 use Rattle.ppm_driver.specs.RamRuns.{TextHas as RamTextHas}
 use Rattle.ppm_outcomes.specs.Replays.{TextHas as ReplayTextHas}
@@ -98,6 +101,11 @@ memory_before (Some (commands.CountedReplay options schedule)) o h =
     planned.memory_before schedule_form schedule options.processors (CountedTextHas options) text_limit o.source h
 memory_before (Some (commands.CountedReplayCase options schedule)) o h =
     planned.memory_before schedule_form schedule options.processors (CountedCaseTextHas options) case_limit o.source h
+memory_before (Some (commands.CountedRun options plan)) o h =
+    planned.memory_before plan_form plan options.processors (CountedRunTextHas options) text_limit o.source h
+memory_before (Some (commands.CountedRunCase options plan)) o h =
+    planned.memory_before plan_form plan options.processors (CountedRunCaseTextHas options) case_limit o.source h
+memory_before (Some (commands.CountedResume options plan)) o h = judged.memory_before saved_limit (CountedResumeTextHas options plan) o.source h
 memory_before (Some (commands.Ram options plan)) o h =
     planned.memory_before plan_form plan options.processors (RamTextHas options options.processors o.told_before o.told_now) ram_limit o.source h
 memory_before (Some (commands.Example options)) o h = (h, tt)
@@ -154,5 +162,8 @@ told_nothing (Some (commands.Trace options schedule)) o answer lists = refl
 told_nothing (Some (commands.TraceCase options schedule)) o answer lists = refl
 told_nothing (Some (commands.CountedReplay options schedule)) o answer lists = refl
 told_nothing (Some (commands.CountedReplayCase options schedule)) o answer lists = refl
+told_nothing (Some (commands.CountedRun options plan)) o answer lists = refl
+told_nothing (Some (commands.CountedRunCase options plan)) o answer lists = refl
+told_nothing (Some (commands.CountedResume options plan)) o answer lists = refl
 told_nothing (Some (commands.Ram options plan)) o answer lists = untold options.processors _ _ answer lists
 told_nothing (Some (commands.Example options)) o answer lists = untold options.processors _ _ answer lists

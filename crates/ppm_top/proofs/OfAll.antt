@@ -49,6 +49,9 @@ use Rattle.ppm_sweep_command.specs.CaseSweeps.{TextHas as SweepCaseTextHas}
 use Rattle.ppm_trace_command.specs.CaseTraces.{TextHas as TraceCaseTextHas}
 use Rattle.ppm_replay_command.specs.CountedCases.{TextHas as CountedCaseTextHas}
 use Rattle.ppm_replay_command.specs.CountedReplays.{TextHas as CountedTextHas}
+use Rattle.ppm_driver.specs.CountedCaseRuns.{TextHas as CountedRunCaseTextHas}
+use Rattle.ppm_outcomes.specs.CountedResumes.{TextHas as CountedResumeTextHas}
+use Rattle.ppm_outcomes.specs.CountedRuns.{TextHas as CountedRunTextHas}
 use Rattle.ppm_driver.specs.RamRuns.{TextHas as RamTextHas}
 use Rattle.ppm_outcomes.specs.Replays.{TextHas as ReplayTextHas}
 use Rattle.ppm_outcomes.specs.Resumes.{TextHas as ResumeTextHas}
@@ -143,6 +146,11 @@ command_reports o (Some (commands.CountedReplay options schedule)) =
     planned_reports schedule_form schedule options.processors (CountedTextHas options) text_limit o
 command_reports o (Some (commands.CountedReplayCase options schedule)) =
     planned_reports schedule_form schedule options.processors (CountedCaseTextHas options) case_limit o
+command_reports o (Some (commands.CountedRun options plan)) =
+    planned_reports plan_form plan options.processors (CountedRunTextHas options) text_limit o
+command_reports o (Some (commands.CountedRunCase options plan)) =
+    planned_reports plan_form plan options.processors (CountedRunCaseTextHas options) case_limit o
+command_reports o (Some (commands.CountedResume options plan)) = judging_reports saved_limit (CountedResumeTextHas options plan) o
 command_reports o (Some (commands.Ram options plan)) =
     planned_reports plan_form plan options.processors (RamTextHas options options.processors o.told_before o.told_now) ram_limit o
 command_reports o (Some (commands.Serial options)) = judging_reports text_limit (SerialHas options.turns) o
@@ -172,6 +180,7 @@ command_reports o (Some (commands.Example options)) = example_reports options o
 read_answer : (may : Answer → Type 0) (answer : Answer) → may answer → status_of answer ≡ statuses.ReadFault → may answers.ReadFault
 read_answer may answers.ReadFault h e = h
 read_answer may (answers.ReplayedWith c counts) h e = absurd (delivered.came_no_fault c e)
+read_answer may (answers.RanWith r counts) h e = absurd (delivered.ran_no_fault r e)
 read_answer may (answers.Stood lines c) h e = absurd (delivered.came_no_fault c e)
 read_answer may (answers.Explained r notes) h e = absurd (delivered.refused_no_fault r e)
 read_answer may answer h e = cc
@@ -245,6 +254,9 @@ program_rows laws words o status a = record {
   sweep_case = of_sweeps.sweeps_case laws words o status a;
   counted = of_counts.counts laws words o status a;
   counted_case = of_counts.counts_case laws words o status a;
+  counted_run = of_counts.counts_run laws words o status a;
+  counted_run_case = of_counts.counts_run_case laws words o status a;
+  counted_resume = of_counts.counts_resume laws words o status a;
   trace = of_traces.traces laws words o status a;
   trace_case = of_traces.traces_case laws words o status a;
   ram = of_rams.runs_ram laws words o status a;

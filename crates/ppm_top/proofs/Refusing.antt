@@ -34,7 +34,7 @@ use Rattle.ppm_explained.specs.Orders.{OrdersSay, WritesNotes}
 use Rattle.ppm_explained.specs.Texts.{IsRefused}
 use Rattle.ppm_explained.proofs.ExplainRows.{no_plan}
 use Rattle.ppm_explained.proofs.OrdersRows.{orders_rows}
-use Rattle.ppm_top.specs.Rows.{HasRefusedPlan, OfPlan, OfSchedule, OfResume, OfSaved, OfStrands, OfExplained, RefusesWords}
+use Rattle.ppm_top.specs.Rows.{HasRefusedPlan, OfPlan, OfSchedule, OfCountedResume, OfResume, OfSaved, OfStrands, OfExplained, RefusesWords}
 use Rattle.ppm_top.proofs.OfCases as of_cases
 use Rattle.ppm_top.proofs.OfCounts as of_counts
 use Rattle.ppm_top.proofs.OfLegs as of_legs
@@ -48,6 +48,7 @@ data IsPlanned (command : Option Command) : Type 0 where
   ByPlan : (c : Command) (orders : Orders) → command ≡ Some c → plan_of c ≡ Some orders → IsPlanned command
   BySchedule : (c : Command) (orders : Orders) → command ≡ Some c → schedule_of c ≡ Some orders → IsPlanned command
   IsResume : (options : ResumeOptions) (plan : List ℕ) → command ≡ Some (commands.Resume options plan) → IsPlanned command
+  IsCountedResume : (options : ResumeOptions) (plan : List ℕ) → command ≡ Some (commands.CountedResume options plan) → IsPlanned command
   IsStrands : (options : StrandsOptions) (schedule : List ℕ) → command ≡ Some (commands.Strands options schedule) → IsPlanned command
   ByExplained : (options : ExplainOptions) (text : List ℕ) → command ≡ Some (commands.ExplainOrders options text) → IsPlanned command
   BySaved : (c : Command) (schedule : List ℕ) → command ≡ Some c → saved_schedule_of c ≡ Some schedule → IsPlanned command
@@ -73,6 +74,9 @@ no_command (Some (commands.TraceCase options schedule)) o answer h e = inr (BySc
 no_command (Some (commands.CountedReplay options schedule)) o answer h e = inr (BySchedule (commands.CountedReplay options schedule) _ refl refl)
 no_command (Some (commands.CountedReplayCase options schedule)) o answer h e =
     inr (BySchedule (commands.CountedReplayCase options schedule) _ refl refl)
+no_command (Some (commands.CountedRun options plan)) o answer h e = inr (ByPlan (commands.CountedRun options plan) _ refl refl)
+no_command (Some (commands.CountedRunCase options plan)) o answer h e = inr (ByPlan (commands.CountedRunCase options plan) _ refl refl)
+no_command (Some (commands.CountedResume options plan)) o answer h e = inr (IsCountedResume options plan refl)
 no_command (Some (commands.Ram options plan)) o answer h e = inr (ByPlan (commands.Ram options plan) _ refl refl)
 no_command (Some (commands.ExplainOrders options text)) o answer h e = inr (ByExplained options text refl)
 no_command (Some (commands.Serial options)) o answers.WordsRefused h e = absurd h.2
@@ -102,6 +106,7 @@ no_command (Some (commands.DrawnStrands options)) o (answers.PlanRefused number)
 no_command (Some (commands.Example options)) o (answers.PlanRefused number) h e =
     absurd (of_example.no_plan_refused options o.told_before o.told_now number h.1)
 no_command command o (answers.ReplayedWith c counts) h e = absurd (delivered.came_no_refusal c e)
+no_command command o (answers.RanWith r counts) h e = absurd (delivered.ran_no_refusal r e)
 no_command command o (answers.Stood lines c) h e = absurd (delivered.came_no_refusal c e)
 no_command (Some (commands.Serial options)) o (answers.Explained r notes) h e = absurd h.2
 no_command (Some commands.Code) o (answers.Explained r notes) h e = absurd h.2
@@ -154,6 +159,12 @@ module _ (laws : ProgramLaws) (words : List (List ℕ)) (o : Outside) (status : 
     plan_refused (commands.RunCase options plan) orders c is =
         subst (λ (x : Orders). RefusesPlan plan_form x.bytes x.processors (ports_of o)) (some_is is)
         (of_cases.case_plan_refused laws words o status a options plan c refused)
+    plan_refused (commands.CountedRun options plan) orders c is =
+        subst (λ (x : Orders). RefusesPlan plan_form x.bytes x.processors (ports_of o)) (some_is is)
+        (of_counts.counted_run_refused laws words o status a options plan c refused)
+    plan_refused (commands.CountedRunCase options plan) orders c is =
+        subst (λ (x : Orders). RefusesPlan plan_form x.bytes x.processors (ports_of o)) (some_is is)
+        (of_counts.counted_run_case_refused laws words o status a options plan c refused)
     plan_refused (commands.Ram options plan) orders c is =
         subst (λ (x : Orders). RefusesPlan plan_form x.bytes x.processors (ports_of o)) (some_is is)
         (of_rams.ram_plan_refused laws words o status a options plan c refused)
@@ -222,6 +233,8 @@ module _ (laws : ProgramLaws) (words : List (List ℕ)) (o : Outside) (status : 
     by_words (inr (IsResume options plan c)) =
         inr (OfResume options plan c
         (of_resume.plan_refused laws.resumes options plan o status (answered (Some (commands.Resume options plan)) c) refused))
+    by_words (inr (IsCountedResume options plan c)) =
+        inr (OfCountedResume options plan c (of_counts.counted_resume_refused laws words o status a options plan c refused))
     by_words (inr (IsStrands options schedule c)) =
         inr (OfStrands options schedule c (of_strands.strands_refused laws words o status a options schedule c refused))
     by_words (inr (ByExplained options text c)) = inr (OfExplained options text c (orders_refused options text c))

@@ -25,6 +25,9 @@ use Rattle.ppm_sweep_command.specs.CaseSweeps.{SweepCaseMay}
 use Rattle.ppm_trace_command.specs.CaseTraces.{TraceCaseMay}
 use Rattle.ppm_replay_command.specs.CountedCases.{CountedCaseMay}
 use Rattle.ppm_replay_command.specs.CountedReplays.{CountedMay}
+use Rattle.ppm_driver.specs.CountedCaseRuns.{CountedRunCaseMay}
+use Rattle.ppm_outcomes.specs.CountedResumes.{CountedResumeMay}
+use Rattle.ppm_outcomes.specs.CountedRuns.{CountedRunMay}
 use Rattle.ppm_driver.specs.Examples.{ExampleMay, ExampleTells}
 use Rattle.ppm_driver.specs.RamRuns.{RamMay, RamTells}
 use Rattle.ppm_outcomes.specs.Replays.{ReplayMay}
@@ -71,6 +74,9 @@ CommandMay (Some (commands.RunCase options plan)) o answer = RunCaseMay options 
 CommandMay (Some (commands.ReplayCase options schedule)) o answer = ReplayCaseMay options schedule o.source answer
 CommandMay (Some (commands.CountedReplay options schedule)) o answer = CountedMay options schedule o.source answer
 CommandMay (Some (commands.CountedReplayCase options schedule)) o answer = CountedCaseMay options schedule o.source answer
+CommandMay (Some (commands.CountedRun options plan)) o answer = CountedRunMay options plan o.source answer
+CommandMay (Some (commands.CountedRunCase options plan)) o answer = CountedRunCaseMay options plan o.source answer
+CommandMay (Some (commands.CountedResume options plan)) o answer = CountedResumeMay options plan o.source answer
 CommandMay (Some (commands.StopCase options schedule)) o answer = StopCaseMay options schedule o.source answer
 CommandMay (Some (commands.Sweep options schedule)) o answer = SweepMay options schedule o.source answer
 CommandMay (Some (commands.SweepCase options schedule)) o answer = SweepCaseMay options schedule o.source answer
@@ -106,6 +112,9 @@ CommandTells (Some (commands.RunCase options plan)) o = RunCaseTells options opt
 CommandTells (Some (commands.ReplayCase options schedule)) o = TellsNothing
 CommandTells (Some (commands.CountedReplay options schedule)) o = TellsNothing
 CommandTells (Some (commands.CountedReplayCase options schedule)) o = TellsNothing
+CommandTells (Some (commands.CountedRun options plan)) o = TellsNothing
+CommandTells (Some (commands.CountedRunCase options plan)) o = TellsNothing
+CommandTells (Some (commands.CountedResume options plan)) o = TellsNothing
 CommandTells (Some (commands.StopCase options schedule)) o = TellsNothing
 CommandTells (Some (commands.Sweep options schedule)) o = TellsNothing
 CommandTells (Some (commands.SweepCase options schedule)) o = TellsNothing

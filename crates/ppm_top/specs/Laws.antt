@@ -27,6 +27,8 @@ use Rattle.ppm_driver.specs.Examples.{ExamplesSumUp}
 use Rattle.ppm_outcomes.specs.Meant.{RunsAreAsPrograms}
 use Rattle.ppm_outcomes.specs.ProgramsAsCode.{ProgramsAreAsCode}
 use Rattle.ppm_driver.specs.RamEnds.{AnswersAreAsRams}
+use Rattle.ppm_driver.specs.CountedCaseRuns.{CountedCaseAnswersAreOne}
+use Rattle.ppm_outcomes.specs.CountedRuns.{CountedAnswersAreOne}
 use Rattle.ppm_driver.specs.RamRuns.{RamAnswersAreOne, RamFrontsDecide}
 use Rattle.ppm_outcomes.specs.Replays.{HaveOneAnswer as ReplaysHaveOneAnswer}
 use Rattle.ppm_outcomes.specs.ResumeLaws.{ResumeLaws}
@@ -96,6 +98,8 @@ pub record ProgramLaws : Type 0 where
   pub traced_cases : HaveOneTraceAnswer
   pub counted : CountedReplaysHaveOneAnswer
   pub counted_cases : HaveOneCountedAnswer
+  pub counted_runs : CountedAnswersAreOne
+  pub counted_run_cases : CountedCaseAnswersAreOne
   pub coded : ProgramsAreAsCode
   pub ram_runs : AnswersAreAsRams
   pub ram_answers : RamAnswersAreOne

@@ -12,6 +12,8 @@ pub record Orders : Type 0 where
 abbrev pub plan_of : Command → Option Orders
 plan_of (commands.Run options plan) = Some (record { processors = options.processors; bytes = plan })
 plan_of (commands.RunCase options plan) = Some (record { processors = options.processors; bytes = plan })
+plan_of (commands.CountedRun options plan) = Some (record { processors = options.processors; bytes = plan })
+plan_of (commands.CountedRunCase options plan) = Some (record { processors = options.processors; bytes = plan })
 plan_of (commands.Ram options plan) = Some (record { processors = options.processors; bytes = plan })
 plan_of _ = None
 

@@ -44,10 +44,13 @@ use Rattle.ppm_sweep_command.specs.CaseSweepRows.{SweepCaseRows}
 use Rattle.ppm_trace_command.specs.CaseTraceRows.{TraceCaseRows}
 use Rattle.ppm_replay_command.specs.CountedCaseRows.{CountedCaseRows}
 use Rattle.ppm_replay_command.specs.CountedReplayRows.{CountedRows}
+use Rattle.ppm_driver.specs.CountedRunCaseRows.{CountedRunCaseRows}
+use Rattle.ppm_driver.specs.CountedRunRows.{CountedRunRows}
 use Rattle.ppm_driver.specs.ExampleRows.{ExampleRows}
 use Rattle.ppm_driver.specs.RamRows.{RamRows}
 use Rattle.ppm_replay_command.specs.ReplayRows.{ReplayRows}
 use Rattle.ppm_replay_command.specs.CompleteReplays.{CaseReplayEnds, CountedCaseReplayEnds, CountedReplayEnds, ReplayEnds}
+use Rattle.ppm_stop_command.specs.CountedResumeRows.{CountedResumeRows, RefusesPlan as RefusesCountedResume}
 use Rattle.ppm_stop_command.specs.ResumeRows.{ResumeRows, RefusesPlan as RefusesResumed}
 use Rattle.ppm_outcomes.specs.Resumes.{IsTextLeftBy}
 use Rattle.ppm_loading.specs.Telling.{MayBeRun}
@@ -154,6 +157,21 @@ CountsCaseByWords words o status = (options : ReplayOptions) (schedule : List �
     → command_of words ≡ Some (commands.CountedReplayCase options schedule)
     → AreReplayed options × CountedCaseRows options schedule (ports_of o) status × CountedCaseReplayEnds options schedule (ports_of o) status
 
+-- those of `run` with its counts where they ask for that, with these options, which are in their ranges, and this plan
+abbrev pub CountsRunByWords : List (List ℕ) → Outside → Status → Type 0
+CountsRunByWords words o status = (options : RunOptions) (plan : List ℕ) → command_of words ≡ Some (commands.CountedRun options plan)
+    → AreRun options × CountedRunRows options plan (ports_of o) status
+
+-- those of `run` of a case with its counts where they ask for that, with these options, which are in their ranges, and this plan
+abbrev pub CountsRunCaseByWords : List (List ℕ) → Outside → Status → Type 0
+CountsRunCaseByWords words o status = (options : RunOptions) (plan : List ℕ) → command_of words ≡ Some (commands.CountedRunCase options plan)
+    → AreRun options × CountedRunCaseRows options plan (ports_of o) status
+
+-- those of `resume` with its counts where they ask for that, with these options, which are in their ranges, and this plan
+abbrev pub CountsResumeByWords : List (List ℕ) → Outside → Status → Type 0
+CountsResumeByWords words o status = (options : ResumeOptions) (plan : List ℕ) → command_of words ≡ Some (commands.CountedResume options plan)
+    → AreResumed options × CountedResumeRows options plan (ports_of o) status
+
 -- those of `sweep` where they ask for that, with these options, which are in their ranges, and this schedule
 abbrev pub SweepsByWords : List (List ℕ) → Outside → Status → Type 0
 SweepsByWords words o status = (options : SweepOptions) (schedule : List ℕ) → command_of words ≡ Some (commands.Sweep options schedule)
@@ -244,6 +262,8 @@ pub data HasRefusedPlan (words : List (List ℕ)) (o : Outside) : Type 0 where
       → RefusesPlan schedule_form orders.bytes orders.processors (ports_of o) → HasRefusedPlan words o
   OfResume : (options : ResumeOptions) (plan : List ℕ) → command_of words ≡ Some (commands.Resume options plan)
       → RefusesResumed options plan o → HasRefusedPlan words o
+  OfCountedResume : (options : ResumeOptions) (plan : List ℕ) → command_of words ≡ Some (commands.CountedResume options plan)
+      → RefusesCountedResume options plan (ports_of o) → HasRefusedPlan words o
   OfSaved : (command : Command) (schedule : List ℕ) → command_of words ≡ Some command → saved_schedule_of command ≡ Some schedule
       → RefusesSchedule schedule (ports_of o) → HasRefusedPlan words o
   OfStrands : (options : StrandsOptions) (schedule : List ℕ) → command_of words ≡ Some (commands.Strands options schedule)
@@ -292,6 +312,9 @@ pub record ProgramRows (words : List (List ℕ)) (o : Outside) (status : Status)
   pub replay_case : ReplaysCaseByWords words o status
   pub counted : CountsByWords words o status
   pub counted_case : CountsCaseByWords words o status
+  pub counted_run : CountsRunByWords words o status
+  pub counted_run_case : CountsRunCaseByWords words o status
+  pub counted_resume : CountsResumeByWords words o status
   pub sweep : SweepsByWords words o status
   pub sweep_case : SweepsCaseByWords words o status
   pub trace : TracesByWords words o status

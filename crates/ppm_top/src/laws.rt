@@ -10,7 +10,8 @@ use ppm_commands::{
 };
 use ppm_driver::{
     answers_are_as_code, answers_are_as_rams, answers_are_one as runs_have_one_answer,
-    case_answers_are_one, examples_sum_up, ram_answers_are_one, runs_complete,
+    case_answers_are_one, counted_answers_are_one, counted_case_answers_are_one, examples_sum_up,
+    ram_answers_are_one, runs_complete,
 };
 use ppm_explained::{
     orders_have_one_answer, texts_have_one_answer as explained_texts_have_one_answer,
@@ -85,6 +86,8 @@ pub fn program_laws()
     case_traces_have_one_answer();
     counted_replays_have_one_answer();
     counted_case_replays_have_one_answer();
+    counted_answers_are_one();
+    counted_case_answers_are_one();
     answers_are_as_rams();
     ram_answers_are_one();
     texts_are_of_rams();

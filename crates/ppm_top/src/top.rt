@@ -14,14 +14,17 @@ use ppm_commands::{
     case_command, check_command, code_command, depth_command, races_command, racing_check_command,
     serial_command, show_command,
 };
-use ppm_driver::{ram_command, run_case_command, run_command, self_command};
+use ppm_driver::{
+    counted_run_case_command, counted_run_command, ram_command, run_case_command, run_command,
+    self_command,
+};
 use ppm_explained::{explain_command, explain_orders_command};
 use ppm_legs::{replay_saved_command, stop_saved_command, trace_saved_command};
 use ppm_ports::{Sink, Source, Watch};
 use ppm_replay_command::{
     counted_replay_case_command, counted_replay_command, replay_case_command, replay_command,
 };
-use ppm_stop_command::{resume_command, stop_case_command, stop_command};
+use ppm_stop_command::{counted_resume_command, resume_command, stop_case_command, stop_command};
 use ppm_strands_command::{drawn_strands_command, strands_command};
 use ppm_sweep_command::{sweep_case_command, sweep_command};
 use ppm_trace_command::{trace_case_command, trace_command};
@@ -160,6 +163,33 @@ fn answer_words<R: Threads + Wait + Sync, S: Source, K: Sink, E: Sink, W: Watch>
             alloc,
             options,
             case_counted.as_slice(),
+            source,
+            out,
+            err,
+        ),
+        Ok(Some(Command::CountedRun(options, counted_plan))) => counted_run_command(
+            rt,
+            alloc,
+            options,
+            counted_plan.as_slice(),
+            source,
+            out,
+            err,
+        ),
+        Ok(Some(Command::CountedRunCase(options, case_counted_plan))) => counted_run_case_command(
+            rt,
+            alloc,
+            options,
+            case_counted_plan.as_slice(),
+            source,
+            out,
+            err,
+        ),
+        Ok(Some(Command::CountedResume(options, leg_plan))) => counted_resume_command(
+            rt,
+            alloc,
+            options,
+            leg_plan.as_slice(),
             source,
             out,
             err,

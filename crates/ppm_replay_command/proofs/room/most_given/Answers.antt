@@ -1,5 +1,5 @@
 use Rattle.std.proofs.Common.{arith}
-use Rattle.ppm_replay_command.proofs.GivenLemmas.{most_step}
+use Rattle.ppm_outcomes.proofs.GivenLemmas.{most_step}
 use Rattle.ppm_replay_command.proofs.room.most_given.Goals as goal
 
 -- a place more

@@ -1,5 +1,5 @@
 use Rattle.std.proofs.Common.{◌≡◌, ◌-◌, ◌≤◌}
-use Rattle.ppm_replay_command.specs.RunCounts.{most_given}
+use Rattle.ppm_outcomes.specs.Room.{most_given}
 use Rattle.ppm_replay_command.proofs.room.most_given.Given as goal
 
 -- the most of the places so far

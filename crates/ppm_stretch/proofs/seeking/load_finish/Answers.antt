@@ -1,4 +1,4 @@
-use Rattle.std.proofs.Common.{◌≡◌, ◌∙◌, ◌<◌, Some, sym, refl, ap, arith}
+use Rattle.std.proofs.Common.{◌≡◌, ◌∙◌, ◌<◌, true, false, Some, sym, refl, ap, arith}
 use Rattle.ppm_cells.specs.declared.restart.RestartKind.{RestartKind}
 use Rattle.ppm_step.specs.Standings.{IsAt}
 use Rattle.ppm_step.specs.State.{before_kind, is_work_next, step_of}
@@ -45,6 +45,7 @@ returns-then-word-ne0-clause-of c =
       table = c.touch-word.ensures.table ∙ c.requires.of.table;
       holds = record { own = c.requires.of.holds.own; stand = tt };
       stands = sym (finish_is_over s code own c.args.place (Some c.args.restart) word c.if-word-ne0.true) ∙ goes;
+      counts = λ on. absurd (let none : true ≡ false = sym on ∙ c.requires.plain in cc);
     }
 
 pub returns-then-word-ne0-clause-acted : goal.returns-then-word-ne0-clause-acted
@@ -93,6 +94,7 @@ returns-clause-of c =
         );
       };
       stands = sym (seek_begins s code own c.args.place c.args.restart word c.if-word-ne0.false c.requires.seeks.0 c.requires.seeks.1) ∙ goes;
+      counts = λ on. absurd (let none : true ≡ false = sym on ∙ c.requires.plain in cc);
     }
 
 pub returns-clause-acted : goal.returns-clause-acted

@@ -54,6 +54,7 @@ returns-clause-of c =
       stands = c.stand_after_holder.ensures.stands
           ∙ stands_on k s code shared.told.0 shared.told.1 own victim p.seat.me me (Loads at) word standing (sym there) p.mine may wants tt tt c.touch-word.ensures.told
           ∙ ap (λ (n : ℕ). stands_by k n (deeds_in me.0)) (sym c.stand_after_holder.ensures.own_stays);
+      counts = λ on. absurd (let none : true ≡ false = sym on ∙ c.requires.plain in cc);
     }
 
 pub returns-clause-acted : goal.returns-clause-acted

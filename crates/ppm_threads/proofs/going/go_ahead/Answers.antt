@@ -7,9 +7,9 @@ use Rattle.ppm_threads.proofs.GoingLemmas.{obeying_along, grows_along, more_alon
 use Rattle.ppm_threads.proofs.ActLemmas.{row_quits}
 use Rattle.ppm_threads.proofs.going.go_ahead.Goals as goal
 
--- something is to be chosen, and none was made
-pub returns-then-is_chosen-clause-goes : goal.returns-then-is_chosen-clause-goes
-returns-then-is_chosen-clause-goes g c victims o = (o, λ list e. e, omega arith)
+-- the coming step is made as a turn
+pub returns-then-goes_by_turns-clause-goes : goal.returns-then-goes_by_turns-clause-goes
+returns-then-goes_by_turns-clause-goes g c victims o = (o, λ list e. e, omega arith)
 
 -- the watcher refused one
 pub returns-then-row-clause-goes : goal.returns-then-row-clause-goes

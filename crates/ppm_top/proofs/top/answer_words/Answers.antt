@@ -115,6 +115,24 @@ returns-in-Ok-Some-CountedReplayCase-clause-answers g c = by_ports (map string_b
     (cc (c.in-Ok-Some-CountedReplayCase.ensures.value, c.in-Ok-Some-CountedReplayCase.field-0-is, c.in-Ok-Some-CountedReplayCase.field-0-0-is)) refl refl
     c.counted_replay_case_command.ensures.delivers
 
+-- the words ask for a run with its counts, which was answered
+pub returns-in-Ok-Some-CountedRun-clause-answers : goal.returns-in-Ok-Some-CountedRun-clause-answers
+returns-in-Ok-Some-CountedRun-clause-answers g c = by_ports (map string_bytes c.args.words.now) _ _ (Some (commands.CountedRun _ _))
+    (cc (c.in-Ok-Some-CountedRun.ensures.value, c.in-Ok-Some-CountedRun.field-0-is, c.in-Ok-Some-CountedRun.field-0-0-is)) refl refl
+    c.counted_run_command.ensures.delivers
+
+-- the words ask for a run of a case with its counts, which was answered
+pub returns-in-Ok-Some-CountedRunCase-clause-answers : goal.returns-in-Ok-Some-CountedRunCase-clause-answers
+returns-in-Ok-Some-CountedRunCase-clause-answers g c = by_ports (map string_bytes c.args.words.now) _ _ (Some (commands.CountedRunCase _ _))
+    (cc (c.in-Ok-Some-CountedRunCase.ensures.value, c.in-Ok-Some-CountedRunCase.field-0-is, c.in-Ok-Some-CountedRunCase.field-0-0-is)) refl refl
+    c.counted_run_case_command.ensures.delivers
+
+-- the words ask to resume with counts, which was answered
+pub returns-in-Ok-Some-CountedResume-clause-answers : goal.returns-in-Ok-Some-CountedResume-clause-answers
+returns-in-Ok-Some-CountedResume-clause-answers g c = by_ports (map string_bytes c.args.words.now) _ _ (Some (commands.CountedResume _ _))
+    (cc (c.in-Ok-Some-CountedResume.ensures.value, c.in-Ok-Some-CountedResume.field-0-is, c.in-Ok-Some-CountedResume.field-0-0-is)) refl refl
+    c.counted_resume_command.ensures.delivers
+
 -- the words ask to resume, which was answered
 pub returns-in-Ok-Some-Resume-clause-answers : goal.returns-in-Ok-Some-Resume-clause-answers
 returns-in-Ok-Some-Resume-clause-answers g c = by_command (map string_bytes c.args.words.now) _ _ (Some (commands.Resume _ _))

@@ -2,7 +2,7 @@ use Rattle.std.proofs.Common.{subst}
 use Rattle.ppm_core.specs.Situation.{Situation}
 use Rattle.ppm_loading.specs.Loading.{OpensRun}
 use Rattle.ppm_loading.proofs.LoadingLemmas.{table_opens}
-use Rattle.ppm_loading.proofs.loading.share_code.Goals as goal
+use Rattle.ppm_loading.proofs.loading.share_code_to_count.Goals as goal
 
 -- the table was told the image's words
 pub returns-clause-opens : goal.returns-clause-opens

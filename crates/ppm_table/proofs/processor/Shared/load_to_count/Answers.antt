@@ -1,11 +1,12 @@
-use Rattle.std.proofs.Common.{◌≡◌, ◌+◌, ◌<◌, List, [], ℕ, drop, length, sym, ap, subst, arith, ◌∙◌}
+use Rattle.std.proofs.Common.{◌≡◌, ◌+◌, ◌<◌, List, [], length, sym, ap, subst, arith, ◌∙◌}
 use Rattle.ppm_cells.specs.declared.shape.Shape.{Shape}
 use Rattle.ppm_table.specs.declared.view.Deed.{Deed}
-use Rattle.ppm_table.specs.Run.{padding, Mine, deeds_in, stands_by}
+use Rattle.ppm_table.specs.Counting.{counts_by}
+use Rattle.ppm_table.specs.Run.{Mine, deeds_in, stands_by}
 use Rattle.ppm_table.specs.Shown.{InOrder, AllNew, IsOf, deeds_of_processor, opening_of}
 use Rattle.ppm_table.proofs.Orders.{in_order_more, new_more}
 use Rattle.ppm_table.proofs.Kept as kept
-use Rattle.ppm_table.proofs.processor.Shared.load.Goals as goal
+use Rattle.ppm_table.proofs.processor.Shared.load_to_count.Goals as goal
 
 pub of_words-requires : goal.of_words-requires
 of_words-requires c =
@@ -25,6 +26,7 @@ loop-own-preserved c =
       table = ap (λ x. x.table_id) e.seat ∙ t.table.1 ∙ i.0;
       holds = e.holds s.shape s.code less;
       stands = e.lost s.shape s.code ∙ sym (ap (λ (ds : List Deed). stands_by (opening_of s) p.local.own ds) none);
+      counts = λ on. e.none ∙ sym (ap (λ (ds : List Deed). counts_by (opening_of s) p.local.own ds) none);
     } in (
       t.table.0 ∙ i.0,
       t.views.0,

@@ -1,0 +1,10 @@
+use Rattle.std.proofs.Common.{◌≡◌, ◌-◌, ◌≤◌}
+use Rattle.ppm_outcomes.specs.Room.{most_given}
+use Rattle.ppm_outcomes.proofs.counting.most_given.Given as goal
+
+-- the most of the places so far
+abbrev pub invariant-loop-place : goal.invariant-loop-place
+invariant-loop-place l = (l.most ≡ most_given l.closed.shape l.closed.words l.place) × (l.place ≤ l.processors)
+
+abbrev pub decreases-loop-place : goal.decreases-loop-place
+decreases-loop-place l = l.processors - l.place
