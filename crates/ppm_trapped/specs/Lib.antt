@@ -1,0 +1,5 @@
+pub mod Arguments
+pub mod Frames
+pub mod Sites
+pub mod Readings
+pub mod Walks

@@ -1,0 +1,22 @@
+//! Where a run of the serial meaning traps: the procedure, and what its names stand for there.
+//! Model: a relation says which points a run reaches, by the rules of the meaning
+//! (`specs/Sites.antt`); what is read at a point is a list (`specs/Readings.antt`).
+//! Contract: the point that is told is reached, and what is evaluated there has the trap
+//! (`specs/Walks.antt`).
+//! Stands on `ppm_tree`.
+//! An interpreter by recursion over the tree, after the rules of the meaning one by one.
+#![tactic(auto)]
+
+mod entering;
+mod evaluating;
+mod frame;
+mod halt;
+mod program;
+mod reading;
+mod region;
+mod store;
+mod told;
+mod walking;
+
+pub use program::{LEVEL_LIMIT, trap};
+pub use told::{Held, Reading, Told};
