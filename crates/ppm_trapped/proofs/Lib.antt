@@ -3,3 +3,4 @@ pub mod FrameLemmas
 pub mod WalkLemmas
 pub mod ArmLemmas
 pub mod ProgramLemmas
+pub mod SiteLemmas
