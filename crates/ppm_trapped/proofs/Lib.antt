@@ -4,3 +4,5 @@ pub mod WalkLemmas
 pub mod ArmLemmas
 pub mod ProgramLemmas
 pub mod SiteLemmas
+pub mod OnePointLemmas
+pub mod SomePointLemmas

@@ -12,26 +12,26 @@ use Rattle.ppm_trapped.specs.Sites.{Deed, Does, Gives, Point, trap_of, statement
 use Rattle.ppm_trapped.specs.Sites.{Itself, InChosen, InLoop, Again, InCall, InLeft, InRight, InParts, InElement, First, Later, InBody, AtGive}
 use Rattle.ppm_trapped.specs.Correct.{TrapPointsTrap}
 
-trap_is : {A : Type 0} (r : Result A TrapAt) (stop : TrapAt) → trap_of r ≡ Some stop → r ≡ Err stop
+pub trap_is : {A : Type 0} (r : Result A TrapAt) (stop : TrapAt) → trap_of r ≡ Some stop → r ≡ Err stop
 trap_is (Ok x) stop e = cc
 trap_is (Err s) stop e = cc
 
 module _ (ps : List Procedure) where
   -- runs to a trap
-  record BlockTraps (b : Block) (f : Frame) (a : Arrays) (stop : TrapAt) : Type 0 where
-    counts : Counts
-    arrays : Arrays
-    runs : Runs Plain ps b f a counts (Trapped stop arrays)
+  pub record BlockTraps (b : Block) (f : Frame) (a : Arrays) (stop : TrapAt) : Type 0 where
+    pub counts : Counts
+    pub arrays : Arrays
+    pub runs : Runs Plain ps b f a counts (Trapped stop arrays)
 
   record LoopTraps (e : Expression) (s : Block) (f : Frame) (a : Arrays) (stop : TrapAt) : Type 0 where
     counts : Counts
     arrays : Arrays
     loops : Loops Plain ps e s f a counts (Trapped stop arrays)
 
-  record ProcedureTraps (p : Procedure) (f : Frame) (a : Arrays) (stop : TrapAt) : Type 0 where
-    counts : Counts
-    arrays : Arrays
-    enters : Enters Plain ps p f a counts (Trapped stop arrays)
+  pub record ProcedureTraps (p : Procedure) (f : Frame) (a : Arrays) (stop : TrapAt) : Type 0 where
+    pub counts : Counts
+    pub arrays : Arrays
+    pub enters : Enters Plain ps p f a counts (Trapped stop arrays)
 
   -- the statement itself
   itself : (s : Statement) (b : Block) (f : Frame) (a : Arrays) (stop : TrapAt) → statement_trap ps f a s ≡ Some stop → BlockTraps (Then s b) f a stop
@@ -73,8 +73,8 @@ module _ (ps : List Procedure) where
   }
   itself (tree.Each i x r s) b f a stop h = cc
 
-  -- the blocks of an `each` that have ended, and those behind them
-  sweeps_on : (i x : Named) (s : Block) (r : Region) (f : Frame) {from n m : ℕ} {a a' : Arrays} {j k : Counts} {l : Locals} {u y : End Locals}
+  -- the blocks of an `each` that have ended, and those after them
+  pub sweeps_on : (i x : Named) (s : Block) (r : Region) (f : Frame) {from n m : ℕ} {a a' : Arrays} {j k : Counts} {l : Locals} {u y : End Locals}
       → Sweeps Plain ps i x s r f from n a j u → u ≡ Ended l a' → Sweeps Plain ps i x s r f (from + n) m a' k y
       → (c : Counts) × Sweeps Plain ps i x s r f from (n + m) a c y
   sweeps_on i x s r f {m = m} {a' = a'} {k = k} {y = y} (Swept _ _ _ _ _ from a) e w =
@@ -92,11 +92,14 @@ module _ (ps : List Procedure) where
   sweeps_on i x s r f {m = m} {a' = a'} {k = k} {y = y} (Sweep _ _ _ _ _ from n a {j = j} {y = Ended l b} {z = z} run on rest) e w =
       let o : from + suc n ≡ suc from + n = omega arith in
       let q = sweeps_on i x s r f rest e (subst (λ (q : ℕ). Sweeps Plain ps i x s r f q m a' k y) o w) in
-      (both (spent 8) (both j q.0), Sweep i x s r f from (n + m) a run refl q.1)
+      let longer : suc (n + m) ≡ suc n + m = omega arith in (
+        both (spent 8) (both j q.0),
+        subst (λ (size : ℕ). Sweeps Plain ps i x s r f from size a (both (spent 8) (both j q.0)) y) longer (Sweep i x s r f from (n + m) a run refl q.1),
+      )
   sweeps_on i x s r f (Sweep _ _ _ _ _ from n a {y = Trapped stop b} run on rest) e w = cc
   sweeps_on i x s r f (SweepStops _ _ _ _ _ from n a b stop plain run) e w = cc
 
-  -- what stands behind a statement that has ended
+  -- what comes after a statement that has ended
   follows_nil : {f : Frame} {y z : End Locals} {k : Counts} {l : Locals} {a : Arrays} → Follows Plain ps Nil f y k z → z ≡ Ended l a → y ≡ Ended l a
   follows_nil (GoesOn b f l a (Done g c)) e = e
   follows_nil (Stops b f stop a) e = e
@@ -137,7 +140,7 @@ module _ (ps : List Procedure) where
         record { counts = both (spent 1) (both k w.counts); arrays = w.arrays; loops = Turns e s f a a' v l said holds_ run w.loops }
 
     -- a statement
-    meets : (p : Procedure) (s : Statement) (b : Block) (f : Frame) (a : Arrays) (z : Point) (stop : TrapAt) → Meets ps p s f a z
+    pub meets : (p : Procedure) (s : Statement) (b : Block) (f : Frame) (a : Arrays) (z : Point) (stop : TrapAt) → Meets ps p s f a z
         → deed_trap ps z.frame z.arrays z.deed ≡ Some stop → BlockTraps (Then s b) f a stop
     meets p s b f a z stop (Itself _ _ _ _) h = itself s b f a stop h
     meets p s b f a z stop (InChosen _ e u t _ _ v _ said m) h =
@@ -179,7 +182,7 @@ module _ (ps : List Procedure) where
         }
 
     -- a block
-    reaches : (p : Procedure) (b : Block) (f : Frame) (a : Arrays) (z : Point) (stop : TrapAt) → Reaches ps p b f a z
+    pub reaches : (p : Procedure) (b : Block) (f : Frame) (a : Arrays) (z : Point) (stop : TrapAt) → Reaches ps p b f a z
         → deed_trap ps z.frame z.arrays z.deed ≡ Some stop → BlockTraps b f a stop
     reaches p b f a z stop (First _ s d _ _ _ m) h = meets p s d f a z stop m h
     reaches p b f a z stop (Later _ s d _ _ a' l k _ run m) h =
@@ -188,7 +191,7 @@ module _ (ps : List Procedure) where
         record { counts = q.0; arrays = w.arrays; runs = q.1 }
 
     -- a procedure
-    begins : (p : Procedure) (f : Frame) (a : Arrays) (z : Point) (stop : TrapAt) → Begins ps p f a z
+    pub begins : (p : Procedure) (f : Frame) (a : Arrays) (z : Point) (stop : TrapAt) → Begins ps p f a z
         → deed_trap ps z.frame z.arrays z.deed ≡ Some stop → ProcedureTraps p f a stop
     begins p f a z stop (InBody _ _ _ _ m) h =
         let w = reaches p p.body f a z stop m h in

@@ -1,5 +1,5 @@
--- What is told of a trap is one of the serial meaning.
-use Rattle.std.specs.Prelude.{ℤ}
+-- What is told of a trap is the one of the serial meaning: its points and its traps belong together.
+use Rattle.std.specs.Prelude.{◌≡◌}
 use Rattle.ppm_tree.specs.Tree.{ProgramTree}
 use Rattle.ppm_tree.specs.State.{TrapAt, Arrays}
 use Rattle.ppm_tree.specs.Meaning.{Plain, Counts, Trapped}
@@ -11,3 +11,12 @@ use Rattle.ppm_trapped.specs.Sites.{Point, TrapsAt}
 abbrev pub TrapPointsTrap : Type 0
 TrapPointsTrap = (t : ProgramTree) (z : Point) (stop : TrapAt) → TrapsAt t z stop
     → (k : Counts) × (a : Arrays) × Means Plain t (values_of (initial_arrays t)) k (Trapped stop a)
+
+-- a program traps at one point at most
+abbrev pub TrapPointsAreOne : Type 0
+TrapPointsAreOne = (t : ProgramTree) (y z : Point) (s stop : TrapAt) → TrapsAt t y s → TrapsAt t z stop → y ≡ z
+
+-- a program whose meaning is a run to a trap traps at a point with it
+abbrev pub TrapsHavePoints : Type 0
+TrapsHavePoints = (t : ProgramTree) (k : Counts) (stop : TrapAt) (a : Arrays) → Means Plain t (values_of (initial_arrays t)) k (Trapped stop a)
+    → (z : Point) × TrapsAt t z stop
