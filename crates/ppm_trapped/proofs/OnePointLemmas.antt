@@ -1,13 +1,12 @@
 -- Two points that a run reaches and at which it traps are one: what is about to be done at the first one is never passed.
-use Rattle.std.proofs.Common.{◌≡◌, ◌<◌, ◌⊎◌, ℕ, zero, suc, ◌+◌, ◌-◌, ℤ, true, List, Option, Some, None, Result, Ok, Err, refl, sym, ap, subst, arith, inl, inr}
+use Rattle.std.proofs.Common.{◌≡◌, ◌⊎◌, ℕ, zero, suc, ◌+◌, ℤ, List, Option, Some, refl, sym, ap, subst, arith, inl, inr}
 use Rattle.ppm_tree.specs.declared.named.Named.{Named}
-use Rattle.ppm_tree.specs.Tree.{Expression, Side, Statement, Block, Nil, Then, While, Split, Give, Procedure}
-use Rattle.ppm_tree.specs.Tree as tree
+use Rattle.ppm_tree.specs.Tree.{Statement, Block, Nil, While, Give, Procedure}
 use Rattle.ppm_tree.specs.Values.{holds}
 use Rattle.ppm_tree.specs.State.{TrapAt, then_with, Region, Locals, Frame, Arrays, split_at, evaluate, with_locals, procedure_named, entered, both_entered}
-use Rattle.ppm_tree.specs.Meaning.{Plain, Counts, spent, both, End, Ended, Trapped, arrays_of, chosen, with_parts, with_element, Runs, Enters, Sweeps, SweepStops}
+use Rattle.ppm_tree.specs.Meaning.{Plain, Counts, spent, both, Ended, Trapped, arrays_of, chosen, with_parts, with_element, Runs, Enters, Sweeps, SweepStops}
 use Rattle.ppm_tree.proofs.OneEnd.{ok_same, not_both, no_end, same_value, one, one_enters, one_sweeps}
-use Rattle.ppm_trapped.specs.Sites.{Does, Gives, Point, statement_trap, deed_trap, Meets, Reaches, Begins, TrapsAt}
+use Rattle.ppm_trapped.specs.Sites.{Does, Gives, Point, statement_trap, deed_trap, Meets, Reaches, Begins}
 use Rattle.ppm_trapped.specs.Sites.{Itself, InChosen, InLoop, Again, InCall, InLeft, InRight, InParts, InElement, First, Later, InBody, AtGive}
 use Rattle.ppm_trapped.specs.Correct.{TrapPointsAreOne}
 use Rattle.ppm_trapped.proofs.SiteLemmas.{trap_is, BlockTraps, ProcedureTraps, meets, reaches, begins, sweeps_on}
@@ -86,10 +85,10 @@ module _ (ps : List Procedure) where
   one_element g h i x s r k l front front' m n (inl e) = e
   one_element {p = p} {f = f} {a = a} {c = c} {d = d} {z = z} {j = j} g h i x s r k l front front' m n (inr (inl e)) =
       absurd (no_sweep i x s r f e.more front' (reaches ps p s (with_element f r l i x) d z h.0 n h.1)
-          (subst (λ (k : ℕ). Sweeps Plain ps i x s r f 0 k a j (Ended f.locals c)) (sym e.below) front))
+      (subst (λ (k : ℕ). Sweeps Plain ps i x s r f 0 k a j (Ended f.locals c)) (sym e.below) front))
   one_element {p = p} {f = f} {a = a} {c = c} {d = d} {y = y} {o = o} g h i x s r k l front front' m n (inr (inr e)) =
       absurd (no_sweep i x s r f e.more front (reaches ps p s (with_element f r k i x) c y g.0 m g.1)
-          (subst (λ (l : ℕ). Sweeps Plain ps i x s r f 0 l a o (Ended f.locals d)) (sym e.below) front'))
+      (subst (λ (l : ℕ). Sweeps Plain ps i x s r f 0 l a o (Ended f.locals d)) (sym e.below) front'))
 
   mutual
     one_meets : {p : Procedure} {s : Statement} {f : Frame} {a : Arrays} {y z : Point} → IsTrap y → IsTrap z → Meets ps p s f a y → Meets ps p s f a z → y ≡ z
@@ -103,28 +102,28 @@ module _ (ps : List Procedure) where
     one_meets g h (Again p e s f a c v l k y is hold run m) (Again _ _ _ _ _ d w o j z is' hold' run' n) =
         let q = (one Plain ps run' run).1 in
         one_meets g h m (subst (λ (c : Arrays). Meets ps p (While e s) (with_locals f l) c z) (ap arrays_of q)
-            (subst (λ (l : Locals). Meets ps p (While e s) (with_locals f l) d z) (same_value q) n))
+        (subst (λ (l : Locals). Meets ps p (While e s) (with_locals f l) d z) (same_value q) n))
     one_meets g h (InCall p s f b a y is m) (InCall _ _ _ c _ z is' n) =
         one_begins g h m (subst (λ (b : Frame). Begins ps (procedure_named ps s.callee.name) b a z) (ok_same is' is) n)
     one_meets g h (InLeft p s t f b k a y is m) (InLeft _ _ _ _ c j _ z is' n) =
         one_begins g h m (subst (λ (b : Frame). Begins ps (procedure_named ps s.callee.name) b a z) (ap (λ (q : Frame × Frame). q.0) (ok_same is' is)) n)
     one_meets g h (InLeft p s t f b k a y is m) (InRight _ _ _ _ c j _ d v i z is' left n) =
         absurd (no_procedure (begins ps (procedure_named ps s.callee.name) b a y g.0 m g.1)
-            (subst (λ (b : Frame). Enters Plain ps (procedure_named ps s.callee.name) b a i (Ended v d)) (ap (λ (q : Frame × Frame). q.0) (ok_same is' is)) left))
+        (subst (λ (b : Frame). Enters Plain ps (procedure_named ps s.callee.name) b a i (Ended v d)) (ap (λ (q : Frame × Frame). q.0) (ok_same is' is)) left))
     one_meets g h (InRight p s t f b k a d v i y is left m) (InLeft _ _ _ _ c j _ z is' n) =
         absurd (no_procedure (begins ps (procedure_named ps s.callee.name) c a z h.0 n h.1)
-            (subst (λ (b : Frame). Enters Plain ps (procedure_named ps s.callee.name) b a i (Ended v d)) (ap (λ (q : Frame × Frame). q.0) (ok_same is is')) left))
+        (subst (λ (b : Frame). Enters Plain ps (procedure_named ps s.callee.name) b a i (Ended v d)) (ap (λ (q : Frame × Frame). q.0) (ok_same is is')) left))
     one_meets g h (InRight p s t f b k a d v i y is left m) (InRight _ _ _ _ c j _ o w u z is' left' n) =
         let q = (one_enters Plain ps (subst (λ (b : Frame). Enters Plain ps (procedure_named ps s.callee.name) b a u (Ended w o)) (ap (λ (q : Frame × Frame). q.0) (ok_same is' is)) left') left).1 in
         one_begins g h m (subst (λ (d : Arrays). Begins ps (procedure_named ps t.callee.name) k d z) (ap arrays_of q)
-            (subst (λ (k : Frame). Begins ps (procedure_named ps t.callee.name) k o z) (ap (λ (q : Frame × Frame). q.1) (ok_same is' is)) n))
+        (subst (λ (k : Frame). Begins ps (procedure_named ps t.callee.name) k o z) (ap (λ (q : Frame × Frame). q.1) (ok_same is' is)) n))
     one_meets g h (InParts p line r e x u s f a k y is m) (InParts _ _ _ _ _ _ _ _ _ j z is' n) =
         one_reaches g h m (subst (λ (k : ℕ). Reaches ps p s (with_parts f (f.regions r.name) k x u) a z) (ok_same is' is) n)
     one_meets g h (InElement p i x r s f a c k j y below front m) (InElement _ _ _ _ _ _ _ d l o z below' front' n) =
         let e = one_element g h i x s (f.regions r.name) k l front front' m n (apart l k) in
         let q = (one_sweeps Plain ps (subst (λ (l : ℕ). Sweeps Plain ps i x s (f.regions r.name) f 0 l a o (Ended f.locals d)) e front') front).1 in
         one_reaches g h m (subst (λ (c : Arrays). Reaches ps p s (with_element f (f.regions r.name) k i x) c z) (ap arrays_of q)
-            (subst (λ (l : ℕ). Reaches ps p s (with_element f (f.regions r.name) l i x) d z) e n))
+        (subst (λ (l : ℕ). Reaches ps p s (with_element f (f.regions r.name) l i x) d z) e n))
 
     one_reaches : {p : Procedure} {b : Block} {f : Frame} {a : Arrays} {y z : Point} → IsTrap y → IsTrap z → Reaches ps p b f a y → Reaches ps p b f a z → y ≡ z
     one_reaches g h (First p s b f a y m) (First _ _ _ _ _ z n) = one_meets g h m n
@@ -133,7 +132,7 @@ module _ (ps : List Procedure) where
     one_reaches g h (Later p s b f a c l k y run m) (Later _ _ _ _ _ d o j z run' n) =
         let q = (one Plain ps run' run).1 in
         one_reaches g h m (subst (λ (c : Arrays). Reaches ps p b (with_locals f l) c z) (ap arrays_of q)
-            (subst (λ (l : Locals). Reaches ps p b (with_locals f l) d z) (same_value q) n))
+        (subst (λ (l : Locals). Reaches ps p b (with_locals f l) d z) (same_value q) n))
 
     one_begins : {p : Procedure} {f : Frame} {a : Arrays} {y z : Point} → IsTrap y → IsTrap z → Begins ps p f a y → Begins ps p f a z → y ≡ z
     one_begins g h (InBody p f a y m) (InBody _ _ _ z n) = one_reaches g h m n

@@ -1,14 +1,14 @@
 -- A run that reaches a point at which what is evaluated traps is a run to that trap.
-use Rattle.std.proofs.Common.{◌≡◌, ◌<◌, ◌≤◌, ℕ, zero, suc, ◌+◌, ◌-◌, ℤ, Bool, true, false, List, Option, Some, None, Result, Ok, Err, refl, sym, ap, subst, arith, ◌∙◌}
+use Rattle.std.proofs.Common.{◌≡◌, ℕ, suc, ◌+◌, ◌-◌, ℤ, List, Option, Some, Result, Ok, Err, refl, sym, ap, subst, arith, ◌∙◌}
 use Rattle.ppm_tree.specs.declared.named.Named.{Named}
 use Rattle.ppm_tree.specs.Tree.{Expression, Side, Statement, Block, Nil, Then, Let, Assign, Put, If, While, Split, Give, Procedure}
 use Rattle.ppm_tree.specs.Tree as tree
 use Rattle.ppm_tree.specs.State.{TrapAt, then_with, Region, Locals, Frame, Arrays, split_at, evaluate, put_values, with_word, with_local, with_locals, procedure_named, entered, both_entered}
-use Rattle.ppm_tree.specs.Meaning.{Plain, Counts, spent, both, none, began, forked, swept, give_turn, given, End, Ended, Trapped, end_of, assigned, stored}
+use Rattle.ppm_tree.specs.Meaning.{Plain, Counts, spent, both, none, began, forked, swept, give_turn, given, End, Ended, Trapped, end_of}
 use Rattle.ppm_tree.specs.Meaning.{Call, Fork, Runs, Follows, Loops, Enters, Sweeps, with_element}
 use Rattle.ppm_tree.specs.Meaning.{Done, Lets, Assigns, Puts, Ifs, IfTraps, Whiles, Calls, CallTraps, Forks, ForkStops, ForkTraps, Splits, SplitTraps, Eaches}
-use Rattle.ppm_tree.specs.Meaning.{GoesOn, Stops, TestFails, TestTraps, Turns, TurnTraps, Enter, Swept, Sweep, SweepStops}
-use Rattle.ppm_trapped.specs.Sites.{Deed, Does, Gives, Point, trap_of, statement_trap, deed_trap, Meets, Reaches, Begins, TrapsAt}
+use Rattle.ppm_tree.specs.Meaning.{GoesOn, Stops, TestTraps, Turns, TurnTraps, Enter, Swept, Sweep, SweepStops}
+use Rattle.ppm_trapped.specs.Sites.{Point, trap_of, statement_trap, deed_trap, Meets, Reaches, Begins}
 use Rattle.ppm_trapped.specs.Sites.{Itself, InChosen, InLoop, Again, InCall, InLeft, InRight, InParts, InElement, First, Later, InBody, AtGive}
 use Rattle.ppm_trapped.specs.Correct.{TrapPointsTrap}
 

@@ -1,15 +1,14 @@
 -- A run to a trap reaches a point at which what is evaluated has this trap: by recursion on the run.
-use Rattle.std.proofs.Common.{◌≡◌, ◌<◌, ◌⊎◌, ℕ, zero, suc, ◌+◌, ℤ, pos, Bool, true, false, List, Option, Some, None, Result, Ok, Err, refl, sym, ap, subst, arith, inl, inr, ◌∙◌}
+use Rattle.std.proofs.Common.{◌≡◌, ◌<◌, ℕ, zero, suc, ◌+◌, ℤ, pos, List, Option, Some, None, Result, Ok, Err, refl, sym, ap, subst, arith, ◌∙◌}
 use Rattle.ppm_tree.specs.declared.named.Named.{Named}
 use Rattle.ppm_tree.specs.Tree.{Expression, Side, Statement, Block, Nil, Then, Let, Assign, Put, If, While, Split, Give, Procedure}
 use Rattle.ppm_tree.specs.Tree as tree
-use Rattle.ppm_tree.specs.Values.{holds}
-use Rattle.ppm_tree.specs.State.{TrapAt, then_with, Region, Locals, Frame, Arrays, split_at, evaluate, put_values, with_local, with_locals, with_word, procedure_named, entered, both_entered}
-use Rattle.ppm_tree.specs.Meaning.{Plain, Counts, spent, both, none, began, forked, swept, End, Ended, Trapped, arrays_of, end_of, assigned, stored, chosen, returned, joined, given, goes_on, first_trap, with_parts, with_element}
-use Rattle.ppm_tree.specs.Meaning.{Call, Fork, Runs, Follows, Loops, Enters, Sweeps}
+use Rattle.ppm_tree.specs.State.{TrapAt, Region, Locals, Frame, Arrays, evaluate, put_values, with_local, with_locals, with_word}
+use Rattle.ppm_tree.specs.Meaning.{Plain, Counts, spent, both, none, End, Ended, Trapped, end_of, returned, joined, given, with_element}
+use Rattle.ppm_tree.specs.Meaning.{Runs, Follows, Loops, Enters, Sweeps}
 use Rattle.ppm_tree.specs.Meaning.{Done, Lets, Assigns, Puts, Ifs, IfTraps, Whiles, Calls, CallTraps, Forks, ForkStops, ForkTraps, Splits, SplitTraps, Eaches}
 use Rattle.ppm_tree.specs.Meaning.{GoesOn, Stops, TestFails, TestTraps, Turns, TurnTraps, Enter, Swept, Sweep, SweepStops}
-use Rattle.ppm_trapped.specs.Sites.{Deed, Does, Gives, Point, trap_of, statement_trap, deed_trap, Meets, Reaches, Begins, TrapsAt}
+use Rattle.ppm_trapped.specs.Sites.{Gives, Point, trap_of, statement_trap, deed_trap, Meets, Reaches, Begins}
 use Rattle.ppm_trapped.specs.Sites.{Itself, InChosen, InLoop, Again, InCall, InLeft, InRight, InParts, InElement, First, Later, InBody, AtGive}
 use Rattle.ppm_trapped.specs.Correct.{TrapsHavePoints}
 use Rattle.ppm_trapped.proofs.SiteLemmas.{sweeps_on}
@@ -127,7 +126,7 @@ module _ (ps : List Procedure) where
     runs p stop (Forks s t b f g h a {x = Ended v d} {y = y} is left on right w) i =
         behind p (tree.Fork s t) b f a stop _ (λ l c q. (_, Forks s t Nil f g h a is left on right (ended f l c _ q)))
         (λ c q. within p (tree.Fork s t) b f a (moved (λ z m. InRight p s t f g h a d v _ z is left m)
-            (enters stop right (of_joined s.target t.target f v d y stop c q)))) (follows p stop w i)
+        (enters stop right (of_joined s.target t.target f v d y stop c q)))) (follows p stop w i)
     runs p stop (Forks s t b f g h a {x = Trapped o d} is left on right w) i = cc
     runs p stop (ForkStops s t b f g h a d o is plain left) i =
         within p (tree.Fork s t) b f a (moved (λ z m. InLeft p s t f g h a z is m) (enters stop left (ap (λ (o : TrapAt). Trapped o d) (trap_same i))))
@@ -139,7 +138,7 @@ module _ (ps : List Procedure) where
     runs p stop (Eaches i x r s b f a d w) e =
         behind p (tree.Each i x r s) b f a stop _ (λ l c q. (_, Eaches i x r s Nil f a d (ended f l c _ q)))
         (λ c q. within p (tree.Each i x r s) b f a (moved (λ z m. InElement p i x r s f a m.arrays m.index m.counts z m.below m.front m.reached)
-            (sweeps p i x s stop (f.regions r.name).length (omega arith) (Swept i x s (f.regions r.name) f 0 a) d q))) (follows p stop w e)
+        (sweeps p i x s stop (f.regions r.name).length (omega arith) (Swept i x s (f.regions r.name) f 0 a) d q))) (follows p stop w e)
 
     follows : (p : Procedure) {b : Block} {f : Frame} {y z : End Locals} {c : Arrays} {k : Counts} (stop : TrapAt) → Follows Plain ps b f y k z
         → z ≡ Trapped stop c → After p b f y stop
