@@ -13,7 +13,7 @@ use Rattle.ppm_cli.specs.Application.{ppm_application}
 use Rattle.ppm_cli.specs.CommandLine.{Number, OptionRule, processors, turns, room, slots, looks, seed, faults, schedule}
 use Rattle.ppm_cli.specs.CommandLine.{few_processors, after, saved_room, few_slots, size, count, capsules, arrays, racy}
 use Rattle.ppm_cli.specs.CommandLine.{copied_room, copied_slots, met, from, acts, runs}
-use Rattle.ppm_cli.specs.CommandLine.{traced_from, traced_acts, stated_plan, stated_schedule, steps, strands}
+use Rattle.ppm_cli.specs.CommandLine.{traced_from, traced_acts, stated_plan, stated_schedule, steps, strands, trap}
 use Rattle.ppm_cli.specs.Words.{run_options, serial_in, replay_options, resume_options, self_in, self_options, stop_options}
 use Rattle.ppm_cli.specs.Values.{number_in, number_given, value_of_digits, text_given}
 use Rattle.ppm_cli.specs.Words.{command_named, command_in, without_fault, command_of}
@@ -23,7 +23,7 @@ use Rattle.ppm_cli.specs.Values.{fitting_room, fitting_saved_room, room_given, s
 use Rattle.ppm_cli.specs.Words.{sweep_options, AreSwept, trace_options, AreTraced}
 use Rattle.ppm_cli.specs.Words.{strands_by, strands_in, drawn_options, AreDrawn}
 use Rattle.ppm_cli.specs.Values.{strands_form_given, swept_takeovers_given, traced_form_given, traced_lines_given}
-use Rattle.ppm_cli.specs.Words.{by_input, explain_by, explain_in, replay_by, replay_with, check_in, code_in, capsule_limit, with_input}
+use Rattle.ppm_cli.specs.Words.{by_input, explain_by, explain_in, explain_trap_of, explain_with, unless_stated, replay_by, replay_with, check_in, code_in, capsule_limit, with_input}
 use Rattle.ppm_cli.specs.Words.{by_any_input, command_for, replay_saved, stop_saved, trace_saved, with_any_input}
 use Rattle.ppm_cli.specs.Values.{are_counts_given, choice_given, explained_given, input_given, is_case_given, stated_given}
 use Rattle.ppm_cli.specs.declared.capsules.CapsuleLimit.{CapsuleLimit}
@@ -31,6 +31,7 @@ use Rattle.ppm_cli.specs.declared.command.Command.{Command}
 use Rattle.ppm_cli.specs.declared.command.Command.TheVariants as commands
 use Rattle.ppm_cli.specs.declared.example.SelfOptions.{SelfOptions}
 use Rattle.ppm_cli.specs.declared.explain.ExplainedText.{ExplainedText}
+use Rattle.ppm_cli.specs.declared.explain.ExplainedText.TheVariants as texts
 use Rattle.ppm_cli.specs.declared.input.InputKind.{InputKind}
 use Rattle.ppm_cli.specs.declared.input.InputKind.TheVariants as kinds
 use Rattle.ppm_cli.specs.declared.replay.ReplayOptions.{ReplayOptions}
@@ -298,13 +299,33 @@ explained_are text p (Some plan) None h = h
 explained_are text p None (Some schedule) h = h
 explained_are text p (Some plan) (Some schedule) h = tt
 
+-- so are the turns within which a trap is explained
+trap_of_are : (text : ExplainedText) (n : ℕ) → IsOfForm turns.form n → IfSome (explain_trap_of text n) IsInRange
+trap_of_are texts.Source n h = h
+trap_of_are texts.Listing n h = tt
+trap_of_are texts.Case n h = tt
+trap_of_are texts.Saved n h = tt
+
+unless_stated_are : (plan schedule : Option Text) (command : Option Command) → IfSome command IsInRange → IfSome (unless_stated plan schedule command) IsInRange
+unless_stated_are None None command h = h
+unless_stated_are (Some plan) None command h = tt
+unless_stated_are None (Some schedule) command h = tt
+unless_stated_are (Some plan) (Some schedule) command h = tt
+
+explain_with_are : (text : ExplainedText) (p : ℕ) (plan schedule : Option Text) (rows : List Row) (is_trap : Bool) → IsOfForm processors.form p
+    → IfSome (explain_with text p plan schedule rows is_trap) IsInRange
+explain_with_are text p plan schedule rows true h =
+    bound IsInRange (number_given turns rows) _ (λ n e. unless_stated_are plan schedule _ (trap_of_are text n (given turns _ _ n rows refl e)))
+explain_with_are text p plan schedule rows false h = explained_are text p plan schedule h
+
 explain_are : (rows : List Row) → IfSome (explain_in rows) IsInRange
 explain_are rows =
     bound IsInRange (explained_given rows) _ (λ text a.
     bound IsInRange (number_given processors rows) _ (λ p b.
     bound IsInRange (stated_given stated_plan rows) _ (λ plan c.
     bound IsInRange (stated_given stated_schedule rows) _ (λ schedule d.
-    explained_are text p plan schedule (given processors _ _ p rows refl b)))))
+    bound IsInRange (choice_given trap (false ∷ true ∷ []) rows) _ (λ is_trap e.
+    explain_with_are text p plan schedule rows is_trap (given processors _ _ p rows refl b))))))
 
 limit_are : (rows : List Row) → IfSome (capsule_limit rows) IsLimit
 limit_are rows = go (number_given capsules rows) (λ n e. given capsules _ _ n rows refl e) where

@@ -207,6 +207,10 @@ stated_plan = text "plan" "unstated"
 abbrev pub stated_schedule : OptionRule
 stated_schedule = text "schedule" "unstated"
 
+-- whether the trap of a source is explained
+abbrev pub trap : OptionRule
+trap = choice "trap" ("no" ∷ "yes" ∷ []) "no"
+
 -- ---- the commands
 
 -- the whole command line
@@ -230,5 +234,5 @@ command_line =
     ∷ command "trace"
     (processors ∷ traced_from ∷ traced_acts ∷ room ∷ slots ∷ takeover ∷ schedule ∷ traced_form ∷ only ∷ any_input ∷ [])
     ∷ command "show" []
-    ∷ command "explain" (explained ∷ stated_plan ∷ stated_schedule ∷ processors ∷ [])
+    ∷ command "explain" (explained ∷ stated_plan ∷ stated_schedule ∷ processors ∷ trap ∷ turns ∷ [])
     ∷ []
