@@ -1,6 +1,6 @@
 -- The command line as a table of rules: the commands, and their options with ranges and defaults.
 use Prim.Native.String.{String}
-use Rattle.std.specs.Prelude.{ℕ, Bool, true, false, List, [], ◌∷◌, codes, decimal, map, not, nat_eq}
+use Rattle.std.specs.Prelude.{ℕ, Bool, true, List, [], ◌∷◌, codes, decimal, map, not, nat_eq}
 use Rattle.clap.specs.Words.{Text}
 use Rattle.ppm_words.specs.Limits.{processor_limit, entry_limit, turn_limit}
 use Rattle.ppm_cells.specs.Limits.{most_pool_words, most_saved_pool_words}

@@ -9,7 +9,9 @@
 //! After the messages of compilers with a mark under the place; their words are this project's.
 #![tactic(auto)]
 
+mod bounds;
 mod declaring;
+mod fault;
 mod hints;
 mod meaning;
 mod names;

@@ -11,6 +11,7 @@ use ppm_commands::{
 use ppm_listing_reader::faults_tell_listings;
 use ppm_plan::have_one_answer as plans_have_one_answer;
 use ppm_program::have_one_answer;
+use ppm_rows::have_one_answer as tokens_have_one_answer;
 use ppm_trapped::{trap_points_are_one, traps_have_points};
 
 /// Where it is explained, a text has one answer: that it is accepted, or its refusal with its notes;
@@ -20,6 +21,7 @@ pub fn texts_have_one_answer()
 {
     // The law rests on these; the calls do nothing.
     have_one_answer();
+    tokens_have_one_answer();
     listings_have_one_answer();
     faults_tell_listings();
     cases_have_one_answer();

@@ -22,8 +22,9 @@ module _ (options : DrawnStrandsOptions) (o : Ports) where
   by_answer : (answer : Answer) → ReadHas case_limit (DrawnHas options) o.source answer → IsWritten o.out o.err answer (status_of answer)
       → DrawnSays options o (status_of answer)
   by_answer (answers.Fell lines c fall) h w = inl (lines, c, fall, h, w.err_takes.0)
-  by_answer (answers.InputRefused r) h w = inr (inl (r, h, w.err_takes.0))
-  by_answer (answers.ListingRefused r) h w = inr (inr (r, h, w.err_takes.0))
+  by_answer (answers.Untidy u) h w = inr (inl (u, h, w.err_takes.0))
+  by_answer (answers.InputRefused r) h w = inr (inr (inl (r, h, w.err_takes.0)))
+  by_answer (answers.ListingRefused r) h w = inr (inr (inr (r, h, w.err_takes.0)))
   by_answer (answers.AllStood runs) h w =
       let same = of_draws options h.2.0.code h.2.0.input (answers.AllStood runs) h.2.1 in (
         subst (λ (n : ℕ). ReadHas case_limit (DrawnHas options) o.source (answers.AllStood n)) same h,

@@ -32,8 +32,9 @@ module _ (options : StrandsOptions) (schedule : List ℕ) (o : Ports) where
   -- an answer that is written says the sentence of its status
   by : (answer : Answer) → Read o.source answer → IsWritten o.out o.err answer (status_of answer) → StrandsSays options schedule o (status_of answer)
   by (answers.PlanRefused number) h w = (record { number = number; refused = h.0; gets = w.err_takes.0 }, h.1)
-  by (answers.InputRefused r) h w = inr (inl (r, h, w.err_takes.0))
-  by (answers.ListingRefused r) h w = inr (inr (r, h, w.err_takes.0))
+  by (answers.Untidy u) h w = inr (inl (u, h, w.err_takes.0))
+  by (answers.InputRefused r) h w = inr (inr (inl (r, h, w.err_takes.0)))
+  by (answers.ListingRefused r) h w = inr (inr (inr (r, h, w.err_takes.0)))
   by (answers.Stood lines (came.Ended arrays)) h w = (lines, arrays, h, w.out_takes.0)
   by (answers.Stood lines (came.Trapped t line)) h w = (lines, t, line, h, w.out_takes.0)
   by (answers.Stood lines (came.Unfinished turns)) h w = (lines, turns, h, w.err_takes.0)

@@ -13,11 +13,13 @@ use Rattle.ppm_answers.specs.declared.sweep.Came.{Came}
 use Rattle.ppm_answers.specs.declared.answer.Answer.{Answer}
 use Rattle.ppm_answers.specs.declared.answer.Answer.TheVariants as answers
 use Rattle.ppm_cli.specs.declared.strands.DrawnStrandsOptions.{DrawnStrandsOptions}
+use Rattle.ppm_strands_command.specs.Cases.{OfTidy}
 use Rattle.ppm_strands_command.specs.Lines.{drawn_line}
 use Rattle.ppm_strands_command.specs.Strands.{answer_by, came_of, run_answer}
 use Rattle.ppm_strands_command.specs.Drawn.{OfDraws, HaveOneDrawnAnswer, drawn_answer, schedule_of}
 use Rattle.ppm_strands_command.proofs.CaseAnswers as case_answers
 use Rattle.ppm_strands_command.proofs.RunAnswers.{one_answer}
+use Rattle.ppm_strands_command.proofs.TidyAnswers.{one_of}
 
 -- what is there is not none
 not_none : (f : Option Fall) → f ≡ None → IsSome f → ⊥
@@ -25,8 +27,9 @@ not_none None e h = cc
 not_none (Some f) e h = cc
 
 module _ (o : DrawnStrandsOptions) (code : RacyParts) (input : List NamedArray) where
-  -- the answers of drawn runs
+  -- the answers of drawn runs, and that a store is not tidy
   abbrev pub IsOfDraws : Answer → Type 0
+  IsOfDraws (answers.Untidy s) = Unit {0}
   IsOfDraws (answers.Fell lines c fall) = Unit {0}
   IsOfDraws (answers.AllStood runs) = runs ≡ o.runs
   IsOfDraws answer = ⊥
@@ -34,9 +37,10 @@ module _ (o : DrawnStrandsOptions) (code : RacyParts) (input : List NamedArray) 
   abbrev Tells : Option DrawnRun → Type 0
   Tells found = TellsDrawn code input o.seed o.strands o.steps o.turns o.runs found
 
-  -- each answer of a case is that nothing fell, or tells a run in which something did
-  pub of_draws : (a : Answer) → OfDraws o code input a → IsOfDraws a
-  of_draws a h = subst IsOfDraws (sym h.tells) (by h.found h.is)
+  -- each answer of a case is that nothing fell, or tells a run in which something did, or a store
+  pub of_draws : (a : Answer) → OfTidy (OfDraws o) code input a → IsOfDraws a
+  of_draws a (inr h) = subst IsOfDraws (sym h.tells) tt
+  of_draws a (inl h) = subst IsOfDraws (sym h.1.tells) (by h.1.found h.1.is)
     where
       by_fall : (lines : List ℕ) (c : Came) (f : Option Fall) → IsSome f → IsOfDraws (answer_by lines c input f)
       by_fall lines c None there = absurd (not_none None refl there)
@@ -82,6 +86,7 @@ module _ (o : DrawnStrandsOptions) (code : RacyParts) (input : List NamedArray) 
 -- with all options
 pub have_one_drawn_answer : RacyFaultsTellCases → RunsAreOne → HaveOneDrawnAnswer
 have_one_drawn_answer law runs = record {
-  one = λ o. case_answers.one (OfDraws o) law (λ code input. case_one o code input runs);
-  front = λ o. case_answers.front (OfDraws o) law;
+  one = λ o.
+      case_answers.one (OfTidy (OfDraws o)) law (λ code input a b. one_of (OfDraws o) code input a b (case_one o code input runs a b));
+  front = λ o. case_answers.front (OfTidy (OfDraws o)) law;
 }

@@ -24,8 +24,9 @@ IsEnd (came.Trapped t line) = Unit {0}
 IsEnd (came.Unfinished turns) = Unit {0}
 IsEnd c = ⊥
 
--- the answers of a run of strands
+-- the answers of a run of strands, and that a store is not tidy
 abbrev pub IsOfRun : Answer → Type 0
+IsOfRun (answers.Untidy s) = Unit {0}
 IsOfRun (answers.Stood lines c) = IsEnd c
 IsOfRun (answers.Fell lines c fall) = Unit {0}
 IsOfRun answer = ⊥

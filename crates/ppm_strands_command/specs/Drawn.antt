@@ -11,7 +11,7 @@ use Rattle.ppm_cli.specs.declared.strands.DrawnStrandsOptions.{DrawnStrandsOptio
 use Rattle.ppm_answers.specs.declared.answer.Answer.{Answer}
 use Rattle.ppm_answers.specs.declared.answer.Answer.TheVariants as answers
 use Rattle.ppm_answers.specs.Reading.{AreOne, FrontsDecide, JudgingMay}
-use Rattle.ppm_strands_command.specs.Cases.{HasOfCase}
+use Rattle.ppm_strands_command.specs.Cases.{HasOfCase, OfTidy}
 use Rattle.ppm_strands_command.specs.Lines.{drawn_line}
 use Rattle.ppm_strands_command.specs.Strands.{run_answer}
 
@@ -24,7 +24,7 @@ abbrev pub drawn_answer : DrawnStrandsOptions → RacyParts → List NamedArray 
 drawn_answer o code input None = answers.AllStood o.runs
 drawn_answer o code input (Some d) = run_answer (drawn_line (o.seed + d.number) (schedule_of o code input d.number)) o.form input d.run
 
--- the answer of a case by schedules that are drawn
+-- the answer of a tidy case by schedules that are drawn
 pub record OfDraws (o : DrawnStrandsOptions) (code : RacyParts) (input : List NamedArray) (answer : Answer) : Type 0 where
   pub found : Option DrawnRun
   pub is : TellsDrawn code input o.seed o.strands o.steps o.turns o.runs found
@@ -32,7 +32,7 @@ pub record OfDraws (o : DrawnStrandsOptions) (code : RacyParts) (input : List Na
 
 -- that of a text: its case's, or its refusal
 abbrev pub DrawnHas : DrawnStrandsOptions → List ℕ → Answer → Type 0
-DrawnHas o = HasOfCase (OfDraws o)
+DrawnHas o = HasOfCase (OfTidy (OfDraws o))
 
 -- the answers of `strands` with such options
 abbrev pub DrawnMay : DrawnStrandsOptions → Port → Answer → Type 0

@@ -5,13 +5,14 @@ use Rattle.ppm_ports.specs.Outside.{Ports}
 use Rattle.ppm_case.specs.Rules.{case_limit}
 use Rattle.ppm_cli.specs.declared.strands.DrawnStrandsOptions.{DrawnStrandsOptions}
 use Rattle.ppm_answers.specs.declared.case.InputRefusal.{InputRefusal}
+use Rattle.ppm_answers.specs.declared.case.UntidyStore.{UntidyStore}
 use Rattle.ppm_answers.specs.declared.conflict.ListingRefusal.{ListingRefusal}
 use Rattle.ppm_answers.specs.declared.sweep.Came.{Came}
 use Rattle.ppm_answers.specs.declared.answer.Answer.{Answer}
 use Rattle.ppm_answers.specs.declared.answer.Answer.TheVariants as answers
 use Rattle.ppm_answers.specs.declared.status.Status.{Status}
 use Rattle.ppm_answers.specs.declared.status.Status.TheVariants as statuses
-use Rattle.ppm_answers.specs.Texts.{all_stood_text, fell_text, input_text, listing_text}
+use Rattle.ppm_answers.specs.Texts.{all_stood_text, fell_text, input_text, listing_text, untidy_text}
 use Rattle.ppm_answers.specs.Reading.{ReadHas}
 use Rattle.ppm_answers.specs.Rows.{PortsSay, TextRows, IsShown, IsDone}
 use Rattle.ppm_strands_command.specs.Drawn.{DrawnHas, DrawnMay}
@@ -29,6 +30,10 @@ module _ (options : DrawnStrandsOptions) (o : Ports) where
   abbrev pub WritesFall : Type 0
   WritesFall = (lines : List ℕ) × (c : Came) × (fall : List ℕ) × HasRead (answers.Fell lines c fall) × Gets o.err (fell_text lines c fall)
 
+  -- the code that was read has a store that is not tidy, and err got exactly the line of the first
+  abbrev pub WritesUntidy : Type 0
+  WritesUntidy = (u : UntidyStore) × HasRead (answers.Untidy u) × Gets o.err (untidy_text u)
+
   -- the text that was read is of no case, for a fault of its arrays or its root, and err got exactly its line
   abbrev pub WritesInputFault : Type 0
   WritesInputFault = (r : InputRefusal) × HasRead (answers.InputRefused r) × Gets o.err (input_text r)
@@ -40,7 +45,7 @@ module _ (options : DrawnStrandsOptions) (o : Ports) where
   -- what each status says; the others never come
   abbrev pub DrawnSays : Status → Type 0
   DrawnSays statuses.Ended = WritesAllStood
-  DrawnSays statuses.CodeRefused = WritesFall ⊎ WritesInputFault ⊎ WritesListingFault
+  DrawnSays statuses.CodeRefused = WritesFall ⊎ WritesUntidy ⊎ WritesInputFault ⊎ WritesListingFault
   DrawnSays status = PortsSay o status
 
   -- The rows of `strands` with such options. The answer that a text has is written, whichever it is.

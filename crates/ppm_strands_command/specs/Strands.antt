@@ -22,7 +22,7 @@ use Rattle.ppm_answers.specs.declared.answer.Answer.{Answer}
 use Rattle.ppm_answers.specs.declared.answer.Answer.TheVariants as answers
 use Rattle.ppm_answers.specs.Reading.{AreOne, FrontsDecide}
 use Rattle.ppm_loading.specs.Planned.{PlannedHas, PlannedMay}
-use Rattle.ppm_strands_command.specs.Cases.{HasOfCase}
+use Rattle.ppm_strands_command.specs.Cases.{HasOfCase, OfTidy}
 use Rattle.ppm_strands_command.specs.Lines.{done_lines, fall_text}
 
 -- what a run came to, by how the root's strand is over: the arrays that the words stand for, a trap, or that so many turns were made and it is not
@@ -48,7 +48,7 @@ answer_by lines c input (Some f) = answers.Fell lines c (fall_text input f)
 abbrev pub run_answer : (front : List ℕ) → StrandsForm → List NamedArray → StrandRun → Answer
 run_answer front form input run = answer_by (front ++ lines_of form input run) (came_of input run) input run.fall
 
--- the answer of a case by the items of a schedule: that of its run
+-- the answer of a tidy case by the items of a schedule: that of its run
 pub record OfSchedule (options : StrandsOptions) (items : List StrandItem) (code : RacyParts) (input : List NamedArray) (answer : Answer) : Type 0 where
   pub run : StrandRun
   pub is : IsRunOf code input items options.turns run
@@ -56,7 +56,7 @@ pub record OfSchedule (options : StrandsOptions) (items : List StrandItem) (code
 
 -- that of a text: its case's, or its refusal
 abbrev pub TextHas : StrandsOptions → List StrandItem → List ℕ → Answer → Type 0
-TextHas options items text answer = HasOfCase (OfSchedule options items) text answer
+TextHas options items text answer = HasOfCase (OfTidy (OfSchedule options items)) text answer
 
 -- that of a text with such a schedule: that the schedule is refused, or that by its items. Any number names a strand, so it is for as many as there are.
 abbrev pub StrandsHas : StrandsOptions → (schedule : List ℕ) → List ℕ → Answer → Type 0

@@ -8,6 +8,7 @@ use Rattle.ppm_case.specs.Rules.{case_limit}
 use Rattle.ppm_plan.specs.Strands.{strand_form}
 use Rattle.ppm_cli.specs.declared.strands.StrandsOptions.{StrandsOptions}
 use Rattle.ppm_answers.specs.declared.case.InputRefusal.{InputRefusal}
+use Rattle.ppm_answers.specs.declared.case.UntidyStore.{UntidyStore}
 use Rattle.ppm_answers.specs.declared.conflict.ListingRefusal.{ListingRefusal}
 use Rattle.ppm_answers.specs.declared.sweep.Came.{Came}
 use Rattle.ppm_answers.specs.declared.sweep.Came.TheVariants as came
@@ -15,7 +16,7 @@ use Rattle.ppm_answers.specs.declared.answer.Answer.{Answer}
 use Rattle.ppm_answers.specs.declared.answer.Answer.TheVariants as answers
 use Rattle.ppm_answers.specs.declared.status.Status.{Status}
 use Rattle.ppm_answers.specs.declared.status.Status.TheVariants as statuses
-use Rattle.ppm_answers.specs.Texts.{fell_text, input_text, listing_text, stood_err, stood_out}
+use Rattle.ppm_answers.specs.Texts.{fell_text, input_text, listing_text, stood_err, stood_out, untidy_text}
 use Rattle.ppm_answers.specs.Reading.{IsUnread, ReadHas}
 use Rattle.ppm_answers.specs.Rows.{PortsSay, PlannedRows, IsShown, IsDone}
 use Rattle.ppm_loading.specs.MachineRows.{RefusesPlan}
@@ -46,6 +47,10 @@ module _ (options : StrandsOptions) (schedule : List ℕ) (o : Ports) where
   abbrev pub WritesFall : Type 0
   WritesFall = (lines : List ℕ) × (c : Came) × (fall : List ℕ) × HasRead (answers.Fell lines c fall) × Gets o.err (fell_text lines c fall)
 
+  -- the code that was read has a store that is not tidy, and err got exactly the line of the first
+  abbrev pub WritesUntidy : Type 0
+  WritesUntidy = (u : UntidyStore) × HasRead (answers.Untidy u) × Gets o.err (untidy_text u)
+
   -- the text that was read is of no case, for a fault of its arrays or its root, and err got exactly its line
   abbrev pub WritesInputFault : Type 0
   WritesInputFault = (r : InputRefusal) × HasRead (answers.InputRefused r) × Gets o.err (input_text r)
@@ -59,7 +64,7 @@ module _ (options : StrandsOptions) (schedule : List ℕ) (o : Ports) where
   StrandsSays statuses.Ended = WritesArrays
   StrandsSays statuses.Trapped = WritesTrap
   StrandsSays statuses.OutOfTurns = WritesUnfinished
-  StrandsSays statuses.CodeRefused = WritesFall ⊎ WritesInputFault ⊎ WritesListingFault
+  StrandsSays statuses.CodeRefused = WritesFall ⊎ WritesUntidy ⊎ WritesInputFault ⊎ WritesListingFault
   StrandsSays statuses.WordsRefused = RefusesPlan strand_form schedule 1 o × IsUnread o.source
   StrandsSays status = PortsSay o status
 

@@ -1,13 +1,21 @@
 //! The case of a text, whose strands may race.
-ghost use Rattle.std.specs.Prelude.{◌≡◌, IfErr, IfOk};
+ghost use Rattle.std.specs.Prelude.{◌≡◌, IfErr, IfOk, MatchOption};
+ghost use Rattle.ppm_words.specs.Inputs.{IsInput};
+ghost use Rattle.ppm_code.specs.Tidy.{IsTidy};
+ghost use Rattle.ppm_racy.specs.Code.{plain_code as code_with_puts};
 ghost use Rattle.ppm_answers.specs.Reading.{TextMay};
 ghost use Rattle.ppm_loading.specs.Cases.{refusal_of};
+ghost use Rattle.ppm_loading.specs.Telling.{IsUntidy};
 ghost use Rattle.ppm_racy_case.specs.Case.{IsRacyCaseOf};
 ghost use Rattle.ppm_strands_command.specs.Cases.{RefusedHas};
 
-use ppm_answers::{Answer, InputRefusal, ListingRefusal};
+use ppm_answers::{Answer, InputRefusal, ListingRefusal, UntidyStore};
 use ppm_case::{CaseError, CaseFault};
+use ppm_loading::store_told;
+use ppm_racy::{RacyCode, plain_code};
 use ppm_racy_case::{RacyCase, read_racy_case};
+use ppm_war::untidy;
+use ppm_words::{NamedArray, NoMemory};
 use std::alloc::Global;
 
 /// The case of a text. `Err` is the answer where there is none.
@@ -35,5 +43,23 @@ fn refused_answer(fault: CaseFault, line: u32) -> Answer
             number: fault.number(),
             line,
         }),
+    }
+}
+
+/// The first store of a case that is not tidy; none exactly where its code, with a put in place of
+/// each exchange, is tidy.
+pub(crate) fn first_untidy(
+    alloc: Global,
+    code: &RacyCode,
+    input: &[NamedArray],
+) -> Result<Option<UntidyStore>, NoMemory>
+    requires { IsInput input.now }
+    ensures { IfOk result (λ found. MatchOption found (IsTidy (code_with_puts code.now))
+        (IsUntidy (code_with_puts code.now) input.now)) }
+{
+    let plain = plain_code(alloc, code)?;
+    match untidy(&plain) {
+        Some(store) => Ok(Some(store_told(&plain, input.len(), store))),
+        None => Ok(None),
     }
 }

@@ -4,18 +4,19 @@ ghost use Rattle.ppm_ports.specs.Ports.{port};
 ghost use Rattle.ppm_ports.specs.Outside.{ports};
 ghost use Rattle.ppm_words.specs.Inputs.{IsInput};
 ghost use Rattle.ppm_depth.specs.Start.{NamesArrays};
+ghost use Rattle.ppm_code.specs.Tidy.{IsTidy};
 ghost use Rattle.ppm_racy.specs.Code.{plain_code};
 ghost use Rattle.ppm_answers.specs.Reading.{TextMay};
 ghost use Rattle.ppm_cli.specs.Words.{AreDrawn};
 ghost use Rattle.ppm_strand_runs.specs.Draws.{TellsDrawn};
 ghost use Rattle.ppm_strand_runs.specs.Run.{IsRunOf};
-ghost use Rattle.ppm_strands_command.specs.Cases.{MayOf};
+ghost use Rattle.ppm_strands_command.specs.Cases.{MayOf, OfTidy};
 ghost use Rattle.ppm_strands_command.specs.Drawn.{DrawnHas, DrawnMay, OfDraws};
 ghost use Rattle.ppm_strands_command.specs.Drawn.{drawn_answer, schedule_of};
 ghost use Rattle.ppm_strands_command.specs.DrawnRows.{AreRunByDraws};
 ghost use Rattle.ppm_strands_command.specs.Lines.{drawn_line as line_of_drawn};
 
-use crate::cases::text_case;
+use crate::cases::{first_untidy, text_case};
 use crate::laws::drawn_strands_have_one_answer;
 use crate::lines::{push_items, push_word};
 use crate::telling::run_told;
@@ -74,7 +75,7 @@ fn text_answer(alloc: Global, options: DrawnStrandsOptions, text: &[u8]) -> Answ
     }
 }
 
-/// What is said of a case: the first of its runs in which something falls, or that there is none.
+/// What is said of a case: its first store that is not tidy, or what its runs come to.
 fn case_answer(
     alloc: Global,
     options: DrawnStrandsOptions,
@@ -84,7 +85,30 @@ fn case_answer(
     requires options { AreDrawn options }
     requires named { NamesArrays (plain_code code.now) input.now }
     requires input { IsInput input.now }
-    ensures { MayOf (OfDraws options) code.now input.now result }
+    ensures { MayOf (OfTidy (OfDraws options)) code.now input.now result }
+{
+    let Ok(found) = first_untidy(alloc, code, input) else {
+        return Answer::NoMemory;
+    };
+    match found {
+        Some(store) => Answer::Untidy(store),
+        None => tidy_answer(alloc, options, code, input),
+    }
+}
+
+/// What is said of a case whose code is tidy: the first of its runs in which something falls, or
+/// that there is none.
+fn tidy_answer(
+    alloc: Global,
+    options: DrawnStrandsOptions,
+    code: &RacyCode,
+    input: &[NamedArray],
+) -> Answer
+    requires options { AreDrawn options }
+    requires named { NamesArrays (plain_code code.now) input.now }
+    requires input { IsInput input.now }
+    requires tidy { IsTidy (plain_code code.now) }
+    ensures { MayOf (OfTidy (OfDraws options)) code.now input.now result }
 {
     match draws_answer(alloc, options, code, input) {
         Ok(answer) => answer,

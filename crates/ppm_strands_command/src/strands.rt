@@ -5,14 +5,15 @@ ghost use Rattle.ppm_ports.specs.Outside.{ports};
 ghost use Rattle.ppm_case.specs.Rules.{case_limit};
 ghost use Rattle.ppm_words.specs.Inputs.{IsInput};
 ghost use Rattle.ppm_depth.specs.Start.{NamesArrays};
+ghost use Rattle.ppm_code.specs.Tidy.{IsTidy};
 ghost use Rattle.ppm_racy.specs.Code.{plain_code};
 ghost use Rattle.ppm_answers.specs.Reading.{JudgingMay, TextMay};
 ghost use Rattle.ppm_cli.specs.Words.{AreOfStrands};
-ghost use Rattle.ppm_strands_command.specs.Cases.{MayOf};
+ghost use Rattle.ppm_strands_command.specs.Cases.{MayOf, OfTidy};
 ghost use Rattle.ppm_strands_command.specs.Strands.{OfSchedule, StrandsMay, TextHas};
 ghost use Rattle.ppm_strands_command.specs.StrandsRows.{AreRunBySchedule};
 
-use crate::cases::text_case;
+use crate::cases::{first_untidy, text_case};
 use crate::laws::strands_have_one_answer;
 use crate::telling::run_told;
 use ppm_answers::{Answer, Status, answer_of_read, deliver};
@@ -98,7 +99,7 @@ fn text_answer(alloc: Global, options: StrandsOptions, items: &[StrandItem], tex
     }
 }
 
-/// What is said of a case: what its run comes to.
+/// What is said of a case: its first store that is not tidy, or what its run comes to.
 fn case_answer(
     alloc: Global,
     options: StrandsOptions,
@@ -109,7 +110,30 @@ fn case_answer(
     requires options { AreOfStrands options }
     requires named { NamesArrays (plain_code code.now) input.now }
     requires input { IsInput input.now }
-    ensures { MayOf (OfSchedule options items.now) code.now input.now result }
+    ensures { MayOf (OfTidy (OfSchedule options items.now)) code.now input.now result }
+{
+    let Ok(found) = first_untidy(alloc, code, input) else {
+        return Answer::NoMemory;
+    };
+    match found {
+        Some(store) => Answer::Untidy(store),
+        None => tidy_answer(alloc, options, items, code, input),
+    }
+}
+
+/// What is said of a case whose code is tidy: what its run comes to.
+fn tidy_answer(
+    alloc: Global,
+    options: StrandsOptions,
+    items: &[StrandItem],
+    code: &RacyCode,
+    input: &[NamedArray],
+) -> Answer
+    requires options { AreOfStrands options }
+    requires named { NamesArrays (plain_code code.now) input.now }
+    requires input { IsInput input.now }
+    requires tidy { IsTidy (plain_code code.now) }
+    ensures { MayOf (OfTidy (OfSchedule options items.now)) code.now input.now result }
 {
     match schedule_answer(alloc, options, items, code, input) {
         Ok(answer) => answer,

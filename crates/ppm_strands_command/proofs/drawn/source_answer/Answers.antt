@@ -3,6 +3,7 @@ use Rattle.ppm_answers.specs.Reading.{TextMay, JudgingMay}
 use Rattle.ppm_answers.specs.declared.answer.Answer.TheVariants as answers
 use Rattle.ppm_case.specs.Rules.{case_limit}
 use Rattle.ppm_answers.proofs.Judged.{not_read, is_read}
+use Rattle.ppm_strands_command.specs.Cases.{OfTidy}
 use Rattle.ppm_strands_command.specs.Drawn.{DrawnHas, OfDraws}
 use Rattle.ppm_strands_command.proofs.CaseAnswers.{no_fault}
 use Rattle.ppm_strands_command.proofs.OneDrawnAnswer.{of_draws}
@@ -12,7 +13,7 @@ use Rattle.ppm_strands_command.proofs.drawn.source_answer.Goals as goal
 pub returns-in-Ok : goal.returns-in-Ok
 returns-in-Ok g c =
     is_read case_limit (DrawnHas c.args.options)
-    (no_fault (OfDraws c.args.options) (λ code input h. of_draws c.args.options code input answers.ReadFault h)) _ c.in-Ok.text.items
+    (no_fault (OfTidy (OfDraws c.args.options)) (λ code input h. of_draws c.args.options code input answers.ReadFault h)) _ c.in-Ok.text.items
     c.text_answer.result (record { whole = c.in-Ok.ensures.bytes; holds = c.in-Ok.ensures.cause })
     (subst (λ text. TextMay (DrawnHas c.args.options) text c.text_answer.result) c.deref.ensures.value c.text_answer.ensures)
 
