@@ -51,7 +51,7 @@ module _ (points : TrapPointsAreOne) where
       → IsTold u.procedures z b → a ≡ b
   one_told t u y z s stop a b e g h m n =
       of_points t y z s stop a b g (subst (λ (q : ProgramTree). TrapsAt q z stop) (sym e) h) m
-          (subst (λ (q : ProgramTree). IsTold q.procedures z b) (sym e) n)
+      (subst (λ (q : ProgramTree). IsTold q.procedures z b) (sym e) n)
 
 -- ---- the answers
 
