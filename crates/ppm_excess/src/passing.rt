@@ -153,11 +153,7 @@ fn first_in(alloc: Global, counted: Counted, block: &[Stmt]) -> Result<Option<Ex
 }
 
 /// What passes a bound first in a procedure.
-fn first_past(
-    alloc: Global,
-    counted: Counted,
-    procedure: &Proc,
-) -> Result<Option<Excess>, NoMemory>
+fn first_past(alloc: Global, counted: Counted, procedure: &Proc) -> Result<Option<Excess>, NoMemory>
     ensures { IfOk result (λ e. e ≡ excess_of (bound_of counted) (procedure_of procedure.now)) }
 {
     let whole = whole_past(counted, own_count(counted, procedure)?);

@@ -75,8 +75,8 @@ fn meaning_of(status: Status) -> &'static str {
         Status::NoMemory => "out of memory",
         Status::CodeRefused => {
             "code refused: of `check`, `depth` or `races` a conflict, a gap, an untidy store or a race,\n       \
-             the first one, of `sweep` an untidy store, of `strands` a run with `fallen: ..`, a change\n       \
-             that did not stand; of these, and wherever `--input case` stands, why what was read is no\n       \
+             the first one, of `sweep` and `strands` an untidy store, of `strands` a run with `fallen: ..`,\n       \
+             a change that did not stand; of these, and wherever `--input case` stands, why what was read is no\n       \
              listing or no case (docs/CODE.md)"
         }
         Status::NotWithin => {

@@ -20,6 +20,8 @@ use Rattle.ppm_interleaving.proofs.FallenLemmas.{still_back, still_reversed}
 use Rattle.ppm_interleaving.proofs.OnceLemmas.{AreOverOnce, Standing, comes_once, once_before}
 use Rattle.ppm_strand_runs.specs.declared.done.Fall.{Fall}
 use Rattle.ppm_strand_runs.specs.First.{AllStood, IsFirst, IsFirstFall}
+use Rattle.ppm_strand_runs.specs.Made.{IsMadeIn}
+use Rattle.ppm_strand_runs.proofs.MadeLemmas.{one_turn}
 use Rattle.ppm_strand_runs.proofs.ToldLemmas.{one_told}
 
 -- ---- lists
@@ -197,7 +199,10 @@ module _ (code : RacyParts) (array_words : ℕ) (root : FrameWord → ℕ) (arra
       let there = subst (λ (k : List Moment). IsFirstFallen code array_words root arrays k b.fallen) (sym same) g.is in
       let fallen : a.fallen ≡ b.fallen = one_fallen (moment f.turn f.deed ∷ f.before) here a.fallen b.fallen f.is there in
       let told = one_told code array_words root arrays (strand_of f.turn) a.deed b.deed (deeds f.before) f.deed f.told (same_told turn deed before g.told) in
-      λ i. record { fallen = fallen i; turn = number i; strand = strand i; deed = told i }
+      let made = one_turn code array_words root arrays a.fallen.strand a.fallen.number (moment f.turn f.deed ∷ f.before) here a.made b.made f.made
+      (subst (λ (x : Fallen). IsMadeIn code array_words root arrays x.strand x.number (moment f.turn f.deed ∷ f.before) b.made) (sym fallen)
+      (subst (λ (k : List Moment). IsMadeIn code array_words root arrays b.fallen.strand b.fallen.number k b.made) (sym same) g.made)) in
+      λ i. record { fallen = fallen i; made = made i; turn = number i; strand = strand i; deed = told i }
     where
       same_told : f.turn ≡ g.turn → f.deed ≡ g.deed → f.before ≡ g.before
           → IsTold code array_words root arrays (strand_of g.turn) b.deed (deeds g.before) g.deed

@@ -14,9 +14,12 @@ use Rattle.ppm_interleaving.specs.Owns.{AreRootWords}
 use Rattle.ppm_interleaving.specs.Shows.{Shows}
 use Rattle.ppm_strand_runs.specs.declared.done.Done.{Done}
 use Rattle.ppm_strand_runs.specs.declared.done.Fall.{Fall}
+use Rattle.ppm_strand_runs.specs.declared.made.Made.{Made}
 use Rattle.ppm_strand_runs.specs.declared.run.StrandRun.{StrandRun}
 use Rattle.ppm_strand_runs.specs.First.{IsFirstFall}
+use Rattle.ppm_strand_runs.specs.Made.{AreMade}
 use Rattle.ppm_strand_runs.specs.Run.{AreDone, Nothing, IsStart}
+use Rattle.ppm_strand_runs.proofs.MadeLemmas.{none_made}
 
 -- the words of arrays, counted
 pub counts_words : (input : List NamedArray) → value_count input ≡ word_count input
@@ -38,8 +41,8 @@ pub starts : (code : RacyParts) (input : List NamedArray) (slots words : List �
     → words ≡ words_in input
     → ((root : FrameWord → ℕ) (arrays : Words) → AreRootWords slots root → ((x : ℕ) → arrays x ≡ get_or words x 0)
     → Shows code (length words) root arrays [] run.machine)
-    → run.turns ≡ 0 → run.done.items ≡ [] → run.fall ≡ None → IsStart code input run
-starts code input slots words run of_slots of_words shows none nothing stands =
+    → run.turns ≡ 0 → run.done.items ≡ [] → run.made.items ≡ [] → run.fall ≡ None → IsStart code input run
+starts code input slots words run of_slots of_words shows none nothing unmade stands =
     let root = root_own (plain_code code) input in
     let arrays = words_of (words_in input) in
     let begins : Shows code (length words) root arrays [] run.machine =
@@ -49,5 +52,7 @@ starts code input slots words run of_slots of_words shows none nothing stands =
       shows = subst (λ (l : List ℕ). Shows code (length l) root arrays [] run.machine) of_words begins;
       turns = none;
       done = subst (λ (l : List Done). AreDone code (length (words_in input)) root arrays [] l) (sym nothing) Nothing;
+      made = subst (λ (l : List Made). AreMade code (length (words_in input)) root arrays [] l) (sym unmade)
+          (none_made code (length (words_in input)) root arrays);
       fall = subst (λ (f : Option Fall). IsFirstFall code (length (words_in input)) root arrays [] f) (sym stands) tt;
     }

@@ -11,6 +11,7 @@ use Rattle.ppm_interleaving.specs.Falls.{AllStand}
 use Rattle.ppm_interleaving.specs.Shows.{system, IsTold, IsFirstFallen}
 use Rattle.ppm_interleaving.specs.Turns.{Moment, moment, deeds, strand_of}
 use Rattle.ppm_strand_runs.specs.declared.done.Fall.{Fall}
+use Rattle.ppm_strand_runs.specs.Made.{IsMadeIn}
 
 module _ (code : RacyParts) (array_words : ℕ) (root : FrameWord → ℕ) (arrays : Words) where
   -- after each of these moments all stands
@@ -18,7 +19,8 @@ module _ (code : RacyParts) (array_words : ℕ) (root : FrameWord → ℕ) (arra
   AllStood [] = Unit {0}
   AllStood (m ∷ h) = AllStand (system code array_words root arrays) (m ∷ h) × AllStood h
 
-  -- of moments this is the first fall: it comes after the turn of this strand, with what that did; and after all moments before that all stands
+  -- of moments this is the first fall: it comes after the turn of this strand, with what that did, and the change was made in its turn; and after all
+  -- moments before that all stands
   pub record IsFirst (h : List Moment) (fall : Fall) : Type 0 where
     pub later : List Moment
     pub turn : Turn
@@ -27,6 +29,7 @@ module _ (code : RacyParts) (array_words : ℕ) (root : FrameWord → ℕ) (arra
     pub order : h ≡ later ++ moment turn deed ∷ before
     pub stood : AllStood before
     pub is : IsFirstFallen code array_words root arrays (moment turn deed ∷ before) fall.fallen
+    pub made : IsMadeIn code array_words root arrays fall.fallen.strand fall.fallen.number (moment turn deed ∷ before) fall.made
     pub number : fall.turn ≡ length before + 1
     pub strand : fall.strand ≡ strand_of turn
     pub told : IsTold code array_words root arrays (strand_of turn) fall.deed (deeds before) deed

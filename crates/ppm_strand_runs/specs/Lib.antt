@@ -1,4 +1,5 @@
 pub mod Order
+pub mod Made
 pub mod First
 pub mod Run
 pub mod Correct

@@ -18,8 +18,10 @@ use Rattle.ppm_interleaving.specs.Shows.{Shows, IsTold, system, finish_in}
 use Rattle.ppm_interleaving.specs.Turns.{Moment, moment, deeds, strand_of}
 use Rattle.ppm_strand_runs.specs.declared.done.Done.{Done}
 use Rattle.ppm_strand_runs.specs.declared.done.Fall.{Fall}
+use Rattle.ppm_strand_runs.specs.declared.made.Made.{Made}
 use Rattle.ppm_strand_runs.specs.declared.run.StrandRun.{StrandRun}
 use Rattle.ppm_strand_runs.specs.First.{IsFirstFall}
+use Rattle.ppm_strand_runs.specs.Made.{AreMade}
 use Rattle.ppm_strand_runs.specs.Order.{InOrder, turns_of}
 
 -- what is told of a turn: its deed, if others saw one
@@ -35,11 +37,12 @@ module _ (code : RacyParts) (array_words : ℕ) (root : FrameWord → ℕ) (arra
         → IsTold code array_words root arrays (strand_of turn) told (deeds h) d
         → AreDone (moment turn d ∷ h) (done ++ done_in (length h + 1) (strand_of turn) told)
 
-  -- a run has come along moments: its machine shows them, and it has their deeds and their first fall
+  -- a run has come along moments: its machine shows them, and it has their deeds, the turns of changes, and their first fall
   pub record HasCome (h : List Moment) (run : StrandRun) : Type 0 where
     pub shows : Shows code array_words root arrays h run.machine
     pub turns : run.turns ≡ length h
     pub done : AreDone h run.done.items
+    pub made : AreMade code array_words root arrays h run.made.items
     pub fall : IsFirstFall code array_words root arrays h run.fall
 
 -- whatever moments a run has come along, it then comes along these and a turn
@@ -48,10 +51,10 @@ AddsTurn code turn old new = (root : FrameWord → ℕ) (arrays : Words) (array_
     → (d : Option (Deed OwnWord Place Result)) × HasCome code array_words root arrays (moment turn d ∷ h) new
 
 -- likewise the first fall, once the machine shows a turn more
-abbrev pub SeesTurn : Machine → Option Fall → (turn strand : ℕ) → Option Told → Option Fall → Type 0
-SeesTurn machine fall number strand told result = (code : RacyParts) (array_words : ℕ) (root : FrameWord → ℕ) (arrays : Words) (h : List Moment)
+abbrev pub SeesTurn : Machine → List Made → Option Fall → (turn strand : ℕ) → Option Told → Option Fall → Type 0
+SeesTurn machine made fall number strand told result = (code : RacyParts) (array_words : ℕ) (root : FrameWord → ℕ) (arrays : Words) (h : List Moment)
     (turn : Turn) (d : Option (Deed OwnWord Place Result)) → Shows code array_words root arrays (moment turn d ∷ h) machine
-    → number ≡ length h + 1 → strand ≡ strand_of turn → IsTold code array_words root arrays (strand_of turn) told (deeds h) d
+    → AreMade code array_words root arrays (moment turn d ∷ h) made → number ≡ length h + 1 → strand ≡ strand_of turn → IsTold code array_words root arrays (strand_of turn) told (deeds h) d
     → IsFirstFall code array_words root arrays h fall → IsFirstFall code array_words root arrays (moment turn d ∷ h) result
 
 module _ (code : RacyParts) (input : List NamedArray) where

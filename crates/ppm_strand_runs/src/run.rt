@@ -4,18 +4,21 @@ ghost use Rattle.ppm_interleaving.specs.Shows.{finish_in};
 ghost use Rattle.ppm_strand_runs.specs.Run.{done_in, AddsTurn, SeesTurn};
 
 use crate::done::{Done, Fall};
+use crate::made::{Made, made_count, made_turn, push_made};
 use ppm_interleaving::{Deed, Machine, Turn};
 use ppm_racy::RacyCode;
 use ppm_words::NoMemory;
 use std::alloc::Global;
 
 /// A run of strands so far: the strands and the words, how many turns were made, all deeds in their
-/// order, and the first change that did not stand after one of the turns.
+/// order, the changes that capsules made, of which the last with a number is that of the capsule
+/// under way, and the first change that did not stand after one of the turns.
 #[derive(Debug, Drop)]
 pub struct StrandRun {
     pub machine: Machine,
     pub turns: u64,
     pub done: Vec<Done>,
+    pub made: Vec<Made>,
     pub fall: Option<Fall>,
 }
 
@@ -40,18 +43,20 @@ fn push_done(
 /// The first change that did not stand, once a turn more was made, which is the last of so many.
 fn first_fall(
     machine: &Machine,
+    made: &[Made],
     fall: Option<Fall>,
     turn: u64,
     strand: u32,
     deed: Option<Deed>,
 ) -> Option<Fall>
-    ensures { SeesTurn machine.now fall turn strand deed result }
+    ensures { SeesTurn machine.now made.now fall turn strand deed result }
 {
     match fall {
         Some(fall) => Some(fall),
         None => match machine.fallen() {
             Some(fallen) => Some(Fall {
                 fallen,
+                made: made_turn(made, fallen.strand, fallen.number),
                 turn,
                 strand,
                 deed,
@@ -82,10 +87,13 @@ impl StrandRun {
         ensures turns { OnOk result (self.new.turns ≡ self.old.turns + 1) }
     {
         let who = turn.strand();
+        let had = made_count(&self.machine, who);
         let deed = self.machine.turn(alloc, code, turn)?;
+        let has = made_count(&self.machine, who);
         self.turns += 1;
+        push_made(&mut self.made, self.turns, who, had, has)?;
         push_done(&mut self.done, self.turns, who, deed)?;
-        self.fall = first_fall(&self.machine, self.fall, self.turns, who, deed);
+        self.fall = first_fall(&self.machine, &self.made, self.fall, self.turns, who, deed);
         Ok(())
     }
 }

@@ -24,10 +24,12 @@ fn start(alloc: Global, code: &RacyCode, input: &[NamedArray]) -> Result<StrandR
     let words = words_of(alloc, input)?;
     let machine = Machine::new(alloc, code, slots, words)?;
     let done = Vec::new(alloc);
+    let made = Vec::new(alloc);
     Ok(StrandRun {
         machine,
         turns: 0,
         done,
+        made,
         fall: None,
     })
 }

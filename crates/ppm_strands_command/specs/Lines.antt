@@ -66,12 +66,12 @@ abbrev pub told_text : List NamedArray → Option Deed → List ℕ
 told_text input None = []
 told_text input (Some d) = 32 ∷ deed_text input d
 
--- the two lines of a fall: which change of which strand does not stand; and after which turn, with what others saw of that
+-- the two lines of a fall: in which turn which strand made the change that does not stand; and after which turn, with what others saw of that
 abbrev pub by_text : List NamedArray → Fall → List ℕ
 by_text input f = codes "by: " ++ turn_text f.turn f.strand ++ told_text input f.deed ++ 10 ∷ []
 
 abbrev pub fall_text : List NamedArray → Fall → List ℕ
-fall_text input f = codes "fallen: " ++ strand_text f.fallen.strand ++ codes " change " ++ decimal f.fallen.number ++ 32 ∷ asked_text input f.fallen.change
+fall_text input f = codes "fallen: " ++ turn_text f.made f.fallen.strand ++ codes " change " ++ decimal f.fallen.number ++ 32 ∷ asked_text input f.fallen.change
     ++ 10 ∷ by_text input f
 
 -- the text of an act, of an item, and of a schedule

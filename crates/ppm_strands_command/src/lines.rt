@@ -141,12 +141,12 @@ fn push_deed(
 }
 
 /// Appends a turn, and whose it was.
-fn push_turn(text: &mut Vec<u8>, turn: u64, strand: u32) -> Result<(), NoMemory>
+fn push_turn(text: &mut Vec<u8>, turn: u64, strand: u64) -> Result<(), NoMemory>
     ensures { OnOk result (text.new.items ≡ text.old.items ++ turn_text turn strand) }
 {
     push_number(text, turn)?;
     text.push(b' ')?;
-    push_strand(text, u64::from(strand))?;
+    push_strand(text, strand)?;
     Ok(())
 }
 
@@ -159,7 +159,7 @@ fn push_done(
 ) -> Result<(), NoMemory>
     ensures { OnOk result (text.new.items ≡ text.old.items ++ done_line arrays.now done) }
 {
-    push_turn(text, done.turn, done.strand)?;
+    push_turn(text, done.turn, u64::from(done.strand))?;
     text.push(b' ')?;
     push_deed(alloc, text, arrays, done.deed)?;
     text.push(b'\n')?;
@@ -236,13 +236,14 @@ fn push_by(
     ensures { OnOk result (text.new.items ≡ text.old.items ++ by_text arrays.now fall) }
 {
     push_word(text, "by: ")?;
-    push_turn(text, fall.turn, fall.strand)?;
+    push_turn(text, fall.turn, u64::from(fall.strand))?;
     push_told(alloc, text, arrays, fall.deed)?;
     text.push(b'\n')?;
     Ok(())
 }
 
-/// Appends the two lines of a fall: the change that did not stand, and the turn after which.
+/// Appends the two lines of a fall: the turn in which the change was made that did not stand, and
+/// the turn after which.
 pub(crate) fn push_fall(
     alloc: Global,
     text: &mut Vec<u8>,
@@ -252,7 +253,7 @@ pub(crate) fn push_fall(
     ensures { OnOk result (text.new.items ≡ text.old.items ++ fall_text arrays.now fall) }
 {
     push_word(text, "fallen: ")?;
-    push_strand(text, fall.fallen.strand as u64)?;
+    push_turn(text, fall.made, fall.fallen.strand as u64)?;
     push_word(text, " change ")?;
     push_number(text, fall.fallen.number as u64)?;
     text.push(b' ')?;

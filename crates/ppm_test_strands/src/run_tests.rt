@@ -31,8 +31,9 @@ fn run(alloc: Global, schedule: &str, turns: u32) -> Result<StrandRun, Fail> {
     )?)
 }
 
-/// The exchange of strand 1 does not stand once strand 2 has made its own in this turn.
-fn falls_at(turn: u64) -> Fall {
+/// The exchange that strand 1 made in one turn does not stand once strand 2 has made its own in
+/// another one.
+fn falls_at(made: u64, turn: u64) -> Fall {
     Fall {
         fallen: Fallen {
             strand: 1,
@@ -43,6 +44,7 @@ fn falls_at(turn: u64) -> Fall {
                 new: 1,
             },
         },
+        made,
         turn,
         strand: 2,
         deed: Some(Deed::Changed {
@@ -57,7 +59,7 @@ fn falls_at(turn: u64) -> Fall {
 fn the_first_fall_of_a_schedule_is_told(rt: HostRuntime) -> Result<(), Fail> {
     let alloc = rt.alloc();
     let run = run(alloc, "0*8,1*4,2*4", 16)?;
-    assert_eq!(rt; run.fall, Some(falls_at(16)));
+    assert_eq!(rt; run.fall, Some(falls_at(12, 16)));
     assert_eq!(rt; run.machine.finish(), None);
     Ok(())
 }
@@ -75,7 +77,7 @@ fn a_branch_that_ends_before_does_not_fall(rt: HostRuntime) -> Result<(), Fail> 
 fn strands_go_on_in_rounds(rt: HostRuntime) -> Result<(), Fail> {
     let alloc = rt.alloc();
     let run = run(alloc, "none", 1000)?;
-    assert_eq!(rt; run.fall, Some(falls_at(19)));
+    assert_eq!(rt; run.fall, Some(falls_at(18, 19)));
     assert_eq!(rt; run.turns, 26);
     assert_eq!(rt; run.done.len(), 6);
     Ok(())
@@ -85,7 +87,7 @@ fn strands_go_on_in_rounds(rt: HostRuntime) -> Result<(), Fail> {
 fn a_fault_of_a_claim_is_told_as_it_happens(rt: HostRuntime) -> Result<(), Fail> {
     let alloc = rt.alloc();
     let run = run(alloc, "0*8,1*4,2*5,1!s,1*4", 22)?;
-    assert_eq!(rt; run.fall, Some(falls_at(16)));
+    assert_eq!(rt; run.fall, Some(falls_at(12, 16)));
     assert_eq!(rt; run.turns, 22);
     assert_eq!(rt; run.machine.words.first().copied(), Some(1));
     Ok(())

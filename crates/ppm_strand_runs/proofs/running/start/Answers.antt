@@ -9,4 +9,4 @@ root_words-requires-clause-few c = omega (arith, c.requires.input.values_bound, 
 pub returns : goal.returns
 returns c =
     starts c.args.code.now c.args.input.now c.in_ok-slots.slots.items c.in_ok-words.words.items _ c.in_ok-slots.ensures c.in_ok-words.ensures
-    c.in_ok-machine.ensures refl c.new-done.ensures.items refl
+    c.in_ok-machine.ensures refl c.new-done.ensures.items c.new-made.ensures.items refl
