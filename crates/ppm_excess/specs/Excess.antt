@@ -1,5 +1,5 @@
 -- What passes a bound of the compiler first, and the count that does.
-use Rattle.std.specs.Prelude.{ℕ, nat_lt, if◌then◌else◌, List, [], ◌∷◌, Option, Some, None}
+use Rattle.std.specs.Prelude.{ℕ, nat_lt, if◌then◌else◌, Option, Some, None}
 use Rattle.ppm_tree.specs.declared.named.Named.{Named}
 use Rattle.ppm_tree.specs.Tree.{Statement, Block, Nil, Then, Procedure}
 use Rattle.ppm_tree.specs.Tree as tree

@@ -1,4 +1,4 @@
-use Rattle.std.proofs.Common.{◌≡◌, ◌+◌, ap, subst, arith}
+use Rattle.std.proofs.Common.{◌≡◌, ap, subst, arith}
 use Rattle.std.specs.Prelude.{IfOk}
 use Rattle.ppm_tree.specs.Tree.{block_of, procedure_of}
 use Rattle.ppm_tree.specs.Parts.{statements_in}

@@ -1,4 +1,4 @@
-use Rattle.std.proofs.Common.{length, ap, ◌∙◌}
+use Rattle.std.proofs.Common.{◌∙◌}
 use Rattle.ppm_tree.specs.Tree.{block_of}
 use Rattle.ppm_cut_bounds.proofs.Notes.{once_from, counted}
 use Rattle.ppm_excess.proofs.outside.outside_count.Goals as goal

@@ -1,6 +1,6 @@
 use Rattle.std.proofs.Common.{◌≡◌, sym, ap, subst, ◌∙◌}
 use Rattle.std.specs.Prelude.{IfOk}
-use Rattle.ppm_tree.specs.Tree.{If, While, Split, Each, block_of, expression_of}
+use Rattle.ppm_tree.specs.Tree.{If, While, Split, block_of, expression_of}
 use Rattle.ppm_tree.proofs.Blocks.{is_if, is_while, is_split, is_each}
 use Rattle.ppm_excess.specs.Excess.{bound_of, first_of, first_in, first_within, past_at}
 use Rattle.ppm_excess.proofs.passing.+first.Goals as goal

@@ -1,4 +1,4 @@
-use Rattle.std.proofs.Common.{◌≡◌, sym, ◌∙◌}
+use Rattle.std.proofs.Common.{sym, ◌∙◌}
 use Rattle.ppm_tree.specs.Tree.{procedure_of}
 use Rattle.ppm_excess.specs.Excess.{bound_of}
 use Rattle.ppm_excess.proofs.ExcessLemmas.{keeps_none}

@@ -1,7 +1,7 @@
 use Rattle.std.proofs.Common.{◌≡◌, ◌+◌, sym, ap, subst, ◌∙◌, arith}
 use Rattle.std.specs.Prelude.{IfOk}
 use Rattle.ppm_tree.specs.Tree.{If, While, Split, block_of, expression_of}
-use Rattle.ppm_cut_bounds.specs.Slots.{most_within, most_in_force}
+use Rattle.ppm_cut_bounds.specs.Slots.{most_within}
 use Rattle.ppm_tree.proofs.Blocks.{is_if, is_while, is_split}
 use Rattle.ppm_excess.proofs.slots.+most.Goals as goal
 
