@@ -55,4 +55,3 @@ abbrev mutual
 -- what passes a bound first in a procedure: itself, or an `each` in the order of the text
 abbrev pub excess_of : Bound → Procedure → Option Excess
 excess_of b p = first_of (whole_past b (own_count b p)) (first_in b p.body)
-

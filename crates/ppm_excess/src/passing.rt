@@ -1,7 +1,7 @@
 //! What passes a bound of the compiler first.
-ghost use Rattle.std.specs.Prelude.{◌≡◌, IfOk};
+ghost use Rattle.std.specs.Prelude.{◌≡◌, ◌↔◌, None, IfOk};
 ghost use Rattle.ppm_tree.specs.Tree.{statement_of, block_of, procedure_of};
-ghost use Rattle.ppm_cut_bounds.specs.Bounds.{limit_of, own_count, hidden_count};
+ghost use Rattle.ppm_cut_bounds.specs.Bounds.{Keeps, limit_of, own_count, hidden_count};
 ghost use Rattle.ppm_excess.specs.Excess.{bound_of, each_past as each_past_bound, first_of};
 ghost use Rattle.ppm_excess.specs.Excess.{whole_past as whole_past_bound, past_at, excess_of};
 ghost use Rattle.ppm_excess.specs.Excess.{first_within as first_within_bound};
@@ -152,13 +152,8 @@ fn first_in(alloc: Global, counted: Counted, block: &[Stmt]) -> Result<Option<Ex
     Ok(None)
 }
 
-/// What passes a bound first in a procedure: itself, or the first `each` in the order of the text;
-/// `None` where the procedure keeps the bound. `Err` only where memory is refused.
-pub fn excess_in(
-    alloc: Global,
-    counted: Counted,
-    procedure: &Proc,
-) -> Result<Option<Excess>, NoMemory>
+/// What passes a bound first in a procedure.
+fn first_past(alloc: Global, counted: Counted, procedure: &Proc) -> Result<Option<Excess>, NoMemory>
     ensures { IfOk result (λ e. e ≡ excess_of (bound_of counted) (procedure_of procedure.now)) }
 {
     let whole = whole_past(counted, own_count(counted, procedure)?);
@@ -166,4 +161,20 @@ pub fn excess_in(
         return Ok(whole);
     }
     first_in(alloc, counted, &procedure.body)
+}
+
+/// What passes a bound first in a procedure: itself, or the first `each` in the order of the text;
+/// `None` where the procedure keeps the bound. `Err` only where memory is refused.
+pub fn excess_in(
+    alloc: Global,
+    counted: Counted,
+    procedure: &Proc,
+) -> Result<Option<Excess>, NoMemory>
+    ensures value { IfOk result (λ e. e
+        ≡ excess_of (bound_of counted) (procedure_of procedure.now)) }
+    ensures kept { IfOk result (λ e. (e ≡ None)
+        ↔ Keeps (bound_of counted) (procedure_of procedure.now)) }
+{
+    let found = first_past(alloc, counted, procedure)?;
+    Ok(found)
 }

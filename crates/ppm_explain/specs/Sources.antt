@@ -19,6 +19,7 @@ use Rattle.ppm_explain.specs.Words.{token_in, found_text, expected_text}
 use Rattle.ppm_explain.specs.Meanings.{meaning_text}
 use Rattle.ppm_explain.specs.Hints.{hint_text}
 use Rattle.ppm_explain.specs.Names.{names_text, named_text, heading_above, heading_before, heading_at, procedure_text}
+use Rattle.ppm_explain.specs.Lendings.{lent_text}
 use Rattle.ppm_explain.specs.Spread.{spread, IsJudged, faulty}
 use Rattle.ppm_explain.specs.Bounds.{count_text}
 
@@ -48,10 +49,10 @@ line_notes text tokens r =
     else line_text r.place ++ shown_text (line_bytes text r.place) ++ names_text tokens r.place
     ++ procedure_text (heading_above None before.Other r.place tokens) ++ meaning_text r
 
--- of a fault whose token is known: its place, the token, what is said of its name, and the procedure around it
+-- of a fault whose token is known: its place, the token, what is said of its name, where it is lent before, and the procedure around it
 abbrev pub token_notes : List ℕ → List Token → Token → Refusal → List ℕ
 token_notes text tokens t r =
-    spot_text text t.place ++ found_text (Some t) ++ named_text tokens t.line t.kind
+    spot_text text t.place ++ found_text (Some t) ++ named_text tokens t.line t.kind ++ lent_text text tokens t r.number
     ++ procedure_text (heading_before None before.Other t.place tokens) ++ meaning_text r
 
 -- of a fault of names and regions: by its token, or where that is not known by its line

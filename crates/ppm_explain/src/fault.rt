@@ -44,10 +44,7 @@ fn judged(alloc: Global, text: &[u8]) -> Result<Option<Refusal>, NoMemory>
 }
 
 /// Why the text with each of these tokens in a line of its own is refused, if it is.
-pub(crate) fn spread_judged(
-    alloc: Global,
-    tokens: &[Token],
-) -> Result<Option<Refusal>, NoMemory>
+pub(crate) fn spread_judged(alloc: Global, tokens: &[Token]) -> Result<Option<Refusal>, NoMemory>
     ensures { IfOk result (IsJudged (spread tokens.now)) }
 {
     let mut text = Vec::new(alloc);

@@ -13,6 +13,7 @@ mod bounds;
 mod declaring;
 mod fault;
 mod hints;
+mod lending;
 mod meaning;
 mod names;
 mod place;

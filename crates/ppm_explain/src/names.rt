@@ -18,7 +18,7 @@ use ppm_words::{Name, NoMemory};
 use std::alloc::Global;
 
 /// Whether a token is this name.
-fn is_name(kind: &Kind, name: &[u8]) -> bool
+pub(crate) fn is_name(kind: &Kind, name: &[u8]) -> bool
     ensures { result ≡ is_name_of name.now kind.now }
 {
     match kind {

@@ -16,6 +16,7 @@ ghost use Rattle.ppm_rows.specs.Correct.{HasTree};
 use crate::bounds::push_count;
 use crate::fault::{faulty_token, spread_judged};
 use crate::hints::push_hint;
+use crate::lending::push_lent;
 use crate::meaning::push_meaning;
 use crate::names::{push_around, push_around_place, push_named, push_names, push_numbered};
 use crate::place::{push_line, push_spot};
@@ -120,6 +121,7 @@ fn token_notes(
     push_spot(&mut text, source, token.place)?;
     push_found_token(&mut text, token)?;
     push_named(alloc, &mut text, tokens, token.line, &token.kind)?;
+    push_lent(&mut text, source, tokens, token, refusal.number)?;
     push_around_place(&mut text, tokens, token.place)?;
     push_meaning(&mut text, refusal)?;
     Ok(text)

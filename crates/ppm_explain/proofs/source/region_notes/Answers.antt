@@ -1,4 +1,4 @@
-use Rattle.std.proofs.Common.{◌≡◌, ap, subst, ◌∙◌}
+use Rattle.std.proofs.Common.{ap, subst, ◌∙◌}
 use Rattle.std.proofs.lemmas.Result.{IfOk-weaker}
 use Rattle.ppm_explain.specs.Sources.{fault_notes}
 use Rattle.ppm_explain.specs.Spread.{IsJudged, spread, faulty}
