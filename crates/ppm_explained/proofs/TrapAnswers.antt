@@ -30,7 +30,11 @@ use Rattle.ppm_explained.proofs.TrapLemmas.{trap_run}
 
 -- ---- what is told of a point is one
 
-some_pair : {t u : Trap} {m n : ℕ} {o : Option TrapAt} → o ≡ Some (t, m) → o ≡ Some (u, n) → (t, m) ≡ (u, n)
+-- a trap with its line
+abbrev trap_at : Trap → ℕ → TrapAt
+trap_at t line = (t, line)
+
+some_pair : {t u : Trap} {m n : ℕ} {o : Option TrapAt} → o ≡ Some (trap_at t m) → o ≡ Some (trap_at u n) → trap_at t m ≡ trap_at u n
 some_pair p q = cc
 
 same_told : {o : Option TrapAt} {p : Procedure} {readings : List Reading} (a b : Told) → IsToldOf o p readings a → IsToldOf o p readings b → a ≡ b
@@ -79,10 +83,10 @@ abbrev trap_in : TrapAt → Answer → TrapAt
 trap_in s (answers.Trapped t line) = (t, line)
 trap_in s a = s
 
-trap_same : {t u : Trap} {m n : ℕ} → answers.Trapped t m ≡ answers.Trapped u n → (t, m) ≡ (u, n)
-trap_same {t = t} {m = m} e = ap (trap_in (t, m)) e
+trap_same : {t u : Trap} {m n : ℕ} → answers.Trapped t m ≡ answers.Trapped u n → trap_at t m ≡ trap_at u n
+trap_same {t = t} {m = m} e = ap (trap_in (trap_at t m)) e
 
-explained_same : {t u : Trap} {m n : ℕ} {x y : List ℕ} → (t, m) ≡ (u, n) → x ≡ y → answers.TrapExplained t m x ≡ answers.TrapExplained u n y
+explained_same : {t u : Trap} {m n : ℕ} {x y : List ℕ} → trap_at t m ≡ trap_at u n → x ≡ y → answers.TrapExplained t m x ≡ answers.TrapExplained u n y
 explained_same p q = λ i. answers.TrapExplained (p i).0 (p i).1 (q i)
 
 module _ (programs : ProgramsAreOne) (explained : ExplainedAreOne) (outcomes : OutcomesAreOne) (points : TrapPointsAreOne) (some_points : TrapsHavePoints)
@@ -113,7 +117,7 @@ module _ (programs : ProgramsAreOne) (explained : ExplainedAreOne) (outcomes : O
   one_trap text t u m n x y h k =
       let trap = trap_same (same text (answers.Trapped t m) (answers.Trapped u n) (comes_of text t m x h) (comes_of text u n y k)) in
       let tree = (programs text).program h.tree k.tree h.program k.program in
-      let told = one_told points h.tree k.tree h.point k.point (t, m) (u, n) h.told k.told tree h.traps k.traps h.is_told k.is_told in
+      let told = one_told points h.tree k.tree h.point k.point (trap_at t m) (trap_at u n) h.told k.told tree h.traps k.traps h.is_told k.is_told in
       explained_same trap (h.is ∙ ap (trap_notes text) told ∙ sym k.is)
 
   of_accepted : (text : List ℕ) (b : Answer) → EndsWithin turns text → TrapHas turns text b → answers.Accepted ≡ b
@@ -180,7 +184,7 @@ module _ (programs : ProgramsAreOne) (explained : ExplainedAreOne) (outcomes : O
   trap_has : (text : List ℕ) (t : Trap) (line : ℕ) → ComesTo turns text (outcome.Trapped t line) → (a : Answer) × TrapHas turns text a
   trap_has text t line c =
       let r = trap_run c.tree turns t line c.serial in
-      let z = some_points c.tree r.0 (t, line) r.1.0 r.1.1 in
+      let z = some_points c.tree r.0 (t, line) r.1 r.2 in
       let told : Told = record {
         trap = t;
         line = line;

@@ -63,7 +63,7 @@ module _ (t : ProgramTree) (turns : ℕ) where
     trap_is : (trap : Trap) (line : ℕ) (k : Counts) (stop : TrapAt) (a : Arrays) → Serial t turns (outcome.Trapped trap line) → Spends k (Trapped stop a)
         → stop ≡ (trap, line)
     trap_is trap line k stop a s h =
-        let r = trap_run trap line s in ap (trap_of stop) (one_end k r.0 (Trapped stop a) (Trapped (trap, line) r.1.0) h r.1.1)
+        let r = trap_run trap line s in ap (trap_of stop) (one_end k r.0 (Trapped stop a) (Trapped (trap, line) r.1) h r.2)
       where
         trap_of : TrapAt → End ℤ → TrapAt
         trap_of s (Ended v a) = s
@@ -72,7 +72,7 @@ module _ (t : ProgramTree) (turns : ℕ) where
     -- a program that traps does not end
     pub not_ended : (trap : Trap) (line : ℕ) → Serial t turns (outcome.Trapped trap line) → EndsSo t → ⊥
     not_ended trap line s e =
-        let r = trap_run trap line s in no_end (one_end e.counts r.0 (Ended e.value e.arrays) (Trapped (trap, line) r.1.0) e.means r.1.1)
+        let r = trap_run trap line s in no_end (one_end e.counts r.0 (Ended e.value e.arrays) (Trapped (trap, line) r.1) e.means r.2)
       where
         no_end : {v : ℤ} {a b : Arrays} {stop : TrapAt} → Ended v a ≡ Trapped stop b → ⊥
         no_end p = cc
@@ -82,14 +82,14 @@ module _ (t : ProgramTree) (turns : ℕ) where
         → Serial t turns (outcome.Trapped trap line) → (told : Told) → IsToldOfRun t (Some told) → notes ≡ trap_notes text told
         → IsTrapExplained turns text trap line notes
     explained law text trap line notes has s told w is =
-        let r = law t w.0 (told.trap, told.line) w.1.0 in
-        let same = trap_is trap line r.0 (told.trap, told.line) r.1.0 s r.1.1 in record {
+        let r = law t w.0 (told.trap, told.line) w.1 in
+        let same = trap_is trap line r.0 (told.trap, told.line) r.1 s r.2 in record {
           tree = t;
           program = has;
           serial = s;
           point = w.0;
-          traps = subst (λ (stop : TrapAt). TrapsAt t w.0 stop) same w.1.0;
+          traps = subst (λ (stop : TrapAt). TrapsAt t w.0 stop) same w.1;
           told = told;
-          is_told = w.1.1;
+          is_told = w.2;
           is = is;
         }
