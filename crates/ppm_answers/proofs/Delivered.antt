@@ -127,6 +127,7 @@ no_text : (answer : Answer) (status : Status) → status ≡ status_of answer �
     out_text answer ≡ []
 no_text (answers.Ended arrays) status e n m = absurd (n e)
 no_text (answers.Trapped t line) status e n m = absurd (m e)
+no_text (answers.TrapExplained t line notes) status e n m = absurd (m e)
 no_text (answers.EndedWith arrays tally) status e n m = absurd (n e)
 no_text (answers.TrappedWith t line tally) status e n m = absurd (m e)
 no_text (answers.Summed sums) status e n m = absurd (n e)

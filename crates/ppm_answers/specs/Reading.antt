@@ -86,6 +86,7 @@ TellsOfRun Tells (answers.Untidy u) before now = TellsNothing (answers.Untidy u)
 TellsOfRun Tells (answers.InputRefused r) before now = TellsNothing (answers.InputRefused r) before now
 TellsOfRun Tells (answers.Ended arrays) before now = Tells (answers.Ended arrays) before now
 TellsOfRun Tells (answers.Trapped t line) before now = Tells (answers.Trapped t line) before now
+TellsOfRun Tells (answers.TrapExplained t line notes) before now = Tells (answers.TrapExplained t line notes) before now
 TellsOfRun Tells (answers.EndedWith arrays tally) before now = Tells (answers.EndedWith arrays tally) before now
 TellsOfRun Tells (answers.TrappedWith t line tally) before now = Tells (answers.TrappedWith t line tally) before now
 TellsOfRun Tells (answers.Unfinished acts) before now = Tells (answers.Unfinished acts) before now

@@ -56,6 +56,7 @@ status_of (answers.Listed listing) = statuses.Ended
 status_of (answers.Saved text) = statuses.Ended
 status_of (answers.Traced text) = statuses.Ended
 status_of (answers.Shown text) = statuses.Ended
+status_of (answers.TrapExplained t line notes) = statuses.Trapped
 status_of (answers.SourceRefused r) = statuses.SourceRefused
 status_of (answers.Explained r notes) = refused_status r
 status_of answers.Accepted = statuses.Ended

@@ -370,6 +370,7 @@ refused_text (refused.Plan number) = plan_text number
 abbrev pub out_text : Answer → List ℕ
 out_text (answers.Ended arrays) = arrays_text arrays
 out_text (answers.Trapped t line) = trap_text t line
+out_text (answers.TrapExplained t line notes) = trap_text t line ++ notes
 out_text (answers.EndedWith arrays tally) = arrays_text arrays ++ tally_text tally
 out_text (answers.TrappedWith t line tally) = trap_text t line ++ tally_text tally
 out_text (answers.ReplayedWith c counts) = counted_out c counts
@@ -446,6 +447,7 @@ err_text (answers.Listed listing) = []
 err_text (answers.Saved text) = []
 err_text (answers.Traced text) = []
 err_text (answers.Shown text) = []
+err_text (answers.TrapExplained t line notes) = []
 err_text answers.Accepted = []
 err_text (answers.Counted arrays counts) = []
 err_text (answers.TrappedAfter t line counts) = []

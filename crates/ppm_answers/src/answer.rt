@@ -21,6 +21,9 @@ pub enum Answer {
     Ended(Items<NamedArray>),
     /// The run ended by a trap in this line of the source; lines count from 1.
     Trapped(Trap, u32),
+    /// The run ended by a trap in this line of the source, and these notes explain it; lines count
+    /// from 1.
+    TrapExplained(Trap, u32, Items<u8>),
     /// The replay ended with these arrays, in the order in which the program declares them, and
     /// with this tally.
     EndedWith(Items<NamedArray>, Tally),

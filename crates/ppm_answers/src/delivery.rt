@@ -62,6 +62,7 @@ fn own_status(answer: &Answer) -> Status
         Answer::Ended(_) | Answer::EndedWith(_, _) | Answer::Counted(_, _) => Status::Ended,
         Answer::Trapped(_, _) | Answer::TrappedWith(_, _, _) | Answer::TrappedAfter(_, _, _) =>
             Status::Trapped,
+        Answer::TrapExplained(_, _, _) => Status::Trapped,
         Answer::ReplayedWith(came, _) => came_status(came),
         Answer::RanWith(ran, _) => ran_status(ran),
         Answer::Stood(_, came) => came_status(came),

@@ -50,6 +50,20 @@ pub(crate) fn trap_text_of(alloc: Global, trap: Trap, line: u32) -> Result<Vec<u
     Ok(text.into_bytes())
 }
 
+/// The line of a trap, with the notes that explain it.
+pub(crate) fn explained_trap_of(
+    alloc: Global,
+    trap: Trap,
+    line: u32,
+    notes: &[u8],
+) -> Result<Vec<u8>, AllocError>
+    ensures { IfOk result (λ text. text.items ≡ trap_text trap line ++ notes.now) }
+{
+    let mut text = trap_text_of(alloc, trap, line)?;
+    text.extend_from_slice(notes)?;
+    Ok(text)
+}
+
 /// The name of a trap.
 fn trap_name(trap: Trap) -> &'static str
     ensures { result.now ≡ name_of_trap trap }

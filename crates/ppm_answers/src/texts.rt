@@ -9,7 +9,10 @@ use crate::answer::Answer;
 use crate::case::{input_text_of, untidy_text_of};
 use crate::conflict::{conflict_at_text_of, conflict_text_of, listing_text_of};
 use crate::counts::{not_within_capsules_text_of, sound_text_of, with_counts};
-use crate::ends::{arrays_text_of, broken_text_of, room_text_of, trap_text_of, unfinished_text_of};
+use crate::ends::{
+    arrays_text_of, broken_text_of, explained_trap_of, room_text_of, trap_text_of,
+    unfinished_text_of,
+};
 use crate::gap::gap_text_of;
 use crate::race::race_text_of;
 use crate::ran::{ran_err_of, ran_out_of};
@@ -52,6 +55,10 @@ pub fn texts_of(alloc: Global, answer: &Answer) -> Result<(Text, Text), AllocErr
         )),
         Answer::Trapped(trap, line) => Ok((
             CowSlice::Owned(trap_text_of(alloc, *trap, *line)?),
+            CowSlice::Borrowed(none),
+        )),
+        Answer::TrapExplained(trap, line, notes) => Ok((
+            CowSlice::Owned(explained_trap_of(alloc, *trap, *line, notes.as_slice())?),
             CowSlice::Borrowed(none),
         )),
         Answer::EndedWith(arrays, tally) => {

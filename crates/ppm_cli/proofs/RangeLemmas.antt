@@ -13,7 +13,7 @@ use Rattle.ppm_cli.specs.Application.{ppm_application}
 use Rattle.ppm_cli.specs.CommandLine.{Number, OptionRule, processors, turns, room, slots, looks, seed, faults, schedule}
 use Rattle.ppm_cli.specs.CommandLine.{few_processors, after, saved_room, few_slots, size, count, capsules, arrays, racy}
 use Rattle.ppm_cli.specs.CommandLine.{copied_room, copied_slots, met, from, acts, runs}
-use Rattle.ppm_cli.specs.CommandLine.{traced_from, traced_acts, stated_plan, stated_schedule, steps, strands}
+use Rattle.ppm_cli.specs.CommandLine.{traced_from, traced_acts, stated_plan, stated_schedule, steps, strands, trap}
 use Rattle.ppm_cli.specs.Words.{run_options, serial_in, replay_options, resume_options, self_in, self_options, stop_options}
 use Rattle.ppm_cli.specs.Values.{number_in, number_given, value_of_digits, text_given}
 use Rattle.ppm_cli.specs.Words.{command_named, command_in, without_fault, command_of}
@@ -23,7 +23,7 @@ use Rattle.ppm_cli.specs.Values.{fitting_room, fitting_saved_room, room_given, s
 use Rattle.ppm_cli.specs.Words.{sweep_options, AreSwept, trace_options, AreTraced}
 use Rattle.ppm_cli.specs.Words.{strands_by, strands_in, drawn_options, AreDrawn}
 use Rattle.ppm_cli.specs.Values.{strands_form_given, swept_takeovers_given, traced_form_given, traced_lines_given}
-use Rattle.ppm_cli.specs.Words.{by_input, explain_by, explain_in, replay_by, replay_with, check_in, code_in, capsule_limit, with_input}
+use Rattle.ppm_cli.specs.Words.{by_input, explain_by, explain_in, explain_trap_of, explain_with, unless_stated, replay_by, replay_with, run_by, run_with, resume_with, check_in, code_in, capsule_limit, with_input}
 use Rattle.ppm_cli.specs.Words.{by_any_input, command_for, replay_saved, stop_saved, trace_saved, with_any_input}
 use Rattle.ppm_cli.specs.Values.{are_counts_given, choice_given, explained_given, input_given, is_case_given, stated_given}
 use Rattle.ppm_cli.specs.declared.capsules.CapsuleLimit.{CapsuleLimit}
@@ -31,9 +31,12 @@ use Rattle.ppm_cli.specs.declared.command.Command.{Command}
 use Rattle.ppm_cli.specs.declared.command.Command.TheVariants as commands
 use Rattle.ppm_cli.specs.declared.example.SelfOptions.{SelfOptions}
 use Rattle.ppm_cli.specs.declared.explain.ExplainedText.{ExplainedText}
+use Rattle.ppm_cli.specs.declared.explain.ExplainedText.TheVariants as texts
 use Rattle.ppm_cli.specs.declared.input.InputKind.{InputKind}
 use Rattle.ppm_cli.specs.declared.input.InputKind.TheVariants as kinds
 use Rattle.ppm_cli.specs.declared.replay.ReplayOptions.{ReplayOptions}
+use Rattle.ppm_cli.specs.declared.resume.ResumeOptions.{ResumeOptions}
+use Rattle.ppm_cli.specs.declared.run.RunOptions.{RunOptions}
 use Rattle.ppm_cli.specs.declared.strands.DrawnStrandsOptions.{DrawnStrandsOptions}
 
 -- a value with what came of it
@@ -192,6 +195,31 @@ replays_are (Some o) rows h =
     bound IsInRange (text_given schedule rows) (λ t. replay_with o t rows)
     (λ t e. bound IsInRange (are_counts_given rows) (λ is_counted. replay_by is_counted o t rows) (λ is_counted d. replays_by is_counted o t rows h))
 
+-- a run is in range where its options are, whether its counts are told or not
+runs_by : (is_counted : Bool) (o : RunOptions) (t : Text) (rows : List Row) → AreRun o → IfSome (run_by is_counted o t rows) IsInRange
+runs_by true o t rows h = by_input_are (commands.CountedRun o t) (commands.CountedRunCase o t) rows h h
+runs_by false o t rows h = by_input_are (commands.Run o t) (commands.RunCase o t) rows h h
+
+runs_are : (options : Option RunOptions) (rows : List Row) → IfSome options AreRun
+    → IfSome (option_and_then (λ o. option_and_then (λ t. run_with o t rows) (text_given faults rows)) options) IsInRange
+runs_are None rows h = tt
+runs_are (Some o) rows h =
+    bound IsInRange (text_given faults rows) (λ t. run_with o t rows)
+    (λ t e. bound IsInRange (are_counts_given rows) (λ is_counted. run_by is_counted o t rows) (λ is_counted d. runs_by is_counted o t rows h))
+
+-- so is a resumed run
+resumes_by : (is_counted : Option Bool) (o : ResumeOptions) (t : Text) → AreResumed o
+    → IfSome (option_map (λ it. if it then commands.CountedResume o t else commands.Resume o t) is_counted) IsInRange
+resumes_by None o t h = tt
+resumes_by (Some true) o t h = h
+resumes_by (Some false) o t h = h
+
+resumes_are : (options : Option ResumeOptions) (rows : List Row) → IfSome options AreResumed
+    → IfSome (option_and_then (λ o. option_and_then (λ t. resume_with o t rows) (text_given faults rows)) options) IsInRange
+resumes_are None rows h = tt
+resumes_are (Some o) rows h =
+    bound IsInRange (text_given faults rows) (λ t. resume_with o t rows) (λ t e. resumes_by (are_counts_given rows) o t h)
+
 serial_are : (rows : List Row) → IfSome (serial_in rows) IsInRange
 serial_are rows = go (number_given turns rows) (λ n e. given turns _ _ n rows refl e) where
   go : (n : Option ℕ) → ((m : ℕ) → n ≡ Some m → IsOfForm turns.form m) → IfSome (option_map (λ n. commands.Serial (record { turns = n })) n) IsInRange
@@ -298,13 +326,33 @@ explained_are text p (Some plan) None h = h
 explained_are text p None (Some schedule) h = h
 explained_are text p (Some plan) (Some schedule) h = tt
 
+-- so are the turns within which a trap is explained
+trap_of_are : (text : ExplainedText) (n : ℕ) → IsOfForm turns.form n → IfSome (explain_trap_of text n) IsInRange
+trap_of_are texts.Source n h = h
+trap_of_are texts.Listing n h = tt
+trap_of_are texts.Case n h = tt
+trap_of_are texts.Saved n h = tt
+
+unless_stated_are : (plan schedule : Option Text) (command : Option Command) → IfSome command IsInRange → IfSome (unless_stated plan schedule command) IsInRange
+unless_stated_are None None command h = h
+unless_stated_are (Some plan) None command h = tt
+unless_stated_are None (Some schedule) command h = tt
+unless_stated_are (Some plan) (Some schedule) command h = tt
+
+explain_with_are : (text : ExplainedText) (p : ℕ) (plan schedule : Option Text) (rows : List Row) (is_trap : Bool) → IsOfForm processors.form p
+    → IfSome (explain_with text p plan schedule rows is_trap) IsInRange
+explain_with_are text p plan schedule rows true h =
+    bound IsInRange (number_given turns rows) _ (λ n e. unless_stated_are plan schedule _ (trap_of_are text n (given turns _ _ n rows refl e)))
+explain_with_are text p plan schedule rows false h = explained_are text p plan schedule h
+
 explain_are : (rows : List Row) → IfSome (explain_in rows) IsInRange
 explain_are rows =
     bound IsInRange (explained_given rows) _ (λ text a.
     bound IsInRange (number_given processors rows) _ (λ p b.
     bound IsInRange (stated_given stated_plan rows) _ (λ plan c.
     bound IsInRange (stated_given stated_schedule rows) _ (λ schedule d.
-    explained_are text p plan schedule (given processors _ _ p rows refl b)))))
+    bound IsInRange (choice_given trap (false ∷ true ∷ []) rows) _ (λ is_trap e.
+    explain_with_are text p plan schedule rows is_trap (given processors _ _ p rows refl b))))))
 
 limit_are : (rows : List Row) → IfSome (capsule_limit rows) IsLimit
 limit_are rows = go (number_given capsules rows) (λ n e. given capsules _ _ n rows refl e) where
@@ -347,7 +395,7 @@ strands_are (Some o) rows h = bound IsInRange (text_given schedule rows) (λ t. 
 named_are : (name : Text) (rows : List Row) → IfSome (command_named name rows) IsInRange
 named_are name rows =
     either IsInRange (bytes_eq name (codes "run")) _ _
-    (with_input_are AreRun commands.Run commands.RunCase faults (run_options rows) rows (λ o t h. h) (λ o t h. h) (run_are rows))
+    (runs_are (run_options rows) rows (run_are rows))
     (either IsInRange (bytes_eq name (codes "serial")) _ _ (serial_are rows)
     (either IsInRange (bytes_eq name (codes "code")) _ _ (code_are rows)
     (either IsInRange (bytes_eq name (codes "check")) _ _ (check_are rows)
@@ -363,7 +411,7 @@ named_are name rows =
     (with_any_input_are AreStopped commands.Stop commands.StopCase stop_saved schedule (stop_options rows) rows (λ o t h. h) (λ o t h. h)
     (λ o t h. h.1) (stop_are rows))
     (either IsInRange (bytes_eq name (codes "resume")) _ _
-    (with_text_are AreResumed commands.Resume faults (resume_options rows) rows (λ o t h. h) (resume_are rows))
+    (resumes_are (resume_options rows) rows (resume_are rows))
     (either IsInRange (bytes_eq name (codes "sweep")) _ _
     (with_input_are AreSwept commands.Sweep commands.SweepCase schedule (sweep_options rows) rows (λ o t h. h) (λ o t h. h) (sweep_are rows))
     (either IsInRange (bytes_eq name (codes "ram")) _ _

@@ -1,6 +1,6 @@
 -- The command line as a table of rules: the commands, and their options with ranges and defaults.
 use Prim.Native.String.{String}
-use Rattle.std.specs.Prelude.{ℕ, Bool, true, false, List, [], ◌∷◌, codes, decimal, map, not, nat_eq}
+use Rattle.std.specs.Prelude.{ℕ, Bool, true, List, [], ◌∷◌, codes, decimal, map, not, nat_eq}
 use Rattle.clap.specs.Words.{Text}
 use Rattle.ppm_words.specs.Limits.{processor_limit, entry_limit, turn_limit}
 use Rattle.ppm_cells.specs.Limits.{most_pool_words, most_saved_pool_words}
@@ -207,6 +207,10 @@ stated_plan = text "plan" "unstated"
 abbrev pub stated_schedule : OptionRule
 stated_schedule = text "schedule" "unstated"
 
+-- whether the trap of a source is explained
+abbrev pub trap : OptionRule
+trap = choice "trap" ("no" ∷ "yes" ∷ []) "no"
+
 -- ---- the commands
 
 -- the whole command line
@@ -230,5 +234,5 @@ command_line =
     ∷ command "trace"
     (processors ∷ traced_from ∷ traced_acts ∷ room ∷ slots ∷ takeover ∷ schedule ∷ traced_form ∷ only ∷ any_input ∷ [])
     ∷ command "show" []
-    ∷ command "explain" (explained ∷ stated_plan ∷ stated_schedule ∷ processors ∷ [])
+    ∷ command "explain" (explained ∷ stated_plan ∷ stated_schedule ∷ processors ∷ trap ∷ turns ∷ [])
     ∷ []

@@ -8,7 +8,7 @@ use Rattle.ppm_cli.specs.CommandLine.{Form, Number, OptionRule}
 use Rattle.ppm_cli.specs.CommandLine.{processors, turns, room, slots, looks, seed, faults, schedule}
 use Rattle.ppm_cli.specs.CommandLine.{few_processors, after, saved_room, few_slots, size, count, capsules, arrays, racy}
 use Rattle.ppm_cli.specs.CommandLine.{copied_room, copied_slots, met, from, acts, runs}
-use Rattle.ppm_cli.specs.CommandLine.{traced_from, traced_acts, stated_plan, stated_schedule, steps, strands}
+use Rattle.ppm_cli.specs.CommandLine.{traced_from, traced_acts, stated_plan, stated_schedule, steps, strands, trap}
 use Rattle.ppm_cli.specs.Values.{and_then, are_counts_given, choice_given, idle_given, is_case_given, number_given, room_given, swept_takeovers_given, takeover_given, text_given}
 use Rattle.ppm_cli.specs.Values.{explained_given, stated_given, input_given, saved_room_given, strands_form_given, traced_form_given, traced_lines_given}
 use Rattle.ppm_cli.specs.declared.capsules.CapsuleLimit.{CapsuleLimit}
@@ -16,6 +16,7 @@ use Rattle.ppm_cli.specs.declared.command.Command.{Command}
 use Rattle.ppm_cli.specs.declared.command.Command.TheVariants as commands
 use Rattle.ppm_cli.specs.declared.example.SelfOptions.{SelfOptions}
 use Rattle.ppm_cli.specs.declared.explain.ExplainedText.{ExplainedText}
+use Rattle.ppm_cli.specs.declared.explain.ExplainedText.TheVariants as texts
 use Rattle.ppm_cli.specs.declared.explain.ExplainedOrders.TheVariants as orders
 use Rattle.ppm_cli.specs.declared.explain.ExplainOptions.{ExplainOptions}
 use Rattle.ppm_cli.specs.declared.input.InputKind.{InputKind}
@@ -264,13 +265,32 @@ explain_by text p (Some plan) None = Some (commands.ExplainOrders (record { orde
 explain_by text p None (Some schedule) = Some (commands.ExplainOrders (record { orders = orders.Schedule; processors = p }) schedule)
 explain_by text p (Some plan) (Some schedule) = None
 
+-- of the trap of a run within so many turns: only a source has one
+abbrev pub explain_trap_of : ExplainedText → (turns : ℕ) → Option Command
+explain_trap_of texts.Source n = Some (commands.ExplainTrap (record { turns = n }))
+explain_trap_of texts.Listing n = None
+explain_trap_of texts.Case n = None
+explain_trap_of texts.Saved n = None
+
+-- the command, if neither a plan nor a schedule is stated
+abbrev pub unless_stated : (plan schedule : Option Text) → Option Command → Option Command
+unless_stated None None command = command
+unless_stated (Some text) None command = None
+unless_stated None (Some text) command = None
+unless_stated (Some text) (Some other) command = None
+
+-- the command, by whether the trap of a source is explained
+abbrev pub explain_with : ExplainedText → (processors : ℕ) → (plan schedule : Option Text) → List Row → (is_trap : Bool) → Option Command
+explain_with text p plan schedule rows true = and_then (number_given turns rows) (λ n. unless_stated plan schedule (explain_trap_of text n))
+explain_with text p plan schedule rows false = explain_by text p plan schedule
+
 abbrev pub explain_in : List Row → Option Command
 explain_in rows =
     and_then (explained_given rows) (λ text.
     and_then (number_given processors rows) (λ p.
     and_then (stated_given stated_plan rows) (λ plan.
     and_then (stated_given stated_schedule rows) (λ schedule.
-    explain_by text p plan schedule))))
+    and_then (choice_given trap (false ∷ true ∷ []) rows) (explain_with text p plan schedule rows)))))
 
 -- the command of this name, with the options in its matches
 abbrev pub command_named : Text → List Row → Option Command
@@ -427,4 +447,5 @@ IsInRange (commands.StopSaved options _) = AreSavedStopped options
 IsInRange (commands.ReplaySaved options _) = AreSavedReplayed options
 IsInRange (commands.TraceSaved options _) = AreSavedTraced options
 IsInRange (commands.Explain text) = ⊤
+IsInRange (commands.ExplainTrap options) = IsOfForm turns.form options.turns
 IsInRange (commands.ExplainOrders options _) = AreExplained options

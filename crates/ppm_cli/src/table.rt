@@ -365,6 +365,13 @@ pub(crate) const STATED_SCHEDULE: TextOption = TextOption {
     default: "unstated",
 };
 
+/// Whether the trap of a source is explained.
+pub(crate) const TRAP: ChoiceOption = ChoiceOption {
+    name: "trap",
+    words: &["no", "yes"],
+    default: "no",
+};
+
 /// The schedule of acts.
 pub(crate) const SCHEDULE: TextOption = TextOption {
     name: "schedule",
@@ -522,6 +529,8 @@ pub const COMMANDS: [CommandRow; 16] = [
             OptionRow::Text(PLAN),
             OptionRow::Text(STATED_SCHEDULE),
             OptionRow::Number(PROCESSORS),
+            OptionRow::Choice(TRAP),
+            OptionRow::Number(TURNS),
         ],
     },
 ];

@@ -58,8 +58,8 @@ module _ (images : ImagesAreOne) (one_run : runs.RunsAreOne) (options : RunOptio
       let made = runs.one_made images one_run options alone items code input (answer_of r) (answer_of s) h.has l.has in
       let faults = fault_count items in
       let counts : n ≡ k =
-      h.counted ∙ ap (λ (turns : List Turn). made_counts faults h.has.start turns) (sym made.1)
-      ∙ ap (λ (m : Situation). made_counts faults m l.has.run.turns) (sym made.0) ∙ sym l.counted in
+      h.counted.are ∙ ap (λ (turns : List Turn). made_counts faults h.has.start turns) (sym made.1)
+      ∙ ap (λ (m : Situation). made_counts faults m l.has.run.turns) (sym made.0) ∙ sym l.counted.are in
       ap (λ (x : Ran). answers.RanWith x n) same ∙ ap (λ (x : RunCounts). answers.RanWith s x) counts
 
   -- a code has one answer

@@ -19,7 +19,7 @@ use Rattle.ppm_cli.specs.declared.run.RunOptions.{RunOptions}
 use Rattle.ppm_loading.specs.MachineRows as machine
 use Rattle.ppm_loading.specs.Planned.{IsRefusedBy, HasByItems}
 use Rattle.ppm_orders.specs.CaseRefusals.{RefusesCase}
-use Rattle.ppm_outcomes.specs.RunCounts.{made_counts}
+use Rattle.ppm_outcomes.specs.RunCounts.{AreOfRun}
 use Rattle.ppm_outcomes.specs.Strikes.{fault_count}
 use Rattle.ppm_driver.specs.CaseHeadline.{Made, EndsSo, SpendsTurns, FillsPool, BreaksWords}
 use Rattle.ppm_driver.specs.CaseRows.{AreAsCode, Completes}
@@ -33,7 +33,7 @@ module _ (options : RunOptions) (plan : List ℕ) (o : Ports) where
 
   -- the counts are those of the turns of this run, of the words after it, and of the turns for which its plan has faults
   abbrev pub AreCounted : {answer : Answer} → Made options 0 plan (unwatched o) answer → RunCounts → Type 0
-  AreCounted made counts = counts ≡ made_counts (fault_count made.items) made.ran.start made.ran.run.turns
+  AreCounted made counts = AreOfRun (fault_count made.items) made.ran.start made.ran.run.turns counts
 
   -- the run ended with these arrays; if the case is sound, they are those of its code, run depth first; and out got exactly their text and that of
   -- the counts of this run

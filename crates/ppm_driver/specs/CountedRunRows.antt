@@ -19,7 +19,7 @@ use Rattle.ppm_cli.specs.declared.run.RunOptions.{RunOptions}
 use Rattle.ppm_loading.specs.MachineRows as machine
 use Rattle.ppm_loading.specs.Planned.{IsRefusedBy, HasByItems}
 use Rattle.ppm_outcomes.specs.CountedRuns.{TextHas, CountedRunHas, CountedRunMay}
-use Rattle.ppm_outcomes.specs.RunCounts.{made_counts}
+use Rattle.ppm_outcomes.specs.RunCounts.{AreOfRun}
 use Rattle.ppm_outcomes.specs.Strikes.{fault_count}
 use Rattle.ppm_driver.specs.Headline.{Made, EndsSo, SpendsTurns, FillsPool}
 use Rattle.ppm_driver.specs.RunRows.{AreAsPrograms, Completes}
@@ -31,7 +31,7 @@ unwatched o = outside o.source o.out o.err [] []
 module _ (options : RunOptions) (plan : List ℕ) (o : Ports) where
   -- the counts are those of the turns of this run, of the words after it, and of the turns for which its plan has faults
   abbrev pub AreCounted : {answer : Answer} → Made options 0 plan (unwatched o) answer → RunCounts → Type 0
-  AreCounted made counts = counts ≡ made_counts (fault_count made.items) made.ran.start made.ran.run.turns
+  AreCounted made counts = AreOfRun (fault_count made.items) made.ran.start made.ran.run.turns counts
 
   -- the run ended with arrays, those with which the program ends serially, and out got exactly their text and that of the counts of this run
   pub record WritesArrays : Type 0 where

@@ -3,4 +3,7 @@ pub mod Words
 pub mod Meanings
 pub mod Hints
 pub mod Names
+pub mod Lendings
+pub mod Spread
+pub mod Bounds
 pub mod Sources

@@ -1,5 +1,5 @@
 -- What a text says of names: where they are declared, where they stood before, and the procedure around a line.
-use Rattle.std.specs.Prelude.{ℕ, ◌-◌, ◌==◌, ◌&&◌, not, nat_lt, nat_le, if◌then◌else◌, Bool, true, false, List, [], ◌∷◌, ◌++◌, codes, decimal, Option, Some, None}
+use Rattle.std.specs.Prelude.{ℕ, ◌-◌, ◌==◌, ◌&&◌, nat_lt, nat_le, if◌then◌else◌, Bool, true, false, List, [], ◌∷◌, ◌++◌, codes, decimal, Option, Some, None}
 use Rattle.std.specs.Str.{bytes_eq}
 use Rattle.ppm_text.specs.declared.token.Keyword.{Keyword}
 use Rattle.ppm_text.specs.declared.token.Keyword.TheVariants as k
@@ -157,6 +157,13 @@ mentioned all line (kind.Sign sign) behind = []
 abbrev pub mention_text : List Token → ℕ → Token → List Token → List ℕ
 mention_text all line t behind = if t.line == line then mentioned all line t.kind behind else []
 
+-- what is said of a token alone, if it is a name
+abbrev pub named_text : List Token → ℕ → Kind → List ℕ
+named_text all line (kind.Name x) = name_text all line x
+named_text all line (kind.Number value) = []
+named_text all line (kind.Keyword w) = []
+named_text all line (kind.Sign sign) = []
+
 -- the names of a line, each once
 abbrev pub names_from : List Token → ℕ → List Token → List ℕ
 names_from all line [] = []
@@ -203,6 +210,16 @@ abbrev pub heading_above : Option Token → Before → ℕ → List Token → Op
 heading_above found b line [] = found
 heading_above found b line (t ∷ ts) =
     heading_above (if is_above b line t then Some t else found) (after_kind b t.kind) line ts
+
+-- whether it is the name of a procedure, down to the place
+abbrev pub is_before : Before → ℕ → Token → Bool
+is_before b place t = heads b && nat_le t.place place
+
+-- the last name of a procedure down to the place
+abbrev pub heading_before : Option Token → Before → ℕ → List Token → Option Token
+heading_before found b place [] = found
+heading_before found b place (t ∷ ts) =
+    heading_before (if is_before b place t then Some t else found) (after_kind b t.kind) place ts
 
 -- whether it is the name of the procedure with no other in front
 abbrev pub is_here : Before → ℕ → Bool

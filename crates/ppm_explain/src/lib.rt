@@ -9,8 +9,11 @@
 //! After the messages of compilers with a mark under the place; their words are this project's.
 #![tactic(auto)]
 
+mod bounds;
 mod declaring;
+mod fault;
 mod hints;
+mod lending;
 mod meaning;
 mod names;
 mod place;

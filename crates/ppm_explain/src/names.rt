@@ -8,6 +8,8 @@ ghost use Rattle.ppm_explain.specs.Names.{stood_with, is_above as is_above_line}
 ghost use Rattle.ppm_explain.specs.Names.{is_here as is_there, left_ahead as ahead_behind};
 ghost use Rattle.ppm_explain.specs.Names.{heading_above as heading_above_line};
 ghost use Rattle.ppm_explain.specs.Names.{heading_at as heading_with, procedure_text};
+ghost use Rattle.ppm_explain.specs.Names.{is_before as is_before_place, named_text};
+ghost use Rattle.ppm_explain.specs.Names.{heading_before as heading_before_place};
 
 use crate::declaring::{Before, after, heads, push_declaration};
 use crate::words::{push_counted, push_located, push_word};
@@ -16,7 +18,7 @@ use ppm_words::{Name, NoMemory};
 use std::alloc::Global;
 
 /// Whether a token is this name.
-fn is_name(kind: &Kind, name: &[u8]) -> bool
+pub(crate) fn is_name(kind: &Kind, name: &[u8]) -> bool
     ensures { result ≡ is_name_of name.now kind.now }
 {
     match kind {
@@ -197,6 +199,26 @@ fn push_last(
     push_name(alloc, text, tokens, line, name)
 }
 
+/// Appends what is said of a token alone, if it is a name: how it is declared, and in which line
+/// above the given one it stood last.
+pub(crate) fn push_named(
+    alloc: Global,
+    text: &mut Vec<u8>,
+    tokens: &[Token],
+    line: u32,
+    kind: &Kind,
+) -> Result<(), NoMemory>
+    ensures { OnOk result (text.new.items
+        ≡ text.old.items ++ named_text tokens.now line kind.now) }
+{
+    match kind {
+        Kind::Name(name) => push_name(alloc, text, tokens, line, name.as_bytes()),
+        Kind::Number(_) => Ok(()),
+        Kind::Keyword(_) => Ok(()),
+        Kind::Sign(_) => Ok(()),
+    }
+}
+
 /// Appends what is said of a token, where it stands in the line.
 fn push_mention(
     alloc: Global,
@@ -259,6 +281,33 @@ pub(crate) fn heading_above(tokens: &[Token], line: u32) -> Option<&Token>
     found
 }
 
+/// Whether a token is the name of a procedure, down to a place.
+fn is_before(before: Before, token: &Token, place: u32) -> bool
+    ensures { result ≡ is_before_place before place token.now }
+{
+    heads(before) && token.place <= place
+}
+
+/// The last name of a procedure down to a place.
+fn heading_before(tokens: &[Token], place: u32) -> Option<&Token>
+    ensures { MatchOption result
+        (heading_before_place None before.Other place tokens.now ≡ None)
+        (λ t. heading_before_place None before.Other place tokens.now ≡ Some t.now) }
+{
+    let mut found = None;
+    let mut before = Before::Other;
+    let mut left = tokens;
+    'tokens: while let Some((token, rest)) = left.split_first() {
+        let above = is_before(before, token, place);
+        before = after(before, &token.kind);
+        left = rest;
+        if above {
+            found = Some(token);
+        }
+    }
+    found
+}
+
 /// Whether it is the name of the procedure with no other in front.
 fn is_here(before: Before, ahead: u32) -> bool
     ensures { result ≡ is_there before ahead }
@@ -310,6 +359,21 @@ pub(crate) fn push_around(text: &mut Vec<u8>, tokens: &[Token], line: u32) -> Re
         ++ procedure_text (heading_above_line None before.Other line tokens.now)) }
 {
     match heading_above(tokens, line) {
+        None => Ok(()),
+        Some(token) => push_procedure(text, token),
+    }
+}
+
+/// Appends the procedure around a place, if there is one.
+pub(crate) fn push_around_place(
+    text: &mut Vec<u8>,
+    tokens: &[Token],
+    place: u32,
+) -> Result<(), NoMemory>
+    ensures { OnOk result (text.new.items ≡ text.old.items
+        ++ procedure_text (heading_before_place None before.Other place tokens.now)) }
+{
+    match heading_before(tokens, place) {
         None => Ok(()),
         Some(token) => push_procedure(text, token),
     }

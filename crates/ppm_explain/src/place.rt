@@ -121,6 +121,14 @@ fn push_place(text: &mut Vec<u8>, line: usize, column: usize) -> Result<(), NoMe
     push_word(text, "\n")
 }
 
+/// Appends the line and the column of a place of a text.
+pub(crate) fn push_place_of(text: &mut Vec<u8>, source: &[u8], place: u32) -> Result<(), NoMemory>
+    ensures { OnOk result (text.new.items ≡ text.old.items
+        ++ place_text (line_of source.now place) (column_of source.now place)) }
+{
+    push_place(text, line_at(source, place), column_at(source, place))
+}
+
 /// Appends a column of a line, which both count from 1, that line, and a mark under the column.
 pub fn push_marked(
     text: &mut Vec<u8>,

@@ -6,16 +6,26 @@ ghost use Rattle.ppm_explain.specs.Sources.{bytes_notes as notes_of_bytes, stop_
 ghost use Rattle.ppm_explain.specs.Sources.{limit_notes as notes_of_limit, line_notes as notes_of_line};
 ghost use Rattle.ppm_explain.specs.Meanings.{meaning_text};
 ghost use Rattle.ppm_explain.specs.Sources.{bound_notes as notes_of_bound, AreNotes, ByStop, BySyntax};
-ghost use Rattle.ppm_explain.specs.Sources.{bytes_spot, bound_procedure};
+ghost use Rattle.ppm_explain.specs.Sources.{bytes_spot, bound_procedure, ByFault, ByTree};
+ghost use Rattle.ppm_explain.specs.Sources.{token_notes as notes_of_token};
+ghost use Rattle.ppm_explain.specs.Sources.{fault_notes as notes_of_fault};
+ghost use Rattle.ppm_explain.specs.Spread.{faulty};
+ghost use Rattle.ppm_tree.specs.Tree.{tree_of};
+ghost use Rattle.ppm_rows.specs.Correct.{HasTree};
 
+use crate::bounds::push_count;
+use crate::fault::{faulty_token, spread_judged};
 use crate::hints::push_hint;
+use crate::lending::push_lent;
 use crate::meaning::push_meaning;
-use crate::names::{push_around, push_names, push_numbered};
+use crate::names::{push_around, push_around_place, push_named, push_names, push_numbered};
 use crate::place::{push_line, push_spot};
-use crate::words::{push_expected, push_found};
+use crate::words::{push_expected, push_found, push_found_token};
 use ppm_answers::{Pass, Refusal};
 use ppm_expected::{Expected, expected_at_fault};
+use ppm_parser::parse;
 use ppm_text::{Token, Tokens, tokens};
+use ppm_tree::{Program, Tree};
 use ppm_words::NoMemory;
 use std::alloc::Global;
 
@@ -96,6 +106,45 @@ fn line_notes(
     Ok(text)
 }
 
+/// What is said of a fault of names and regions whose token is known.
+fn token_notes(
+    alloc: Global,
+    source: &[u8],
+    tokens: &[Token],
+    token: &Token,
+    refusal: Refusal,
+) -> Result<Vec<u8>, NoMemory>
+    ensures { IfOk result (λ text. text.items
+        ≡ notes_of_token source.now tokens.now token.now refusal) }
+{
+    let mut text = Vec::new(alloc);
+    push_spot(&mut text, source, token.place)?;
+    push_found_token(&mut text, token)?;
+    push_named(alloc, &mut text, tokens, token.line, &token.kind)?;
+    push_lent(&mut text, source, tokens, token, refusal.number)?;
+    push_around_place(&mut text, tokens, token.place)?;
+    push_meaning(&mut text, refusal)?;
+    Ok(text)
+}
+
+/// What is said of a fault of names and regions, by how the text is judged in which each token has
+/// a line of its own.
+fn fault_notes(
+    alloc: Global,
+    source: &[u8],
+    tokens: &[Token],
+    judged: Option<Refusal>,
+    refusal: Refusal,
+) -> Result<Vec<u8>, NoMemory>
+    ensures { IfOk result (λ text. text.items
+        ≡ notes_of_fault source.now tokens.now (faulty refusal tokens.now judged) refusal) }
+{
+    match faulty_token(refusal, tokens, judged) {
+        None => line_notes(alloc, source, tokens, refusal),
+        Some(token) => token_notes(alloc, source, tokens, token, refusal),
+    }
+}
+
 /// Appends the procedure that passes a bound; of the bound on capsules nothing.
 fn push_bound_procedure(
     text: &mut Vec<u8>,
@@ -111,11 +160,18 @@ fn push_bound_procedure(
 }
 
 /// What is said of a bound that is passed.
-fn bound_notes(alloc: Global, tokens: &[Token], refusal: Refusal) -> Result<Vec<u8>, NoMemory>
-    ensures { IfOk result (λ text. text.items ≡ notes_of_bound tokens.now refusal) }
+fn bound_notes(
+    alloc: Global,
+    tokens: &[Token],
+    tree: &Tree,
+    refusal: Refusal,
+) -> Result<Vec<u8>, NoMemory>
+    ensures { IfOk result (λ text. text.items
+        ≡ notes_of_bound refusal tokens.now (tree_of tree.now)) }
 {
     let mut text = Vec::new(alloc);
     push_bound_procedure(&mut text, tokens, refusal)?;
+    push_count(alloc, &mut text, tree, refusal)?;
     push_meaning(&mut text, refusal)?;
     Ok(text)
 }
@@ -171,9 +227,49 @@ fn syntax_notes(
     }
 }
 
+/// What is said of a fault of names and regions.
+fn region_notes(
+    alloc: Global,
+    source: &[u8],
+    all: &Tokens,
+    refusal: Refusal,
+) -> Result<Vec<u8>, NoMemory>
+    requires lexed { HasTokens source.now all.now.tokens }
+    ensures { IfOk result (λ text. ByFault source.now refusal text.items) }
+{
+    let tokens = all.as_slice();
+    let judged = spread_judged(alloc, tokens)?;
+    fault_notes(alloc, source, tokens, judged, refusal)
+}
+
+/// The tree of tokens that have one: the text is refused for a bound that the tree passes, so only
+/// want of memory stops this.
+fn tree_of_tokens(alloc: Global, all: &Tokens) -> Result<Program, NoMemory>
+    ensures { IfOk result (λ program. HasTree all.now.tokens (tree_of program)) }
+{
+    match parse(alloc, all) {
+        Ok(program) => Ok(program),
+        Err(_) => Err(NoMemory),
+    }
+}
+
+/// What is said of a bound of the compiler that is passed.
+fn cut_notes(
+    alloc: Global,
+    source: &[u8],
+    all: &Tokens,
+    refusal: Refusal,
+) -> Result<Vec<u8>, NoMemory>
+    requires lexed { HasTokens source.now all.now.tokens }
+    ensures { IfOk result (λ text. ByTree source.now (notes_of_bound refusal) text.items) }
+{
+    let program = tree_of_tokens(alloc, all)?;
+    bound_notes(alloc, all.as_slice(), program.tree(), refusal)
+}
+
 /// What is said, after the line of its refusal, of a source that is refused for this reason: the
-/// place, the line with a mark, what stands there and what could, the names of a line, the
-/// procedure, and what the refusal means. The refusal is to be that of this source. `Err` only
+/// place, the line with a mark, what stands there and what could, how a name is declared, the
+/// procedure, the count that passes a bound, and what the refusal means. The refusal is to be that of this source. `Err` only
 /// where memory is refused.
 pub fn source_notes(alloc: Global, source: &[u8], refusal: Refusal) -> Result<Vec<u8>, NoMemory>
     ensures { IfOk result (λ text. AreNotes source.now refusal text.items) }
@@ -186,11 +282,11 @@ pub fn source_notes(alloc: Global, source: &[u8], refusal: Refusal) -> Result<Ve
         }
         Pass::Region => {
             let all = tokens_of(alloc, source)?;
-            line_notes(alloc, source, all.as_slice(), refusal)
+            region_notes(alloc, source, &all, refusal)
         }
         Pass::Cut => {
             let all = tokens_of(alloc, source)?;
-            bound_notes(alloc, all.as_slice(), refusal)
+            cut_notes(alloc, source, &all, refusal)
         }
         Pass::Ram => plain_notes(alloc, refusal),
     }

@@ -223,3 +223,12 @@ pub(crate) fn push_found(text: &mut Vec<u8>, tokens: &[Token], place: u32) -> Re
     push_thing(text, tokens, place)?;
     push_word(text, "\n")
 }
+
+/// Appends the line of a token that is found.
+pub(crate) fn push_found_token(text: &mut Vec<u8>, token: &Token) -> Result<(), NoMemory>
+    ensures { OnOk result (text.new.items ≡ text.old.items ++ found_text (Some token.now)) }
+{
+    push_word(text, "found: ")?;
+    push_kind(text, &token.kind)?;
+    push_word(text, "\n")
+}

@@ -1,6 +1,7 @@
 -- A text has one answer where it is explained.
 use Rattle.std.proofs.Common.{◌≡◌, ℕ, List, ◌++◌, Option, Some, None, refl, sym, ap, ◌∙◌, subst, arith}
 use Rattle.ppm_listing_reader.specs.Correct.{FaultsTellListings}
+use Rattle.ppm_rows.specs.Correct.{TokensHaveOneAnswer}
 use Rattle.ppm_program.specs.Correct.{HaveOneAnswer as ProgramsAreOne}
 use Rattle.ppm_answers.specs.declared.answer.Answer.{Answer}
 use Rattle.ppm_answers.specs.declared.answer.Answer.TheVariants as answers
@@ -106,7 +107,7 @@ module _ (kind : ExplainedText) (law : AreSingle kind) where
   are_one text (answers.Explained q m) b h k = of_explained text q m b h k
   are_one text a b h k = absurd h
 
-module _ (programs : ProgramsAreOne) where
+module _ (programs : ProgramsAreOne) (trees : TokensHaveOneAnswer) where
   source_either : (text : List ℕ) (r : Refused) → IsAccepted texts.Source text → IsRefused texts.Source text r → ⊥
   source_either text (refused.Source r) h k = (programs text).either r k h.tree h.program
   source_either text r h k = absurd k
@@ -118,7 +119,7 @@ module _ (programs : ProgramsAreOne) where
 
   source_notes : (text : List ℕ) (r : Refused) (m n : List ℕ) → IsRefused texts.Source text r → AreNotesOf texts.Source text r m
       → AreNotesOf texts.Source text r n → m ≡ n
-  source_notes text (refused.Source r) m n h a b = of_sources.one_notes text r m n a b
+  source_notes text (refused.Source r) m n h a b = of_sources.one_notes text programs trees r m n a b
   source_notes text r m n h a b = absurd h
 
   source_front : FrontsDecide (limit_of texts.Source) (ExplainHas texts.Source)
@@ -133,7 +134,7 @@ module _ (programs : ProgramsAreOne) where
   source_some : (text : List ℕ) → ((r : Refused) (notes : List ℕ) → ¬ IsExplained texts.Source text r notes) → IsAccepted texts.Source text
   source_some text none =
       let t = (programs text).none
-      (λ r k. let n = of_sources.some_notes text k in none (refused.Source r) n.0 (record { refusal = k; told = n.1 })) in
+      (λ r k. of_sources.some_notes text programs k (λ notes told. none (refused.Source r) notes (record { refusal = k; told = told }))) in
       record { tree = t.0; program = t.1 }
 
   source_answers : HasOneAnswer texts.Source
@@ -245,8 +246,8 @@ module _ (states : StatesAreOne) where
   saved_answers = record { one = are_one texts.Saved saved_single; front = saved_front; some = saved_some }
 
 -- so it is with each text
-pub have_one_answer : ProgramsAreOne → ListingsAreOne → FaultsTellListings → CasesAreOne → FaultsTellCases → StatesAreOne → HaveOneAnswer
-have_one_answer programs listings law cases faults states texts.Source = source_answers programs
-have_one_answer programs listings law cases faults states texts.Listing = listing_answers listings law
-have_one_answer programs listings law cases faults states texts.Case = case_answers cases faults
-have_one_answer programs listings law cases faults states texts.Saved = saved_answers states
+pub have_one_answer : ProgramsAreOne → TokensHaveOneAnswer → ListingsAreOne → FaultsTellListings → CasesAreOne → FaultsTellCases → StatesAreOne → HaveOneAnswer
+have_one_answer programs trees listings law cases faults states texts.Source = source_answers programs trees
+have_one_answer programs trees listings law cases faults states texts.Listing = listing_answers listings law
+have_one_answer programs trees listings law cases faults states texts.Case = case_answers cases faults
+have_one_answer programs trees listings law cases faults states texts.Saved = saved_answers states

@@ -6,3 +6,6 @@ pub mod AnswerLemmas
 pub mod OrdersLemmas
 pub mod ExplainRows
 pub mod OrdersRows
+pub mod TrapLemmas
+pub mod TrapAnswers
+pub mod TrapRows

@@ -1,5 +1,5 @@
 -- A source that is refused has notes, and no two.
-use Rattle.std.proofs.Common.{◌≡◌, ℕ, suc, ◌<◌, ◌≤◌, Bool, true, false, List, [], ◌∷◌, ◌++◌, length, Some, None, refl, sym, ap, ◌∙◌, subst, arith}
+use Rattle.std.proofs.Common.{◌≡◌, ℕ, suc, ◌<◌, ◌≤◌, Bool, true, false, List, [], ◌∷◌, ◌++◌, length, Option, Some, None, refl, sym, ap, ◌∙◌, subst, arith}
 use Rattle.std.proofs.Common.{append-nil}
 use Rattle.std.specs.Prelude.{nat_lt, slice_index_or}
 use Rattle.std.specs.List.{AllPairs, filter}
@@ -13,6 +13,8 @@ use Rattle.ppm_rows.specs.Kinds.{Terminal, sample, sampled, terminal, terminal_n
 use Rattle.ppm_rows.specs.Follow.{may_follow}
 use Rattle.ppm_rows.specs.Language.{language}
 use Rattle.ppm_rows.specs.Limits.{limits}
+use Rattle.ppm_rows.specs.Correct.{HasTree, TokensHaveOneAnswer}
+use Rattle.ppm_tree.specs.Tree.{ProgramTree}
 use Rattle.ppm_expected.specs.Machine.{comes_first, items_due, may_end, still}
 use Rattle.ppm_expected.specs.Next.{AreExpected, BeginsText}
 use Rattle.ppm_expected.proofs.ChoiceLemmas.{predictive}
@@ -23,9 +25,11 @@ use Rattle.ppm_parser.specs.declared.syntax_error.SyntaxError.TheVariants as syn
 use Rattle.ppm_answers.specs.declared.refusal.Pass.{Pass}
 use Rattle.ppm_answers.specs.declared.refusal.Pass.TheVariants as pass
 use Rattle.ppm_answers.specs.declared.refusal.Refusal.{Refusal}
-use Rattle.ppm_program.specs.Programs.{HasTokens}
+use Rattle.ppm_program.specs.Programs.{HasTokens, HasProgram}
 use Rattle.ppm_program.specs.Refusals.{IsRefusal, IsSyntaxFault, by_text, by_syntax, by_region, by_bound, syntax_refusal}
-use Rattle.ppm_explain.specs.Sources.{AreNotes, ByStop, BySyntax, ByTokens, ExplainedBy, Follow, GoTo, bound_notes, bytes_notes, limit_notes, line_notes, stop_notes}
+use Rattle.ppm_program.specs.Correct.{HaveOneAnswer as ProgramsAreOne}
+use Rattle.ppm_explain.specs.Spread.{IsJudged, faulty, spread}
+use Rattle.ppm_explain.specs.Sources.{AreNotes, ByFault, ByStop, BySyntax, ByTokens, ByTree, ExplainedBy, Follow, GoTo, bound_notes, bytes_notes, fault_notes, limit_notes, stop_notes}
 
 -- ---- how far tokens go
 
@@ -158,13 +162,35 @@ followed front b =
 
 -- ---- the notes of a stop
 
-module _ (text : List ℕ) where
+module _ (programs : ProgramsAreOne) where
+  -- how a text is judged is one
+  one_judged : (given : List ℕ) (j k : Option Refusal) → IsJudged given j → IsJudged given k → j ≡ k
+  one_judged given None None a b = refl
+  one_judged given None (Some s) a b = absurd ((programs given).either s b a.tree a.program)
+  one_judged given (Some r) None a b = absurd ((programs given).either r a b.tree b.program)
+  one_judged given (Some r) (Some s) a b = ap (λ x. Some x) ((programs given).refusal r s a b)
+
+module _ (text : List ℕ) (programs : ProgramsAreOne) (trees : TokensHaveOneAnswer) where
   -- two tokens lists of a text are one
   one_tokens : {ts us : List Token} → HasTokens text ts → HasTokens text us → ts ≡ us
   one_tokens a b = one_lexing a.lexed b.lexed
 
   by_tokens : (f : List Token → List ℕ) (m n : List ℕ) → ByTokens text f m → ByTokens text f n → m ≡ n
   by_tokens f m n a b = a.is ∙ ap f (one_tokens a.lexed b.lexed) ∙ sym b.is
+
+  by_tree : (f : List Token → ProgramTree → List ℕ) (m n : List ℕ) → ByTree text f m → ByTree text f n → m ≡ n
+  by_tree f m n a b =
+      let same = one_tokens a.lexed b.lexed in
+      let derived : HasTree b.tokens a.tree = subst (λ ts. HasTree ts a.tree) same a.derived in
+      a.is ∙ ap (λ ts. f ts a.tree) same ∙ ap (f b.tokens) ((trees b.tokens).tree a.tree b.tree derived b.derived) ∙ sym b.is
+
+  by_fault : (r : Refusal) (m n : List ℕ) → ByFault text r m → ByFault text r n → m ≡ n
+  by_fault r m n a b =
+      let same = one_tokens a.lexed b.lexed in
+      let judges : IsJudged (spread b.tokens) a.judged = subst (λ ts. IsJudged (spread ts) a.judged) same a.judges in
+      a.is ∙ ap (λ ts. fault_notes text ts (faulty r ts a.judged) r) same
+      ∙ ap (λ j. fault_notes text b.tokens (faulty r b.tokens j) r) (one_judged programs (spread b.tokens) a.judged b.judged judges b.judges)
+      ∙ sym b.is
 
   by_stop : (r : Refusal) (m n : List ℕ) → ByStop text r m → ByStop text r n → m ≡ n
   by_stop r m n a b =
@@ -190,18 +216,20 @@ module _ (text : List ℕ) where
   by_pass : (p : Pass) (r : Refusal) (m n : List ℕ) → ExplainedBy p text r m → ExplainedBy p text r n → m ≡ n
   by_pass pass.Text r m n a b = a ∙ sym b
   by_pass pass.Syntax r m n a b = by_syntax_notes r m n a b
-  by_pass pass.Region r m n a b = by_tokens (λ ts. line_notes text ts r) m n a b
-  by_pass pass.Cut r m n a b = by_tokens (λ ts. bound_notes ts r) m n a b
+  by_pass pass.Region r m n a b = by_fault r m n a b
+  by_pass pass.Cut r m n a b = by_tree (bound_notes r) m n a b
   by_pass pass.Ram r m n a b = a ∙ sym b
 
   -- the notes of a refusal are one
   pub one_notes : (r : Refusal) (m n : List ℕ) → AreNotes text r m → AreNotes text r n → m ≡ n
   one_notes r m n a b = by_pass r.pass r m n a b
 
-  -- ---- and they are there
+-- ---- and they are there
 
+module _ (text : List ℕ) (programs : ProgramsAreOne) where
+  -- without them there is a contradiction
   abbrev pub HasNotes : Refusal → Type 0
-  HasNotes r = (notes : List ℕ) × AreNotes text r notes
+  HasNotes r = ((notes : List ℕ) → AreNotes text r notes → ⊥) → ⊥
 
   -- the notes of tokens that go to a place
   stopped : (r : Refusal) (ts : List Token) → HasTokens text ts → (f q : List Token) → GoTo ts f q → (notes : List ℕ) × ByStop text r notes
@@ -243,11 +271,21 @@ module _ (text : List ℕ) where
   syntax_has (syntax_error.TooMany place which) f = many_notes _ (omega arith) f.tokens f.lexed
   syntax_has syntax_error.NoMemory f = absurd (f.given refl)
 
+  -- the text with each token in a line of its own is judged
+  judged_has : (r : Refusal) (ts : List Token) → HasTokens text ts → ((notes : List ℕ) → ByFault text r notes → ⊥) → ⊥
+  judged_has r ts lexed none = judged None (record { tree = found.0; program = found.1 })
+    where
+      judged : (j : Option Refusal) → IsJudged (spread ts) j → ⊥
+      judged j is = none (fault_notes text ts (faulty r ts j) r) (record { tokens = ts; lexed = lexed; judged = j; judges = is; is = refl })
+
+      found : (t : ProgramTree) × HasProgram (spread ts) t
+      found = (programs (spread ts)).none (λ s k. judged (Some s) k)
+
   -- each refusal has notes
   pub some_notes : {r : Refusal} → IsRefusal text r → HasNotes r
-  some_notes {r = r} (by_text f) = (bytes_notes text r, refl)
-  some_notes (by_syntax {e = e} f) = syntax_has e f
-  some_notes {r = r} (by_region f) =
-      (line_notes text f.derived.tokens r, record { tokens = f.derived.tokens; lexed = f.derived.lexed; is = refl })
-  some_notes {r = r} (by_bound f) =
-      (bound_notes f.admitted.tree.tokens r, record { tokens = f.admitted.tree.tokens; lexed = f.admitted.tree.lexed; is = refl })
+  some_notes {r = r} (by_text f) none = none (bytes_notes text r) refl
+  some_notes (by_syntax {e = e} f) none = let n = syntax_has e f in none n.0 n.1
+  some_notes {r = r} (by_region f) none = judged_has r f.derived.tokens f.derived.lexed none
+  some_notes {r = r} (by_bound f) none =
+      none (bound_notes r f.admitted.tree.tokens f.tree)
+      (record { tokens = f.admitted.tree.tokens; lexed = f.admitted.tree.lexed; tree = f.tree; derived = f.admitted.tree.tree; is = refl })

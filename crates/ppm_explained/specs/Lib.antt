@@ -1,3 +1,4 @@
 pub mod Texts
 pub mod Explaining
 pub mod Orders
+pub mod Trapping

@@ -51,7 +51,7 @@ fn meaning_of(status: Status) -> &'static str {
         }
         Status::Trapped => {
             "trapped: `trap K line N`, K being overflow, divzero, index or split; of `replay`\n       \
-             its forks and takes too, of `depth` its counts"
+             its forks and takes too, of `depth` its counts, of `explain` what names stand for there"
         }
         Status::SourceRefused => {
             "source refused: the fault and its place (docs/LANGUAGE.md, \"Refusals\"); of `ram` the\n       \
@@ -80,8 +80,8 @@ fn meaning_of(status: Status) -> &'static str {
              listing or no case (docs/CODE.md)"
         }
         Status::NotWithin => {
-            "not within: `serial` did not end within --turns, or the depth-first run of `depth`,\n       \
-             `races` or `sweep` within --capsules"
+            "not within: `serial` or `explain` did not end within --turns, or the depth-first run of\n       \
+             `depth`, `races` or `sweep` within --capsules"
         }
         Status::SavedRefused => { "saved text refused: the fault and its line (docs/SAVED.md)" }
         Status::Broken => {

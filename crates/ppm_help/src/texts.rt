@@ -86,6 +86,7 @@ pub(crate) fn meaning_of(command: &str, option: &str) -> &'static str {
         "steps" => "steps of a schedule that is drawn",
         "schedule" => schedule_of(command),
         "plan" => "to be explained, as 0@5s,1@9h",
+        "trap" => "with yes a source runs as by serial, and its trap is explained",
         "takeover" => takeover_of(command),
         "idle" => "one that rests makes no more acts, or sleeps",
         "form" => form_of(command),
@@ -127,7 +128,7 @@ fn input_of(command: &str) -> &'static str {
 fn turns_of(command: &str) -> &'static str {
     match command {
         "run" | "resume" | "ram" => "work turns that each processor may make",
-        "serial" => "turns of the meaning (docs/LANGUAGE.md)",
+        "serial" | "explain" => "turns of the meaning (docs/LANGUAGE.md)",
         "replay" => "acts that all processors may make together",
         "sweep" => "acts that all processors of a run may make",
         "strands" => "turns that all strands of a run may have",

@@ -203,6 +203,7 @@ fn line_of(alloc: Global, command: &Command) -> Result<Vec<u8>, Fault> {
         Command::CheckRacing => String::from_str(alloc, "check of strands that may race")?,
         Command::Show => String::from_str(alloc, "show")?,
         Command::Explain(it) => format!(in alloc; "explain {}", explained_word(*it))?,
+        Command::ExplainTrap(it) => format!(in alloc; "explain trap turns {}", it.turns)?,
         Command::ExplainOrders(it, orders) => {
             front = "=";
             plan = orders.as_slice();

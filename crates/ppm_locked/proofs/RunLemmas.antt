@@ -1,5 +1,5 @@
 -- Runs under the lock: one more turn, and what is counted of it.
-use Rattle.std.proofs.Common.{◌≡◌, ◌≢◌, ◌∙◌, ◌==◌, ◌+◌, ◌<◌, ◌≤◌, ◌⊎◌, inl, inr, if◌then◌else◌, ℕ, Bool, true, false, List, [], ◌∷◌, ◌++◌, length, take, get_or, set, replicate, Some, None, slice_get, refl, sym, ap, subst, arith}
+use Rattle.std.proofs.Common.{◌≡◌, ◌≢◌, ◌∙◌, ◌==◌, ◌+◌, ◌^◌, ◌<◌, ◌≤◌, ◌⊎◌, inl, inr, if◌then◌else◌, ℕ, Bool, true, false, List, [], ◌∷◌, ◌++◌, length, take, get_or, set, replicate, Some, None, slice_get, refl, sym, ap, subst, arith}
 use Rattle.std.specs.List.{sum_by}
 use Rattle.std.proofs.lemmas.Bool.Decides.{nat_tests}
 use Rattle.std.proofs.lemmas.Grind.{get_or-set_at}
@@ -8,18 +8,21 @@ use Rattle.std.proofs.lemmas.List.Elements.{All-append, All-nil, All-from_recurs
 use Rattle.std.proofs.lemmas.List.Sums.{sum_by-cons, sum_by-append}
 use Rattle.std.proofs.lemmas.Option.{slice_get_within}
 use Rattle.std.proofs.Math.Seq.{take-append_seam}
+use mathlib.Core.List.{IsPrefix}
 use Rattle.ppm_step.specs.declared.turn.Act.{Act}
 use Rattle.ppm_step.specs.declared.turn.Act.TheVariants.{Step, Soft, Hard, Quit}
 use Rattle.ppm_step.specs.declared.turn.Next.{Next}
+use Rattle.ppm_step.specs.declared.turn.Told.{Told}
 use Rattle.ppm_step.specs.declared.turn.Turn.{Turn}
 use Rattle.ppm_step.specs.declared.turn.Why.TheVariants.{Turns, Watch}
 use Rattle.ppm_step.specs.Among.{IsActAmong, IsTurnAmong}
 use Rattle.ppm_step.specs.Standings.{Standing}
-use Rattle.ppm_step.specs.State.{after, along, forks_of, takes_of, work_of, stand_of, next_of, is_work_next, is_work_turn}
-use Rattle.ppm_core.specs.Situation.{Situation, turned, run_on}
+use Rattle.ppm_step.specs.State.{after, along, forks_of, takes_of, work_of, stand_of, next_of, is_work_next, is_work_turn, seeks_holder}
+use Rattle.ppm_step.specs.Told.{told_of}
+use Rattle.ppm_core.specs.Situation.{Situation, finish_in, turned, run_on}
 use Rattle.ppm_core.proofs.ListLemmas.{get_pushed}
 use Rattle.ppm_core.proofs.RunLemmas.{follow_on, tell_on, run_none}
-use Rattle.ppm_locked.specs.Held.{spent_by, quit_of, IsRun, IsCounted, HasCountedRun, act_done, turn_done}
+use Rattle.ppm_locked.specs.Held.{spent_by, quit_of, HasMade, IsCounted, IsRun, IsTold, Seated, act_done, booked, is_set, noted, saw, turn_after, turn_done}
 
 -- counts of turns and of one more
 adds : (n : ℕ) (xs ys zs : List ℕ) → zs ≡ xs ++ (ys ++ []) → n + length xs + length ys ≡ n + length zs
@@ -203,41 +206,39 @@ module _ (first : Situation) (most : ℕ) (turns : List Turn) (spent : List ℕ)
   }
 
 -- after a turn that is done where one was asked, and whose work was counted
-pub goes_on : (first : Situation) (most : ℕ) (m : Situation) (spent : List ℕ) (processor : ℕ) (act : Act) (n : Situation) (counts : List ℕ)
-    → processor < first.shape.processors → IsActAmong first.shape.processors act → HasCountedRun first most m spent
+pub goes_on : (first : Situation) (most : ℕ) (m : Situation) (turns : List Turn) (spent : List ℕ) (processor : ℕ) (act : Act) (n : Situation) (later : List Turn) (counts : List ℕ)
+    → processor < first.shape.processors → IsActAmong first.shape.processors act → IsRun first most turns m → IsCounted first spent turns
     → n ≡ turned m (turn_done most m (get_or spent processor 0) processor act)
+    → later ≡ turns ++ turn_done most m (get_or spent processor 0) processor act ∷ []
     → counts ≡ (if is_work_turn (turn_done most m (get_or spent processor 0) processor act).act (stand_of m.state processor) then set spent processor (get_or spent processor 0 + 1) else spent)
-    → HasCountedRun first most n counts
-goes_on first most m spent processor act n counts within asked (turns, (run, counted)) comes counts_are =
+    → IsRun first most later n × IsCounted first counts later
+goes_on first most m turns spent processor act n later counts within asked run counted comes later_is counts_are =
     let here = run_on first turns in
     let at_here : IsRun first most turns here = subst (λ x. IsRun first most turns x) run.comes run in
     let n_is = comes ∙ ap (λ x. turned x (turn_done most x (get_or spent processor 0) processor act)) run.comes in
     let counts_is = counts_are
     ∙ ap (λ x. if is_work_turn (turn_done most x (get_or spent processor 0) processor act).act (stand_of x.state processor) then set spent processor (get_or spent processor 0 + 1) else spent) run.comes in
-    let longer = turns ++ turn_done most here (get_or spent processor 0) processor act ∷ [] in (
-      longer,
-      (
-        subst (λ x. IsRun first most longer x) (sym n_is) (run_goes_on first most turns spent processor act within asked at_here counted),
-        subst (λ c. IsCounted first c longer) (sym counts_is) (counts_go_on first most turns spent processor act within counted),
-      ),
+    let longer = turns ++ turn_done most here (get_or spent processor 0) processor act ∷ [] in
+    let long : longer ≡ later = ap (λ x. turns ++ turn_done most x (get_or spent processor 0) processor act ∷ []) (sym run.comes) ∙ sym later_is in
+    subst (λ l. IsRun first most l n × IsCounted first counts l) long (
+      subst (λ x. IsRun first most longer x) (sym n_is) (run_goes_on first most turns spent processor act within asked at_here counted),
+      subst (λ c. IsCounted first c longer) (sym counts_is) (counts_go_on first most turns spent processor act within counted),
     )
 
 -- no turn yet
-pub begins : (first : Situation) (most : ℕ) (m : Situation) (spent : List ℕ) → m ≡ first → spent ≡ replicate first.shape.processors 0 → HasCountedRun first most m spent
-begins first most m spent comes spent_are = (
-  [],
-  (
-    record {
-      comes = comes ∙ run_none first;
-      among = All-nil (IsTurnAmong first.shape.processors);
-      few = λ own. omega arith;
-      quits = λ at own e. absurd (no_such own e);
-    },
-    record {
-      count = ap (λ (ns : List ℕ). length ns) spent_are ∙ length-replicate first.shape.processors 0;
-      each = λ own h. ap (λ (ns : List ℕ). get_or ns own 0) spent_are ∙ get_or-replicate first.shape.processors own 0 0 h;
-    },
-  ),
+pub begins : (first : Situation) (most : ℕ) (m : Situation) (turns : List Turn) (spent : List ℕ) → m ≡ first → turns ≡ [] → spent ≡ replicate first.shape.processors 0
+    → IsRun first most turns m × IsCounted first spent turns
+begins first most m turns spent comes none spent_are = subst (λ l. IsRun first most l m × IsCounted first spent l) (sym none) (
+  record {
+    comes = comes ∙ run_none first;
+    among = All-nil (IsTurnAmong first.shape.processors);
+    few = λ own. omega arith;
+    quits = λ at own e. absurd (no_such own e);
+  },
+  record {
+    count = ap (λ (ns : List ℕ). length ns) spent_are ∙ length-replicate first.shape.processors 0;
+    each = λ own h. ap (λ (ns : List ℕ). get_or ns own 0) spent_are ∙ get_or-replicate first.shape.processors own 0 0 h;
+  },
 )
   where
     no_such : (own : ℕ) → None ≡ Some (quit_of own) → ⊥
@@ -268,17 +269,62 @@ books m n turn work before between later comes work_is at_first then_is last =
     last ∙ ap (λ k. k + (if work then 1 else 0)) (then_is ∙ at_first) ∙ ap (λ k. m.work + k) (same ∙ sym one_more) ∙ sym made
 
 -- the run goes on by a turn as it was made, whose work was counted as it was told
-pub keeps : (first : Situation) (most : ℕ) (m : Situation) (spent : List ℕ) (processor : ℕ) (act : Act) (n : Situation) (counts : List ℕ) (turn : Turn) (work : Bool) (own read : ℕ)
-    → processor < first.shape.processors → IsActAmong first.shape.processors act → HasCountedRun first most m spent
-    → turn ≡ turn_done most m (get_or spent processor 0) processor act → n ≡ turned m turn
+pub keeps : (first : Situation) (most : ℕ) (m : Situation) (turns : List Turn) (spent : List ℕ) (processor : ℕ) (act : Act) (n : Situation) (later : List Turn) (counts : List ℕ)
+    (turn : Turn) (work : Bool) (own read : ℕ)
+    → processor < first.shape.processors → IsActAmong first.shape.processors act → IsRun first most turns m × IsCounted first spent turns
+    → turn ≡ turn_done most m (get_or spent processor 0) processor act → n ≡ turned m turn → later ≡ turns ++ turn ∷ []
     → work ≡ is_work_turn turn.act (stand_of m.state turn.processor)
     → own ≡ processor → read ≡ get_or spent processor 0
     → counts ≡ (if work then set spent own (read + 1) else spent)
-    → HasCountedRun first most n counts
-keeps first most m spent processor act n counts turn work own read within asked has turn_is comes work_is own_is read_is counts_are =
-    goes_on first most m spent processor act n counts within asked has
+    → IsRun first most later n × IsCounted first counts later
+keeps first most m turns spent processor act n later counts turn work own read within asked has turn_is comes later_is work_is own_is read_is counts_are =
+    goes_on first most m turns spent processor act n later counts within asked has.0 has.1
     (comes ∙ ap (turned m) turn_is)
+    (later_is ∙ ap (λ t. turns ++ t ∷ []) turn_is)
     (counts_are
     ∙ ap (λ (b : Bool). if b then set spent own (read + 1) else spent) (work_is ∙ ap (λ t. is_work_turn t.act (stand_of m.state t.processor)) turn_is)
     ∙ ap (λ k. if is_work_turn (turn_done most m (get_or spent processor 0) processor act).act (stand_of m.state processor) then set spent k (read + 1) else spent) own_is
     ∙ ap (λ k. if is_work_turn (turn_done most m (get_or spent processor 0) processor act).act (stand_of m.state processor) then set spent processor (k + 1) else spent) read_is)
+
+-- what was told of that turn
+pub told_so : (first : Situation) (most : ℕ) (m : Situation) (turns : List Turn) (spent : List ℕ) (processor : ℕ) (act : Act) (later : List Turn) (turn : Turn) (told : Told)
+    → processor < first.shape.processors → IsRun first most turns m × IsCounted first spent turns
+    → turn ≡ turn_done most m (get_or spent processor 0) processor act → later ≡ turns ++ turn ∷ []
+    → told ≡ told_of m.shape m.code m.state turn
+    → IsTold first most turns processor act later told
+told_so first most m turns spent processor act later turn told within has turn_is later_is told_is =
+    let here : turn ≡ turn_after first most turns processor act = turn_is
+    ∙ ap (λ k. turn_done most m k processor act) (has.1.each processor within)
+    ∙ ap (λ x. turn_done most x (spent_by first processor turns) processor act) has.0.comes in
+    record {
+      turn = later_is ∙ ap (λ t. turns ++ t ∷ []) here;
+      told = told_is ∙ ap (λ x. told_of x.shape x.code x.state turn) has.0.comes ∙ ap (told_of first.shape first.code (run_on first turns).state) here;
+    }
+
+-- what a seat notes of the run with that turn
+pub has_made : (first : Situation) (most : ℕ) (before later : List Turn) (act : Act) (n : Situation) (old between new : Seated) (told : Told)
+    → IsTold first most before old.processor act later told → IsRun first most later n → IsPrefix old.seen before
+    → between ≡ booked (saw old later) told.work
+    → new ≡ noted between (finish_in n) (seeks_holder (stand_of n.state between.processor))
+    → HasMade first most before act old new told
+has_made first most before later act n old between new told is run begins between_is noted_is =
+    let new_is : new ≡ noted (booked (saw old later) told.work) (finish_in n) (seeks_holder (stand_of n.state old.processor)) =
+    subst (λ s. new ≡ noted s (finish_in n) (seeks_holder (stand_of n.state s.processor))) between_is noted_is in
+    let seen : new.seen ≡ later = ap (λ s. s.seen) new_is in
+    let comes : n ≡ run_on first new.seen = run.comes ∙ ap (run_on first) (sym seen) in
+    record {
+      goes_on = begins;
+      told = subst (λ l. IsTold first most before old.processor act l told) (sym seen) is;
+      run = subst (λ l. IsRun first most l (run_on first l)) (sym seen) (subst (λ x. IsRun first most later x) run.comes run);
+      seat = new_is
+          ∙ ap (λ l. noted (booked (saw old l) told.work) (finish_in n) (seeks_holder (stand_of n.state old.processor))) (sym seen)
+          ∙ ap (λ x. noted (booked (saw old new.seen) told.work) (finish_in x) (seeks_holder (stand_of x.state old.processor))) comes;
+    }
+
+-- if the run has ended, the seat has noted it
+pub notes_the_end : (between new : Seated) (finish : ℕ) (due : Bool) → new ≡ noted between finish due → is_set finish ≡ true → new.has_ended ≡ true
+notes_the_end between new finish due new_is set = ap (λ s. s.has_ended) new_is ∙ ap (λ (b : Bool). if b then true else between.has_ended) set
+
+-- the turns of a run are as many as it counts
+pub turns_within : (first : Situation) (most : ℕ) (turns : List Turn) (m : Situation) (count : ℕ) → IsRun first most turns m → count ≡ m.turns → count < 2 ^ 62 → length turns < 2 ^ 62
+turns_within first most turns m count run count_is less = omega (arith, ap (λ x. x.turns) run.comes, count_is, less)

@@ -1,7 +1,8 @@
 -- What stands under a lock: the words and processors after one run from an opening, of which each work turn is booked.
-use Rattle.std.specs.Prelude.{◌≡◌, ◌==◌, ◌+◌, ◌≤◌, ◌<◌, ◌≢◌, if◌then◌else◌, not, ℕ, Bool, true, false, List, [], length, get_or, take, Some, None, slice_get}
+use Rattle.std.specs.Prelude.{◌≡◌, ◌==◌, ◌+◌, ◌≤◌, ◌<◌, ◌≢◌, if◌then◌else◌, not, ℕ, Bool, true, false, List, [], ◌∷◌, ◌++◌, length, get_or, take, Some, None, slice_get}
 use Rattle.std.specs.List.{All, sum_by}
 use Rattle.std.proofs.Common.{arith}
+use mathlib.Core.List.{IsPrefix}
 use Rattle.ppm_cells.specs.Limits.{IsWithinLimits}
 use Rattle.ppm_cells.specs.declared.shape.Takeover.TheVariants.{ByPlaces}
 use Rattle.ppm_code.specs.Code.{IsCode}
@@ -13,7 +14,8 @@ use Rattle.ppm_step.specs.declared.turn.Told.{Told}
 use Rattle.ppm_step.specs.declared.turn.Turn.{Turn}
 use Rattle.ppm_step.specs.declared.turn.Why.TheVariants.{Turns, Watch}
 use Rattle.ppm_step.specs.Among.{IsTurnAmong}
-use Rattle.ppm_step.specs.State.{along, is_work_next, next_of, opening, stand_of, work_of}
+use Rattle.ppm_step.specs.State.{along, is_work_next, next_of, opening, seeks_holder, stand_of, work_of}
+use Rattle.ppm_step.specs.Told.{told_of}
 use Rattle.ppm_core.specs.Machine.{Holding}
 use Rattle.ppm_core.specs.Situation.{Situation, finish_in, run_on}
 
@@ -50,10 +52,11 @@ pub record IsCounted (first : Situation) (spent : List ℕ) (turns : List Turn) 
 abbrev pub HasCountedRun : Situation → (most : ℕ) → Situation → (spent : List ℕ) → Type 0
 HasCountedRun first most m spent = (turns : List Turn) × (IsRun first most turns m × IsCounted first spent turns)
 
--- what stands under the lock: a machine, and the work turns that each processor has made
+-- what stands under the lock: a machine, the work turns that each processor has made, and all turns that were made
 pub record Kept : Type 0 where
   pub machine : Holding
   pub spent : List ℕ
+  pub history : List Turn
 
 -- the act that is done where one is asked: a work turn, where the turns are spent, is the quit, and the quit before that is a step
 abbrev pub act_done : (is_spent : Bool) → Next → Act → Act
@@ -76,16 +79,27 @@ turn_done most m made processor act = record {
 abbrev pub is_set : (finish : ℕ) → Bool
 is_set finish = not (finish == 0)
 
--- a seat: its processor, the work turns that are booked for it, whether the run had ended after a turn of its processor, and whether a victim is
--- due for the coming step
+-- a seat: its processor, the work turns that are booked for it, whether the run had ended after a turn of its processor, whether a victim is
+-- due for the coming step, and the run up to the last turn of its processor
 pub record Seated : Type 0 where
   pub processor : ℕ
   pub made : ℕ
   pub has_ended : Bool
   pub is_due : Bool
+  pub seen : List Turn
 
 abbrev pub unused : (processor : ℕ) → Seated
-unused processor = record { processor = processor; made = 0; has_ended = false; is_due = false }
+unused processor = record { processor = processor; made = 0; has_ended = false; is_due = false; seen = [] }
+
+-- after a turn, with which the run is this
+abbrev pub saw : Seated → List Turn → Seated
+saw seat turns = record {
+  processor = seat.processor;
+  made = seat.made;
+  has_ended = seat.has_ended;
+  is_due = seat.is_due;
+  seen = turns;
+}
 
 -- after a turn, which was work or wasn't
 abbrev pub booked : Seated → (work : Bool) → Seated
@@ -94,6 +108,7 @@ booked seat work = record {
   made = seat.made + (if work then 1 else 0);
   has_ended = seat.has_ended;
   is_due = seat.is_due;
+  seen = seat.seen;
 }
 
 -- with what is found after a turn: the finish word, and whether a victim is due
@@ -103,6 +118,7 @@ noted seat finish due = record {
   made = seat.made;
   has_ended = if is_set finish then true else seat.has_ended;
   is_due = due;
+  seen = seat.seen;
 }
 
 -- the units that are booked for the end of the run
@@ -112,6 +128,32 @@ units has_ended = if has_ended then 1 else 0
 -- if a processor is done after a turn, before which it wasn't, and the turn was no hard fault, the run has ended
 abbrev pub EndsWhereDone : Act → Told → (has_ended : Bool) → Type 0
 EndsWhereDone act told has_ended = told.event ≢ None → told.next ≡ Done → act ≢ Hard → has_ended ≡ true
+
+-- the turn that a processor makes after these, where it is asked for an act
+abbrev pub turn_after : Situation → (most : ℕ) → (before : List Turn) → (processor : ℕ) → Act → Turn
+turn_after first most before processor act = turn_done most (run_on first before) (spent_by first processor before) processor act
+
+-- a processor was asked for an act after some turns: the turn that it made is put after them, and it was answered what is told of that turn
+pub record IsTold (first : Situation) (most : ℕ) (before : List Turn) (processor : ℕ) (act : Act) (now : List Turn) (answer : Told) : Type 0 where
+  pub turn : now ≡ before ++ turn_after first most before processor act ∷ []
+  pub told : answer ≡ told_of first.shape first.code (run_on first before).state (turn_after first most before processor act)
+
+-- a seat's processor was asked for an act after some turns, with which a run goes on from what the seat had seen. The run with the turn that it
+-- made is what the seat has seen now. The turn is booked where it is work, and what the seat notes holds after it
+pub record HasMade (first : Situation) (most : ℕ) (before : List Turn) (act : Act) (old new : Seated) (answer : Told) : Type 0 where
+  pub goes_on : IsPrefix old.seen before
+  pub told : IsTold first most before old.processor act new.seen answer
+  pub run : IsRun first most new.seen (run_on first new.seen)
+  pub seat : new ≡ noted (booked (saw old new.seen) answer.work) (finish_in (run_on first new.seen))
+      (seeks_holder (stand_of (run_on first new.seen).state old.processor))
+
+-- all seats have seen beginnings of one list
+abbrev pub HaveSeen : List Seated → List Turn → Type 0
+HaveSeen seats turns = All (λ seat. IsPrefix seat.seen turns) seats
+
+-- some run came to this, and its turns and what all seats have seen are beginnings of one list
+abbrev pub HasSeenRun : Situation → (most : ℕ) → List Seated → Situation → Type 0
+HasSeenRun first most seats m = (turns : List Turn) × (IsRun first most turns m × ((all : List Turn) × (IsPrefix turns all × HaveSeen seats all)))
 
 -- what seats have noted of the end holds: if the run had ended after a turn of one of them, the finish word isn't 0
 abbrev pub EndsHold : List Seated → Situation → Type 0

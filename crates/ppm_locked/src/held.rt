@@ -1,13 +1,15 @@
 //! What stands under the lock.
-ghost use Rattle.std.specs.Prelude.{◌≡◌, ◌+◌, ◌==◌, ℕ, get_or, replicate, vec_len};
+ghost use Rattle.std.specs.Prelude.{◌≡◌, ◌+◌, ◌==◌, [], ℕ, replicate, vec_len};
 ghost use Rattle.std.specs.List.{sum_by};
+ghost use mathlib.Core.List.{IsPrefix};
+ghost use Rattle.logbook.specs.Pages.{Book};
 ghost use Rattle.ppm_core.specs.Acts.{IsActAmong};
 ghost use Rattle.ppm_core.specs.Machine.{seen};
-ghost use Rattle.ppm_core.specs.Situation.{Situation, finish_in, turned};
+ghost use Rattle.ppm_core.specs.Situation.{Situation, finish_in};
 ghost use Rattle.ppm_step.specs.State.{opening, seeks_holder, stand_of};
-ghost use Rattle.ppm_step.specs.Told.{told_of};
-ghost use Rattle.ppm_locked.specs.Held.{EndsHold, EndsWhereDone, HasCountedRun, HasRun, IsOpening, act_done, booked, is_set, noted, nothing, turn_done, units};
+ghost use Rattle.ppm_locked.specs.Held.{EndsHold, EndsWhereDone, HasMade, HasSeenRun, HaveSeen, IsRun, IsTold, act_done, booked, is_set, noted, nothing, saw, units};
 
+use crate::history::{Front, History};
 use crate::seat::Seat;
 use ppm_core::{Act, Machine, Next, Told, Turn, Why};
 use std::marker::{Brand, Model};
@@ -18,8 +20,10 @@ use std::sync::ledger::{Book, Ledger, Share};
 const TURN_LIMIT: u64 = 1 << 62;
 
 /// Which machine stands under a lock: each lock has a type for it, which also names the ledger in
-/// which the work turns are booked.
+/// which the work turns are booked, and the history of its turns.
 pub trait Keeping: Ledger {
+    ghost use Rattle.logbook.specs.Pages.{Book};
+
     /// The machine before its first turn.
     ghost first: { Situation };
 
@@ -28,6 +32,9 @@ pub trait Keeping: Ledger {
 
     /// The parts of the ledger.
     ghost all: { ℕ };
+
+    /// The history of the turns.
+    ghost history: { Book };
 }
 
 impl Keeping for Brand {
@@ -36,11 +43,13 @@ impl Keeping for Brand {
     ghost most = { 0 };
 
     ghost all = { 0 };
+
+    ghost history = { record { number = 0; log_name = 0; cells_name = 0 } };
 }
 
 /// A machine some run has come to, what each of its processors has spent in that run, the book of
-/// all work turns, the book of the seats that have found the run ended, and the parts of both
-/// ledgers that no seat has.
+/// all work turns, the book of the seats that have found the run ended, the parts of both ledgers
+/// that no seat has, and the turns of the run.
 #[derive(Drop)]
 pub(crate) struct Held<L: Keeping, E: Ledger> {
     machine: Machine,
@@ -50,25 +59,26 @@ pub(crate) struct Held<L: Keeping, E: Ledger> {
     ends: Book<E>,
     rest: Share<L>,
     rest_of_ends: Share<E>,
+    history: History<L>,
 }
 
 impl<L: Keeping, E: Ledger> Model for Held<L, E> {
     ghost use Rattle.std.specs.Prelude.{◌≡◌, ◌+◌, false};
     ghost use Rattle.ppm_core.specs.Machine.{seen};
     ghost use Rattle.ppm_core.specs.Situation.{finish_in};
-    ghost use Rattle.ppm_locked.specs.Held.{HasCountedRun, IsOpening, Kept, is_set};
+    ghost use Rattle.ppm_locked.specs.Held.{IsCounted, IsOpening, IsRun, Kept, is_set};
 
     ghost Value = { Kept };
 
-    ghost view = { λ h. record { machine = h.machine; spent = h.spent.items } };
+    ghost view = { λ h. record { machine = h.machine; spent = h.spent.items; history = h.history } };
 
-    ghost invariant = { λ h. HasCountedRun L.first L.most (seen h.machine) h.spent.items × (h.most ≡ L.most) × (h.book.total ≡ h.machine.work)
+    ghost invariant = { λ h. (IsRun L.first L.most h.history (seen h.machine) × IsCounted L.first h.spent.items h.history) × (h.most ≡ L.most) × (h.book.total ≡ h.machine.work)
         × (h.rest.parts + L.first.shape.processors ≡ L.all) × (h.rest.amount ≡ 0)
         × (is_set (finish_in (seen h.machine)) ≡ false → h.ends.total ≡ 0) × IsOpening L.first };
 }
 
 /// Never comes back.
-fn wait_for_good<R: Wait>(rt: &R)
+pub(crate) fn wait_for_good<R: Wait>(rt: &R)
     ensures { ⊥ }
 {
     for _ in rt.forever() {
@@ -101,21 +111,25 @@ fn act_done(is_spent: bool, next: Next, act: Act) -> Act
     }
 }
 
-/// All that is booked for some seats.
+/// All that is booked for some seats, and all that they have seen.
 fn gather<L: Keeping, E: Ledger>(
     all: &mut Share<L>,
     ends: &mut Share<E>,
+    front: &mut Front<L>,
     mut seats: Vec<Seat<L, E>>,
 )
     ensures parts { all.new.parts ≡ all.old.parts + vec_len seats }
     ensures amount { all.new.amount ≡ all.old.amount + sum_by (λ seat. seat.made) seats.items }
     ensures ends { ends.new.amount ≡ ends.old.amount + sum_by (λ seat. units seat.has_ended) seats.items }
+    ensures front { IsPrefix front.old front.new }
+    ensures seen { HaveSeen seats.items front.new }
 {
     if let Some(seat) = seats.pop() {
-        let (share, end) = seat.into_shares();
+        let (share, end, seen) = seat.into_parts();
         all.merge(share);
         ends.merge(end);
-        gather(all, ends, seats);
+        front.learn(&seen);
+        gather(all, ends, front, seats);
     }
 }
 
@@ -125,18 +139,20 @@ impl<L: Keeping, E: Ledger> Held<L, E> {
         machine: Machine,
         most: u64,
         spent: Vec<u64>,
-        book: Book<L>,
-        ends: Book<E>,
-        rest: Share<L>,
-        rest_of_ends: Share<E>,
+        work: (Book<L>, Share<L>),
+        ends: (Book<E>, Share<E>),
+        history: History<L>,
     ) -> Held<L, E>
         requires first { (seen machine ≡ L.first) × (machine.work ≡ 0) }
         requires opening { L.first.state ≡ opening L.first.state.words L.first.shape.processors }
         requires most { most ≡ L.most }
         requires spent { spent.items ≡ replicate L.first.shape.processors 0 }
-        requires books { (book.total ≡ 0) × (ends.total ≡ 0) × ((rest.parts + L.first.shape.processors ≡ L.all) × (rest.amount ≡ 0)) }
+        requires books { (work.0.total ≡ 0) × (ends.0.total ≡ 0) × ((work.1.parts + L.first.shape.processors ≡ L.all) × (work.1.amount ≡ 0)) }
+        requires history { history ≡ [] }
     {
         let _ = machine.code().parts();
+        let (book, rest) = work;
+        let (ends, rest_of_ends) = ends;
         Held {
             machine,
             most,
@@ -145,6 +161,7 @@ impl<L: Keeping, E: Ledger> Held<L, E> {
             ends,
             rest,
             rest_of_ends,
+            history,
         }
     }
 
@@ -154,13 +171,9 @@ impl<L: Keeping, E: Ledger> Held<L, E> {
     /// call never comes back.
     pub(crate) fn turn<R: Wait>(&mut self, rt: &R, seat: &mut Seat<L, E>, act: Act) -> Told
         requires { IsActAmong L.first.shape.processors act }
-        ensures machine { seen self.new.machine ≡ turned (seen self.old.machine)
-            (turn_done L.most (seen self.old.machine) (get_or self.old.spent seat.old.processor 0) seat.old.processor act) }
-        ensures told { result ≡ told_of self.old.machine.shape self.old.machine.code (seen self.old.machine).state
-            (turn_done L.most (seen self.old.machine) (get_or self.old.spent seat.old.processor 0) seat.old.processor act) }
-        ensures seat { seat.new ≡ noted (booked seat.old result.work) (finish_in (seen self.new.machine))
-            (seeks_holder (stand_of (seen self.new.machine).state seat.old.processor)) }
-        ensures ended { EndsWhereDone act result (is_set (finish_in (seen self.new.machine))) }
+        ensures made { HasMade L.first L.most self.old.history act seat.old seat.new result }
+        ensures history { self.new.history ≡ seat.new.seen }
+        ensures ended { EndsWhereDone act result seat.new.has_ended }
     {
         let told = self.make(rt, seat, act);
         self.note(seat);
@@ -170,11 +183,10 @@ impl<L: Keeping, E: Ledger> Held<L, E> {
     /// The turn, which is booked.
     fn make<R: Wait>(&mut self, rt: &R, seat: &mut Seat<L, E>, act: Act) -> Told
         requires { IsActAmong L.first.shape.processors act }
-        ensures machine { seen self.new.machine ≡ turned (seen self.old.machine)
-            (turn_done L.most (seen self.old.machine) (get_or self.old.spent seat.old.processor 0) seat.old.processor act) }
-        ensures told { result ≡ told_of self.old.machine.shape self.old.machine.code (seen self.old.machine).state
-            (turn_done L.most (seen self.old.machine) (get_or self.old.spent seat.old.processor 0) seat.old.processor act) }
-        ensures seat { seat.new ≡ booked seat.old result.work }
+        ensures told { IsTold L.first L.most self.old.history seat.old.processor act self.new.history result }
+        ensures run { IsRun L.first L.most self.new.history (seen self.new.machine) }
+        ensures seat { seat.new ≡ booked (saw seat.old self.new.history) result.work }
+        ensures goes_on { IsPrefix seat.old.seen self.old.history }
         ensures ended { EndsWhereDone act result (is_set (finish_in (seen self.new.machine))) }
     {
         let _ = self.machine.array_lengths();
@@ -185,7 +197,9 @@ impl<L: Keeping, E: Ledger> Held<L, E> {
         let made = self.spent[processor as usize];
         let next = self.machine.next(processor);
         let act = act_done(made == self.most, next, act);
-        let told = self.machine.turn(Turn { processor, act });
+        let turn = Turn { processor, act };
+        seat.see(rt, &mut self.history, turn);
+        let told = self.machine.turn(turn);
         if told.work {
             self.spent[processor as usize] = made + 1;
         }
@@ -195,7 +209,7 @@ impl<L: Keeping, E: Ledger> Held<L, E> {
 
     /// What a seat notes after a turn of its processor.
     fn note(&mut self, seat: &mut Seat<L, E>)
-        ensures machine { self.new.machine ≡ self.old.machine }
+        ensures machine { (self.new.machine ≡ self.old.machine) × (self.new.history ≡ self.old.history) }
         ensures seat { seat.new ≡ noted seat.old (finish_in (seen self.old.machine))
             (seeks_holder (stand_of (seen self.old.machine).state seat.old.processor)) }
     {
@@ -208,7 +222,7 @@ impl<L: Keeping, E: Ledger> Held<L, E> {
     pub(crate) fn into_machine(self, seats: Vec<Seat<L, E>>) -> Machine
         requires seats { vec_len seats ≡ L.first.shape.processors }
         requires ledger { L.all ≡ L.parts }
-        ensures run { HasRun L.first L.most (seen result) }
+        ensures run { HasSeenRun L.first L.most seats.items (seen result) }
         ensures work { result.work ≡ sum_by (λ seat. seat.made) seats.items }
         ensures ended { EndsHold seats.items (seen result) }
     {
@@ -220,8 +234,10 @@ impl<L: Keeping, E: Ledger> Held<L, E> {
             mut ends,
             mut rest,
             mut rest_of_ends,
+            history,
         } = self;
-        gather(&mut rest, &mut rest_of_ends, seats);
+        let mut front = history.front();
+        gather(&mut rest, &mut rest_of_ends, &mut front, seats);
         book.audit(&mut rest);
         ends.audit(&mut rest_of_ends);
         machine

@@ -2,12 +2,15 @@
 ghost use Rattle.std.specs.Prelude.{if◌then◌else◌};
 
 use crate::held::Keeping;
+use crate::history::{Front, History};
+use ppm_core::Turn;
 use std::marker::Model;
+use std::sync::Wait;
 use std::sync::ledger::{Book, Ledger, Share};
 
 /// From where one processor makes its turns under the lock. It is seen as its processor's number,
-/// the work turns that are booked for it, whether the run is booked as ended, and whether a victim
-/// is due for the processor's coming step.
+/// the work turns that are booked for it, whether the run is booked as ended, whether a victim is
+/// due for the processor's coming step, and the turns of the run up to the processor's last one.
 #[derive(Drop)]
 pub struct Seat<L: Keeping, E: Ledger> {
     processor: u32,
@@ -15,6 +18,7 @@ pub struct Seat<L: Keeping, E: Ledger> {
     is_due: bool,
     share: Share<L>,
     ends: Share<E>,
+    front: Front<L>,
 }
 
 impl<L: Keeping, E: Ledger> Model for Seat<L, E> {
@@ -23,21 +27,28 @@ impl<L: Keeping, E: Ledger> Model for Seat<L, E> {
 
     ghost Value = { Seated };
 
-    ghost view = { λ s. record { processor = s.processor; made = s.share.amount; has_ended = s.has_ended; is_due = s.is_due } };
+    ghost view = { λ s. record { processor = s.processor; made = s.share.amount; has_ended = s.has_ended; is_due = s.is_due; seen = s.front } };
 
     ghost invariant = { λ s. (s.processor < L.first.shape.processors) × (s.share.parts ≡ 1) × (s.ends.parts ≡ 1)
         × (s.ends.amount ≡ units s.has_ended) };
 }
 
 impl<L: Keeping, E: Ledger> Seat<L, E> {
-    ghost use Rattle.std.specs.Prelude.{◌≡◌, ◌<◌, ◌+◌, false};
-    ghost use Rattle.ppm_locked.specs.Held.{booked, is_set, noted, units, unused};
+    ghost use Rattle.std.specs.Prelude.{◌≡◌, ◌<◌, ◌+◌, ◌^◌, ◌++◌, ◌∷◌, [], false, length};
+    ghost use mathlib.Core.List.{IsPrefix};
+    ghost use Rattle.ppm_locked.specs.Held.{booked, is_set, noted, saw, units, unused};
 
     /// The seat of a processor, for which nothing is booked.
-    pub(crate) fn new(processor: u32, share: Share<L>, ends: Share<E>) -> Seat<L, E>
+    pub(crate) fn new(
+        processor: u32,
+        share: Share<L>,
+        ends: Share<E>,
+        front: Front<L>,
+    ) -> Seat<L, E>
         requires processor { processor < L.first.shape.processors }
         requires share { (share.parts ≡ 1) × (share.amount ≡ 0) }
         requires ends { (ends.parts ≡ 1) × (ends.amount ≡ 0) }
+        requires front { front ≡ [] }
         ensures { result ≡ unused processor }
     {
         Seat {
@@ -46,7 +57,18 @@ impl<L: Keeping, E: Ledger> Seat<L, E> {
             is_due: false,
             share,
             ends,
+            front,
         }
+    }
+
+    /// Sees a turn of its processor, which is added to the history.
+    pub(crate) fn see<R: Wait>(&mut self, rt: &R, history: &mut History<L>, turn: Turn)
+        requires { length history.old < 2 ^ 62 }
+        ensures added { history.new ≡ history.old ++ turn ∷ [] }
+        ensures seat { self.new ≡ saw self.old (history.old ++ turn ∷ []) }
+        ensures goes_on { IsPrefix self.old.seen history.old }
+    {
+        history.add(rt, &mut self.front, turn);
     }
 
     /// Books a turn of its processor, which was work or wasn't.
@@ -76,10 +98,11 @@ impl<L: Keeping, E: Ledger> Seat<L, E> {
         self.has_ended = true;
     }
 
-    /// What is booked for it.
-    pub(crate) fn into_shares(self) -> (Share<L>, Share<E>)
+    /// What is booked for it, and what it has seen.
+    pub(crate) fn into_parts(self) -> (Share<L>, Share<E>, Front<L>)
         ensures made { (result.0.parts ≡ 1) × (result.0.amount ≡ self.made) }
         ensures ends { result.1.amount ≡ units self.has_ended }
+        ensures seen { result.2 ≡ self.seen }
     {
         let Seat {
             processor: _,
@@ -87,8 +110,9 @@ impl<L: Keeping, E: Ledger> Seat<L, E> {
             is_due: _,
             share,
             ends,
+            front,
         } = self;
-        (share, ends)
+        (share, ends, front)
     }
 
     /// The number of its processor.

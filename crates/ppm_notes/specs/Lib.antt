@@ -4,3 +4,4 @@ pub mod Meanings
 pub mod Listings
 pub mod Lines
 pub mod Orders
+pub mod Traps

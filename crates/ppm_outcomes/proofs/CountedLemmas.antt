@@ -29,6 +29,7 @@ use Rattle.ppm_loading.proofs.ProgramLemmas.{AreKinds}
 use Rattle.ppm_table.specs.declared.act_counts.ActCounts.{ActCounts}
 use Rattle.ppm_table.specs.declared.processor.Shared.{Shared}
 use Rattle.ppm_table.specs.Closed.{Closing}
+use Rattle.ppm_table.specs.Counting.{TellsTurns}
 use Rattle.ppm_table.specs.Shown.{opening_of}
 use Rattle.ppm_threads.specs.Driven.{DrivenCounted}
 use Rattle.ppm_outcomes.specs.CountedRuns.{answer_of, CodeHas, ProgramHas}
@@ -122,4 +123,5 @@ module _ {W : Type 0} (told : W → Option (List Event)) (options : RunOptions) 
       counted ∙ ap (λ (s : Shape). counts_told acts faults s closed.words) shape
       ∙ ap (λ (ws : List ℕ). counts_told acts faults m.shape ws) (words_are ∙ sym d.driven.words_are)
       ∙ ap (λ (n : ActCounts). counts_told n faults m.shape (words_behind m turns)) d.counted in
-      record { has = has_said a (the_one a said); counted = are }
+      let numbers = subst (λ (n : ActCounts). TellsTurns (opening_of shared) turns n) d.counted d.numbers in
+      record { has = has_said a (the_one a said); counted = record { are = are; numbers = numbers } }

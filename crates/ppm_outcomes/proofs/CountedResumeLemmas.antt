@@ -37,6 +37,7 @@ use Rattle.ppm_loading.specs.Programs.{ProgramMay}
 use Rattle.ppm_loading.specs.Says.{IsTheOne}
 use Rattle.ppm_table.specs.declared.act_counts.ActCounts.{ActCounts}
 use Rattle.ppm_table.specs.Closed.{Closing}
+use Rattle.ppm_table.specs.Counting.{TellsTurns}
 use Rattle.ppm_table.specs.Shown.{opening_of}
 use Rattle.ppm_table.specs.declared.processor.Shared.{Shared}
 use Rattle.ppm_table.specs.declared.view.Opening.{Opening}
@@ -179,5 +180,5 @@ module _ {W : Type 0} (told : W → Option (List Event)) (options : ResumeOption
       ∙ ap (λ (n : ActCounts). counts_told n faults m.shape (words_behind m turns)) d.counted in
       record {
         has = has_said a (subst (IsSaid m.shape m.array_lengths (named z.arrays) (words_behind m turns)) (sym (said some.0 some.1)) some.1);
-        counted = are;
+        counted = record { are = are; numbers = subst (λ (n : ActCounts). TellsTurns k turns n) d.counted d.numbers };
       }

@@ -271,7 +271,7 @@ run_forgets options watching before now plan text a h = record {
 }
 
 -- a plan for so many processors
-same_plan : (options : RunOptions) (plan : Planned) → plan.processors ≡ options.processors → plan ≡ plan_of options plan.items
+pub same_plan : (options : RunOptions) (plan : Planned) → plan.processors ≡ options.processors → plan ≡ plan_of options plan.items
 same_plan options plan same = λ i. record { processors = same i; items = plan.items }
 
 -- some answer is that of a code, and it is what is said of the words behind its run

@@ -48,6 +48,7 @@ told_none (answers.Untidy u) lists = refl
 told_none (answers.InputRefused r) lists = refl
 told_none (answers.Ended arrays) lists = tt
 told_none (answers.Trapped t line) lists = tt
+told_none (answers.TrapExplained t line notes) lists = tt
 told_none (answers.EndedWith arrays tally) lists = tt
 told_none (answers.TrappedWith t line tally) lists = tt
 told_none (answers.Unfinished acts) lists = tt

@@ -15,14 +15,14 @@ use Rattle.ppm_cli.specs.declared.resume.ResumeOptions.{ResumeOptions}
 use Rattle.ppm_loading.specs.Planned.{IsRefusedBy}
 use Rattle.ppm_outcomes.specs.CountedRuns.{answer_of}
 use Rattle.ppm_outcomes.specs.Resumes.{SavedState, saved_finish, IsNoText, OfState, ByItems, ResumedHas}
-use Rattle.ppm_outcomes.specs.RunCounts.{made_counts}
+use Rattle.ppm_outcomes.specs.RunCounts.{AreOfRun}
 use Rattle.ppm_outcomes.specs.Strikes.{fault_count}
 
 -- The run from a state by the items of a plan comes to this, and so much is counted in it: what it came to is the answer without counts of a run in
 -- which each processor obeys; and the counts are those of the turns of this very run, from the words that fresh processors find.
 pub record IsCounted (options : ResumeOptions) (items : List PlanItem) (z : SavedState) (r : Ran) (counts : RunCounts) : Type 0 where
   pub has : ResumedHas options [] [] items z (answer_of r)
-  pub counted : counts ≡ made_counts (fault_count items) has.start has.run.turns
+  pub counted : AreOfRun (fault_count items) has.start has.run.turns counts
 
 -- The answer of a state by the items of a plan: that of such a run. Where the saved finish word stands for nothing there is no run, nothing is counted,
 -- and the words are broken at a place that isn't known.

@@ -18,7 +18,7 @@ use Rattle.ppm_answers.specs.Reading.{AreOne, FrontsDecide}
 use Rattle.ppm_cli.specs.declared.run.RunOptions.{RunOptions}
 use Rattle.ppm_loading.specs.Planned.{PlannedHas, PlannedMay}
 use Rattle.ppm_loading.specs.Programs as programs
-use Rattle.ppm_outcomes.specs.RunCounts.{made_counts}
+use Rattle.ppm_outcomes.specs.RunCounts.{AreOfRun}
 use Rattle.ppm_outcomes.specs.Runs as plain
 use Rattle.ppm_outcomes.specs.Strikes.{fault_count}
 
@@ -35,7 +35,7 @@ answer_of (ran.Broken place) = answers.Broken place
 pub record IsCounted (options : RunOptions) (items : List PlanItem) (code : CodeParts) (input : List NamedArray) (r : Ran) (counts : RunCounts)
     : Type 0 where
   pub has : plain.CodeHas options 0 [] [] items code input (answer_of r)
-  pub counted : counts ≡ made_counts (fault_count items) has.start has.run.turns
+  pub counted : AreOfRun (fault_count items) has.start has.run.turns counts
 
 -- the answer of a code on an input by the items of a plan; no other answer is one of a code
 abbrev pub CodeHas : RunOptions → List PlanItem → CodeParts → List NamedArray → Answer → Type 0

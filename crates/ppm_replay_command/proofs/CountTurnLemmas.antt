@@ -43,7 +43,7 @@ acts_marks c [] = refl
 acts_marks c (m ∷ ms) = acts_marks (marked c m) ms ∙ acts_mark c m
 
 -- from its first act on a run is told
-told_since : (from : ℕ) (m : Situation) → from ≤ m.turns → is_told from m ≡ true
+pub told_since : (from : ℕ) (m : Situation) → from ≤ m.turns → is_told from m ≡ true
 told_since from m since = grind (arith, since)
 
 -- a turn is one

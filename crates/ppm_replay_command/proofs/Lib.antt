@@ -11,6 +11,9 @@ pub mod OneReplayCase
 pub mod OfReplayCase
 pub mod OrderedLemmas
 pub mod CountTurnLemmas
+mod GoneOnLemmas
+mod GoingMarks
+mod AsTraced
 pub mod CountedLemmas
 pub mod OneCounted
 pub mod OfCounted

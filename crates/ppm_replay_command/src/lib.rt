@@ -27,7 +27,7 @@ mod replay_case;
 mod room;
 
 pub use complete_replay::{replays_complete, replays_of_code_complete};
-pub use count_laws::counts_are_of_turns;
+pub use count_laws::{counts_are_as_traced, counts_are_of_turns};
 pub use counted::counted_replay_command;
 pub use counted_case::counted_replay_case_command;
 pub use one_counted::{counted_case_replays_have_one_answer, counted_replays_have_one_answer};

@@ -10,7 +10,7 @@ pub fn clearing_meets_both()
     ensures { ClearingMeetsBoth }
 {}
 
-/// So its faults are invisible, though its branches race.
+/// The faults of this code are invisible, since its paths are filled, though its branches race.
 pub fn faults_of_clearing_are_invisible()
     ensures { FaultsOfClearingAreInvisible }
 {

@@ -20,7 +20,7 @@ fn machine(alloc: Global, code: &RacyCode) -> Result<Machine, Fail> {
     Ok(Machine::new(alloc, code, vec![in alloc; 1]?, vec![in alloc; 0]?)?)
 }
 
-/// So many steps of a strand; what others see of the last one.
+/// Makes `count` steps of a strand, and answers what others see of the last one.
 fn steps(
     alloc: Global,
     code: &RacyCode,

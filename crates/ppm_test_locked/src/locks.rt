@@ -8,7 +8,7 @@ use ppm_choice::{Idle, Limits};
 use ppm_code::Code;
 use ppm_core::{Act, Image, Machine, Next, Why};
 use ppm_layout::image;
-use ppm_locked::{Keeping, Locked, Seat, drive_locked};
+use ppm_locked::{BlankHistory, Keeping, Locked, Seat, drive_locked};
 use ppm_plan::{Plan, read_plan};
 use ppm_test_turns::{SUM, code_of, four_words};
 use std::alloc::Global;
@@ -68,14 +68,16 @@ fn both_end<L: Keeping + Send + Sync, E: Ledger + Send + Sync, R: Threads + Wait
     most: u64,
     work: Blank,
     ends: Blank,
+    history: BlankHistory,
 ) -> Result<(Machine, u64), Fail>
     requires first { L.first ≡ loaded image.shape code image.lengths image.words }
     requires most { L.most ≡ most }
     requires work { (work.name ≡ L.name) × (work.parts ≡ L.parts) × (L.all ≡ L.parts) }
     requires ends { (ends.name ≡ E.name) × (ends.parts ≡ E.parts) }
+    requires history { history ≡ L.history }
     requires two { (image.shape.processors ≡ 2) × (2 ≤ work.parts) × (2 ≤ ends.parts) }
 {
-    let made = Locked::<L, E>::load(alloc, image, code, most, work, ends);
+    let made = Locked::<L, E>::load(alloc, image, code, most, work, ends, history);
     let (locked, mut seats) = made.map_err(|_| "memory")?;
     let second = seats.pop().ok_or("a second")?;
     let first = seats.pop().ok_or("a first")?;
@@ -118,7 +120,16 @@ fn sum_by_two<R: Threads + Wait + Sync>(
 ) -> Result<(Machine, u64), Fail> {
     let code = code_of(alloc, SUM)?;
     let made = image_of(alloc, &code, [1, 2, 3, 4])?;
-    both_end::<Brand, Brand, R>(rt, alloc, made, code, most, Blank::new(3), Blank::new(2))
+    both_end::<Brand, Brand, R>(
+        rt,
+        alloc,
+        made,
+        code,
+        most,
+        Blank::new(3),
+        Blank::new(2),
+        BlankHistory::new(),
+    )
 }
 
 #[test]
@@ -155,15 +166,17 @@ fn two_obey<L: Keeping + Send + Sync, E: Ledger + Send + Sync, R: Threads + Wait
     most: u64,
     work: Blank,
     ends: Blank,
+    history: BlankHistory,
 ) -> Result<Machine, Fail>
     requires first { L.first ≡ loaded image.shape code image.lengths image.words }
     requires most { L.most ≡ most }
     requires work { (work.name ≡ L.name) × (work.parts ≡ L.parts) × (L.all ≡ L.parts) }
     requires ends { (ends.name ≡ E.name) × (ends.parts ≡ E.parts) }
+    requires history { history ≡ L.history }
     requires two { (image.shape.processors ≡ 2) × (2 ≤ work.parts) × (2 ≤ ends.parts) }
     requires plan { plan.now.processors ≡ 2 }
 {
-    let made = Locked::<L, E>::load(alloc, image, code, most, work, ends);
+    let made = Locked::<L, E>::load(alloc, image, code, most, work, ends, history);
     let (locked, seats) = made.map_err(|_| "memory")?;
     let driven = drive_locked(rt, locked, seats, plan, limits_of(1_000_000));
     Ok(driven.map_err(|_| "memory")?)
@@ -189,6 +202,7 @@ fn sum_by_plan<R: Threads + Wait + Sync>(
         most,
         Blank::new(2),
         Blank::new(2),
+        BlankHistory::new(),
     )
 }
 

@@ -10,6 +10,7 @@ use ppm_driver::runs_of_code_complete;
 use ppm_outcomes::runs_in_legs_are_as_programs;
 use ppm_plan::{plan_items_read_as_written, schedule_items_read_as_written, texts_read_as_written};
 use ppm_printer::{canonical_texts_tell_programs, printed_texts_have_their_tree};
+use ppm_replay_command::counts_are_as_traced;
 use ppm_step::{done_has_cause, finish_stays, records_lead, room_has_cause, turns_have_cause};
 use ppm_stop_command::{
     fronts_decide_resumed, resumes_leave_states, runs_leave_states, runs_of_code_complete_in_legs,
@@ -61,4 +62,5 @@ fn laws_of_runs_are_called(_: HostRuntime) {
     runs_of_code_complete();
     runs_of_code_complete_in_legs();
     sound_cases_run_as_depth();
+    counts_are_as_traced();
 }

@@ -18,6 +18,7 @@ use Rattle.ppm_commands.specs.Check.{CheckHas}
 use Rattle.ppm_commands.specs.RacingCheck.{RacingHas}
 use Rattle.ppm_explained.specs.Explaining.{ExplainHas}
 use Rattle.ppm_explained.specs.Texts.{limit_of}
+use Rattle.ppm_explained.specs.Trapping.{TrapHas}
 use Rattle.ppm_commands.specs.Code.{CodeReads}
 use Rattle.ppm_commands.specs.Depth.{DepthHas}
 use Rattle.ppm_commands.specs.Races.{RacesHas}
@@ -68,6 +69,7 @@ memory_before (Some commands.Check) o h = judged.memory_before listing_limit Che
 memory_before (Some commands.CheckRacing) o h = judged.memory_before listing_limit RacingHas o.source h
 memory_before (Some commands.Show) o h = judged.memory_before saved_limit ShowHas o.source h
 memory_before (Some (commands.Explain text)) o h = judged.memory_before (limit_of text) (ExplainHas text) o.source h
+memory_before (Some (commands.ExplainTrap options)) o h = judged.memory_before text_limit (TrapHas options.turns) o.source h
 memory_before (Some (commands.ExplainOrders options text)) o h = h
 memory_before (Some (commands.Depth limit)) o h = judged.memory_before case_limit (DepthHas limit.capsules) o.source h
 memory_before (Some (commands.Races limit)) o h = judged.memory_before case_limit (RacesHas limit.capsules) o.source h
@@ -142,6 +144,7 @@ told_nothing (Some commands.Check) o answer lists = refl
 told_nothing (Some commands.CheckRacing) o answer lists = refl
 told_nothing (Some commands.Show) o answer lists = refl
 told_nothing (Some (commands.Explain text)) o answer lists = refl
+told_nothing (Some (commands.ExplainTrap options)) o answer lists = refl
 told_nothing (Some (commands.ExplainOrders options text)) o answer lists = refl
 told_nothing (Some (commands.Depth limit)) o answer lists = refl
 told_nothing (Some (commands.Races limit)) o answer lists = refl

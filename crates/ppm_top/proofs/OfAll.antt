@@ -23,8 +23,10 @@ use Rattle.ppm_commands.specs.Case.{CaseReads}
 use Rattle.ppm_commands.specs.Check.{CheckHas}
 use Rattle.ppm_explained.specs.Explaining.{ExplainHas}
 use Rattle.ppm_explained.specs.Texts.{limit_of}
+use Rattle.ppm_explained.specs.Trapping.{TrapHas}
 use Rattle.ppm_explained.proofs.ExplainRows.{explain_rows}
 use Rattle.ppm_explained.proofs.OrdersRows.{orders_rows, unread as orders_unread}
+use Rattle.ppm_explained.proofs.TrapRows.{trap_rows}
 use Rattle.ppm_commands.specs.Code.{CodeReads}
 use Rattle.ppm_commands.specs.Depth.{DepthHas}
 use Rattle.ppm_commands.specs.Races.{RacesHas}
@@ -160,6 +162,7 @@ command_reports o (Some commands.Check) = judging_reports listing_limit CheckHas
 command_reports o (Some commands.CheckRacing) = judging_reports listing_limit RacingHas o
 command_reports o (Some commands.Show) = judging_reports saved_limit ShowHas o
 command_reports o (Some (commands.Explain text)) = judging_reports (limit_of text) (ExplainHas text) o
+command_reports o (Some (commands.ExplainTrap options)) = judging_reports text_limit (TrapHas options.turns) o
 command_reports o (Some (commands.ExplainOrders options text)) = orders_reports options text o
 command_reports o (Some (commands.Depth limit)) = judging_reports case_limit (DepthHas limit.capsules) o
 command_reports o (Some (commands.Races limit)) = judging_reports case_limit (RacesHas limit.capsules) o
@@ -230,6 +233,8 @@ program_rows laws words o status a = record {
   racing_check = λ e. racing_check_rows (ports_of o) laws.racing_listings status (by_words (Some commands.CheckRacing) e);
   show = λ e. show_rows (ports_of o) laws.states status (by_words (Some commands.Show) e);
   explain = λ text e. explain_rows text (ports_of o) (laws.explained text) status (by_words (Some (commands.Explain text)) e);
+  explain_trap = λ options e.
+      trap_rows options.turns (ports_of o) (laws.explained_traps options.turns) status (by_words (Some (commands.ExplainTrap options)) e);
   explain_orders = λ options text e. (
     is_in_range words (commands.ExplainOrders options text) e,
     orders_rows options text (ports_of o) (laws.explained_orders options text) status (by_words (Some (commands.ExplainOrders options text)) e),

@@ -30,6 +30,7 @@ use Rattle.ppm_top.specs.Causes.{NoCommandMay, CommandMay, CommandTells, IsAnswe
 use Rattle.ppm_top.specs.Laws.{ProgramLaws}
 use Rattle.ppm_top.specs.Orders.{Orders, plan_of, saved_schedule_of, schedule_of}
 use Rattle.ppm_cli.specs.declared.explain.ExplainOptions.{ExplainOptions}
+use Rattle.ppm_cli.specs.declared.explain.ExplainedText.TheVariants as texts
 use Rattle.ppm_explained.specs.Orders.{OrdersSay, WritesNotes}
 use Rattle.ppm_explained.specs.Texts.{IsRefused}
 use Rattle.ppm_explained.proofs.ExplainRows.{no_plan}
@@ -86,6 +87,7 @@ no_command (Some commands.Check) o answers.WordsRefused h e = absurd h.2
 no_command (Some commands.CheckRacing) o answers.WordsRefused h e = absurd h.2
 no_command (Some commands.Show) o answers.WordsRefused h e = absurd h.2
 no_command (Some (commands.Explain text)) o answers.WordsRefused h e = absurd h.2
+no_command (Some (commands.ExplainTrap options)) o answers.WordsRefused h e = absurd h.2
 no_command (Some (commands.Depth limit)) o answers.WordsRefused h e = absurd h.2.1
 no_command (Some (commands.Races limit)) o answers.WordsRefused h e = absurd h.2.1
 no_command (Some (commands.DrawnStrands options)) o answers.WordsRefused h e =
@@ -99,6 +101,7 @@ no_command (Some commands.Check) o (answers.PlanRefused number) h e = absurd h.2
 no_command (Some commands.CheckRacing) o (answers.PlanRefused number) h e = absurd h.2
 no_command (Some commands.Show) o (answers.PlanRefused number) h e = absurd h.2
 no_command (Some (commands.Explain text)) o (answers.PlanRefused number) h e = absurd h.2
+no_command (Some (commands.ExplainTrap options)) o (answers.PlanRefused number) h e = absurd h.2
 no_command (Some (commands.Depth limit)) o (answers.PlanRefused number) h e = absurd h.2.1
 no_command (Some (commands.Races limit)) o (answers.PlanRefused number) h e = absurd h.2.1
 no_command (Some (commands.DrawnStrands options)) o (answers.PlanRefused number) h e =
@@ -117,6 +120,9 @@ no_command (Some commands.Show) o (answers.Explained r notes) h e = absurd h.2
 no_command (Some (commands.Explain text)) o (answers.Explained r notes) h e =
     let p = delivered.is_plan r e in
     absurd (no_plan text h.0 p.0 (subst (λ x. IsRefused text h.0 x) p.1 h.2.refusal))
+no_command (Some (commands.ExplainTrap options)) o (answers.Explained r notes) h e =
+    let p = delivered.is_plan r e in
+    absurd (no_plan texts.Source h.0 p.0 (subst (λ x. IsRefused texts.Source h.0 x) p.1 h.2.refusal))
 no_command (Some (commands.Depth limit)) o (answers.Explained r notes) h e = absurd h.2.1
 no_command (Some (commands.Races limit)) o (answers.Explained r notes) h e = absurd h.2.1
 no_command (Some (commands.DrawnStrands options)) o (answers.Explained r notes) h e =

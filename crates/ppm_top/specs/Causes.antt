@@ -12,6 +12,7 @@ use Rattle.ppm_commands.specs.Case.{CaseMay}
 use Rattle.ppm_commands.specs.Check.{CheckMay}
 use Rattle.ppm_explained.specs.Explaining.{ExplainMay}
 use Rattle.ppm_explained.specs.Orders.{OrdersMay}
+use Rattle.ppm_explained.specs.Trapping.{TrapMay}
 use Rattle.ppm_commands.specs.Code.{CodeMay}
 use Rattle.ppm_commands.specs.Depth.{DepthMay}
 use Rattle.ppm_commands.specs.Races.{RacesMay}
@@ -59,6 +60,7 @@ CommandMay (Some commands.Check) o answer = CheckMay o.source answer
 CommandMay (Some commands.CheckRacing) o answer = RacingCheckMay o.source answer
 CommandMay (Some commands.Show) o answer = ShowMay o.source answer
 CommandMay (Some (commands.Explain text)) o answer = ExplainMay text o.source answer
+CommandMay (Some (commands.ExplainTrap options)) o answer = TrapMay options.turns o.source answer
 CommandMay (Some (commands.ExplainOrders options text)) o answer = OrdersMay options text o.source answer
 CommandMay (Some (commands.Depth limit)) o answer = DepthMay limit.capsules o.source answer
 CommandMay (Some (commands.Races limit)) o answer = RacesMay limit.capsules o.source answer
@@ -97,6 +99,7 @@ CommandTells (Some commands.Check) o = TellsNothing
 CommandTells (Some commands.CheckRacing) o = TellsNothing
 CommandTells (Some commands.Show) o = TellsNothing
 CommandTells (Some (commands.Explain text)) o = TellsNothing
+CommandTells (Some (commands.ExplainTrap options)) o = TellsNothing
 CommandTells (Some (commands.ExplainOrders options text)) o = TellsNothing
 CommandTells (Some (commands.Depth limit)) o = TellsNothing
 CommandTells (Some (commands.Races limit)) o = TellsNothing

@@ -7,6 +7,7 @@ use Rattle.ppm_commands.specs.Check.{HaveOneAnswer as ListingsHaveOneAnswer}
 use Rattle.ppm_commands.specs.RacingCheck.{HaveOneAnswer as RacingListingsHaveOneAnswer}
 use Rattle.ppm_explained.specs.Explaining.{HaveOneAnswer as ExplainedTextsHaveOneAnswer}
 use Rattle.ppm_explained.specs.Orders.{AllHaveOneAnswer as ExplainedOrdersHaveOneAnswer}
+use Rattle.ppm_explained.specs.Trapping.{HaveOneAnswer as TrapsHaveOneAnswer}
 use Rattle.ppm_commands.specs.Code.{CodesAreFaithful, HaveOneAnswer as CodesHaveOneAnswer}
 use Rattle.ppm_commands.specs.Depth.{HaveOneAnswer as DepthRunsHaveOneAnswer}
 use Rattle.ppm_commands.specs.Races.{HaveOneAnswer as CasesHaveOneAnswer}
@@ -70,6 +71,7 @@ pub record ProgramLaws : Type 0 where
   pub states : SavedTextsHaveOneAnswer
   pub explained : ExplainedTextsHaveOneAnswer
   pub explained_orders : ExplainedOrdersHaveOneAnswer
+  pub explained_traps : TrapsHaveOneAnswer
   pub depths : DepthRunsHaveOneAnswer
   pub races : CasesHaveOneAnswer
   pub strands : StrandsHaveOneAnswer

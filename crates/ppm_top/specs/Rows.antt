@@ -32,6 +32,7 @@ use Rattle.ppm_commands.specs.Check.{CheckRows}
 use Rattle.ppm_commands.specs.Show.{ShowRows}
 use Rattle.ppm_explained.specs.Explaining.{ExplainRows}
 use Rattle.ppm_explained.specs.Orders.{OrdersRows, WritesNotes}
+use Rattle.ppm_explained.specs.Trapping.{TrapRows}
 use Rattle.ppm_commands.specs.Code.{CodeRows}
 use Rattle.ppm_commands.specs.Depth.{DepthRows}
 use Rattle.ppm_commands.specs.Races.{RacesRows}
@@ -130,6 +131,11 @@ ShowsByWords words o status = command_of words ≡ Some commands.Show → ShowRo
 -- and those of `explain` where they ask for that, of this text
 abbrev pub ExplainsByWords : List (List ℕ) → Outside → Status → Type 0
 ExplainsByWords words o status = (text : ExplainedText) → command_of words ≡ Some (commands.Explain text) → ExplainRows text (ports_of o) status
+
+-- those of `explain` of the trap of a source where they ask for that, with as many turns
+abbrev pub ExplainsTrapByWords : List (List ℕ) → Outside → Status → Type 0
+ExplainsTrapByWords words o status =
+    (options : SerialOptions) → command_of words ≡ Some (commands.ExplainTrap options) → TrapRows options.turns (ports_of o) status
 
 -- those of `explain` of a plan or a schedule where they ask for that, with these options, which are in their ranges
 abbrev pub ExplainsOrdersByWords : List (List ℕ) → Outside → Status → Type 0
@@ -303,6 +309,7 @@ pub record ProgramRows (words : List (List ℕ)) (o : Outside) (status : Status)
   pub racing_check : ChecksRacingByWords words o status
   pub show : ShowsByWords words o status
   pub explain : ExplainsByWords words o status
+  pub explain_trap : ExplainsTrapByWords words o status
   pub explain_orders : ExplainsOrdersByWords words o status
   pub depth : RunsDepthFirstByWords words o status
   pub races : SeeksRacesByWords words o status

@@ -15,6 +15,7 @@ use ppm_driver::{
 };
 use ppm_explained::{
     orders_have_one_answer, texts_have_one_answer as explained_texts_have_one_answer,
+    traps_have_one_answer,
 };
 use ppm_legs::{
     saved_replays_have_one_answer, saved_stops_have_one_answer, saved_traces_have_one_answer,
@@ -59,6 +60,7 @@ pub fn program_laws()
     saved_texts_have_one_answer();
     explained_texts_have_one_answer();
     orders_have_one_answer();
+    traps_have_one_answer();
     depth_runs_have_one_answer();
     cases_have_one_answer();
     strands_have_one_answer();

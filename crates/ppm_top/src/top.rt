@@ -18,7 +18,7 @@ use ppm_driver::{
     counted_run_case_command, counted_run_command, ram_command, run_case_command, run_command,
     self_command,
 };
-use ppm_explained::{explain_command, explain_orders_command};
+use ppm_explained::{explain_command, explain_orders_command, explain_trap_command};
 use ppm_legs::{replay_saved_command, stop_saved_command, trace_saved_command};
 use ppm_ports::{Sink, Source, Watch};
 use ppm_replay_command::{
@@ -115,6 +115,13 @@ fn answer_words<R: Threads + Wait + Sync, S: Source, K: Sink, E: Sink, W: Watch>
         Ok(Some(Command::CheckRacing)) => racing_check_command(alloc, source, out, err),
         Ok(Some(Command::Show)) => show_command(alloc, source, out, err),
         Ok(Some(Command::Explain(text))) => explain_command(alloc, text, source, out, err),
+        Ok(Some(Command::ExplainTrap(options))) => explain_trap_command(
+            alloc,
+            options.turns,
+            source,
+            out,
+            err,
+        ),
         Ok(Some(Command::ExplainOrders(options, stated))) => explain_orders_command(
             alloc,
             options,

@@ -3,3 +3,6 @@ pub mod FrameLemmas
 pub mod WalkLemmas
 pub mod ArmLemmas
 pub mod ProgramLemmas
+pub mod SiteLemmas
+pub mod OnePointLemmas
+pub mod SomePointLemmas

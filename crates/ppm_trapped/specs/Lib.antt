@@ -3,3 +3,4 @@ pub mod Frames
 pub mod Sites
 pub mod Readings
 pub mod Walks
+pub mod Correct

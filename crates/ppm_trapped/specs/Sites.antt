@@ -5,7 +5,7 @@ use Rattle.ppm_tree.specs.Tree.{Expression, Side, Statement, Block, Nil, Then, L
 use Rattle.ppm_tree.specs.Tree as tree
 use Rattle.ppm_tree.specs.Values.{holds}
 use Rattle.ppm_tree.specs.State.{TrapAt, then_with, Locals, Frame, Arrays, with_locals, split_at, evaluate, put_values, procedure_named, entered, both_entered}
-use Rattle.ppm_tree.specs.Meaning.{Plain, Counts, End, Ended, chosen, with_parts, with_element, Runs, Enters, Sweeps}
+use Rattle.ppm_tree.specs.Meaning.{Plain, Counts, Ended, chosen, with_parts, with_element, Runs, Enters, Sweeps}
 use Rattle.ppm_tree.specs.Program.{values_of, initial_arrays, main_of, main_frame}
 
 -- what a procedure is about to do: a statement, or what it gives at its end

@@ -11,6 +11,7 @@ mod entering;
 mod evaluating;
 mod frame;
 mod halt;
+mod laws;
 mod program;
 mod reading;
 mod region;
@@ -18,5 +19,6 @@ mod store;
 mod told;
 mod walking;
 
+pub use laws::{trap_points_are_one, trap_points_trap, traps_have_points};
 pub use program::{LEVEL_LIMIT, trap};
 pub use told::{Held, Reading, Told};

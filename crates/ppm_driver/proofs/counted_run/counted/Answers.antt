@@ -1,16 +1,10 @@
 use Rattle.std.proofs.Common.{List, sym, subst}
 use Rattle.ppm_words.specs.declared.named_array.NamedArray.{NamedArray}
 use Rattle.ppm_code.specs.declared.code.CodeParts.{CodeParts}
-use Rattle.ppm_depth.specs.Start.{NamesArrays}
 use Rattle.ppm_tree.specs.Tree.{tree_of}
 use Rattle.ppm_tree.specs.Program.{initial_arrays}
 use Rattle.ppm_outcomes.specs.CountedRuns.{CodeHas}
 use Rattle.ppm_driver.proofs.counted_run.counted.Goals as goal
-
--- the root of the program's code names arrays of its input
-pub counted_code-requires-clause-names : goal.counted_code-requires-clause-names
-counted_code-requires-clause-names g c =
-    subst (λ (l : List NamedArray). NamesArrays c.in_ok-code.code l) (sym c.input.ensures.value) c.in_ok-code.ensures.names
 
 -- what the run of its code comes to
 pub returns : goal.returns

@@ -37,3 +37,6 @@ returns-clause-finish g c =
     let length_back = c.in_ok-back.back.ok.0 in
     let there_back : keeper < length back = omega (arith, c.in_ok-back.ensures.len, length_is, length_back, count, below) in
     c.close.ensures.ended keeper (get_or back keeper d) (slice_get-get_or back keeper d there_back) ended
+
+pub returns-clause-run : goal.returns-clause-run
+returns-clause-run g c = (c.close.ensures.run.0, c.close.ensures.run.1.0)

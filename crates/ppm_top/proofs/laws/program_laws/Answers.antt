@@ -27,6 +27,7 @@ returns c = record {
     states = c.saved_texts_have_one_answer.ensures.law;
     explained = c.texts_have_one_answer.ensures.law;
     explained_orders = c.orders_have_one_answer.ensures.law;
+    explained_traps = c.traps_have_one_answer.ensures.law;
     depths = c.depth_runs_have_one_answer.ensures.law;
     races = c.cases_have_one_answer.ensures.law;
     strands = c.strands_have_one_answer.ensures.law;

@@ -73,6 +73,12 @@ returns-in-Ok-Some-Explain-clause-answers g c = by_ports (map string_bytes c.arg
     (cc (c.in-Ok-Some-Explain.ensures.value, c.in-Ok-Some-Explain.field-0-is, c.in-Ok-Some-Explain.field-0-0-is)) refl refl
     c.explain_command.ensures.delivers
 
+-- the words ask to explain the trap of a source, which was run
+pub returns-in-Ok-Some-ExplainTrap-clause-answers : goal.returns-in-Ok-Some-ExplainTrap-clause-answers
+returns-in-Ok-Some-ExplainTrap-clause-answers g c = by_ports (map string_bytes c.args.words.now) _ _ (Some (commands.ExplainTrap _))
+    (cc (c.in-Ok-Some-ExplainTrap.ensures.value, c.in-Ok-Some-ExplainTrap.field-0-is, c.in-Ok-Some-ExplainTrap.field-0-0-is)) refl refl
+    c.explain_trap_command.ensures.delivers
+
 -- the words ask to explain a plan or a schedule, which was explained, and nothing was read
 pub returns-in-Ok-Some-ExplainOrders-clause-answers : goal.returns-in-Ok-Some-ExplainOrders-clause-answers
 returns-in-Ok-Some-ExplainOrders-clause-answers g c = by_ports (map string_bytes c.args.words.now) _ _ (Some (commands.ExplainOrders _ _))

@@ -6,7 +6,7 @@ use Rattle.ppm_locked.proofs.held.Held.new.Goals as goal
 
 pub invariant_of-result : goal.invariant_of-result
 invariant_of-result g c = (
-  begins g.L.Keeping.first g.L.Keeping.most (seen c.args.machine) c.args.spent.items c.requires.first.0 c.requires.spent,
+  begins g.L.Keeping.first g.L.Keeping.most (seen c.args.machine) c.args.history c.args.spent.items c.requires.first.0 c.requires.history c.requires.spent,
   c.requires.most,
   c.requires.books.0 ∙ sym c.requires.first.1,
   c.requires.books.2.0,
