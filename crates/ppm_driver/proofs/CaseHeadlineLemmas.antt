@@ -63,11 +63,11 @@ module _ (law : AnswersAreAsCode) (fronts : CaseFrontsDecide) (options : RunOpti
   as_code a m sound =
       law options are m.items m.code m.input (may_run m.text m.code m.input m.is sound) watching o.told_before o.told_now a m.ran
 
-  undone : (a : Answer) (m : Made a) → undone_in m.ran.start m.ran.run.turns ≤ fault_count m.items
+  pub undone : (a : Answer) (m : Made a) → undone_in m.ran.start m.ran.run.turns ≤ fault_count m.items
   undone a m = undone_are_planned (plan_of options m.items) (limits_of options) m.ran.start m.ran.run.turns m.ran.run.obey
 
   -- what one processor made of its turns is within the work of all
-  needs_turns : (c : ℕ) (m : Made (answers.OutOfTurns c))
+  pub needs_turns : (c : ℕ) (m : Made (answers.OutOfTurns c))
       → work_made m.ran.start.shape m.ran.start.code c m.ran.start.state m.ran.run.turns ≡ options.turns → IsSound m.code m.input
       → CodeNeedsMoreTurns m.code m.input (undone_in m.ran.start m.ran.run.turns) options.turns
   needs_turns c m made sound e comes =

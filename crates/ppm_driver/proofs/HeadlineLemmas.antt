@@ -28,7 +28,7 @@ use Rattle.ppm_outcomes.proofs.RunLemmas.{of_program, spent_has, filled_has}
 use Rattle.ppm_outcomes.proofs.StrikeLemmas.{undone_are_planned}
 
 -- so many turns are too few also where fewer faults undo work than the plan has
-fewer_turns : (t : ProgramTree) (turns undone faults : ℕ) → NeedsMoreTurns t undone turns → undone ≤ faults → NeedsMoreTurns t faults turns
+pub fewer_turns : (t : ProgramTree) (turns undone faults : ℕ) → NeedsMoreTurns t undone turns → undone ≤ faults → NeedsMoreTurns t faults turns
 fewer_turns t turns undone faults needs planned e comes = let few = needs e comes in omega (arith, few, planned)
 
 module _ (law : RunsAreAsPrograms) (fronts : FrontsDecideAnswers) (options : RunOptions) (are : AreRun options) (watching : ℕ) (plan : List ℕ)

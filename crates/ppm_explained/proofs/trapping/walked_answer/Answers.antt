@@ -9,11 +9,11 @@ pub returns-in-Ok : goal.returns-in-Ok
 returns-in-Ok c =
     explained (tree_of c.args.program.now) c.args.turns c.have_one_end.ensures.law c.trap_points_trap.ensures.law c.args.text.now c.args.trap c.args.line
     c.from_vec.result c.requires.has c.requires.traps c.in-Ok-Some.told
-    (subst (λ told. IsToldOfRun (tree_of c.args.program.now) told) c.in-Ok-Some.field-0-is (c.in-Ok-Some.ensures tt))
-    (c.from_vec.ensures ∙ c.in-Ok.ensures tt)
+    (subst (λ told. IsToldOfRun (tree_of c.args.program.now) told) c.in-Ok-Some.field-0-is c.in-Ok-Some.ensures)
+    (c.from_vec.ensures ∙ c.in-Ok.ensures)
 
 -- a program that traps does not end
 pub unreachable-requires : goal.unreachable-requires
 unreachable-requires c =
     not_ended (tree_of c.args.program.now) c.args.turns c.have_one_end.ensures.law c.args.trap c.args.line c.requires.traps
-    (subst (λ told. IsToldOfRun (tree_of c.args.program.now) told) c.in-Ok-None.field-0-is (c.in-Ok-None.ensures tt))
+    (subst (λ told. IsToldOfRun (tree_of c.args.program.now) told) c.in-Ok-None.field-0-is c.in-Ok-None.ensures)
