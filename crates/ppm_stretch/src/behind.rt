@@ -66,7 +66,7 @@ fn end_or_wait<W: Watch>(
     let _ = code.parts().root;
     if most >= MOST_OF_AN_END {
         if let Some(end) = end_in(halt) {
-            let ended = end_straight(words, sizes, code, mine, watch, seat, home, end);
+            let ended = end_straight(words, sizes, code, mine, watch, seat, home, end, 0, MOST_OF_AN_END);
             return match ended.step {
                 EndStep::Installed(restart) => framed(ended.made, FrameEnd::Installed(restart)),
                 EndStep::Gone => {

@@ -126,6 +126,21 @@ fn row_at<W: Watch>(
     work_at(memory, mine, watch, code, place)
 }
 
+/// Makes the row of a restart of work, as a function of its own.
+#[inline(never)]
+fn row_apart<W: Watch>(
+    memory: &Seated<'_>,
+    mine: &mut Seat<(), View>,
+    watch: &mut W,
+    code: &Code,
+    place: &Place,
+) -> Rowed
+{
+    let seated = *memory;
+    let at = *place;
+    row_at(&seated, mine, watch, code, &at)
+}
+
 /// These steps, and then those of a row.
 #[inline(always)]
 fn with_row(steps: Steps, rowed: Rowed) -> Steps
@@ -195,8 +210,8 @@ pub(crate) fn work_along<W: Watch>(
     ensures stands_on { standing_of memory.now.shape code.now local.new ≡ stands_by memory.now.words.now.shared.key local.old.own (deeds_in mine.new.me.0) }
     ensures holds { IsLocal memory.now.shape code.now local.new × (local.new.own ≡ local.old.own) }
 {
-    // As in `rounds`.
-    let seated = *memory;
+    // As in `rounds`. No reference to it goes to a function that isn't inlined.
+    let sizes = memory.shape;
     let own = local.own;
     let place = from.place;
     let mut at = from.restart;
@@ -208,7 +223,7 @@ pub(crate) fn work_along<W: Watch>(
                 place,
                 restart: at,
             };
-            let rowed = row_at(&seated, mine, watch, code, &seat);
+            let rowed = row_apart(memory, mine, watch, code, &seat);
             if let RowEnd::Refused(lives) = rowed.end {
                 withdraw(local, memory.words, mine, &memory.shape, code, lives);
                 return REFUSED;
@@ -233,7 +248,7 @@ pub(crate) fn work_along<W: Watch>(
                 mine,
                 watch,
                 &memory.shape,
-                &seated.shape,
+                &sizes,
                 code,
                 widths,
                 place,
