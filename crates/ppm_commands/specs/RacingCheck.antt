@@ -49,7 +49,7 @@ pub record IsRacyText (text : List ℕ) (code : RacyParts) : Type 0 where
   pub listed : IsRacyListing text code
   pub short : length text ≤ listing_limit
 
--- the text is that of a code whose capsules may be stopped anywhere and begun again, though strands race and exchange array words
+-- the text is that of a code whose capsules are ordered and filled, though strands race and exchange array words
 pub record IsAcceptedRacing (text : List ℕ) : Type 0 where
   pub code : RacyParts
   pub is : IsRacyText text code
@@ -107,7 +107,7 @@ module _ (o : Ports) where
   abbrev pub HasRead : Answer → Type 0
   HasRead answer = ReadHas listing_limit RacingHas o.source answer
 
-  -- the text that was read is the listing of a code whose capsules may be begun again though strands race, and out got exactly `ok`
+  -- the text that was read is the listing of a code whose capsules are ordered and filled, and out got exactly `ok`
   abbrev pub WritesOk : Type 0
   WritesOk = HasRead answers.Accepted × Gets o.out accepted_text
 

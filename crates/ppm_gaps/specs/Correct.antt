@@ -12,8 +12,8 @@ use Rattle.ppm_gaps.specs.declared.racing.Flaw.{Flaw}
 use Rattle.ppm_gaps.specs.Flaws.{IsFirstFlaw}
 use Rattle.ppm_gaps.specs.Gaps.{AreFilledOnPaths}
 
--- a code whose capsules may be stopped anywhere and begun again though strands race: no path has a conflict, and the paths are filled; so each
--- capsule is ordered and filled; and from whatever words strands begin, their faults are invisible where what they do stands in runs without faults
+-- a code without conflicts whose paths are filled: each capsule is ordered and filled, though strands race; and from whatever words strands
+-- begin, their faults are invisible where what they do stands in runs without faults
 pub record IsRestartable (code : CodeParts) : Type 0 where
   pub paths : HasFilledPaths code
   pub ordered : (array_words : ℕ) (place : Place) → IsOrdered ((racing_code code array_words).capsule place)

@@ -35,9 +35,10 @@ fn flaw_beside(code: &Code, conflict: Conflict) -> Flaw
     }
 }
 
-/// Whether each capsule of a code may be stopped anywhere and begun again though its strands race,
-/// as far as paths tell: `Ok` exactly where no capsule has a conflict or a gap, else the first flaw:
-/// of the least capsule that has one, and there a conflict before a gap. No memory is taken.
+/// Whether each capsule of a code is ordered and filled, as far as paths tell, so that faults are
+/// invisible though strands race, where what they do stands without faults: `Ok` exactly where no
+/// capsule has a conflict or a gap, else the first flaw: of the least capsule that has one, and
+/// there a conflict before a gap. No memory is taken.
 pub fn check_racing(code: &Code) -> Result<(), Flaw>
     ensures { MatchResult result (λ _. IsRestartable code.now) (IsFirstFlaw code.now) }
 {

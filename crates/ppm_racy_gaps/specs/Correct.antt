@@ -18,8 +18,8 @@ pub record HasNoFlaw (code : RacyParts) : Type 0 where
   pub free : (number : ℕ) → HasNoRacyConflictIn code number
   pub filled : AreFilledOnPaths (plain_code code)
 
--- a code without flaws, whose capsules may be stopped anywhere and begun again though strands race: each is ordered and filled; and from whatever
--- words strands begin, their faults are invisible where what they do stands in runs without faults
+-- a code without flaws: each capsule is ordered and filled, though strands race; and from whatever words strands begin, their faults are
+-- invisible where what they do stands in runs without faults
 pub record IsRestartable (code : RacyParts) : Type 0 where
   pub paths : HasNoFlaw code
   pub ordered : (array_words : ℕ) (place : Place) → IsOrdered ((racy_code code array_words).capsule place)
