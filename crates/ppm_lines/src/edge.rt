@@ -49,7 +49,7 @@ fn found_in(scene: &Scene, want: Want) -> u64
     }
 }
 
-/// A copy of a processor, which may go on by itself.
+/// The same processor.
 fn copied(local: &Local) -> Local
     ensures { result ≡ local.now }
 {
