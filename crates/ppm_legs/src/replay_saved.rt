@@ -104,12 +104,19 @@ fn leg_answer(
     requires lengths { (seen machine.now).array_lengths ≡ lengths_of names.now }
     ensures { IfOk result (IsTheOne (IsSaid turns (seen machine.now) (named names.now))) }
 {
-    let tally = Tally {
+    let came = leg_came(alloc, machine, names, turns)?;
+    let tally = tally_of(machine);
+    Ok(answer_with(came, tally))
+}
+
+/// How many forks and takes a machine counts.
+fn tally_of(machine: &Machine) -> Tally
+    ensures { result ≡ tally_of (seen machine.now) }
+{
+    Tally {
         forks: machine.forks(),
         takes: machine.takes(),
-    };
-    let came = leg_came(alloc, machine, names, turns)?;
-    Ok(answer_with(came, tally))
+    }
 }
 
 /// The answer that a leg came to this, with its forks and takes.
