@@ -10,5 +10,7 @@ pub mod ChainLemmas
 pub mod OfSavedStop
 pub mod SavedReplayLemmas
 pub mod OfSavedReplay
+pub mod CountedLegLemmas
+pub mod OfCountedLeg
 pub mod SavedTraceLemmas
 pub mod OfSavedTrace
