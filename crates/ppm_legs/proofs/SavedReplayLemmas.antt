@@ -159,9 +159,9 @@ module _ (acts : ℕ) (m : Situation) (arrays : List NamedArray) where
   said_kind a h = kind (ending_of (finish_in m)) a h
 
 -- what is said is the answer that the leg came to this, with the machine's forks and takes
-pub leg_said : {P : Answer → Type 0} {m : Situation} (c : Came) (tally : Tally) (a : Answer) → tally ≡ tally_of m → a ≡ with_tally c tally
+pub leg_said : {P : Answer → Type 0} (m : Situation) (c : Came) (tally : Tally) (a : Answer) → tally ≡ tally_of m → a ≡ with_tally c tally
     → IsTheOne P (with_tally c (tally_of m)) → IsTheOne P a
-leg_said {P} {m} c tally a counted is only = subst (IsTheOne P) (sym (is ∙ ap (with_tally c) counted)) only
+leg_said {P} m c tally a counted is only = subst (IsTheOne P) (sym (is ∙ ap (with_tally c) counted)) only
 
 -- the machine after a leg has the arrays of the state
 pub leg_lengths : (z : SavedState) (items : List ScheduleItem) (acts : ℕ) (m : Situation) → IsLegOf z items acts m → (names : List NamedLength)

@@ -3,4 +3,4 @@ use Rattle.ppm_legs.proofs.replay_saved.leg_answer.Goals as goal
 
 -- what the leg came to, with the machine's forks and takes
 pub returns : goal.returns
-returns c = leg_said c.in_ok-came.came c.tally_of-tally.result c.answer_with.result c.tally_of-tally.ensures c.answer_with.ensures c.in_ok-came.ensures
+returns c = leg_said _ c.in_ok-came.came c.tally_of-tally.result c.answer_with.result c.tally_of-tally.ensures c.answer_with.ensures c.in_ok-came.ensures
