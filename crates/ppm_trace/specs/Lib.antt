@@ -3,4 +3,5 @@ pub mod Trace
 pub mod Picture
 pub mod Json
 pub mod Telling
+pub mod RunCounts
 pub mod Laws
