@@ -1,5 +1,5 @@
 //! A listener that keeps what it hears.
-ghost use Rattle.std.specs.Prelude.{◌≡◌, [], ◌∷◌, ◌++◌, Unit, map};
+ghost use Rattle.std.specs.Prelude.{◌≡◌, [], ◌∷◌, ◌++◌, map, ⊤};
 ghost use Rattle.ppm_calls.specs.Acts.{act_at, shown_act};
 ghost use Rattle.ppm_calls.specs.HeardLaws.{none_heard, more_heard};
 ghost use Rattle.ppm_core.specs.Machine.{seen};
@@ -58,7 +58,7 @@ pub struct ActRecorder;
 impl Listener for ActRecorder {
     type Notes = Vec<HeardAct>;
 
-    ghost listens = { λ l m notes. Unit };
+    ghost listens = { λ l m notes. ⊤ };
 
     ghost heard = { λ l m turns a b. map shown_act b.items ≡ map shown_act a.items ++ along_turns act_at m turns };
 
