@@ -177,7 +177,7 @@ module _ (options : ReplaySavedOptions) where
   }
 
   -- a state has one
-  state_one : (items : List ScheduleItem) (z : SavedState) (a b : Answer) → StateReplays options items z a → StateReplays options items z b → a ≡ b
+  pub state_one : (items : List ScheduleItem) (z : SavedState) (a b : Answer) → StateReplays options items z a → StateReplays options items z b → a ≡ b
   state_one items z a b h k =
       let same : k.start ≡ h.start = one_start z k.start h.start k.goes_on h.goes_on in
       one_said z.shape.processors options.turns (followed h.start items options.turns) (named z.arrays) a b h.says

@@ -5,4 +5,5 @@ pub mod Json
 pub mod Hearing
 pub mod Telling
 pub mod TellingLaws
+pub mod RunCounts
 pub mod Laws

@@ -18,7 +18,7 @@ use std::alloc::Global;
 
 /// Makes the run of a schedule, of so many acts at most, and answers what is counted in it. `Err`
 /// only where memory is refused.
-pub fn count_run(
+pub(crate) fn count_run(
     alloc: Global,
     machine: &mut Machine,
     schedule: &Schedule,

@@ -5,9 +5,9 @@
 //! each turn in its processor's lane (`specs/Picture`).
 //! Contract: `follow_heard` makes the run of a schedule, of which a listener hears exactly the turns
 //! (`specs/Hearing`). `trace` makes it and answers exactly its trace in a form, from an act on;
-//! `count_run` makes it and answers what is counted in it.
-//! Stands on `ppm_lines`, `ppm_picture`, `ppm_core` and `ppm_following`; the commands `trace` and
-//! `replay` stand on it.
+//! `count_replay` makes it and answers what is counted in it (`specs/RunCounts`).
+//! Stands on `ppm_lines`, `ppm_picture`, `ppm_core`, `ppm_following` and `ppm_answers`; the commands
+//! `trace` and `replay` stand on it.
 //! The text form is this project's.
 #![tactic(auto)]
 
@@ -18,17 +18,21 @@ mod events;
 mod hearing;
 mod laws;
 mod listener;
+mod ordered;
 mod picture;
+mod replay_counts;
+mod room;
 mod strokes;
 mod tale;
 mod teller;
 mod tracing;
 
-pub use counting::count_run;
 pub use counts::Counts;
 pub use hearing::follow_heard;
 pub use laws::{
-    counts_are_the_machines, lines_follow_on, thinner_lines_are_among, windows_are_parts,
+    counts_are_of_turns, counts_are_the_machines, lines_follow_on, thinner_lines_are_among,
+    windows_are_parts,
 };
 pub use listener::Listener;
+pub use replay_counts::count_replay;
 pub use tracing::trace;

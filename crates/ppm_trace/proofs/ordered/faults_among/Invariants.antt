@@ -1,6 +1,6 @@
 use Rattle.std.proofs.Common.{◌≡◌, ◌+◌, ◌≤◌, length}
-use Rattle.ppm_outcomes.specs.OrderedFaults.{ordered_faults}
-use Rattle.ppm_replay_command.proofs.ordered.faults_among.Given as goal
+use Rattle.ppm_following.specs.OrderedFaults.{ordered_faults}
+use Rattle.ppm_trace.proofs.ordered.faults_among.Given as goal
 
 -- the faults so far, and those that are left
 abbrev pub invariant-loop-left : goal.invariant-loop-left

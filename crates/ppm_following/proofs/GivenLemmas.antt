@@ -1,7 +1,7 @@
 -- The pools, place by place.
 use Rattle.std.proofs.Common.{◌≡◌, ◌∙◌, ℕ, suc, ◌+◌, List, ap, ap₂, arith}
 use Rattle.ppm_cells.specs.declared.shape.Shape.{Shape}
-use Rattle.ppm_outcomes.specs.Room.{given_by, larger, most_given}
+use Rattle.ppm_following.specs.Room.{given_by, larger, most_given}
 
 -- a place more
 pub most_step : (s : Shape) (words : List ℕ) (n most given new : ℕ) → most ≡ most_given s words n → given ≡ given_by s words n → new ≡ larger most given

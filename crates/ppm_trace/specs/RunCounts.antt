@@ -1,8 +1,9 @@
 -- What is counted in a run: each number as a function of the machine before it and of its turns.
-use Rattle.std.specs.Prelude.{ℕ, ◌-◌, List}
+use Rattle.std.specs.Prelude.{◌≡◌, ℕ, ◌+◌, ◌-◌, List, length}
 use Rattle.ppm_answers.specs.declared.run_counts.RunCounts.{RunCounts}
 use Rattle.ppm_core.specs.Situation.{Situation, run_on}
-use Rattle.ppm_outcomes.specs.Room.{most_given}
+use Rattle.ppm_following.specs.Room.{most_given}
+use Rattle.ppm_step.specs.State.{along, forks_of, takes_of, work_of}
 use Rattle.ppm_step.specs.declared.turn.Turn.{Turn}
 use Rattle.ppm_trace.specs.Counts.{no_counts}
 use Rattle.ppm_trace.specs.Trace.{counts_along}
@@ -29,3 +30,16 @@ counts_of c work_before after ordered = record {
 -- those of these turns
 abbrev pub run_counts : (ordered : ℕ) → Situation → List Turn → RunCounts
 run_counts ordered m turns = counts_of (counts_along 0 no_counts m turns) m.work (run_on m turns) ordered
+
+module _ (ordered : ℕ) (m : Situation) (turns : List Turn) where
+  -- each turn is an act, and is work or a look; the forks and takes are those that the turns tell
+  pub record IsOfTurns : Type 0 where
+    pub acts : (run_counts ordered m turns).acts ≡ length turns
+    pub work : (run_counts ordered m turns).work ≡ length (along m.shape m.code work_of m.state turns)
+    pub each : (run_counts ordered m turns).work + (run_counts ordered m turns).looks ≡ (run_counts ordered m turns).acts
+    pub forks : (run_counts ordered m turns).forks ≡ length (along m.shape m.code forks_of m.state turns)
+    pub takes : (run_counts ordered m turns).takes ≡ length (along m.shape m.code takes_of m.state turns)
+
+-- so it is of all runs
+abbrev pub CountsAreOfTurns : Type 0
+CountsAreOfTurns = (ordered : ℕ) (m : Situation) (turns : List Turn) → IsOfTurns ordered m turns

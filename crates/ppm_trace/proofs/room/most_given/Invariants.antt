@@ -1,6 +1,6 @@
 use Rattle.std.proofs.Common.{◌≡◌, ◌-◌, ◌≤◌}
-use Rattle.ppm_outcomes.specs.Room.{most_given}
-use Rattle.ppm_replay_command.proofs.room.most_given.Given as goal
+use Rattle.ppm_following.specs.Room.{most_given}
+use Rattle.ppm_trace.proofs.room.most_given.Given as goal
 
 -- the most of the places so far
 abbrev pub invariant-loop-place : goal.invariant-loop-place

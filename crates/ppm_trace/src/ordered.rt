@@ -1,6 +1,6 @@
 //! The faults that a schedule orders.
 ghost use Rattle.std.specs.Prelude.{◌≡◌, ◌≤◌, if◌then◌else◌};
-ghost use Rattle.ppm_outcomes.specs.OrderedFaults.{ordered_faults, fails};
+ghost use Rattle.ppm_following.specs.OrderedFaults.{ordered_faults, fails};
 
 use ppm_plan::{ScheduleItem, ScheduledAct};
 

@@ -1,6 +1,6 @@
 use Rattle.std.proofs.Common.{arith}
-use Rattle.ppm_outcomes.proofs.GivenLemmas.{most_step}
-use Rattle.ppm_replay_command.proofs.room.most_given.Goals as goal
+use Rattle.ppm_following.proofs.GivenLemmas.{most_step}
+use Rattle.ppm_trace.proofs.room.most_given.Goals as goal
 
 -- a place more
 pub loop-place-preserved : goal.loop-place-preserved

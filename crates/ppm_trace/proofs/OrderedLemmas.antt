@@ -1,6 +1,6 @@
 -- A loop over the items of a schedule.
 use Rattle.std.proofs.Common.{◌≡◌, ◌∙◌, ℕ, ◌+◌, ◌-◌, ◌≤◌, if◌then◌else◌, List, [], ◌∷◌, length, get_or, take, drop, take_all, le_refl, ap, arith}
-use Rattle.ppm_outcomes.specs.OrderedFaults.{fails, ordered_faults}
+use Rattle.ppm_following.specs.OrderedFaults.{fails, ordered_faults}
 use Rattle.ppm_plan.specs.declared.schedule_item.ScheduleItem.{ScheduleItem}
 
 -- what is left after the first item

@@ -1,5 +1,5 @@
-use Rattle.ppm_replay_command.proofs.OrderedLemmas.{faults_step, items_step}
-use Rattle.ppm_replay_command.proofs.ordered.faults_among.Goals as goal
+use Rattle.ppm_trace.proofs.OrderedLemmas.{faults_step, items_step}
+use Rattle.ppm_trace.proofs.ordered.faults_among.Goals as goal
 
 -- one item more
 pub loop-left-preserved : goal.loop-left-preserved

@@ -1,7 +1,7 @@
 //! What the pools of a machine have given out.
 ghost use Rattle.std.specs.Prelude.{◌≡◌, ◌<◌};
 ghost use Rattle.ppm_cells.specs.Memory.{AreWordsOf};
-ghost use Rattle.ppm_outcomes.specs.Room.{given_by as given, larger, most_given as most};
+ghost use Rattle.ppm_following.specs.Room.{given_by as given, larger, most_given as most};
 
 use ppm_cells::{Cell, Shape};
 

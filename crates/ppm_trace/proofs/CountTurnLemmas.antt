@@ -2,8 +2,7 @@
 use Rattle.std.proofs.Common.{◌≡◌, ◌∙◌, ℕ, ◌+◌, ◌-◌, ◌≤◌, Bool, true, false, if◌then◌else◌, List, [], ◌∷◌, ◌++◌, length, ap, arith, refl, sym}
 use Rattle.std.proofs.lemmas.List.{length-append}
 use Rattle.ppm_core.specs.Situation.{Situation, run_on, turned}
-use Rattle.ppm_replay_command.specs.RunCounts.{run_counts}
-use Rattle.ppm_replay_command.specs.CountLaws.{CountsAreOfTurns, IsOfTurns}
+use Rattle.ppm_trace.specs.RunCounts.{CountsAreOfTurns}
 use Rattle.ppm_lines.specs.Marks.{marks_of}
 use Rattle.ppm_lines.specs.declared.mark.Mark.{Mark}
 use Rattle.ppm_lines.specs.declared.mark.Mark.TheVariants as mark

@@ -2,16 +2,17 @@
 ghost use Rattle.std.specs.Prelude.{◌≡◌, ◌≤◌, ◌^◌, IfOk, OnOk};
 ghost use Rattle.ppm_choice.specs.Schedules.{schedule_turns};
 ghost use Rattle.ppm_core.specs.Machine.{seen};
-ghost use Rattle.ppm_replay_command.specs.RunCounts.{counts_of, run_counts};
-ghost use Rattle.ppm_outcomes.specs.OrderedFaults.{ordered_faults};
+ghost use Rattle.ppm_trace.specs.RunCounts.{counts_of, run_counts};
+ghost use Rattle.ppm_following.specs.OrderedFaults.{ordered_faults};
 ghost use Rattle.ppm_following.specs.Followed.{followed};
 
+use crate::counting::count_run;
+use crate::counts::Counts;
 use crate::ordered::faults_among;
 use crate::room::most_given;
 use ppm_answers::RunCounts;
 use ppm_core::Machine;
 use ppm_plan::Schedule;
-use ppm_trace::{Counts, count_run};
 use ppm_words::NoMemory;
 use std::alloc::Global;
 
