@@ -148,12 +148,13 @@ fn lines_tell_what_a_replay_comes_to(rt: HostRuntime) -> Result<(), Fail> {
     Ok(())
 }
 
-/// A schedule of two processors without soft faults, and how many thefts and takeovers it makes.
+/// A schedule of two processors without soft faults; and how many hard faults, thefts and takeovers
+/// it makes.
 const BRANCHES: [(&'static str, u32, u32, u32); 3] = [
-    // The fork's right branch is in the deque at act 29, and processor 1 steals it.
+    // The fork's right branch is in the deque after act 29, and processor 1 steals it.
     ("0*30,1*40", 0, 1, 0),
-    // Processor 0 is dead before the fork, and processor 1 makes it at the place that it took over.
-    ("0*2,0!h", 1, 0, 1),
+    // Processor 0 dies before it finds work; processor 1, whose place has the root, is alone.
+    ("0*2,0!h", 1, 0, 0),
     // Processor 1 dies as it steals, and processor 0 goes on with the theft at its place.
     ("0*30,1*12,1!h", 1, 1, 1),
 ];

@@ -1,6 +1,11 @@
+use Rattle.std.proofs.Common.{◌<◌, ◌+◌, arith}
 use Rattle.ppm_core.specs.Machine.{seen}
 use Rattle.ppm_trace.proofs.OneLemmas.{hears_one, listens_on}
 use Rattle.ppm_trace.proofs.hearing.hear_and_make.Goals as goal
+
+-- there were few turns
+pub hear-requires-clause-turns : goal.hear-requires-clause-turns
+hear-requires-clause-turns g c = omega (arith, c.requires.is.ready.turns)
 
 -- the listener can hear
 pub hear-requires-clause-listens : goal.hear-requires-clause-listens
