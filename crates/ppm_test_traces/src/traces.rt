@@ -148,23 +148,25 @@ fn lines_tell_what_a_replay_comes_to(rt: HostRuntime) -> Result<(), Fail> {
     Ok(())
 }
 
-/// A schedule of two processors without soft faults; and how many hard faults, thefts and takeovers
-/// it makes.
-const BRANCHES: [(&'static str, u32, u32, u32); 3] = [
+/// How many processors there are, a schedule without soft faults, and how many hard faults, thefts and
+/// takeovers it makes.
+const BRANCHES: [(&'static str, &'static str, u32, u32, u32); 4] = [
     // The fork's right branch is in the deque after act 29, and processor 1 steals it.
-    ("0*30,1*40", 0, 1, 0),
+    ("2", "0*30,1*40", 0, 1, 0),
     // Processor 0 dies before it finds work; processor 1, whose place has the root, is alone.
-    ("0*2,0!h", 1, 0, 0),
+    ("2", "0*2,0!h", 1, 0, 0),
+    // Processor 1 dies as it looks for work. Processor 2 takes over its place, and steals nothing.
+    ("3", "0*28,1*5,1!h,0*30,2>1*40", 1, 0, 1),
     // Processor 1 dies as it steals, and processor 0 goes on with the theft at its place.
-    ("0*30,1*12,1!h", 1, 1, 1),
+    ("2", "0*30,1*12,1!h", 1, 1, 1),
 ];
 
 #[test]
 fn thefts_and_takeovers_are_told_apart(rt: HostRuntime) -> Result<(), Fail> {
     let alloc = rt.alloc();
-    for (schedule, hard, thefts, takeovers) in BRANCHES {
+    for (processors, schedule, hard, thefts, takeovers) in BRANCHES {
         let row = Row {
-            processors: "2",
+            processors,
             schedule,
             soft: 0,
             hard,
