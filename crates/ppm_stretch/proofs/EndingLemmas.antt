@@ -16,7 +16,7 @@ use Rattle.ppm_step.specs.Locals.{IsLocal, StandsFor, standing_at, standing_of}
 use Rattle.ppm_step.specs.Stages.{IsStage, IsUnderWay, rest_at}
 use Rattle.ppm_step.specs.Standings.{running, running_if}
 use Rattle.ppm_table.specs.declared.view.Opening.{Opening}
-use Rattle.ppm_table.specs.Run.{stands_by, deeds_in, Mine, IsSeat}
+use Rattle.ppm_table.specs.Run.{Mine, IsSeat}
 use Rattle.ppm_words.specs.declared.event.Event.{Event}
 use Rattle.ppm_stretch.specs.declared.way.EndStep.{EndStep}
 use Rattle.ppm_stretch.specs.declared.way.EndStep.TheVariants.{Stored, Installed, Gone, Refused}

@@ -1,4 +1,4 @@
-use Rattle.std.proofs.Common.{false, true, ◌≡◌, ◌∙◌, ◌+◌, sym, ap, subst, arith}
+use Rattle.std.proofs.Common.{false, true, ◌≡◌, ◌∙◌, ◌+◌, sym, ap, subst}
 use Rattle.ppm_step.specs.declared.row.Seat.{Seat}
 use Rattle.ppm_step.specs.Frames.{ending}
 use Rattle.ppm_step.specs.Standings.{running}
