@@ -15,5 +15,7 @@ pub mod TurnLemmas
 pub mod MomentLemmas
 pub mod StepsLemmas
 pub mod CapsuleLemmas
+mod AfterLemmas
 mod AloneLemmas
+mod EndLemmas
 mod RowLemmas
