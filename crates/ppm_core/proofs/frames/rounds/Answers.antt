@@ -60,6 +60,14 @@ go_after-after-requires-clause-left c κs =
     c.in-Halts.is c.round-circuit.ensures.circled in
     (circled.0, circled.1)
 
+pub framed_after-requires : goal.framed_after-requires
+framed_after-requires c =
+    let i = c.loop-steps.invariant in
+    let few = c.go_after-after.ensures.few.0 in (
+      omega (arith, i.4, c.loop-steps-test.true, c.round-circuit.ensures.few, few, c.ranges.most.fits),
+      omega (arith, i.4, i.5, c.loop-steps-test.true, c.round-circuit.ensures.few, few, c.ranges.most.fits),
+    )
+
 pub returns-in-Halts-clause-framed : goal.returns-in-Halts-clause-framed
 returns-in-Halts-clause-framed c =
     let s = c.args.shape.now in

@@ -32,6 +32,18 @@ returns-in_default-clause-no_further c = λ none.
     subst (λ (st : Standing). NoFurther c.args.shape.now c.args.code.now c.args.local.now.own c.args.most (moment words st)) (sym c.wait_at.ensures.stands)
     (row_no_further c.args.shape.now c.args.code.now c.args.local.now.own c.args.most c.args.place c.loop-count.at words (c.has_row.ensures c.if-has_row.true))
 
+pub with_row-count-requires : goal.with_row-count-requires
+with_row-count-requires c =
+    let i = c.loop-count.invariant in
+    let rowed = c.in-Some.ensures.rowed in
+    record { few = (omega (arith, i.4, rowed.2, c.ranges.most.fits), i.5, i.6, i.7, rowed.1) }
+
+pub with_row-requires : goal.with_row-requires
+with_row-requires c =
+    let i = c.loop-count.invariant in
+    let rowed = c.in-Some.ensures.rowed in
+    record { few = (omega (arith, i.4, rowed.2, c.ranges.most.fits), i.5, i.6, i.7, rowed.1) }
+
 -- a row more, after which the place goes on
 pub loop-count-preserved-in-Ok : goal.loop-count-preserved-in-Ok
 loop-count-preserved-in-Ok c =
