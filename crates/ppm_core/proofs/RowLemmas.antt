@@ -9,7 +9,6 @@ use Rattle.ppm_cells.specs.declared.restart.RestartKind.TheVariants.{Run, Bump, 
 use Rattle.ppm_cells.specs.declared.shape.Shape.{Shape}
 use Rattle.ppm_code.specs.declared.code.CodeParts.{CodeParts}
 use Rattle.ppm_words.specs.declared.event.Event.{Event}
-use Rattle.ppm_step.specs.declared.local.Local.{Local}
 use Rattle.ppm_step.specs.declared.row.Seat.{Seat}
 use Rattle.ppm_step.specs.declared.turn.Act.TheVariants.{Step}
 use Rattle.ppm_step.specs.declared.turn.Next.{Next}
@@ -27,12 +26,9 @@ use Rattle.ppm_engine.specs.declared.tally.Tally.{Tally}
 use Rattle.ppm_engine.specs.Memory.{Counts, Spot, spot, works, settles, forks_by, takes_by}
 use Rattle.ppm_engine.specs.Steps.{HasRow, Settles}
 use Rattle.ppm_engine.proofs.KindLemmas.{row_looks}
-use Rattle.ppm_core.specs.declared.frames.FrameEnd.{FrameEnd}
-use Rattle.ppm_core.specs.declared.frames.FrameEnd.TheVariants.{Installed}
 use Rattle.ppm_core.specs.declared.frames.Framed.{Framed}
 use Rattle.ppm_core.specs.declared.rows.Count.{Count}
 use Rattle.ppm_core.specs.declared.steps.Steps.{Steps}
-use Rattle.ppm_core.specs.After.{stands_framed}
 use Rattle.ppm_core.specs.Alone.{Led}
 use Rattle.ppm_core.specs.Worked.{HasEnded}
 use Rattle.ppm_core.specs.Moments.{Moment, moment, moved, moved_by, work_at, work_in, LastWorks, Goes, Leads, NoFurther, StepsTo}
@@ -284,8 +280,3 @@ frames_lead s code own t x u count sum framed is l more =
   where
     as_many : (n : ℕ) → n + 0 ≡ n
     as_many n = omega arith
-
--- after which the processor stands there
-pub frames_stand : (s : Shape) (code : CodeParts) (place : ℕ) (local : Local) (end : FrameEnd) (restart : Restart) → end ≡ Installed restart
-    → stands_framed s code place local end ≡ IsAt place (Some restart)
-frames_stand s code place local end restart is = ap (λ (e : FrameEnd). stands_framed s code place local e) is

@@ -7,7 +7,7 @@ use Rattle.ppm_core.proofs.AfterLemmas.{filled_so, halts_along}
 use Rattle.ppm_core.proofs.after.fill_and_end.Goals as goal
 
 pub end_or_wait-after-requires-clause-left : goal.end_or_wait-after-requires-clause-left
-end_or_wait-after-requires-clause-left c κs =
+end_or_wait-after-requires-clause-left c =
     let s = c.args.shape.now in
     let code = c.args.code.now in
     let seat = c.args.seat in

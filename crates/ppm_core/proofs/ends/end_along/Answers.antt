@@ -1,4 +1,4 @@
-use Rattle.std.proofs.Common.{◌+◌, ◌≡◌, ℕ, sym, subst, arith}
+use Rattle.std.proofs.Common.{◌+◌, ◌≡◌, ℕ, subst, arith}
 use Rattle.ppm_step.specs.Frames.{ending}
 use Rattle.ppm_core.specs.declared.ends.EndStep.TheVariants.{Gone}
 use Rattle.ppm_core.specs.Ends.{HasEnded}

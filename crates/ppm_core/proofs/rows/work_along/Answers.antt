@@ -1,12 +1,10 @@
-use Rattle.std.proofs.Common.{◌≡◌, ◌∙◌, ◌+◌, ◌-◌, ℕ, Result, Ok, Err, Some, refl, sym, ap, subst, arith}
+use Rattle.std.proofs.Common.{◌≡◌, ◌∙◌, ◌+◌, ◌-◌, ℕ, Result, Ok, Err, Some, refl, sym, subst, arith}
 use Rattle.ppm_engine.specs.declared.memory.Stop.{Stop}
 use Rattle.ppm_engine.specs.declared.tally.Mark.TheVariants.{Plain}
 use Rattle.ppm_engine.specs.declared.tally.Settled.{Settled}
 use Rattle.ppm_step.specs.declared.row.Seat.{Seat}
-use Rattle.ppm_step.specs.Locals.{standing_of}
 use Rattle.ppm_step.specs.Standings.{Standing, IsAt, IsBroken}
 use Rattle.ppm_core.specs.declared.frames.FrameEnd.{FrameEnd}
-use Rattle.ppm_core.specs.declared.frames.FrameEnd.TheVariants.{Installed, Stands}
 use Rattle.ppm_core.specs.After.{HasFramed, HoldsFramed, stands_framed}
 use Rattle.ppm_core.specs.Moments.{moment, NoFurther, StepsTo}
 use Rattle.ppm_core.specs.Worked.{HasEnded}
@@ -137,8 +135,8 @@ loop-count-preserved c =
     )
 
 -- none was made
-pub wait_at-then-framed-eq0-requires : goal.wait_at-then-framed-eq0-requires
-wait_at-then-framed-eq0-requires c =
+pub wait_at-requires-then-framed-eq0 : goal.wait_at-requires-then-framed-eq0
+wait_at-requires-then-framed-eq0 c =
     let s = c.args.shape.now in
     let code = c.args.code.now in
     let own = c.args.local.now.own in
