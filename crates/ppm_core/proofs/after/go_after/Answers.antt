@@ -18,8 +18,8 @@ fill_and_end-requires-clause-left c = (
       (asks_at c.args.way c.in-Some.asked c.in-Some.ensures) c.requires.left.1,
 )
 
-pub returns-in-Some-clause-framed : goal.returns-in-Some-clause-framed
-returns-in-Some-clause-framed c = λ standing halts.
+pub returns-in-Some-room_at-clause-framed : goal.returns-in-Some-room_at-clause-framed
+returns-in-Some-room_at-clause-framed c = λ standing halts.
     c.fill_and_end.ensures.framed standing
     (subst (λ (way : Way). HaltsAt c.args.shape.now c.args.code.now c.args.seat c.args.coming c.args.local.now.registers way standing)
     (asks_at c.args.way c.in-Some.asked c.in-Some.ensures) halts)

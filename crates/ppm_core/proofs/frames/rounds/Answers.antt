@@ -51,10 +51,10 @@ returns-in_default-clause-no_further c = λ made.
 
 -- a round more, in which the capsule is left
 pub go_after-after-requires-clause-seat : goal.go_after-after-requires-clause-seat
-go_after-after-requires-clause-seat c κs = (c.in-Some.ensures.seat_is, sym c.loop-steps.invariant.3)
+go_after-after-requires-clause-seat c = (c.in-Some.ensures.seat_is, sym c.loop-steps.invariant.3)
 
 pub go_after-after-requires-clause-left : goal.go_after-after-requires-clause-left
-go_after-after-requires-clause-left c κs =
+go_after-after-requires-clause-left c =
     let seat : Seat = record { own = c.args.local.now.own; place = c.args.place; restart = c.loop-steps.at } in
     let circled = subst (λ (end : RoundEnd). Circled c.args.shape.now c.args.code.now seat c.in-Some.coming c.round-circuit.new.registers c.loop-steps.words.items c.round-circuit.new.words.items c.round-circuit.result.made end)
     c.in-Halts.is c.round-circuit.ensures.circled in
