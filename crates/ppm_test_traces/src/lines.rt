@@ -39,7 +39,7 @@ fn field_at<'a>(fields: &[&'a str], at: usize) -> &'a str {
     }
 }
 
-/// Puts the words of an array behind others, by its line: its name, and its values.
+/// Puts the words of an array after others, by its line: its name, and its values.
 fn push_array(alloc: Global, words: &mut Vec<Word>, line: &str) -> Result<(), Fail> {
     let fields = fields_of(alloc, line)?;
     let array = field_at(&fields, 0);
