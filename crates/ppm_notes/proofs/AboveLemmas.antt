@@ -16,7 +16,7 @@ nothing_more a (suc n) = refl
 -- the last line is the only one that is left
 pub last_below : (a : Above) (n : ℕ) (l : List ℕ) (all : List (List ℕ)) → all ≡ l ∷ [] → (n ≡ 0 → ⊥) → below a l ≡ below_all a n all
 last_below a zero l all e more = absurd (more refl)
-last_below a (suc n) l all e more = rw e sym (nothing_more (below a l) n)
+last_below a (suc n) l all e more = rw e (sym (nothing_more (below a l) n))
 
 -- no lines say nothing
 pub none_below : (a : Above) (n : ℕ) (ls : List (List ℕ)) → n ≡ 0 → below_all a n ls ≡ a

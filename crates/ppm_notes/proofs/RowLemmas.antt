@@ -1,5 +1,5 @@
 -- The lines of arrays above a line, and what they leave of a number, one after another.
-use Rattle.std.proofs.Common.{◌≡◌, ℕ, zero, suc, ◌-◌, Bool, true, false, List, [], ◌∷◌, refl, sym, arith}
+use Rattle.std.proofs.Common.{◌≡◌, ℕ, zero, suc, ◌-◌, Bool, true, false, ◌||◌, List, [], ◌∷◌, refl, sym, arith}
 use Rattle.std.specs.Str.{bytes_eq}
 use Rattle.ppm_notes.specs.Rows.{is_named_in, left_by}
 use Rattle.ppm_notes.specs.Words.{word_at}
@@ -27,7 +27,7 @@ no_lines (suc n) name = refl
 -- the last line is the only one that is left
 pub named_last : (n : ℕ) (l name : List ℕ) (all : List (List ℕ)) → all ≡ l ∷ [] → (n ≡ 0 → ⊥) → bytes_eq (word_at 1 l) name ≡ is_named_in n all name
 named_last zero l name all e more = absurd (more refl)
-named_last (suc n) l name all e more = rw (e, no_lines n name) go (bytes_eq (word_at 1 l) name) where
+named_last (suc n) l name all e more = rw (e, no_lines n name) (go (bytes_eq (word_at 1 l) name)) where
   go : (b : Bool) → b ≡ (b || false)
   go true = refl
   go false = refl
@@ -46,7 +46,7 @@ untaken taken left (suc n) = refl
 pub last_left : (taken : List ℕ → ℕ) (left n : ℕ) (l : List ℕ) (all : List (List ℕ)) → all ≡ l ∷ [] → (n ≡ 0 → ⊥)
     → left - taken l ≡ left_by taken left n all
 last_left taken left zero l all e more = absurd (more refl)
-last_left taken left (suc n) l all e more = rw e sym (untaken taken (left - taken l) n)
+last_left taken left (suc n) l all e more = rw e (sym (untaken taken (left - taken l) n))
 
 -- no lines take nothing
 pub none_left : (taken : List ℕ → ℕ) (left n : ℕ) (ls : List (List ℕ)) → n ≡ 0 → left_by taken left n ls ≡ left

@@ -8,7 +8,7 @@ use Rattle.ppm_case.specs.Rules.{said_fits}
 use Rattle.ppm_saved_reader.specs.Lines.{run_in as run_of}
 use Rattle.ppm_saved_reader.specs.Rules.{is_from_to}
 use Rattle.ppm_explain.specs.Places.{line_bytes}
-use Rattle.ppm_explain.specs.Words.{quoted}
+use Rattle.ppm_explain.specs.Words.{counted_text, quoted}
 use Rattle.ppm_notes.specs.declared.due.Due.{Due}
 use Rattle.ppm_notes.specs.declared.due.Due.TheVariants as due
 use Rattle.ppm_notes.specs.declared.due.Literal.{Literal}
@@ -56,7 +56,7 @@ range_text least most =
 abbrev pub value_text : (room : ℕ) → List ℕ
 value_text room =
     if room == 0 then codes "the end of the line"
-    else (codes "a value, a value and `*N` with N from 1 to " ++ decimal room ++ codes ", the end of the line")
+    else (counted_text (codes "a value, a value and `*N` with N from 1 to ") room ++ codes ", the end of the line")
 
 -- the number of an array, of so many
 abbrev pub index_text : (count : ℕ) → List ℕ
@@ -69,7 +69,7 @@ run_word = codes "a number up to 18446744073709551615 but that of the line above
 abbrev pub run_text : (left : ℕ) → List ℕ
 run_text left =
     if nat_lt 1 left
-    then (run_word ++ codes ", such a number and `*N` with N from 2 to " ++ decimal left)
+    then (run_word ++ counted_text (codes ", such a number and `*N` with N from 2 to ") left)
     else run_word
 
 -- what could stand there

@@ -1,5 +1,5 @@
 -- What is due in a line of a saved text, by where it stands, and by the rules of the refusal's number and of those below it.
-use Rattle.std.specs.Prelude.{ℕ, zero, suc, ◌+◌, ◌-◌, ◌*◌, ◌/◌, ◌==◌, min, if◌then◌else◌, Bool, ◌&&◌, nat_le, nat_lt, List, [], ◌∷◌, length, take, codes, Option, Some, None}
+use Rattle.std.specs.Prelude.{ℕ, zero, suc, ◌+◌, ◌-◌, ◌*◌, ◌/◌, ◌==◌, min, if◌then◌else◌, Bool, ◌&&◌, nat_le, nat_lt, List, [], ◌∷◌, length, take, drop, codes, Option, Some, None}
 use Rattle.std.specs.Str.{bytes_eq}
 use Rattle.ppm_words.specs.Limits.{array_limit, word_limit, processor_limit}
 use Rattle.ppm_pieces.specs.Numbers.{value}
@@ -26,10 +26,17 @@ arrays_of text = arrays_in (split 10 (text_after 2 text))
 abbrev pub code_line : List ℕ → ℕ
 code_line text = arrays_of text + 3
 
--- the line of the count of words: below the code, of so many bytes
-abbrev pub words_line : List ℕ → ℕ
-words_line text =
-    code_line text + 1 + line_feeds (take (count_of (line_bytes text (code_line text))) (text_after (code_line text) text))
+-- how many bytes the code has
+abbrev pub code_bytes : List ℕ → ℕ
+code_bytes text = count_of (line_bytes text (code_line text))
+
+-- how many lines it has
+abbrev pub code_lines : List ℕ → ℕ
+code_lines text = line_feeds (take (code_bytes text) (text_after (code_line text) text))
+
+-- the text below it: the count of words, and the words
+abbrev pub below_code : List ℕ → List ℕ
+below_code text = drop (code_bytes text) (text_after (code_line text) text)
 
 -- the most words of room for each of so many processors
 abbrev pub most_room : ℕ → ℕ
@@ -92,7 +99,8 @@ times_in line = times_of (run_in line)
 -- how many words are left in front of a line
 abbrev pub runs_left : List ℕ → ℕ → ℕ
 runs_left text line =
-    left_by times_in (count_of (line_bytes text (words_line text))) (line - 1 - words_line text) (split 10 (text_after (words_line text) text))
+    left_by times_in (count_of (line_bytes (below_code text) 1)) (line - code_line text - code_lines text - 2)
+    (split 10 (text_after 1 (below_code text)))
 
 -- the word of a line, as it is spelled
 abbrev pub digits_in : List ℕ → List ℕ
@@ -117,5 +125,5 @@ saved_row number text line =
     if line == 1 then version_row
     else if line == 2 then sizes_row (number == 2) (count_of (line_bytes text 2))
     else if nat_le line (code_line text) then head_row number text line
-    else if line == words_line text then count_row number (words_due text)
+    else if line - code_line text == code_lines text + 1 then count_row number (words_due text)
     else run_row number text line

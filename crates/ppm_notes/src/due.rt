@@ -4,6 +4,7 @@ ghost use Rattle.ppm_pieces.specs.Pieces.{split};
 ghost use Rattle.ppm_case.specs.Rules.{said_fits as said_fits_in};
 ghost use Rattle.ppm_case.specs.Spelling.{run_in as value_in};
 ghost use Rattle.ppm_saved_reader.specs.Lines.{run_in as run_of};
+ghost use Rattle.ppm_explain.specs.Words.{counted_text};
 ghost use Rattle.ppm_notes.specs.Dues.{due_notes, due_text, has_word as has_some_word, index_text};
 ghost use Rattle.ppm_notes.specs.Dues.{may_be as may_be_there, range_text, run_text, spelling};
 ghost use Rattle.ppm_notes.specs.Dues.{standing as standing_in, stop_after, value_text};
@@ -139,6 +140,15 @@ fn push_range(text: &mut Vec<u8>, least: u64, most: u64) -> Result<(), NoMemory>
     Ok(())
 }
 
+/// Appends a number after words.
+fn push_counted(text: &mut Vec<u8>, words: &str, number: u64) -> Result<(), NoMemory>
+    ensures { OnOk result (text.new.items ≡ text.old.items ++ counted_text words.now number) }
+{
+    push_word(text, words)?;
+    push_number(text, number)?;
+    Ok(())
+}
+
 /// Appends what could stand where there is room for so many values.
 fn push_value(text: &mut Vec<u8>, room: u64) -> Result<(), NoMemory>
     ensures { OnOk result (text.new.items ≡ text.old.items ++ value_text room) }
@@ -146,8 +156,7 @@ fn push_value(text: &mut Vec<u8>, room: u64) -> Result<(), NoMemory>
     if room == 0 {
         return push_word(text, "the end of the line");
     }
-    push_word(text, "a value, a value and `*N` with N from 1 to ")?;
-    push_number(text, room)?;
+    push_counted(text, "a value, a value and `*N` with N from 1 to ", room)?;
     push_word(text, ", the end of the line")
 }
 
@@ -171,9 +180,7 @@ fn push_run(text: &mut Vec<u8>, left: u64) -> Result<(), NoMemory>
         "a number up to 18446744073709551615 but that of the line above",
     )?;
     if 1 < left {
-        push_word(text, ", such a number and `*N` with N from 2 to ")?;
-        push_number(text, left)?;
-        return Ok(());
+        return push_counted(text, ", such a number and `*N` with N from 2 to ", left);
     }
     Ok(())
 }

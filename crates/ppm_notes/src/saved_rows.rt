@@ -1,11 +1,11 @@
 //! The lines of a saved text.
-ghost use Rattle.std.specs.Prelude.{◌≡◌, ◌≤◌, ◌+◌, ◌^◌, IfOk, take, length};
-ghost use Rattle.ppm_explain.specs.Places.{line_bytes as bytes_in};
+ghost use Rattle.std.specs.Prelude.{◌≡◌, ◌≤◌, ◌<◌, ◌^◌, IfOk, take, drop, length};
 ghost use Rattle.ppm_pieces.specs.Pieces.{split};
 ghost use Rattle.ppm_saved_reader.specs.Lines.{run_in as run_of};
 ghost use Rattle.ppm_saved_reader.specs.Rules.{line_feeds as feeds};
 ghost use Rattle.ppm_notes.specs.Rows.{left_by};
-ghost use Rattle.ppm_notes.specs.SavedRows.{arrays_of as arrays_in_text, code_line as line_of_code};
+ghost use Rattle.ppm_notes.specs.SavedRows.{arrays_of as arrays_in_text, below_code as text_below_code};
+ghost use Rattle.ppm_notes.specs.SavedRows.{code_bytes as bytes_of_code, code_line as line_of_code, code_lines as lines_of_code};
 ghost use Rattle.ppm_notes.specs.SavedRows.{code_row as row_of_code, count_of as count_in, count_row as row_of_count};
 ghost use Rattle.ppm_notes.specs.SavedRows.{digits_in as digits_of, head_row as row_of_head, most_room as most_room_for};
 ghost use Rattle.ppm_notes.specs.SavedRows.{named_row as row_of_named, other_row as row_of_other};
@@ -13,7 +13,7 @@ ghost use Rattle.ppm_notes.specs.SavedRows.{run_due as due_of_run, run_row as ro
 ghost use Rattle.ppm_notes.specs.SavedRows.{saved_row as row_of_saved, sizes_row as row_of_sizes};
 ghost use Rattle.ppm_notes.specs.SavedRows.{times_in as times_of_line};
 ghost use Rattle.ppm_notes.specs.Words.{text_after as text_behind};
-ghost use Rattle.ppm_notes.specs.SavedRows.{version_row as row_of_version, words_due as words_of_text, words_for as words_of, words_line as line_of_words};
+ghost use Rattle.ppm_notes.specs.SavedRows.{version_row as row_of_version, words_due as words_of_text, words_for as words_of};
 
 use crate::due::{Due, Literal};
 use crate::rows::{arrays_above, is_array, is_named, name_due, room_after};
@@ -71,28 +71,45 @@ fn first_bytes(bytes: &[u8], count: u64) -> &[u8]
     &bytes[..count as usize]
 }
 
-/// How many lines the code takes, of which the first has this number, from 0.
-fn code_lines(text: &[u8], line: usize) -> usize
-    ensures { result ≡ feeds (take (count_in (bytes_in text.now line)) (text_behind line text.now)) }
+/// What stands after the first so many bytes.
+#[tactic(auto, using(crate::proofs::SavedLemmas::all_dropped))]
+fn last_bytes(bytes: &[u8], count: u64) -> &[u8]
+    ensures { result.now ≡ drop count bytes.now }
 {
-    line_feeds(first_bytes(text_after(text, line), count_of(line_bytes(text, line))))
+    if (bytes.len() as u64) <= count {
+        return b"";
+    }
+    &bytes[count as usize..]
 }
 
 /// The line of the code, by its number.
 #[tactic(auto, using(crate::proofs::LineLemmas::few))]
 fn code_line(text: &[u8]) -> usize
-    ensures value { result ≡ line_of_code text.now }
-    ensures few { result ≤ 2 ^ 63 + 2 }
+    ensures { result ≡ line_of_code text.now }
 {
     arrays_above(text_after(text, 2)) + 3
 }
 
-/// The line of the count of words: below the code.
-fn words_line(text: &[u8]) -> usize
-    ensures { result ≡ line_of_words text.now }
+/// How many bytes the code has.
+fn code_bytes(text: &[u8]) -> u64
+    ensures { result ≡ bytes_of_code text.now }
 {
-    let line = code_line(text);
-    line + 1 + code_lines(text, line)
+    count_of(line_bytes(text, code_line(text)))
+}
+
+/// How many lines it has.
+fn code_lines(text: &[u8]) -> usize
+    ensures value { result ≡ lines_of_code text.now }
+    ensures few { result < 2 ^ 63 }
+{
+    line_feeds(first_bytes(text_after(text, code_line(text)), code_bytes(text)))
+}
+
+/// The text below it: the count of words, and the words.
+fn below_code(text: &[u8]) -> &[u8]
+    ensures { result.now ≡ text_below_code text.now }
+{
+    last_bytes(text_after(text, code_line(text)), code_bytes(text))
 }
 
 /// The most words of room for each of so many processors.
@@ -279,11 +296,14 @@ fn left_after(text: &[u8], count: u64, lines: usize) -> u64
 fn runs_left(text: &[u8], line: u32) -> u64
     ensures { result ≡ left_in_text text.now line }
 {
-    let words = words_line(text);
+    let below = below_code(text);
     left_after(
-        text_after(text, words),
-        count_of(line_bytes(text, words)),
-        (line as usize).saturating_sub(1).saturating_sub(words),
+        text_after(below, 1),
+        count_of(line_bytes(below, 1)),
+        (line as usize)
+            .saturating_sub(code_line(text))
+            .saturating_sub(code_lines(text))
+            .saturating_sub(2),
     )
 }
 
@@ -350,7 +370,7 @@ pub(crate) fn saved_row(
     if line as usize <= code_line(text) {
         return head_row(alloc, number, text, line);
     }
-    if line as usize == words_line(text) {
+    if (line as usize).saturating_sub(code_line(text)) == code_lines(text) + 1 {
         return count_row(alloc, number, words_due(text));
     }
     run_row(alloc, number, text, line)
