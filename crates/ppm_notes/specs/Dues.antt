@@ -62,15 +62,13 @@ value_text room =
 abbrev pub index_text : (count : ℕ) → List ℕ
 index_text count = if count == 0 then codes "the end of the line" else (range_text 0 (count - 1) ++ codes ", the end of the line")
 
--- a word of a machine, alone or so often, where so many are left
-abbrev pub run_word : List ℕ
-run_word = codes "a number up to 18446744073709551615 but that of the line above"
+-- how often a word of a machine may come in a row, where so many are left
+abbrev pub often_text : (left : ℕ) → List ℕ
+often_text left = if nat_lt 1 left then counted_text (codes ", such a number and `*N` with N from 2 to ") left else []
 
+-- such a word, alone or so often
 abbrev pub run_text : (left : ℕ) → List ℕ
-run_text left =
-    if nat_lt 1 left
-    then (run_word ++ counted_text (codes ", such a number and `*N` with N from 2 to ") left)
-    else run_word
+run_text left = codes "a number up to 18446744073709551615 but that of the line above" ++ often_text left
 
 -- what could stand there
 abbrev pub due_text : Due → List ℕ

@@ -6,7 +6,7 @@ ghost use Rattle.ppm_case.specs.Spelling.{run_in as value_in};
 ghost use Rattle.ppm_saved_reader.specs.Lines.{run_in as run_of};
 ghost use Rattle.ppm_explain.specs.Words.{counted_text};
 ghost use Rattle.ppm_notes.specs.Dues.{due_notes, due_text, has_word as has_some_word, index_text};
-ghost use Rattle.ppm_notes.specs.Dues.{may_be as may_be_there, range_text, run_text, spelling};
+ghost use Rattle.ppm_notes.specs.Dues.{may_be as may_be_there, often_text, range_text, run_text, spelling};
 ghost use Rattle.ppm_notes.specs.Dues.{standing as standing_in, stop_after, value_text};
 ghost use Rattle.ppm_notes.specs.declared.due.Due.TheVariants as variants;
 
@@ -171,6 +171,16 @@ fn push_index(text: &mut Vec<u8>, count: u64) -> Result<(), NoMemory>
     push_word(text, ", the end of the line")
 }
 
+/// Appends how often a word of a machine may come in a row, where so many are left.
+fn push_often(text: &mut Vec<u8>, left: u64) -> Result<(), NoMemory>
+    ensures { OnOk result (text.new.items ≡ text.old.items ++ often_text left) }
+{
+    if 1 < left {
+        return push_counted(text, ", such a number and `*N` with N from 2 to ", left);
+    }
+    Ok(())
+}
+
 /// Appends what could stand where so many words of a machine are left.
 fn push_run(text: &mut Vec<u8>, left: u64) -> Result<(), NoMemory>
     ensures { OnOk result (text.new.items ≡ text.old.items ++ run_text left) }
@@ -179,10 +189,7 @@ fn push_run(text: &mut Vec<u8>, left: u64) -> Result<(), NoMemory>
         text,
         "a number up to 18446744073709551615 but that of the line above",
     )?;
-    if 1 < left {
-        return push_counted(text, ", such a number and `*N` with N from 2 to ", left);
-    }
-    Ok(())
+    push_often(text, left)
 }
 
 /// Appends what could stand where this is due.
