@@ -181,15 +181,23 @@ fn push_often(text: &mut Vec<u8>, left: u64) -> Result<(), NoMemory>
     Ok(())
 }
 
+/// Appends words, and after them how often a word of a machine may come in a row.
+fn push_repeated(text: &mut Vec<u8>, words: &str, left: u64) -> Result<(), NoMemory>
+    ensures { OnOk result (text.new.items ≡ text.old.items ++ (words.now ++ often_text left)) }
+{
+    push_word(text, words)?;
+    push_often(text, left)
+}
+
 /// Appends what could stand where so many words of a machine are left.
 fn push_run(text: &mut Vec<u8>, left: u64) -> Result<(), NoMemory>
     ensures { OnOk result (text.new.items ≡ text.old.items ++ run_text left) }
 {
-    push_word(
+    push_repeated(
         text,
         "a number up to 18446744073709551615 but that of the line above",
-    )?;
-    push_often(text, left)
+        left,
+    )
 }
 
 /// Appends what could stand where this is due.
