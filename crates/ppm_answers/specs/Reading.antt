@@ -93,6 +93,7 @@ TellsOfRun Tells (answers.Unfinished acts) before now = Tells (answers.Unfinishe
 TellsOfRun Tells (answers.ReplayedWith came counts) before now = Tells (answers.ReplayedWith came counts) before now
 TellsOfRun Tells (answers.RanWith ran counts) before now = Tells (answers.RanWith ran counts) before now
 TellsOfRun Tells (answers.NotWithin turns) before now = Tells (answers.NotWithin turns) before now
+TellsOfRun Tells (answers.StandExplained turns notes) before now = Tells (answers.StandExplained turns notes) before now
 TellsOfRun Tells (answers.OutOfTurns processor) before now = Tells (answers.OutOfTurns processor) before now
 TellsOfRun Tells (answers.OutOfRoom place) before now = Tells (answers.OutOfRoom place) before now
 TellsOfRun Tells (answers.Broken place) before now = Tells (answers.Broken place) before now

@@ -48,6 +48,7 @@ status_of (answers.Unfinished acts) = statuses.OutOfTurns
 status_of (answers.ReplayedWith c counts) = came_status c
 status_of (answers.RanWith r counts) = ran_status r
 status_of (answers.NotWithin turns) = statuses.NotWithin
+status_of (answers.StandExplained turns notes) = statuses.NotWithin
 status_of (answers.OutOfTurns processor) = statuses.OutOfTurns
 status_of (answers.OutOfRoom place) = statuses.OutOfRoom
 status_of (answers.Broken place) = statuses.Broken

@@ -389,6 +389,7 @@ out_text (answers.Stood lines c) = stood_out lines c
 out_text (answers.AllStood runs) = all_stood_text runs
 out_text (answers.Fell lines c fall) = []
 out_text (answers.NotWithin turns) = []
+out_text (answers.StandExplained turns notes) = []
 out_text (answers.OutOfTurns processor) = []
 out_text (answers.OutOfRoom place) = []
 out_text (answers.Unfinished acts) = []
@@ -413,6 +414,7 @@ out_text answers.NoMemory = []
 -- what is written on err
 abbrev pub err_text : Answer → List ℕ
 err_text (answers.NotWithin turns) = not_within_text turns
+err_text (answers.StandExplained turns notes) = not_within_text turns ++ notes
 err_text (answers.OutOfTurns processor) = turns_text processor
 err_text (answers.OutOfRoom place) = room_text place
 err_text (answers.Unfinished acts) = unfinished_text acts

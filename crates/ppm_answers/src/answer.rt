@@ -38,6 +38,8 @@ pub enum Answer {
     RanWith(Ran, RunCounts),
     /// The run did not end within so many turns.
     NotWithin(u64),
+    /// The run did not end within so many turns, and these notes tell where it stands after them.
+    StandExplained(u64, Items<u8>),
     /// This processor has no turns left, and the run has not ended; processors count from 0.
     OutOfTurns(u32),
     /// The pool of this place has no room for a block that the run asks for; places count from 0.

@@ -69,6 +69,7 @@ fn own_status(answer: &Answer) -> Status
         Answer::Fell(_, _, _) => Status::CodeRefused,
         Answer::AllStood(_) => Status::Ended,
         Answer::NotWithin(_) | Answer::NotWithinCapsules(_) => Status::NotWithin,
+        Answer::StandExplained(_, _) => Status::NotWithin,
         Answer::OutOfTurns(_) | Answer::Unfinished(_) => Status::OutOfTurns,
         Answer::OutOfRoom(_) => Status::OutOfRoom,
         Answer::Broken(_) => Status::Broken,

@@ -1,5 +1,5 @@
 //! The texts of answers.
-ghost use Rattle.std.specs.Prelude.{◌≡◌, IfOk, IsOk};
+ghost use Rattle.std.specs.Prelude.{◌≡◌, ◌++◌, IfOk, IsOk};
 ghost use Rattle.std.specs.Cow.{cow_slice_items};
 ghost use Rattle.ppm_answers.specs.Texts.{IsFixed, out_text, err_text, refusal_text, fault_text};
 ghost use Rattle.ppm_answers.specs.Texts.{pass_name as name_of_pass, place_name as name_of_place};
@@ -137,6 +137,10 @@ pub fn texts_of(alloc: Global, answer: &Answer) -> Result<(Text, Text), AllocErr
             CowSlice::Borrowed(none),
             CowSlice::Owned(not_within_text_of(alloc, *turns)?),
         )),
+        Answer::StandExplained(turns, notes) => Ok((
+            CowSlice::Borrowed(none),
+            CowSlice::Owned(explained_stand_of(alloc, *turns, notes.as_slice())?),
+        )),
         Answer::NotWithinCapsules(capsules) => Ok((
             CowSlice::Borrowed(none),
             CowSlice::Owned(not_within_capsules_text_of(alloc, *capsules)?),
@@ -238,6 +242,15 @@ fn not_within_text_of(alloc: Global, turns: u64) -> Result<Vec<u8>, AllocError>
 {
     let text = format!(in alloc; "not within {turns} turns\n")?;
     Ok(text.into_bytes())
+}
+
+/// The line of a run that did not end within its turns, with the notes that tell where it stands.
+fn explained_stand_of(alloc: Global, turns: u64, notes: &[u8]) -> Result<Vec<u8>, AllocError>
+    ensures { IfOk result (λ text. text.items ≡ not_within_text turns ++ notes.now) }
+{
+    let mut text = not_within_text_of(alloc, turns)?;
+    text.extend_from_slice(notes)?;
+    Ok(text)
 }
 
 /// The line of a refusal.

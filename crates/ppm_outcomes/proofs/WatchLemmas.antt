@@ -54,6 +54,7 @@ told_none (answers.TrappedWith t line tally) lists = tt
 told_none (answers.Unfinished acts) lists = tt
 told_none (answers.Summed sums) lists = tt
 told_none (answers.NotWithin turns) lists = tt
+told_none (answers.StandExplained turns notes) lists = tt
 told_none (answers.OutOfTurns processor) lists = tt
 told_none (answers.OutOfRoom place) lists = tt
 told_none (answers.Broken place) lists = tt
