@@ -80,7 +80,7 @@ pub stands_nowhere : (n i c : ℕ) (ps : List Procedure) (w u : Run) (s : Stop) 
     → s ≡ trapped t line → Does (halted s) u (advancing ps w.next (with_left (w.left - c) w)) → stands (n - i) ps w ≡ None
 stands_nowhere n i c ps w u s t line l e is few traps does =
     let said : advancing ps w.next (with_left (w.left - c) w) ≡ Err (t, line) =
-        subst (λ (s : Stop). Does (halted s) u (advancing ps w.next (with_left (w.left - c) w))) traps does in
+    subst (λ (s : Stop). Does (halted s) u (advancing ps w.next (with_left (w.left - c) w))) traps does in
     let one : n - i ≡ suc (n - (i + 1)) = omega (arith, l) in
     let done : step ps w ≡ Err (t, line) = ap (λ (c : ℕ). advancing ps w.next (with_left (w.left - c) w)) (sym is) ∙ said in
     ap (λ (k : ℕ). stands k ps w) one ∙ on_step (n - (i + 1)) ps w e (not_less w.left (cost w) (omega (arith, is, few)))

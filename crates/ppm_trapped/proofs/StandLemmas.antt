@@ -37,6 +37,13 @@ at_once {A = A} p = record {
   back = λ n z w. let e : w.rest ≡ n = (let i = w.sum in omega (arith, i)) in subst (λ (m : ℕ). A m z) e (p.back w.rest z w.next);
 }
 
+-- a way that is another one behind no turns, which is a third one behind so many
+behind_none : {c : ℕ} {A B C : ℕ → End ℤ → Type 0} → Shifts 0 A B → Shifts c B C → Shifts c A C
+behind_none p q = record {
+  on = λ n z a. let v = p.on n z a in let w = q.on v.rest z v.next in record { rest = w.rest; sum = (let i = v.sum in let j = w.sum in omega (arith, i, j)); next = w.next };
+  back = λ n z w. p.back n z (record { rest = n; sum = omega arith; next = q.back n z w });
+}
+
 -- what is later is behind its turns
 later : {c : ℕ} {B : ℕ → End ℤ → Type 0} → Shifts c (λ n z. Later c B n z) B
 later = record { on = λ n z v. v; back = λ n z v. v }
@@ -286,9 +293,9 @@ module _ (procedures : List Procedure) (main : Option Give) where
 
       of_main : (g : Option Give) → g ≡ main → (r : Result Run TrapAt) → Moves (give_cost g) (Gave g w.frame.regions Is (Ended w.frame.locals w.store)) r
           → Moves (give_cost g) (After procedures main [] w.frame.regions (Ended w.frame.locals w.store)) r
-      of_main g e (Ok u) (inl q) = goes q.running (chain (whole g e) q.shifts) q.root
-      of_main g e (Ok u) (inr q) = inr (record { ended = q.ended; end = q.end; shifts = chain (whole g e) q.shifts })
-      of_main g e (Err stop) q = (q.0, chain (whole g e) q.1)
+      of_main g e (Ok u) (inl q) = goes q.running (behind_none (whole g e) q.shifts) q.root
+      of_main g e (Ok u) (inr q) = inr (record { ended = q.ended; end = q.end; shifts = behind_none (whole g e) q.shifts })
+      of_main g e (Err stop) q = (q.0, behind_none (whole g e) q.1)
 
   -- one step
   moves : (x : Next) (w : Run) → w.ended ≡ false → rooted_at x w → Moves (next_cost x w.procedure.give) (way_at x w) (advancing procedures x w)
@@ -298,6 +305,14 @@ module _ (procedures : List Procedure) (main : Option Give) where
   moves (next.Test e s) w run root = test_moves e s w run root
   moves (next.Leave r) w run root = leave_moves r w run root
   moves next.Last w run root = last_moves w root
+
+  -- the same once its turns are spent
+  moves_paid : (x : Next) (m : ℕ) (w : Run) → w.ended ≡ false → rooted_at x w → Moves (next_cost x w.procedure.give) (way_at x w) (advancing procedures x (with_left m w))
+  moves_paid next.Enter m w run root = moves next.Enter (with_left m w) run root
+  moves_paid (next.Block b) m w run root = moves (next.Block b) (with_left m w) run root
+  moves_paid (next.Test e s) m w run root = moves (next.Test e s) (with_left m w) run root
+  moves_paid (next.Leave r) m w run root = moves (next.Leave r) (with_left m w) run root
+  moves_paid next.Last m w run root = moves next.Last (with_left m w) run root
 
   -- what a step takes is spent
   least : (r : Result Run TrapAt) (c : ℕ) (A : ℕ → End ℤ → Type 0) → Moves c A r → (n : ℕ) (z : End ℤ) → A n z → c ≤ n
@@ -418,13 +433,17 @@ module _ (procedures : List Procedure) (main : Option Give) where
       by_cost : Finds n A → (b : Bool) → nat_lt w.left (cost w) ≡ b → Found (suc n) w c A
       by_cost finds true h =
           let more = ltb-true w.left (cost w) h in
-          inl (w, at_last n w e h, λ m z a.
-          let v = p.on m z a in
-          let k = least (advancing procedures w.next w) (cost w) (way w) (moves w.next w e root) v.rest z v.next in
-          let s = v.sum in omega (arith, more, k, s))
+          inl (
+            w,
+            at_last n w e h,
+            λ m z a.
+                let v = p.on m z a in
+                let k = least (advancing procedures w.next w) (cost w) (way w) (moves w.next w e root) v.rest z v.next in
+                let s = v.sum in omega (arith, more, k, s),
+          )
       by_cost finds false h =
           let few = ltb-false w.left (cost w) h in
-          by_step finds (step procedures w) refl few (moves w.next (with_left (w.left - cost w) w) e root) (light w.next (with_left (w.left - cost w) w)) (on_step n w e h)
+          by_step finds (step procedures w) refl few (moves_paid w.next (w.left - cost w) w e root) (light w.next (with_left (w.left - cost w) w)) (on_step n w e h)
 
 module _ (t : ProgramTree) (turns : ℕ) where
   -- the whole run of the program
@@ -448,17 +467,17 @@ module _ (t : ProgramTree) (turns : ℕ) where
           rest = n;
           sum = omega arith;
           next = (let w = enter_on t.procedures (main_of t).give Is (λ stop c n z q. q) 0 z h.1 (refl, refl) (let e = h.2 in omega (arith, e)) in
-          let u = w.next in record {
-            rest = w.rest;
-            sum = w.sum;
-            next = record { counts = u.counts; middle = u.middle; rest = u.rest; first = u.first; second = after_main f.regions u.rest z u.middle u.second; sum = u.sum };
-          });
+              let u = w.next in record {
+                rest = w.rest;
+                sum = w.sum;
+                next = record { counts = u.counts; middle = u.middle; rest = u.rest; first = u.first; second = after_main f.regions u.rest z u.middle u.second; sum = u.sum };
+              });
         };
         back = λ n z v.
             let w = v.next in
             let u = w.next in
             let q = enter_back t.procedures (main_of t).give (main_of t) f a Is (λ stop c n z q. q) v.rest u.rest w.rest z u.middle u.first
-                (gave_main f.regions u.rest z u.middle u.second) u.sum w.sum in (
+            (gave_main f.regions u.rest z u.middle u.second) u.sum w.sum in (
               q.counts,
               subst (λ (y : End ℤ). Spends t q.counts y) (sym q.second.1) q.first,
               (let i = v.sum in let j = q.sum in let k = q.second.0 in omega (arith, i, j, k)),
@@ -475,11 +494,11 @@ some_none p q = cc
 pub stand_where_later : StandWhereLater
 stand_where_later t turns = elim (whole t turns) [
   | inl f ↦ record {
-      there = λ w s k z h. (let l = f.2 k.turns z (k, h, refl) in omega (arith, l));
-      somewhere = λ later. (f.0, f.1);
-    }
+    there = λ w s k z h. (let l = f.2 k.turns z (k, h, refl) in omega (arith, l));
+    somewhere = λ later. (f.0, f.1);
+  }
   | inr f ↦ record {
-      there = λ w s k z h. absurd (some_none s f.0);
-      somewhere = λ later. absurd (let h = f.1 in let l = later h.2.0 h.1 h.2.1 in let e = h.2.2 in let few = h.3 in omega (arith, l, e, few));
-    }
+    there = λ w s k z h. absurd (some_none s f.0);
+    somewhere = λ later. absurd (let h = f.1 in let l = later h.2.0 h.1 h.2.1 in let e = h.2.2 in let few = h.3 in omega (arith, l, e, few));
+  }
 ]

@@ -88,12 +88,7 @@ impl<'a> Run<'a> {
     }
 
     /// The next statement of a block, or what comes after the block.
-    fn pass(
-        &mut self,
-        alloc: Global,
-        procedures: &'a [Proc],
-        block: &'a [Stmt],
-    ) -> Result<(), Stop>
+    fn pass(&mut self, alloc: Global, procedures: &'a [Proc], block: &'a [Stmt]) -> Result<(), Stop>
         ensures { Does result (run_of self.new) (passing (map procedure_of procedures.now) (block_of block.now) (run_of self.old)) }
     {
         match block.split_first() {
@@ -193,13 +188,7 @@ impl<'a> Run<'a> {
     }
 
     /// A local gets a value.
-    fn set(
-        &mut self,
-        alloc: Global,
-        name: &Named,
-        e: &Expr,
-        rest: &'a [Stmt],
-    ) -> Result<(), Stop>
+    fn set(&mut self, alloc: Global, name: &Named, e: &Expr, rest: &'a [Stmt]) -> Result<(), Stop>
         ensures { Does result (run_of self.new) (doing [] (tree.Let name.now (expression_of e.now)) (block_of rest.now) (run_of self.old)) }
     {
         let value = self.value(e)?;
@@ -209,13 +198,7 @@ impl<'a> Run<'a> {
     }
 
     /// An element gets a value.
-    fn put(
-        &mut self,
-        name: &Named,
-        index: &Expr,
-        e: &Expr,
-        rest: &'a [Stmt],
-    ) -> Result<(), Stop>
+    fn put(&mut self, name: &Named, index: &Expr, e: &Expr, rest: &'a [Stmt]) -> Result<(), Stop>
         ensures { Does result (run_of self.new) (doing [] (tree.Put name.now (expression_of index.now) (expression_of e.now)) (block_of rest.now) (run_of self.old)) }
     {
         match element_value(&self.frame, &self.store, name, index, e) {
@@ -244,12 +227,7 @@ impl<'a> Run<'a> {
     }
 
     /// A loop.
-    fn repeat(
-        &mut self,
-        test: &'a Expr,
-        block: &'a [Stmt],
-        rest: &'a [Stmt],
-    ) -> Result<(), Stop>
+    fn repeat(&mut self, test: &'a Expr, block: &'a [Stmt], rest: &'a [Stmt]) -> Result<(), Stop>
         ensures { Does result (run_of self.new) (doing [] (tree.While (expression_of test.now) (block_of block.now)) (block_of rest.now) (run_of self.old)) }
     {
         self.push(Rest::Block(rest))?;
@@ -293,14 +271,7 @@ impl<'a> Run<'a> {
     ) -> Result<(), Stop>
         ensures { Does result (run_of self.new) (doing (map procedure_of procedures.now) (tree.Fork (side_of left.now) (side_of right.now)) (block_of rest.now) (run_of self.old)) }
     {
-        let (one, other) = enter_both(
-            alloc,
-            procedures,
-            &self.frame,
-            &self.store,
-            left,
-            right,
-        )?;
+        let (one, other) = enter_both(alloc, procedures, &self.frame, &self.store, left, right)?;
         let Some(procedure) = named(procedures, &left.callee.name) else {
             return Err(Stop::NoMemory);
         };
@@ -319,13 +290,7 @@ impl<'a> Run<'a> {
     fn split(&mut self, alloc: Global, split: Split<'a>, rest: &'a [Stmt]) -> Result<(), Stop>
         ensures { Does result (run_of self.new) (doing [] (tree.Split split.entry.line split.entry.region.now (expression_of split.entry.at.now) split.entry.first.now split.entry.second.now (block_of split.entry.block.now)) (block_of rest.now) (run_of self.old)) }
     {
-        match first_words(
-            &self.frame,
-            &self.store,
-            split.line,
-            split.region,
-            split.at,
-        ) {
+        match first_words(&self.frame, &self.store, split.line, split.region, split.at) {
             Ok(count) => {
                 let saved = self.frame.try_clone(alloc)?;
                 let region = self.frame.region(&split.region.name);
@@ -368,12 +333,7 @@ impl<'a> Run<'a> {
     }
 
     /// What was open around a block goes on.
-    fn leave(
-        &mut self,
-        alloc: Global,
-        procedures: &'a [Proc],
-        rest: Rest<'a>,
-    ) -> Result<(), Stop>
+    fn leave(&mut self, alloc: Global, procedures: &'a [Proc], rest: Rest<'a>) -> Result<(), Stop>
         ensures { Does result (run_of self.new) (leaving (map procedure_of procedures.now) (rest_of rest.entry) (run_of self.old)) }
     {
         match rest {

@@ -61,12 +61,7 @@ fn stand_of_main(
 }
 
 /// A run before the entry of `main`.
-fn begin<'a>(
-    alloc: Global,
-    tree: &'a Tree,
-    main: &'a Proc,
-    turns: u64,
-) -> Result<Run<'a>, NoMemory>
+fn begin<'a>(alloc: Global, tree: &'a Tree, main: &'a Proc, turns: u64) -> Result<Run<'a>, NoMemory>
     ensures { procedure_named (map procedure_of tree.now.procedures) (codes "main") ≡ procedure_of main.now
         → IfOk result (λ w. run_of w ≡ beginning (tree_of tree.now) turns) }
 {

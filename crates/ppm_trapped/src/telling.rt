@@ -8,8 +8,8 @@ ghost use Rattle.ppm_trapped.specs.Stood.{IsCounted, IsStood, called_line, expre
 ghost use Rattle.ppm_trapped.specs.Stood.{next_line, next_readings, rest_line, rest_readings, give_readings};
 ghost use Rattle.ppm_trapped.specs.Stood.{block_line, block_readings, give_line, or_line as line_or, side_line, statement_line};
 
-use crate::frame::Frame;
 use crate::around::Rest;
+use crate::frame::Frame;
 use crate::reading::{read_call, read_element, read_fork, read_split, read_value};
 use crate::run::{Next, Run};
 use crate::told::{Reading, Stood};
