@@ -5,3 +5,4 @@ pub mod RowLemmas
 pub mod SavedLemmas
 pub mod AboveLemmas
 pub mod DueLemmas
+pub mod CallLemmas

@@ -31,5 +31,5 @@ pub use due::{Due, Literal};
 pub use lines::{case_notes, input_notes, saved_notes, untidy_notes};
 pub use listing::{conflict_notes, listing_notes};
 pub use orders::orders_notes;
-pub use traps::trap_notes;
+pub use traps::{stand_notes, trap_notes};
 pub use wanted::Wanted;
