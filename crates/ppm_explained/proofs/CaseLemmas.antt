@@ -19,7 +19,9 @@ use Rattle.ppm_commands.specs.Races.{RacesHas}
 use Rattle.ppm_commands.proofs.RacesAnswers.{none_conflicts}
 use Rattle.ppm_loading.proofs.FirstStore.{none_told}
 use Rattle.ppm_explain.specs.Meanings.{note_text}
-use Rattle.ppm_notes.specs.Lines.{case_notes, input_notes, long_case, long_saved, saved_notes}
+use Rattle.ppm_notes.specs.Dues.{due_notes}
+use Rattle.ppm_notes.specs.Lines.{case_notes, input_meaning, input_notes, long_case, long_saved, saved_line, saved_meaning, saved_notes, short_notes}
+use Rattle.ppm_notes.specs.Rows.{case_row}
 use Rattle.ppm_explained.specs.Texts.{AreCaseNotes, HasReadyCase, UnreadyOf}
 
 -- a refusal is that of `races`, whatever the limit of capsules is
@@ -55,14 +57,18 @@ long : (limit n : ℕ) → limit < n → nat_lt limit n ≡ true
 long limit n h = grind (arith, h)
 
 -- the notes of a text that is too long
+short : (limit : ℕ) (text words others : List ℕ) → limit < length text → short_notes limit text words others ≡ note_text words
+short limit text words others h = rw (long limit (length text) h) refl
+
 of_input : (text : List ℕ) (r : InputRefusal) → case_limit < length text → input_notes text r ≡ note_text long_case
-of_input text r h = rw (long case_limit (length text) h) refl
+of_input text r h =
+    short case_limit text long_case (due_notes text r.line (case_row r.number text r.line) ++ note_text (input_meaning r.number)) h
 
 of_listing : (text : List ℕ) (r : ListingRefusal) → case_limit < length text → case_notes text r ≡ note_text long_case
 of_listing text r h = rw (long case_limit (length text) h) refl
 
 of_saved : (text : List ℕ) (r : SavedRefusal) → saved_limit < length text → saved_notes text r ≡ note_text long_saved
-of_saved text r h = rw (long saved_limit (length text) h) refl
+of_saved text r h = short saved_limit text long_saved (saved_line text r ++ note_text (saved_meaning r.number)) h
 
 longer : (limit : ℕ) (text rest : List ℕ) → limit < length text → limit < length (text ++ rest)
 longer limit text rest h = let lengths = length-append text rest in omega (arith, h, lengths)

@@ -7,5 +7,6 @@ pub mod OrdersLemmas
 pub mod ExplainRows
 pub mod OrdersRows
 pub mod TrapLemmas
+pub mod StandAnswers
 pub mod TrapAnswers
 pub mod TrapRows

@@ -8,12 +8,13 @@ use Rattle.ppm_text.specs.Limits.{text_limit}
 use Rattle.ppm_tree.specs.Tree.{Procedure, ProgramTree}
 use Rattle.ppm_tree.specs.State.{TrapAt}
 use Rattle.ppm_tree.specs.Program.{Serial}
+use Rattle.ppm_tree.specs.Correct.{SpendTheirTurns}
 use Rattle.ppm_trapped.specs.declared.told.Reading.{Reading}
 use Rattle.ppm_trapped.specs.declared.told.Told.{Told}
 use Rattle.ppm_trapped.specs.Sites.{Point, TrapsAt}
 use Rattle.ppm_trapped.specs.Readings.{deed_readings}
 use Rattle.ppm_trapped.specs.Walks.{IsTold, IsToldOf}
-use Rattle.ppm_trapped.specs.Correct.{TrapPointsAreOne, TrapsHavePoints}
+use Rattle.ppm_trapped.specs.Correct.{StandWhereLater, TrapPointsAreOne, TrapsHavePoints}
 use Rattle.ppm_program.specs.Programs.{HasProgram}
 use Rattle.ppm_program.specs.Correct.{HaveOneAnswer as ProgramsAreOne}
 use Rattle.ppm_answers.specs.declared.answer.Answer.{Answer}
@@ -23,10 +24,11 @@ use Rattle.ppm_answers.specs.declared.refused.Refused.{Refused}
 use Rattle.ppm_answers.specs.declared.refused.Refused.TheVariants as refused
 use Rattle.ppm_cli.specs.declared.explain.ExplainedText.TheVariants as texts
 use Rattle.ppm_commands.specs.Serial.{ComesTo, SerialHas, HaveOneAnswer as OutcomesAreOne}
-use Rattle.ppm_notes.specs.Traps.{trap_notes}
+use Rattle.ppm_notes.specs.Traps.{stand_notes, trap_notes}
 use Rattle.ppm_explained.specs.Explaining.{IsExplained, HaveOneAnswer as ExplainedAreOne}
 use Rattle.ppm_explained.specs.Trapping.{EndsWithin, IsTrapExplained, TrapHas, HaveOneAnswer}
 use Rattle.ppm_explained.proofs.TrapLemmas.{trap_run}
+use Rattle.ppm_explained.proofs.StandAnswers.{one_stood, stand_has}
 
 -- ---- what is told of a point is one
 
@@ -89,12 +91,18 @@ trap_same {t = t} {m = m} e = ap (trap_in (trap_at t m)) e
 explained_same : {t u : Trap} {m n : ℕ} {x y : List ℕ} → trap_at t m ≡ trap_at u n → x ≡ y → answers.TrapExplained t m x ≡ answers.TrapExplained u n y
 explained_same p q = λ i. answers.TrapExplained (p i).0 (p i).1 (q i)
 
+stand_same : {m n : ℕ} {x y : List ℕ} → m ≡ n → x ≡ y → answers.StandExplained m x ≡ answers.StandExplained n y
+stand_same p q = λ i. answers.StandExplained (p i) (q i)
+
 module _ (programs : ProgramsAreOne) (explained : ExplainedAreOne) (outcomes : OutcomesAreOne) (points : TrapPointsAreOne) (some_points : TrapsHavePoints)
-    (turns : ℕ) where
+    (spends : SpendTheirTurns) (stands : StandWhereLater) (turns : ℕ) where
   -- the outcome of a trap that is explained
   comes_of : (text : List ℕ) (t : Trap) (line : ℕ) (notes : List ℕ) → IsTrapExplained turns text t line notes
       → ComesTo turns text (outcome.Trapped t line)
   comes_of text t line notes h = record { tree = h.tree; program = h.program; serial = h.serial }
+
+  later_of : (text : List ℕ) (n : ℕ) (notes : List ℕ) → TrapHas turns text (answers.StandExplained n notes) → SerialHas turns text (answers.NotWithin n)
+  later_of text n notes h = (h.0, h.1.comes)
 
   -- a refusal that is explained is of the source
   refusal_of : (text : List ℕ) (r : Refused) (notes : List ℕ) → IsExplained texts.Source text r notes
@@ -124,7 +132,7 @@ module _ (programs : ProgramsAreOne) (explained : ExplainedAreOne) (outcomes : O
   of_accepted text answers.Accepted h k = refl
   of_accepted text (answers.TrapExplained t line notes) h k =
       absurd (ended_trapped (same text (answers.Ended h.arrays) (answers.Trapped t line) h.comes (comes_of text t line notes k)))
-  of_accepted text (answers.NotWithin n) h k = absurd (ended_later (same text (answers.Ended h.arrays) (answers.NotWithin n) h.comes k))
+  of_accepted text (answers.StandExplained n x) h k = absurd (ended_later (same text (answers.Ended h.arrays) (answers.NotWithin n) h.comes (later_of text n x k)))
   of_accepted text (answers.Explained r notes) h k =
       let s = refusal_of text r notes k in absurd (ended_refused (same text (answers.Ended h.arrays) (answers.SourceRefused s.0) h.comes s.1))
   of_accepted text b h k = absurd k
@@ -134,21 +142,33 @@ module _ (programs : ProgramsAreOne) (explained : ExplainedAreOne) (outcomes : O
   of_trap text t line x answers.Accepted h k =
       absurd (ended_trapped (same text (answers.Ended k.arrays) (answers.Trapped t line) k.comes (comes_of text t line x h)))
   of_trap text t line x (answers.TrapExplained u n y) h k = one_trap text t u line n x y h k
-  of_trap text t line x (answers.NotWithin n) h k =
-      absurd (trapped_later (same text (answers.Trapped t line) (answers.NotWithin n) (comes_of text t line x h) k))
+  of_trap text t line x (answers.StandExplained n y) h k =
+      absurd (trapped_later (same text (answers.Trapped t line) (answers.NotWithin n) (comes_of text t line x h) (later_of text n y k)))
   of_trap text t line x (answers.Explained r notes) h k =
       let s = refusal_of text r notes k in
       absurd (trapped_refused (same text (answers.Trapped t line) (answers.SourceRefused s.0) (comes_of text t line x h) s.1))
   of_trap text t line x b h k = absurd k
 
-  of_later : (text : List ℕ) (n : ℕ) (b : Answer) → TrapHas turns text (answers.NotWithin n) → TrapHas turns text b → answers.NotWithin n ≡ b
-  of_later text n answers.Accepted h k = absurd (ended_later (same text (answers.Ended k.arrays) (answers.NotWithin n) k.comes h))
-  of_later text n (answers.TrapExplained t line notes) h k =
-      absurd (trapped_later (same text (answers.Trapped t line) (answers.NotWithin n) (comes_of text t line notes k) h))
-  of_later text n (answers.NotWithin m) h k = ap (λ x. answers.NotWithin x) (h.0 ∙ sym k.0)
-  of_later text n (answers.Explained r notes) h k =
-      let s = refusal_of text r notes k in absurd (later_refused (same text (answers.NotWithin n) (answers.SourceRefused s.0) h s.1))
-  of_later text n b h k = absurd k
+  -- two places where the run stands are one, and so are their notes
+  one_stand : (text : List ℕ) (m n : ℕ) (x y : List ℕ) → TrapHas turns text (answers.StandExplained m x) → TrapHas turns text (answers.StandExplained n y)
+      → answers.StandExplained m x ≡ answers.StandExplained n y
+  one_stand text m n x y h k =
+      let g = h.1 in
+      let j = k.1 in
+      let tree = (programs text).program g.comes.tree j.comes.tree g.comes.program j.comes.program in
+      let stood = one_stood g.comes.tree j.comes.tree turns g.run j.run g.stood j.stood tree g.stands j.stands g.is_stood j.is_stood in
+      stand_same (h.0 ∙ sym k.0) (g.is ∙ ap (stand_notes text) stood ∙ sym j.is)
+
+  of_later : (text : List ℕ) (n : ℕ) (x : List ℕ) (b : Answer) → TrapHas turns text (answers.StandExplained n x) → TrapHas turns text b
+      → answers.StandExplained n x ≡ b
+  of_later text n x answers.Accepted h k =
+      absurd (ended_later (same text (answers.Ended k.arrays) (answers.NotWithin n) k.comes (later_of text n x h)))
+  of_later text n x (answers.TrapExplained t line notes) h k =
+      absurd (trapped_later (same text (answers.Trapped t line) (answers.NotWithin n) (comes_of text t line notes k) (later_of text n x h)))
+  of_later text n x (answers.StandExplained m y) h k = one_stand text n m x y h k
+  of_later text n x (answers.Explained r notes) h k =
+      let s = refusal_of text r notes k in absurd (later_refused (same text (answers.NotWithin n) (answers.SourceRefused s.0) (later_of text n x h) s.1))
+  of_later text n x b h k = absurd k
 
   of_refused : (text : List ℕ) (q : Refused) (m : List ℕ) (b : Answer) → IsExplained texts.Source text q m → TrapHas turns text b
       → answers.Explained q m ≡ b
@@ -157,15 +177,15 @@ module _ (programs : ProgramsAreOne) (explained : ExplainedAreOne) (outcomes : O
   of_refused text q m (answers.TrapExplained t line notes) h k =
       let s = refusal_of text q m h in
       absurd (trapped_refused (same text (answers.Trapped t line) (answers.SourceRefused s.0) (comes_of text t line notes k) s.1))
-  of_refused text q m (answers.NotWithin n) h k =
-      let s = refusal_of text q m h in absurd (later_refused (same text (answers.NotWithin n) (answers.SourceRefused s.0) k s.1))
+  of_refused text q m (answers.StandExplained n x) h k =
+      let s = refusal_of text q m h in absurd (later_refused (same text (answers.NotWithin n) (answers.SourceRefused s.0) (later_of text n x k) s.1))
   of_refused text q m (answers.Explained r n) h k = (explained texts.Source).one text (answers.Explained q m) (answers.Explained r n) h k
   of_refused text q m b h k = absurd k
 
   one : (text : List ℕ) (a b : Answer) → TrapHas turns text a → TrapHas turns text b → a ≡ b
   one text answers.Accepted b h k = of_accepted text b h k
   one text (answers.TrapExplained t line notes) b h k = of_trap text t line notes b h k
-  one text (answers.NotWithin n) b h k = of_later text n b h k
+  one text (answers.StandExplained n x) b h k = of_later text n x b h k
   one text (answers.Explained r notes) b h k = of_refused text r notes b h k
   one text a b h k = absurd h
 
@@ -176,7 +196,7 @@ module _ (programs : ProgramsAreOne) (explained : ExplainedAreOne) (outcomes : O
   front : (text rest : List ℕ) (a : Answer) → text_limit < length text → TrapHas turns text a → TrapHas turns (text ++ rest) a
   front text rest answers.Accepted long h = absurd (no_program text h.comes.tree long h.comes.program)
   front text rest (answers.TrapExplained t line notes) long h = absurd (no_program text h.tree long h.program)
-  front text rest (answers.NotWithin n) long h = absurd (no_program text h.1.tree long h.1.program)
+  front text rest (answers.StandExplained n x) long h = absurd (no_program text h.1.comes.tree long h.1.comes.program)
   front text rest (answers.Explained r notes) long h = (explained texts.Source).front text rest (answers.Explained r notes) long h
   front text rest a long h = absurd h
 
@@ -214,14 +234,16 @@ module _ (programs : ProgramsAreOne) (explained : ExplainedAreOne) (outcomes : O
       of_answer : (a : Answer) → SerialHas turns text a → ((r : Refusal) → ¬ SerialHas turns text (answers.SourceRefused r)) → (b : Answer) × TrapHas turns text b
       of_answer (answers.Ended arrays) h free = (answers.Accepted, record { arrays = arrays; comes = h })
       of_answer (answers.Trapped t line) h free = trap_has text t line h
-      of_answer (answers.NotWithin n) h free = (answers.NotWithin n, h)
+      of_answer (answers.NotWithin n) h free =
+          let s = stand_has turns text spends stands h.1 in (answers.StandExplained n s.0, h.0, s.1)
       of_answer (answers.SourceRefused r) h free = absurd (free r h)
       of_answer a h free = absurd h
 
 -- so it is with all numbers of turns
-pub have_one_answer : ProgramsAreOne → ExplainedAreOne → OutcomesAreOne → TrapPointsAreOne → TrapsHavePoints → HaveOneAnswer
-have_one_answer programs explained outcomes points some_points turns = record {
-  one = one programs explained outcomes points some_points turns;
-  front = front programs explained outcomes points some_points turns;
-  some = some programs explained outcomes points some_points turns;
+pub have_one_answer : ProgramsAreOne → ExplainedAreOne → OutcomesAreOne → TrapPointsAreOne → TrapsHavePoints → SpendTheirTurns → StandWhereLater
+    → HaveOneAnswer
+have_one_answer programs explained outcomes points some_points spends stands turns = record {
+  one = one programs explained outcomes points some_points spends stands turns;
+  front = front programs explained outcomes points some_points spends stands turns;
+  some = some programs explained outcomes points some_points spends stands turns;
 }

@@ -1,5 +1,5 @@
 -- The rows of `explain --trap yes`.
-use Rattle.std.proofs.Common.{◌≡◌, ℕ, List, subst}
+use Rattle.std.proofs.Common.{◌≡◌, ◌++◌, ℕ, List, subst}
 use Rattle.ppm_ports.specs.Ports.{Gets}
 use Rattle.ppm_ports.specs.Outside.{Ports}
 use Rattle.ppm_text.specs.Limits.{text_limit}
@@ -38,10 +38,11 @@ module _ (turns : ℕ) (o : Ports) where
       → TrapSays turns o (status_of answer)
   by_answer answers.Accepted h w = (h, w.out_takes.0)
   by_answer (answers.TrapExplained t line notes) h w = record { trap = t; line = line; notes = notes; read = h; gets = w.out_takes.0 }
-  by_answer (answers.NotWithin n) h w = (
-    subst (λ m. ReadHas text_limit (TrapHas turns) o.source (answers.NotWithin m)) h.2.0 h,
-    subst (λ m. Gets o.err (not_within_text m)) h.2.0 w.err_takes.0,
-  )
+  by_answer (answers.StandExplained n notes) h w = record {
+    notes = notes;
+    read = subst (λ m. ReadHas text_limit (TrapHas turns) o.source (answers.StandExplained m notes)) h.2.0 h;
+    gets = subst (λ m. Gets o.err (not_within_text m ++ notes)) h.2.0 w.err_takes.0;
+  }
   by_answer (answers.Explained r notes) h w = says r notes h (record { refusal = r; notes = notes; read = h; gets = w.err_takes.0 })
   by_answer answer h w = absurd h.2
 

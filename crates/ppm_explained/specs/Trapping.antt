@@ -1,5 +1,5 @@
--- `explain` of the trap of a source: what it says of a text, when it may give each answer, and what follows from each status.
-use Rattle.std.specs.Prelude.{◌≡◌, ◌++◌, ℕ, List}
+-- `explain` of the trap of a source, or of where its turns are spent: what it says of a text, when it may give each answer, and what follows from each status.
+use Rattle.std.specs.Prelude.{◌≡◌, ◌++◌, ℕ, List, Some}
 use Rattle.ppm_words.specs.declared.named_array.NamedArray.{NamedArray}
 use Rattle.ppm_words.specs.declared.outcome.Outcome.TheVariants as outcome
 use Rattle.ppm_words.specs.declared.trap.Trap.{Trap}
@@ -9,8 +9,12 @@ use Rattle.ppm_text.specs.Limits.{text_limit}
 use Rattle.ppm_tree.specs.Tree.{ProgramTree}
 use Rattle.ppm_tree.specs.Program.{Serial}
 use Rattle.ppm_trapped.specs.declared.told.Told.{Told}
+use Rattle.ppm_trapped.specs.declared.told.Stood.{Stood}
+use Rattle.ppm_trapped.specs.Nexts.{Run}
 use Rattle.ppm_trapped.specs.Sites.{Point, TrapsAt}
 use Rattle.ppm_trapped.specs.Walks.{IsTold}
+use Rattle.ppm_trapped.specs.Standing.{stand}
+use Rattle.ppm_trapped.specs.Stood.{IsStood}
 use Rattle.ppm_program.specs.Programs.{HasProgram}
 use Rattle.ppm_answers.specs.declared.answer.Answer.{Answer}
 use Rattle.ppm_answers.specs.declared.answer.Answer.TheVariants as answers
@@ -22,7 +26,7 @@ use Rattle.ppm_answers.specs.Reading.{ReadHas, JudgingMay, AreOne, FrontsDecide}
 use Rattle.ppm_answers.specs.Rows.{PortsSay, TextRows, IsShown, IsDone}
 use Rattle.ppm_cli.specs.declared.explain.ExplainedText.TheVariants as texts
 use Rattle.ppm_commands.specs.Serial.{ComesTo}
-use Rattle.ppm_notes.specs.Traps.{trap_notes}
+use Rattle.ppm_notes.specs.Traps.{stand_notes, trap_notes}
 use Rattle.ppm_explained.specs.Explaining.{IsExplained}
 
 -- the text has a program whose run ends within so many turns
@@ -42,16 +46,25 @@ pub record IsTrapExplained (turns : ℕ) (text : List ℕ) (t : Trap) (line : �
   pub is_told : IsTold tree.procedures point told
   pub is : notes ≡ trap_notes text told
 
+-- The text has a program whose run takes more turns; within these it stands at a place, and the notes are those of what is told of it.
+pub record IsStandExplained (turns : ℕ) (text : List ℕ) (notes : List ℕ) : Type 0 where
+  pub comes : ComesTo turns text outcome.NotWithin
+  pub run : Run
+  pub stands : stand comes.tree turns ≡ Some run
+  pub stood : Stood
+  pub is_stood : IsStood comes.tree.procedures run stood
+  pub is : notes ≡ stand_notes text stood
+
 -- the answer that a text has where its trap is explained
 abbrev pub TrapHas : ℕ → List ℕ → Answer → Type 0
 TrapHas turns text answers.Accepted = EndsWithin turns text
 TrapHas turns text (answers.TrapExplained t line notes) = IsTrapExplained turns text t line notes
-TrapHas turns text (answers.NotWithin n) = (n ≡ turns) × ComesTo turns text outcome.NotWithin
+TrapHas turns text (answers.StandExplained n notes) = (n ≡ turns) × IsStandExplained turns text notes
 TrapHas turns text (answers.Explained r notes) = IsExplained texts.Source text r notes
 TrapHas turns text _ = ⊥
 
 -- Within each number of turns two answers of a text are one, and what stands after more bytes than a text may have changes none. Each text has one:
--- it is refused for a reason that has notes, or its program has an outcome, of which a trap has notes.
+-- it is refused for a reason that has notes, or its program has an outcome, of which a trap has notes, and so has a run that takes more turns.
 pub record HasOneAnswer (turns : ℕ) : Type 0 where
   pub one : AreOne (TrapHas turns)
   pub front : FrontsDecide text_limit (TrapHas turns)
@@ -89,16 +102,18 @@ module _ (turns : ℕ) (o : Ports) where
     pub read : HasRead (answers.Explained refusal notes)
     pub gets : Gets o.err (refused_text refusal ++ notes)
 
-  -- the program of the text that was read spends more turns, and err got exactly the line that says so
-  abbrev pub WritesNotWithin : Type 0
-  WritesNotWithin = HasRead (answers.NotWithin turns) × Gets o.err (not_within_text turns)
+  -- The program of the text that was read spends more turns, and err got exactly the line that `serial` writes of this, and the notes after it.
+  pub record WritesStand : Type 0 where
+    pub notes : List ℕ
+    pub read : HasRead (answers.StandExplained turns notes)
+    pub gets : Gets o.err (not_within_text turns ++ notes)
 
   -- what each status says: 0, 1, 2 and 11 come only where the text that was read ends so
   abbrev pub TrapSays : Status → Type 0
   TrapSays statuses.Ended = WritesOk
   TrapSays statuses.Trapped = WritesTrap
   TrapSays statuses.SourceRefused = WritesNotes
-  TrapSays statuses.NotWithin = WritesNotWithin
+  TrapSays statuses.NotWithin = WritesStand
   TrapSays status = PortsSay o status
 
 -- The rows of `explain --trap yes`: what each status says; where all goes well, the answer that the text has is written, and of a source whose bytes

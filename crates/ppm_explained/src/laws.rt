@@ -12,7 +12,8 @@ use ppm_listing_reader::faults_tell_listings;
 use ppm_plan::have_one_answer as plans_have_one_answer;
 use ppm_program::have_one_answer;
 use ppm_rows::have_one_answer as tokens_have_one_answer;
-use ppm_trapped::{trap_points_are_one, traps_have_points};
+use ppm_trapped::{stand_where_later, trap_points_are_one, traps_have_points};
+use ppm_tree::spend_their_turns;
 
 /// Where it is explained, a text has one answer: that it is accepted, or its refusal with its notes;
 /// and a text that is too long is explained as its front is.
@@ -39,8 +40,8 @@ pub fn orders_have_one_answer()
 }
 
 /// Where the trap of a source is explained, a text has one answer within each number of turns: that
-/// the run of its program ends, its trap with its notes, that it takes more turns, or its refusal
-/// with its notes; and a text that is too long is explained as its front is.
+/// the run of its program ends, its trap with its notes, that it takes more turns with the notes of
+/// where it stands, or its refusal with its notes; and a text that is too long is explained as its front is.
 pub fn traps_have_one_answer()
     ensures law { TrapsHaveOneAnswer }
 {
@@ -50,4 +51,6 @@ pub fn traps_have_one_answer()
     outcomes_have_one_answer();
     trap_points_are_one();
     traps_have_points();
+    spend_their_turns();
+    stand_where_later();
 }

@@ -13,20 +13,21 @@ ghost use Rattle.ppm_explained.specs.Trapping.{IsTrapTold, TrapHas, TrapMay};
 use crate::laws::traps_have_one_answer;
 use ppm_answers::{Answer, Refusal, Refused, Status, answer_of_read, deliver};
 use ppm_explain::source_notes;
-use ppm_notes::trap_notes;
+use ppm_notes::{stand_notes, trap_notes};
 use ppm_ports::{Sink, Source, read_whole};
 use ppm_program::{JudgeError, program_of};
 use ppm_serial::serial;
 use ppm_text::TEXT_LIMIT;
-use ppm_trapped::{trap as trap_of, trap_points_trap};
-use ppm_tree::{Program, have_one_end};
+use ppm_trapped::{stand, stand_where_later, trap as trap_of, trap_points_trap};
+use ppm_tree::{Program, have_one_end, spend_their_turns};
 use ppm_words::{Items, NoMemory, Outcome, Trap};
 use std::alloc::Global;
 
 /// Runs the text that is read within so many turns of the serial meaning: `ok` is written on `out`
 /// where the run ends. Where it is a trap, the line of that is written on `out`, and after it the
 /// line of the source, what the names stand for that are read there, the procedure, and what the
-/// trap means. The refusal with its notes, or that it takes more turns, is written on `err`.
+/// trap means. The refusal with its notes is written on `err`; or that the run takes more turns,
+/// and after it where it stands: the line, the names, the procedure and the calls that are open.
 pub fn explain_trap_command<S: Source, K: Sink, E: Sink>(
     alloc: Global,
     turns: u64,
@@ -76,7 +77,8 @@ fn refused_answer(alloc: Global, text: &[u8], refusal: Refusal) -> Answer
     }
 }
 
-/// What is said of a text with this program. Where its run is a trap, it is walked once more.
+/// What is said of a text with this program. Where its run is a trap, or takes more turns, it is
+/// walked once more.
 fn program_answer(alloc: Global, turns: u64, text: &[u8], program: &Program) -> Answer
     requires has { HasProgram text.now (tree_of program.now) }
     ensures { TextMay (TrapHas turns) text.now result }
@@ -86,7 +88,7 @@ fn program_answer(alloc: Global, turns: u64, text: &[u8], program: &Program) -> 
         Ok(Outcome::Trapped(trap, line)) => {
             walked_answer(alloc, turns, text, program, trap, line)
         }
-        Ok(Outcome::NotWithin) => Answer::NotWithin(turns),
+        Ok(Outcome::NotWithin) => stood_answer(alloc, turns, text, program),
         Err(NoMemory) => Answer::NoMemory,
     }
 }
@@ -111,6 +113,25 @@ fn walked_answer(
     match trap_of(alloc, program) {
         Ok(Some(told)) => match trap_notes(alloc, text, &told) {
             Ok(notes) => Answer::TrapExplained(trap, line, Items::from_vec(notes)),
+            Err(NoMemory) => Answer::NoMemory,
+        },
+        Ok(None) => unreachable!(),
+        Err(NoMemory) => Answer::NoMemory,
+    }
+}
+
+/// What is said of a text with this program, whose run takes more turns: where it stands.
+fn stood_answer(alloc: Global, turns: u64, text: &[u8], program: &Program) -> Answer
+    requires has { HasProgram text.now (tree_of program.now) }
+    requires later { Serial (tree_of program.now) turns outcome.NotWithin }
+    ensures { TextMay (TrapHas turns) text.now result }
+{
+    // The run stands somewhere, by these laws; the calls do nothing.
+    spend_their_turns();
+    stand_where_later();
+    match stand(alloc, program, turns) {
+        Ok(Some(stood)) => match stand_notes(alloc, text, &stood) {
+            Ok(notes) => Answer::StandExplained(turns, Items::from_vec(notes)),
             Err(NoMemory) => Answer::NoMemory,
         },
         Ok(None) => unreachable!(),

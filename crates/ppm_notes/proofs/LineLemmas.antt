@@ -1,7 +1,7 @@
 -- The lines of arrays in front of a text, one after another.
 use Rattle.std.proofs.Common.{◌≡◌, ◌≤◌, ℕ, suc, ◌+◌, ◌==◌, Bool, true, false, if◌then◌else◌, List, [], ◌∷◌, length, refl, sym, arith}
 use Rattle.ppm_pieces.specs.Pieces.{in_front, split}
-use Rattle.ppm_notes.specs.Lines.{arrays_in, is_array}
+use Rattle.ppm_notes.specs.Rows.{arrays_in, is_array}
 
 -- one more is counted
 pub one_more : (l : List ℕ) (ls all : List (List ℕ)) → all ≡ l ∷ ls → true ≡ is_array l → 1 + arrays_in ls ≡ arrays_in all

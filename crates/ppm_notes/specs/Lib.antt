@@ -2,6 +2,9 @@ pub mod Words
 pub mod Operands
 pub mod Meanings
 pub mod Listings
+pub mod Dues
+pub mod Rows
+pub mod SavedRows
 pub mod Lines
 pub mod Orders
 pub mod Traps

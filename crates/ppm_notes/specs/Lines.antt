@@ -1,7 +1,6 @@
 -- What is said of a case or a saved text that is refused, after the line of the refusal.
-use Rattle.std.specs.Prelude.{ℕ, ◌+◌, ◌==◌, if◌then◌else◌, nat_lt, Bool, true, List, [], ◌∷◌, ◌++◌, length, codes, Option, Some, None}
-use Rattle.std.specs.Str.{bytes_eq}
-use Rattle.ppm_pieces.specs.Pieces.{halves_of, split}
+use Rattle.std.specs.Prelude.{ℕ, ◌==◌, if◌then◌else◌, nat_lt, Bool, true, not, ◌&&◌, ◌||◌, List, [], ◌++◌, length, codes}
+use Rattle.ppm_pieces.specs.Pieces.{split}
 use Rattle.ppm_case.specs.Rules.{case_limit}
 use Rattle.ppm_saved_reader.specs.Rules.{saved_limit}
 use Rattle.ppm_answers.specs.declared.case.InputRefusal.{InputRefusal}
@@ -10,35 +9,18 @@ use Rattle.ppm_answers.specs.declared.conflict.ListingRefusal.{ListingRefusal}
 use Rattle.ppm_answers.specs.declared.saved.SavedRefusal.{SavedRefusal}
 use Rattle.ppm_explain.specs.Meanings.{note_text}
 use Rattle.ppm_explain.specs.Places.{line_bytes, line_text, shown_text}
+use Rattle.ppm_notes.specs.Dues.{due_notes}
 use Rattle.ppm_notes.specs.Listings.{fault_notes}
-use Rattle.ppm_notes.specs.Words.{first_word}
-
--- that a carriage return parts a line
-abbrev pub return_notes : Option (List ℕ × List ℕ) → List ℕ
-return_notes None = []
-return_notes (Some halves) = note_text (codes "a carriage return stands in this line; lines end with a line feed alone")
+use Rattle.ppm_notes.specs.Rows.{arrays_in, case_row}
+use Rattle.ppm_notes.specs.SavedRows.{count_of, saved_row, words_due}
 
 -- a line, and what is said of it
 abbrev pub line_notes : List ℕ → ℕ → List ℕ → List ℕ
 line_notes text line words = line_text line ++ shown_text (line_bytes text line) ++ note_text words
 
--- a line of a text in which a carriage return may stand, and what is said of it
-abbrev pub read_notes : List ℕ → ℕ → List ℕ → List ℕ
-read_notes text line words =
-    line_text line ++ shown_text (line_bytes text line) ++ return_notes (halves_of 13 (line_bytes text line)) ++ note_text words
-
 -- that alone, of a text that is too long
 abbrev pub short_notes : ℕ → List ℕ → (long words : List ℕ) → List ℕ
 short_notes limit text long words = if nat_lt limit (length text) then note_text long else words
-
--- whether a line is that of an array
-abbrev pub is_array : List ℕ → Bool
-is_array bytes = bytes_eq (first_word bytes) (codes "array")
-
--- how many lines of arrays stand in front
-abbrev pub arrays_in : List (List ℕ) → ℕ
-arrays_in [] = 0
-arrays_in (l ∷ ls) = if is_array l then 1 + arrays_in ls else 0
 
 abbrev pub long_case : List ℕ
 long_case = codes "a case has 536870912 bytes at most"
@@ -55,7 +37,8 @@ input_meaning n =
 
 -- what is said of such a fault
 abbrev pub input_notes : List ℕ → InputRefusal → List ℕ
-input_notes text r = short_notes case_limit text long_case (read_notes text r.line (input_meaning r.number))
+input_notes text r =
+    short_notes case_limit text long_case (due_notes text r.line (case_row r.number text r.line) ++ note_text (input_meaning r.number))
 
 -- what is said of a fault of a case's listing
 abbrev pub case_notes : List ℕ → ListingRefusal → List ℕ
@@ -82,6 +65,16 @@ saved_meaning n =
     else if n == 5 then codes "the words are not as many as the sizes of the text say"
     else []
 
--- what is said of such a fault
+-- whether a word of the line is at fault: it has no form, or is past its range, or is another count than the sizes say
+abbrev pub is_of_word : List ℕ → SavedRefusal → Bool
+is_of_word text r = r.number == 1 || r.number == 2 || (r.number == 5 && not (count_of (line_bytes text r.line) == words_due text))
+
+-- the line of such a fault
+abbrev pub saved_line : List ℕ → SavedRefusal → List ℕ
+saved_line text r =
+    if is_of_word text r then due_notes text r.line (saved_row r.number text r.line)
+    else (line_text r.line ++ shown_text (line_bytes text r.line))
+
+-- what is said of it
 abbrev pub saved_notes : List ℕ → SavedRefusal → List ℕ
-saved_notes text r = short_notes saved_limit text long_saved (read_notes text r.line (saved_meaning r.number))
+saved_notes text r = short_notes saved_limit text long_saved (saved_line text r ++ note_text (saved_meaning r.number))

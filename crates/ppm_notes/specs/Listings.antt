@@ -1,5 +1,7 @@
 -- What is said of the text of a listing that is refused, after the line of the refusal.
-use Rattle.std.specs.Prelude.{ℕ, ◌+◌, ◌-◌, ◌==◌, if◌then◌else◌, nat_lt, Bool, true, false, List, [], ◌∷◌, ◌++◌, length, codes, decimal, Option, Some, None}
+use Rattle.std.specs.Prelude.{ℕ, ◌+◌, ◌-◌, ◌==◌, if◌then◌else◌, ◌&&◌, nat_lt, Bool, true, false, List, [], ◌∷◌, ◌++◌, length, codes, decimal, Option, Some, None}
+use Rattle.ppm_words.specs.Limits.{array_limit}
+use Rattle.ppm_pieces.specs.Numbers.{value}
 use Rattle.ppm_pieces.specs.Pieces.{split}
 use Rattle.ppm_listing.specs.declared.keyword.Keyword.{Keyword}
 use Rattle.ppm_listing.specs.declared.keyword.Keyword.TheVariants as keyword
@@ -11,8 +13,9 @@ use Rattle.ppm_answers.specs.declared.conflict.ListingRefusal.{ListingRefusal}
 use Rattle.ppm_explain.specs.Places.{line_text, line_bytes, shown_text, marked_text, is_last_line}
 use Rattle.ppm_explain.specs.Meanings.{note_text}
 use Rattle.ppm_explain.specs.Words.{quoted}
-use Rattle.ppm_notes.specs.Words.{after_words, capsules_in, column_in, keywords_text, sort_text, thing_text, tokens_in}
-use Rattle.ppm_notes.specs.Operands.{fitting, lead_of, leads, operand_text, operands}
+use Rattle.ppm_notes.specs.declared.above.Above.{Above}
+use Rattle.ppm_notes.specs.Words.{after_words, capsules_in, column_in, keywords_text, sort_text, text_after, thing_text, tokens_in, word_at}
+use Rattle.ppm_notes.specs.Operands.{below_all, fitting, lead_of, leads, operand_text, operands}
 use Rattle.ppm_notes.specs.Meanings.{listing_meaning, long_listing, conflict_meaning}
 
 -- a line of words
@@ -43,33 +46,48 @@ abbrev pub stop_count : (at capsules : ℕ) → Option Keyword → List ℕ → 
 stop_count at capsules None bytes = 0
 stop_count at capsules (Some k) bytes = count_in at capsules k bytes + 1
 
--- in front of the first line of a case's listing one more array may stand
-abbrev pub array_word : (case : Bool) → (at : ℕ) → List ℕ
-array_word true at = if at == 1 then codes "`array`, " else []
-array_word false at = []
+-- in front of the first line of a case's listing one more array may stand, if it is not one too many
+abbrev pub array_word : (case : Bool) → (above at : ℕ) → List ℕ
+array_word true above at = if (at == 1) && nat_lt above array_limit then codes "`array`, " else []
+array_word false above at = []
 
--- and what could stand behind these, in a case or in a listing alone
-abbrev pub stop_words : (case : Bool) → (at capsules : ℕ) → Option Keyword → List ℕ → List ℕ
-stop_words case at capsules None bytes = array_word case at ++ keywords_text (leads at capsules)
-stop_words case at capsules (Some k) bytes = wanted_in at capsules k bytes
+-- behind an end the text may end
+abbrev pub end_word : Bool → List ℕ
+end_word true = codes ", the end of the text"
+end_word false = []
+
+-- and what could stand behind these, in a case or in a listing alone, of which so many lines stand above it
+abbrev pub stop_words : (case : Bool) → (above at capsules : ℕ) → Above → Option Keyword → List ℕ → List ℕ
+stop_words case above at capsules a None bytes = array_word case above at ++ keywords_text (leads at capsules a) ++ end_word a.is_ended
+stop_words case above at capsules a (Some k) bytes = wanted_in at capsules k bytes
 
 -- how many capsules begin above a line
 abbrev pub capsules_above : List ℕ → ℕ → ℕ
 capsules_above text line = capsules_in (line - 1) (split 10 text)
 
--- the keyword with which a line begins, if it may, where so many lines stand above the listing
+-- the keyword of the form that a line has
 abbrev pub lead_at : (above : ℕ) → List ℕ → ℕ → Option Keyword
 lead_at above text line = lead_of (line - above) (capsules_above text line) (line_bytes text line)
 
--- by the keyword with which a line begins: the first word that may not stand there, and what could in its place
-abbrev pub stop_by : (case : Bool) → List ℕ → ℕ → (at capsules : ℕ) → Option Keyword → List ℕ
-stop_by case text line at capsules k =
-    stop_text text line (after_words (stop_count at capsules k (line_bytes text line)) (line_bytes text line))
-    (stop_words case at capsules k (line_bytes text line))
+-- what is known in front of the first line: the procedure of the root, which stands in the second line of the listing
+abbrev pub root_only : (above : ℕ) → List ℕ → Above
+root_only above text =
+    record { root = value (word_at 1 (line_bytes (text_after above text) 2)); is_first = false; is_ended = false; has_room = false }
 
--- a line of no form that may stand there
+-- what the lines above a line say of it
+abbrev pub above_of : (above : ℕ) → List ℕ → ℕ → Above
+above_of above text line = below_all (root_only above text) (line - 1) (split 10 text)
+
+-- by the keyword with which a line begins: the first word that may not stand there, and what could in its place
+abbrev pub stop_by : (case : Bool) → (above : ℕ) → List ℕ → ℕ → (at capsules : ℕ) → Above → Option Keyword → List ℕ
+stop_by case above text line at capsules a k =
+    stop_text text line (after_words (stop_count at capsules k (line_bytes text line)) (line_bytes text line))
+    (stop_words case above at capsules a k (line_bytes text line))
+
+-- a line of no form that may stand there, where so many lines stand above the listing
 abbrev pub stop_notes : (case : Bool) (above : ℕ) → List ℕ → ℕ → List ℕ
-stop_notes case above text line = stop_by case text line (line - above) (capsules_above text line) (lead_at above text line)
+stop_notes case above text line =
+    stop_by case above text line (line - above) (capsules_above text line) (above_of above text line) (lead_at above text line)
 
 -- the sorts of the words behind a keyword
 abbrev pub sorts_text : List Sort → List ℕ

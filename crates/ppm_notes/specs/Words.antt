@@ -33,9 +33,25 @@ abbrev pub after_pieces : (separator : ℕ) → ℕ → List ℕ → Option (Lis
 after_pieces separator zero bytes = Some bytes
 after_pieces separator (suc n) bytes = after_half (after_pieces separator n) (halves_of separator bytes)
 
+-- what a text has behind so many lines
+abbrev pub or_empty : Option (List ℕ) → List ℕ
+or_empty None = []
+or_empty (Some rest) = rest
+
+abbrev pub text_after : ℕ → List ℕ → List ℕ
+text_after lines text = or_empty (after_pieces 10 lines text)
+
 -- what a line has behind so many words
 abbrev pub after_words : ℕ → List ℕ → Option (List ℕ)
 after_words n bytes = after_pieces 32 n bytes
+
+-- the word behind so many others; nothing where there is none
+abbrev pub word_of : Option (List ℕ) → List ℕ
+word_of None = []
+word_of (Some rest) = first_word rest
+
+abbrev pub word_at : ℕ → List ℕ → List ℕ
+word_at n line = word_of (after_words n line)
 
 -- the tokens of words
 abbrev pub tokens_in : Option (List ℕ) → List Token

@@ -12,18 +12,24 @@
 //! After the messages of assemblers; their words are this project's.
 #![tactic(auto)]
 
+mod above;
+mod due;
 mod form;
 mod lines;
 mod listing;
 mod meaning;
 mod operands;
 mod orders;
+mod rows;
+mod saved_rows;
 mod traps;
 mod wanted;
 mod words;
 
+pub use above::Above;
+pub use due::{Due, Literal};
 pub use lines::{case_notes, input_notes, saved_notes, untidy_notes};
 pub use listing::{conflict_notes, listing_notes};
 pub use orders::orders_notes;
-pub use traps::trap_notes;
+pub use traps::{stand_notes, trap_notes};
 pub use wanted::Wanted;

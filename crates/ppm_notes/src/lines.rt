@@ -1,47 +1,23 @@
 //! What is said of a case or a saved text that is refused.
 ghost use Rattle.std.specs.Prelude.{◌≡◌, ◌++◌, IfOk, OnOk};
-ghost use Rattle.ppm_pieces.specs.Pieces.{halves_of, split};
-ghost use Rattle.ppm_notes.specs.Lines.{arrays_in, case_notes as notes_of_case};
+ghost use Rattle.ppm_notes.specs.Lines.{case_notes as notes_of_case};
 ghost use Rattle.ppm_notes.specs.Lines.{input_meaning as input_words, input_notes as notes_of_input};
-ghost use Rattle.ppm_notes.specs.Lines.{is_array as is_array_line, read_notes as notes_of_line};
-ghost use Rattle.ppm_notes.specs.Lines.{long_case, long_saved, return_notes, saved_meaning as saved_words};
+ghost use Rattle.ppm_notes.specs.Lines.{is_of_word as is_of_some_word, long_case, long_saved};
+ghost use Rattle.ppm_notes.specs.Lines.{saved_line, saved_meaning as saved_words};
 ghost use Rattle.ppm_notes.specs.Lines.{saved_notes as notes_of_saved, untidy_meaning};
 ghost use Rattle.ppm_notes.specs.Lines.{untidy_notes as notes_of_untidy};
 
+use crate::due::push_dues;
 use crate::listing::{fault_notes, push_row};
 use crate::meaning::{note_of, push_note};
-use crate::words::first_word;
+use crate::rows::{arrays_above, case_row};
+use crate::saved_rows::{count_of, saved_row, words_due};
 use ppm_answers::{InputRefusal, ListingRefusal, SavedRefusal, UntidyStore};
 use ppm_case::CASE_LIMIT;
 use ppm_explain::{line_bytes, push_line};
-use ppm_pieces::{same_bytes, split_once};
 use ppm_saved_reader::SAVED_LIMIT;
 use ppm_words::NoMemory;
 use std::alloc::Global;
-
-/// Whether a line is that of an array.
-fn is_array(line: &[u8]) -> bool
-    ensures { result ≡ is_array_line line.now }
-{
-    same_bytes(first_word(line), b"array")
-}
-
-/// How many lines of arrays stand in front of a text.
-#[tactic(auto, using(crate::proofs::LineLemmas::one_more, crate::proofs::LineLemmas::no_more, crate::proofs::LineLemmas::last_one, crate::proofs::LineLemmas::few))]
-fn arrays_above(text: &[u8]) -> usize
-    ensures { result ≡ arrays_in (split 10 text.now) }
-{
-    let mut left = text;
-    let mut count = 0;
-    'lines: while let Some((line, rest)) = split_once(left, b'\n') {
-        if !is_array(line) {
-            return count;
-        }
-        count += 1;
-        left = rest;
-    }
-    if is_array(left) { count + 1 } else { count }
-}
 
 /// What a fault of the arrays or of the root of a case means, by its number.
 #[tactic(auto, unfolding(crate::specs::Lines::input_meaning))]
@@ -100,40 +76,20 @@ fn saved_meaning(number: u32) -> &'static str
     }
 }
 
-/// Appends that a carriage return parts a line, if one does.
-fn push_return_note(notes: &mut Vec<u8>, line: &[u8]) -> Result<(), NoMemory>
-    ensures { OnOk result (notes.new.items
-        ≡ notes.old.items ++ return_notes (halves_of 13 line.now)) }
-{
-    match split_once(line, b'\r') {
-        Some(_) => push_note(
-            notes,
-            "a carriage return stands in this line; lines end with a line feed alone",
-        ),
-        None => Ok(()),
-    }
-}
-
-/// A line, and what is said of it.
-fn line_notes(alloc: Global, text: &[u8], line: u32, words: &str) -> Result<Vec<u8>, NoMemory>
-    ensures { IfOk result (λ notes. notes.items ≡ notes_of_line text.now line words.now) }
-{
-    let mut notes = Vec::new(alloc);
-    push_line(&mut notes, text, line)?;
-    push_return_note(&mut notes, line_bytes(text, line as usize))?;
-    push_note(&mut notes, words)?;
-    Ok(notes)
-}
-
 /// What is said, after the line of its refusal, of a case whose arrays or whose root have this
-/// fault: the line, and what the refusal means. `Err` only where memory is refused.
+/// fault: the line, its first word that may not stand there and what could, and what the refusal
+/// means. `Err` only where memory is refused.
 pub fn input_notes(alloc: Global, text: &[u8], refusal: InputRefusal) -> Result<Vec<u8>, NoMemory>
     ensures { IfOk result (λ notes. notes.items ≡ notes_of_input text.now refusal) }
 {
     if text.len() > CASE_LIMIT {
         return note_of(alloc, long_case_words());
     }
-    line_notes(alloc, text, refusal.line, input_meaning(refusal.number))
+    let dues = case_row(alloc, refusal.number, text, refusal.line)?;
+    let mut notes = Vec::new(alloc);
+    push_dues(alloc, &mut notes, text, refusal.line, &dues)?;
+    push_note(&mut notes, input_meaning(refusal.number))?;
+    Ok(notes)
 }
 
 /// What is said, after the line of its refusal, of a case whose listing has this fault. `Err` only
@@ -158,13 +114,44 @@ pub fn untidy_notes(alloc: Global, text: &[u8], store: UntidyStore) -> Result<Ve
     Ok(notes)
 }
 
+/// Whether a word of the line of a saved text is at fault: it has no form, or is past its range, or
+/// is another count than the sizes say.
+fn is_of_word(text: &[u8], refusal: SavedRefusal) -> bool
+    ensures { result ≡ is_of_some_word text.now refusal }
+{
+    if refusal.number == 1 || refusal.number == 2 {
+        return true;
+    }
+    refusal.number == 5 && count_of(line_bytes(text, refusal.line as usize)) != words_due(text)
+}
+
+/// Appends the line of a fault of a saved text, with the word at fault where it is one.
+fn push_saved_line(
+    alloc: Global,
+    notes: &mut Vec<u8>,
+    text: &[u8],
+    refusal: SavedRefusal,
+) -> Result<(), NoMemory>
+    ensures { OnOk result (notes.new.items ≡ notes.old.items ++ saved_line text.now refusal) }
+{
+    if !is_of_word(text, refusal) {
+        return push_line(notes, text, refusal.line);
+    }
+    let dues = saved_row(alloc, refusal.number, text, refusal.line)?;
+    push_dues(alloc, notes, text, refusal.line, &dues)
+}
+
 /// What is said, after the line of its refusal, of a text that is that of no saved state: the line,
-/// and what the refusal means. `Err` only where memory is refused.
+/// its first word that may not stand there and what could, and what the refusal means. `Err` only
+/// where memory is refused.
 pub fn saved_notes(alloc: Global, text: &[u8], refusal: SavedRefusal) -> Result<Vec<u8>, NoMemory>
     ensures { IfOk result (λ notes. notes.items ≡ notes_of_saved text.now refusal) }
 {
     if text.len() > SAVED_LIMIT {
         return note_of(alloc, long_saved_words());
     }
-    line_notes(alloc, text, refusal.line, saved_meaning(refusal.number))
+    let mut notes = Vec::new(alloc);
+    push_saved_line(alloc, &mut notes, text, refusal)?;
+    push_note(&mut notes, saved_meaning(refusal.number))?;
+    Ok(notes)
 }

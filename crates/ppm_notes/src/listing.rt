@@ -1,21 +1,25 @@
 //! What is said of the text of a listing that is refused.
-ghost use Rattle.std.specs.Prelude.{◌≡◌, ◌++◌, ◌+◌, IfOk, OnOk, option_map};
-ghost use Rattle.ppm_notes.specs.Listings.{array_word as array_word_at, conflict_notes as notes_of_conflict, count_in, fault_line};
+ghost use Rattle.std.specs.Prelude.{◌≡◌, ◌++◌, ◌+◌, IfOk, OnOk, None, [], option_map};
+ghost use Rattle.ppm_notes.specs.Listings.{above_of as above_in, array_word as array_word_at, conflict_notes as notes_of_conflict};
+ghost use Rattle.ppm_notes.specs.Listings.{count_in, end_word as end_word_after, fault_line};
 ghost use Rattle.ppm_notes.specs.Listings.{fault_notes as notes_of_fault, stop_count};
 ghost use Rattle.ppm_notes.specs.Listings.{listing_notes as notes_of_listing, row_text, rule_notes};
 ghost use Rattle.ppm_notes.specs.Listings.{spot_of, stop_notes, stop_text, stop_words, wanted_in};
 
+use crate::above::{Above, below_lines};
 use crate::form::push_form;
 use crate::meaning::{conflict_words, listing_meaning, long_words, push_note};
 use crate::operands::{fitting, lead, leads, operands, push_operand};
 use crate::wanted::push_keywords;
-use crate::words::{after_words, capsules_above, column, operand_tokens, push_thing};
+use crate::words::{
+    after_words, capsules_above, column, operand_tokens, push_thing, text_after, word_at,
+};
 use ppm_answers::ListingRefusal;
 use ppm_explain::{is_last_line, line_bytes, push_line, push_marked, push_shown, push_word};
 use ppm_listing::Keyword;
 use ppm_listing_reader::LISTING_LIMIT;
-use ppm_pieces::push_number;
-use ppm_words::NoMemory;
+use ppm_pieces::{push_number, value};
+use ppm_words::{ARRAY_LIMIT, NoMemory};
 use std::alloc::Global;
 
 /// Appends what stands in a line after some words, with a mark under it.
@@ -56,12 +60,46 @@ fn expected_in(
     Ok((count + 1, words))
 }
 
-/// What could stand beside the version in the first line of a listing, by the line's number in it:
-/// in a case one more array.
-fn array_word(in_case: bool, at: usize) -> &'static str
-    ensures { result.now ≡ array_word_at in_case at }
+/// What could stand beside the version in the first line of a listing, by how many lines stand above
+/// it and by the line's number in it: in a case one more array, if it is not one too many.
+fn array_word(in_case: bool, above: usize, at: usize) -> &'static str
+    ensures { result.now ≡ array_word_at in_case above at }
 {
-    if in_case && at == 1 { "`array`, " } else { "" }
+    if in_case && (at == 1 && above < ARRAY_LIMIT) {
+        "`array`, "
+    } else {
+        ""
+    }
+}
+
+/// What is said of the end of the text: it may come after an end.
+fn end_word(is_ended: bool) -> &'static str
+    ensures { result.now ≡ end_word_after is_ended }
+{
+    if is_ended {
+        ", the end of the text"
+    } else {
+        ""
+    }
+}
+
+/// What could stand at the front of a line, by what the lines above say.
+fn front_words(
+    alloc: Global,
+    in_case: bool,
+    above: usize,
+    at: usize,
+    capsules: u32,
+    known: Above,
+) -> Result<Vec<u8>, NoMemory>
+    ensures { IfOk result (λ words. words.items ≡ stop_words in_case above at capsules known None []) }
+{
+    let keywords = leads(alloc, at, capsules, known)?;
+    let mut words = Vec::new(alloc);
+    push_word(&mut words, array_word(in_case, above, at))?;
+    push_keywords(&mut words, &keywords)?;
+    push_word(&mut words, end_word(known.is_ended))?;
+    Ok(words)
 }
 
 /// What could stand at the place of a line at which it departs from every form, and after how many
@@ -69,27 +107,41 @@ fn array_word(in_case: bool, at: usize) -> &'static str
 fn stop_in(
     alloc: Global,
     in_case: bool,
+    above: usize,
     at: usize,
     capsules: u32,
+    known: Above,
     keyword: Option<Keyword>,
     bytes: &[u8],
 ) -> Result<(usize, Vec<u8>), NoMemory>
     ensures count { IfOk result (λ e. e.0 ≡ stop_count at capsules keyword bytes.now) }
-    ensures words { IfOk result (λ e. e.1.items ≡ stop_words in_case at capsules keyword bytes.now) }
+    ensures words { IfOk result (λ e. e.1.items ≡ stop_words in_case above at capsules known keyword bytes.now) }
 {
     match keyword {
         None => {
-            let mut words = Vec::new(alloc);
-            push_word(&mut words, array_word(in_case, at))?;
-            push_keywords(&mut words, leads(at, capsules))?;
+            let words = front_words(alloc, in_case, above, at, capsules, known)?;
             Ok((0, words))
         }
         Some(keyword) => expected_in(alloc, at, capsules, keyword, bytes),
     }
 }
 
+/// What the lines above a line of a text say of it, where so many stand above the listing.
+fn above_of(text: &[u8], above: usize, line: u32) -> Above
+    ensures { result ≡ above_in above text.now line }
+{
+    let root = value(word_at(line_bytes(text_after(text, above), 2), 1));
+    let known = Above {
+        root,
+        is_first: false,
+        is_ended: false,
+        has_room: false,
+    };
+    below_lines(known, text, line.saturating_sub(1))
+}
+
 /// Appends what stands in a line after some words, with a mark under it, and what could stand there.
-fn push_stop_text(
+pub(crate) fn push_stop_text(
     text: &mut Vec<u8>,
     listing: &[u8],
     line: u32,
@@ -119,11 +171,14 @@ fn push_stop(
     let bytes = line_bytes(listing, line as usize);
     let at = (line as usize).saturating_sub(above);
     let capsules = capsules_above(listing, line.saturating_sub(1));
+    let known = above_of(listing, above, line);
     let (count, words) = stop_in(
         alloc,
         in_case,
+        above,
         at,
         capsules,
+        known,
         lead(at, capsules, bytes),
         bytes,
     )?;

@@ -1,12 +1,15 @@
 //! What stands at the front of a line, and after its keyword.
-ghost use Rattle.std.specs.Prelude.{◌≡◌, ◌++◌, ◌≤◌, IfOk, OnOk, get_or, length};
+ghost use Rattle.std.specs.Prelude.{◌≡◌, ◌++◌, ◌≤◌, ◌-◌, IfOk, OnOk, [], ◌∷◌, get_or, if◌then◌else◌, length, nat_lt};
+ghost use Rattle.ppm_listing.specs.declared.keyword.Keyword.TheVariants as keyword;
 ghost use Rattle.ppm_listing_reader.specs.Forms.{is_absent as is_absent_token, token_at as at_place};
 ghost use Rattle.ppm_notes.specs.Operands.{fits as fits_there, fitting as fitting_in, forked};
-ghost use Rattle.ppm_notes.specs.Operands.{is_numbered as has_number, lead_of as lead_in};
-ghost use Rattle.ppm_notes.specs.Operands.{leads as leads_of, numbered as numbered_as, numbers as numbers_of};
+ghost use Rattle.ppm_notes.specs.Operands.{heads as heads_of, is_numbered as has_number, lead_of as lead_in};
+ghost use Rattle.ppm_notes.specs.Operands.{if_leads, leading, leads as leads_of, within};
+ghost use Rattle.ppm_notes.specs.Operands.{numbered as numbered_as, numbers as numbers_of};
 ghost use Rattle.ppm_notes.specs.Operands.{operand_text, operands as operands_of, or_end, sorted as sorted_as};
 ghost use Rattle.ppm_notes.specs.declared.wanted.Wanted.TheVariants as variants;
 
+use crate::above::{Above, may_lead};
 use crate::wanted::{Wanted, push_wanted};
 use crate::words::first_word;
 use ppm_explain::push_word;
@@ -15,10 +18,45 @@ use ppm_listing_reader::{Sort, Token, first_spelled, is_of, sorts};
 use ppm_words::NoMemory;
 use std::alloc::Global;
 
-/// The keywords with which a line of a listing may begin, by its number, from 1, and by how many
-/// capsules begin above it.
-pub(crate) fn leads(line: usize, capsules: u32) -> &'static [Keyword]
-    ensures { result.now ≡ leads_of line capsules }
+/// The keywords of the lines in a capsule, and that of the next.
+const WITHIN: &[Keyword] = &[
+    Keyword::Capsule,
+    Keyword::Const,
+    Keyword::Move,
+    Keyword::Add,
+    Keyword::Sub,
+    Keyword::Mul,
+    Keyword::Div,
+    Keyword::Rem,
+    Keyword::Equal,
+    Keyword::NotEqual,
+    Keyword::Less,
+    Keyword::AtMost,
+    Keyword::Len,
+    Keyword::CutLeft,
+    Keyword::CutRight,
+    Keyword::LoadSlot,
+    Keyword::StoreCur,
+    Keyword::Give,
+    Keyword::Get,
+    Keyword::Put,
+    Keyword::BranchZero,
+    Keyword::BranchNonZero,
+    Keyword::Room,
+    Keyword::StoreNew,
+    Keyword::Next,
+    Keyword::End,
+    Keyword::Trap,
+    Keyword::Call,
+    Keyword::CallTo,
+    Keyword::Fork,
+    Keyword::ForkTo,
+];
+
+/// The keywords of the lines that may have a form, by the line's number in its listing, from 1, and
+/// by how many capsules begin above it.
+fn heads(line: usize, capsules: u32) -> &'static [Keyword]
+    ensures { result.now ≡ heads_of line capsules }
 {
     if line == 1 {
         return &[Keyword::Ppm];
@@ -29,46 +67,85 @@ pub(crate) fn leads(line: usize, capsules: u32) -> &'static [Keyword]
     if capsules == 0 {
         return &[Keyword::Proc, Keyword::Capsule];
     }
-    &[
-        Keyword::Capsule,
-        Keyword::Const,
-        Keyword::Move,
-        Keyword::Add,
-        Keyword::Sub,
-        Keyword::Mul,
-        Keyword::Div,
-        Keyword::Rem,
-        Keyword::Equal,
-        Keyword::NotEqual,
-        Keyword::Less,
-        Keyword::AtMost,
-        Keyword::Len,
-        Keyword::CutLeft,
-        Keyword::CutRight,
-        Keyword::LoadSlot,
-        Keyword::StoreCur,
-        Keyword::Give,
-        Keyword::Get,
-        Keyword::Put,
-        Keyword::BranchZero,
-        Keyword::BranchNonZero,
-        Keyword::Room,
-        Keyword::StoreNew,
-        Keyword::Next,
-        Keyword::End,
-        Keyword::Trap,
-        Keyword::Call,
-        Keyword::CallTo,
-        Keyword::Fork,
-        Keyword::ForkTo,
-    ]
+    WITHIN
 }
 
-/// The keyword with which a line begins, if it may.
+/// The keyword of the form that a line has, if it has one.
 pub(crate) fn lead(line: usize, capsules: u32, bytes: &[u8]) -> Option<Keyword>
     ensures { result ≡ lead_in line capsules bytes.now }
 {
-    first_spelled(leads(line, capsules), first_word(bytes))
+    first_spelled(heads(line, capsules), first_word(bytes))
+}
+
+/// Appends a keyword with which a line in a capsule may begin, by the lines above; another is left
+/// out.
+fn push_if_leads(kept: &mut Vec<Keyword>, above: Above, keyword: Keyword) -> Result<(), NoMemory>
+    ensures { OnOk result (kept.new.items ≡ kept.old.items ++ if_leads above keyword) }
+{
+    if may_lead(above, keyword) {
+        kept.push(keyword)?;
+        return Ok(());
+    }
+    Ok(())
+}
+
+/// The keywords with which a line in a capsule may begin, by the lines above.
+fn leads_within(alloc: Global, above: Above) -> Result<Vec<Keyword>, NoMemory>
+    ensures { IfOk result (λ kept. kept.items ≡ leading above within) }
+{
+    let mut kept = Vec::new(alloc);
+    let mut left = WITHIN;
+    'keywords: while let Some((keyword, rest)) = left.split_first() {
+        push_if_leads(&mut kept, above, *keyword)?;
+        left = rest;
+    }
+    Ok(kept)
+}
+
+/// The keywords with which a line of a procedure or of the first capsule may begin, by the line's
+/// number and the root's procedure.
+fn leads_above(alloc: Global, line: usize, root: u64) -> Result<Vec<Keyword>, NoMemory>
+    ensures { IfOk result (λ kept. kept.items
+        ≡ (if nat_lt root (line - 3) then keyword.Proc ∷ keyword.Capsule ∷ [] else keyword.Proc ∷ [])) }
+{
+    let mut kept = Vec::new(alloc);
+    kept.push(Keyword::Proc)?;
+    if root < line.saturating_sub(3) as u64 {
+        kept.push(Keyword::Capsule)?;
+        return Ok(kept);
+    }
+    Ok(kept)
+}
+
+/// One keyword.
+fn only(alloc: Global, lead: Keyword) -> Result<Vec<Keyword>, NoMemory>
+    ensures { IfOk result (λ kept. kept.items ≡ lead ∷ []) }
+{
+    let mut kept = Vec::new(alloc);
+    kept.push(lead)?;
+    Ok(kept)
+}
+
+/// The keywords with which a line of a listing may begin, by its number, from 1, by how many
+/// capsules begin above it, and by what the lines above say.
+pub(crate) fn leads(
+    alloc: Global,
+    line: usize,
+    capsules: u32,
+    above: Above,
+) -> Result<Vec<Keyword>, NoMemory>
+    ensures { IfOk result (λ leads. leads.items ≡ leads_of line capsules above) }
+{
+    if line == 1 {
+        return only(alloc, Keyword::Ppm);
+    }
+    if line == 2 {
+        return only(alloc, Keyword::Root);
+    }
+    if capsules == 0 {
+        return leads_above(alloc, line, above.root);
+    }
+    leads_within(alloc, above)
 }
 
 /// Appends words of these sorts.

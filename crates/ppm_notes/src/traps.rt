@@ -1,15 +1,16 @@
-//! What is said of a trap.
+//! What is said of a trap, and of a run whose turns are spent.
 ghost use Rattle.std.specs.Prelude.{◌≡◌, ◌++◌, IfOk, OnOk};
 ghost use Rattle.std.specs.Fmt.{signed_decimal};
 ghost use Rattle.std.specs.List.{flat_map};
-ghost use Rattle.ppm_notes.specs.Traps.{declared_text, held_text, reading_text, trap_procedure};
+ghost use Rattle.ppm_notes.specs.Traps.{calls_text, declared_text, held_text, innermost_text, procedure_text};
+ghost use Rattle.ppm_notes.specs.Traps.{reading_text, stand_notes as notes_of_stand};
 ghost use Rattle.ppm_notes.specs.Traps.{trap_meaning as trap_words, trap_notes as notes_of_trap};
 
 use crate::meaning::push_note;
 use ppm_explain::{push_line, push_word};
 use ppm_pieces::push_number;
-use ppm_trapped::{Held, Reading, Told};
-use ppm_words::{NoMemory, Trap};
+use ppm_trapped::{Held, Reading, Stood, Told};
+use ppm_words::{Name, NoMemory, Trap};
 use std::alloc::Global;
 
 /// Appends a number in decimal, with a minus where it is below 0.
@@ -68,13 +69,35 @@ fn push_declared(notes: &mut Vec<u8>, line: u32) -> Result<(), NoMemory>
     push_word(notes, "\n")
 }
 
-/// Appends the procedure in whose body the run traps.
-fn push_procedure(notes: &mut Vec<u8>, told: &Told) -> Result<(), NoMemory>
-    ensures { OnOk result (notes.new.items ≡ notes.old.items ++ trap_procedure told.now) }
+/// Appends the procedure in whose body the run traps or stands.
+fn push_procedure(notes: &mut Vec<u8>, name: &Name, line: u32) -> Result<(), NoMemory>
+    ensures { OnOk result (notes.new.items ≡ notes.old.items ++ procedure_text name.now line) }
 {
     push_word(notes, "procedure: `")?;
-    notes.extend_from_slice(told.procedure.as_bytes())?;
-    push_declared(notes, told.procedure_line)
+    notes.extend_from_slice(name.as_bytes())?;
+    push_declared(notes, line)
+}
+
+/// Appends the line of the innermost call, if one is open.
+fn push_innermost(notes: &mut Vec<u8>, calls: u64, line: u32) -> Result<(), NoMemory>
+    ensures { OnOk result (notes.new.items ≡ notes.old.items ++ innermost_text calls line) }
+{
+    if calls == 0 {
+        return Ok(());
+    }
+    push_word(notes, ", the innermost in line ")?;
+    push_number(notes, u64::from(line))?;
+    Ok(())
+}
+
+/// Appends the calls that are open.
+fn push_calls(notes: &mut Vec<u8>, calls: u64, line: u32) -> Result<(), NoMemory>
+    ensures { OnOk result (notes.new.items ≡ notes.old.items ++ calls_text calls line) }
+{
+    push_word(notes, "calls open: ")?;
+    push_number(notes, calls)?;
+    push_innermost(notes, calls, line)?;
+    push_word(notes, "\n")
 }
 
 /// What a trap means.
@@ -99,7 +122,25 @@ pub fn trap_notes(alloc: Global, text: &[u8], told: &Told) -> Result<Vec<u8>, No
     let mut notes = Vec::new(alloc);
     push_line(&mut notes, text, told.line)?;
     push_readings(alloc, &mut notes, told.values.as_slice())?;
-    push_procedure(&mut notes, told)?;
+    push_procedure(&mut notes, &told.procedure, told.procedure_line)?;
     push_note(&mut notes, trap_meaning(told.trap))?;
+    Ok(notes)
+}
+
+/// What is said, after its line, of a run of a source whose turns are spent: the line that comes
+/// next, the names that are read there with what they stand for, the procedure, the calls that are
+/// open, and what it means. `Err` only where memory is refused.
+pub fn stand_notes(alloc: Global, text: &[u8], stood: &Stood) -> Result<Vec<u8>, NoMemory>
+    ensures { IfOk result (λ notes. notes.items ≡ notes_of_stand text.now stood.now) }
+{
+    let mut notes = Vec::new(alloc);
+    push_line(&mut notes, text, stood.line)?;
+    push_readings(alloc, &mut notes, stood.values.as_slice())?;
+    push_procedure(&mut notes, &stood.procedure, stood.procedure_line)?;
+    push_calls(&mut notes, stood.calls, stood.call_line)?;
+    push_note(
+        &mut notes,
+        "the turns are spent when this comes next: either they are too few, or a loop or a recursion has no end",
+    )?;
     Ok(notes)
 }

@@ -7,7 +7,7 @@ ghost use Rattle.ppm_notes.specs.Words.{after_pieces as behind_pieces, after_wor
 ghost use Rattle.ppm_notes.specs.Words.{begins_capsule as is_capsule, first_piece as piece_in_front};
 ghost use Rattle.ppm_notes.specs.Words.{behind_text, capsules_in, column_in};
 ghost use Rattle.ppm_notes.specs.Words.{empty_name as name_of_empty, end_name as name_of_end, one_if as one_where};
-ghost use Rattle.ppm_notes.specs.Words.{first_word as word_in_front, parted_text, return_text, thing_text, tokens_in, word_text};
+ghost use Rattle.ppm_notes.specs.Words.{first_word as word_in_front, parted_text, return_text, text_after as text_behind, thing_text, tokens_in, word_at as word_there, word_text};
 
 use ppm_explain::push_word;
 use ppm_listing_reader::{Token, token_in};
@@ -49,11 +49,31 @@ pub(crate) fn after_pieces(bytes: &[u8], separator: u8, count: usize) -> Option<
     if ahead == 0 { Some(left) } else { None }
 }
 
+/// What a text has after so many lines.
+pub(crate) fn text_after(text: &[u8], lines: usize) -> &[u8]
+    ensures { result.now ≡ text_behind lines text.now }
+{
+    match after_pieces(text, b'\n', lines) {
+        Some(rest) => rest,
+        None => b"",
+    }
+}
+
 /// What a line has after so many words, if it has more.
 pub(crate) fn after_words(line: &[u8], count: usize) -> Option<&[u8]>
     ensures { option_map (λ r. r.now) result ≡ behind_words count line.now }
 {
     after_pieces(line, b' ', count)
+}
+
+/// The word after so many others of a line; nothing where there is none.
+pub(crate) fn word_at(line: &[u8], count: usize) -> &[u8]
+    ensures { result.now ≡ word_there count line.now }
+{
+    match after_words(line, count) {
+        Some(rest) => first_word(rest),
+        None => b"",
+    }
 }
 
 /// The tokens of the words that some bytes have.
@@ -91,7 +111,7 @@ pub(crate) fn column(line: &[u8], rest: Option<&[u8]>) -> usize
 }
 
 /// Whether a line is the first of a capsule.
-fn begins_capsule(line: &[u8]) -> bool
+pub(crate) fn begins_capsule(line: &[u8]) -> bool
     ensures { result ≡ is_capsule line.now }
 {
     same_bytes(first_word(line), b"capsule")

@@ -14,27 +14,26 @@ const ROOM: usize = 1_000_000;
 /// The most bytes that a port moves at a time.
 const MOST: usize = 4096;
 
-/// What a command with these words, and more words after them, writes on out of a source. It has to
-/// end with status 0.
+/// What a command writes on out of a source. Blanks divide the command's words. It has to end with
+/// status 0.
 pub(crate) fn shown<R: Abort + Threads + Wait + Sync>(
     rt: &R,
     alloc: Global,
-    words: &[&str],
-    more: &[&str],
+    command: &str,
     source: &str,
 ) -> Result<Vec<u8>, Fail> {
     let mut given = Vec::new(alloc);
     given.push(String::from_str(alloc, "ppm")?)?;
-    for word in words {
-        given.push(String::from_str(alloc, word)?)?;
-    }
-    for word in more {
+    for word in command.split_whitespace() {
         given.push(String::from_str(alloc, word)?)?;
     }
     let mut source = MemorySource::new(source.as_bytes().to_vec(alloc)?, MOST, Vec::new(alloc));
     let mut out = sink(alloc)?;
     let mut err = sink(alloc)?;
     let mut silent = vec![in alloc; Silent; WATCHERS]?;
+    if silent.len() != WATCHERS {
+        return Err(Fail::from("a watcher for each processor"));
+    }
     let status = ppm(
         rt,
         alloc,

@@ -91,22 +91,28 @@ fn told_of<R: Abort + Threads + Wait + Sync>(
     takeover: &str,
     row: Row,
 ) -> Result<Told, Fail> {
-    let words = [
-        "--processors",
-        row.processors,
-        "--room",
-        "256",
-        "--slots",
-        "8",
-        "--takeover",
-        takeover,
-        "--schedule",
-        row.schedule,
-    ];
-    let trace = shown(rt, alloc, &["trace"], &words, program.source)?;
-    let replay = shown(rt, alloc, &["replay"], &words, program.source)?;
-    let counts = ["replay", "--counts", "yes"];
-    let counted = shown(rt, alloc, &counts, &words, program.source)?;
+    let options = format!(in alloc;
+        "--processors {} --room 256 --slots 8 --takeover {takeover} --schedule {}",
+        row.processors, row.schedule
+    )?;
+    let trace = shown(
+        rt,
+        alloc,
+        &format!(in alloc; "trace {options}")?,
+        program.source,
+    )?;
+    let replay = shown(
+        rt,
+        alloc,
+        &format!(in alloc; "replay {options}")?,
+        program.source,
+    )?;
+    let counted = shown(
+        rt,
+        alloc,
+        &format!(in alloc; "replay --counts yes {options}")?,
+        program.source,
+    )?;
     let replay = str::from_utf8(&replay).map_err(|_| "a text")?;
     let mut told = Told::first(alloc, program.arrays)?;
     told.read(alloc, str::from_utf8(&trace).map_err(|_| "a text")?)?;

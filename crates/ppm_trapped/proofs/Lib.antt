@@ -6,3 +6,7 @@ pub mod ProgramLemmas
 pub mod SiteLemmas
 pub mod OnePointLemmas
 pub mod SomePointLemmas
+pub mod StandLemmas
+pub mod RunLemmas
+pub mod CountLemmas
+pub mod FollowLemmas

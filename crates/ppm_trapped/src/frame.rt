@@ -228,4 +228,11 @@ impl Frame {
             self.regions.remove(0);
         }
     }
+
+    /// The regions are those of another frame again.
+    pub(crate) fn restore(&mut self, other: Frame)
+        ensures { self.new ≡ record { locals = self.old.locals; regions = other.regions } }
+    {
+        self.regions = other.regions;
+    }
 }

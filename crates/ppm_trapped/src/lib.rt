@@ -7,6 +7,7 @@
 //! An interpreter by recursion over the tree, after the rules of the meaning one by one.
 #![tactic(auto)]
 
+mod around;
 mod entering;
 mod evaluating;
 mod frame;
@@ -15,10 +16,14 @@ mod laws;
 mod program;
 mod reading;
 mod region;
+mod run;
+mod standing;
 mod store;
+mod telling;
 mod told;
 mod walking;
 
-pub use laws::{trap_points_are_one, trap_points_trap, traps_have_points};
+pub use laws::{stand_where_later, trap_points_are_one, trap_points_trap, traps_have_points};
 pub use program::{LEVEL_LIMIT, trap};
-pub use told::{Held, Reading, Told};
+pub use standing::stand;
+pub use told::{Held, Reading, Stood, Told};

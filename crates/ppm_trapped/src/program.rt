@@ -108,7 +108,7 @@ fn fill(
 }
 
 /// The arrays that a program starts with.
-fn store(alloc: Global, tree: &Tree) -> Result<Store, NoMemory>
+pub(crate) fn store(alloc: Global, tree: &Tree) -> Result<Store, NoMemory>
     ensures { IfOk result (λ s. s ≡ values_of (initial_arrays (tree_of tree.now))) }
 {
     let mut arrays = Vec::new(alloc);
@@ -139,7 +139,7 @@ fn whole(at: usize, arrays: &[Array], name: &Name) -> Region
 }
 
 /// Lends to `main`: each parameter is the whole of the array with its name.
-fn lend(
+pub(crate) fn lend(
     alloc: Global,
     frame: &mut Frame,
     arrays: &[Array],

@@ -34,22 +34,22 @@ pub(crate) struct Scope<'a> {
 /// A region that is split: the line of the word, the region, how many words the first part has,
 /// both parts and the block.
 #[derive(Clone, Copy)]
-struct Split<'a> {
-    line: u32,
-    region: &'a Named,
-    at: &'a Expr,
-    first: &'a Named,
-    second: &'a Named,
-    block: &'a [Stmt],
+pub(crate) struct Split<'a> {
+    pub(crate) line: u32,
+    pub(crate) region: &'a Named,
+    pub(crate) at: &'a Expr,
+    pub(crate) first: &'a Named,
+    pub(crate) second: &'a Named,
+    pub(crate) block: &'a [Stmt],
 }
 
 /// An `each`: the index, the part of one element, the region and the block.
 #[derive(Clone, Copy)]
-struct Each<'a> {
-    index: &'a Named,
-    part: &'a Named,
-    region: &'a Named,
-    block: &'a [Stmt],
+pub(crate) struct Each<'a> {
+    pub(crate) index: &'a Named,
+    pub(crate) part: &'a Named,
+    pub(crate) region: &'a Named,
+    pub(crate) block: &'a [Stmt],
 }
 
 /// Whether a test holds.
@@ -60,7 +60,7 @@ fn holds(test: i64) -> bool
 }
 
 /// The block that a test chooses.
-fn choose<'b>(test: i64, block: &'b [Stmt], otherwise: &'b [Stmt]) -> &'b [Stmt]
+pub(crate) fn choose<'b>(test: i64, block: &'b [Stmt], otherwise: &'b [Stmt]) -> &'b [Stmt]
     ensures { block_of result.now ≡ chosen (is_true test) (block_of block.now) (block_of otherwise.now) }
 {
     if holds(test) { block } else { otherwise }

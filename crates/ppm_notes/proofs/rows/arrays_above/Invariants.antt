@@ -1,7 +1,7 @@
 use Rattle.std.proofs.Common.{◌≡◌, ◌+◌, length}
 use Rattle.ppm_pieces.specs.Pieces.{split}
-use Rattle.ppm_notes.specs.Lines.{arrays_in}
-use Rattle.ppm_notes.proofs.lines.arrays_above.Given as goal
+use Rattle.ppm_notes.specs.Rows.{arrays_in}
+use Rattle.ppm_notes.proofs.rows.arrays_above.Given as goal
 
 -- what is counted, and what is left
 abbrev pub invariant-lines : goal.invariant-lines

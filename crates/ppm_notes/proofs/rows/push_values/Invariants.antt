@@ -1,0 +1,12 @@
+use Rattle.std.proofs.Common.{◌≡◌, ◌++◌, length}
+use Rattle.ppm_pieces.specs.Pieces.{split}
+use Rattle.ppm_notes.specs.Rows.{values}
+use Rattle.ppm_notes.proofs.rows.push_values.Given as goal
+
+-- what is kept, and what is left
+abbrev pub invariant-words : goal.invariant-words
+invariant-words l =
+    l.dues.items ++ values l.ranged l.room_left (split 32 l.left) ≡ l.fn.dues.items ++ values l.fn.ranged l.fn.room (split 32 l.fn.words)
+
+abbrev pub decreases-words : goal.decreases-words
+decreases-words l = length l.left

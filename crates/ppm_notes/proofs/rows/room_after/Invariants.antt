@@ -1,0 +1,11 @@
+use Rattle.std.proofs.Common.{◌≡◌, length}
+use Rattle.ppm_pieces.specs.Pieces.{split}
+use Rattle.ppm_notes.specs.Rows.{left_by, length_in, room_in}
+use Rattle.ppm_notes.proofs.rows.room_after.Given as goal
+
+-- what those that are left leave is what all leave
+abbrev pub invariant-lines : goal.invariant-lines
+invariant-lines l = left_by length_in l.room l.ahead (split 10 l.left) ≡ room_in l.fn.lines (split 10 l.fn.text)
+
+abbrev pub decreases-lines : goal.decreases-lines
+decreases-lines l = length l.left
