@@ -45,7 +45,7 @@ pub fn follow_schedule(
 }
 
 /// The values of all arrays of a machine.
-fn arrays_of(alloc: Global, machine: &Machine) -> Result<Vec<Items<i64>>, NoMemory>
+pub(crate) fn arrays_of(alloc: Global, machine: &Machine) -> Result<Vec<Items<i64>>, NoMemory>
     ensures { IfOk result (λ arrays. arrays.items ≡ values_in (seen machine.now)) }
 {
     let mut arrays = Vec::new(alloc);

@@ -65,7 +65,7 @@ fn is_name(bytes: &[u8]) -> bool
 }
 
 /// Whether bytes are a name that an array may have.
-fn is_array_name(bytes: &[u8]) -> bool
+pub fn is_array_name(bytes: &[u8]) -> bool
     ensures { result ≡ plain bytes.now }
 {
     is_name(bytes) && keyword(bytes).is_none()

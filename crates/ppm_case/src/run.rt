@@ -86,7 +86,7 @@ fn repeated(number: Option<Option<i64>>, times: u64) -> Option<Run>
 }
 
 /// What a word of values says: `V`, or `V*N`.
-pub(crate) fn run_in(word: &[u8]) -> Option<Run>
+pub fn run_in(word: &[u8]) -> Option<Run>
     ensures { result ≡ run word.now }
 {
     match split_once(word, b'*') {

@@ -24,7 +24,7 @@ use Rattle.ppm_cli.specs.Words.{sweep_options, AreSwept, trace_options, AreTrace
 use Rattle.ppm_cli.specs.Words.{strands_by, strands_in, drawn_options, AreDrawn}
 use Rattle.ppm_cli.specs.Values.{strands_form_given, swept_takeovers_given, traced_form_given, traced_lines_given}
 use Rattle.ppm_cli.specs.Words.{by_input, explain_by, explain_in, explain_trap_of, explain_with, unless_stated, replay_by, replay_with, run_by, run_with, resume_with, check_in, code_in, capsule_limit, with_input}
-use Rattle.ppm_cli.specs.Words.{by_any_input, command_for, replay_saved, stop_saved, trace_saved, with_any_input}
+use Rattle.ppm_cli.specs.Words.{by_any_input, command_for, counted_saved, replay_saved, stop_saved, trace_saved, with_any_input}
 use Rattle.ppm_cli.specs.Values.{are_counts_given, choice_given, explained_given, input_given, is_case_given, stated_given}
 use Rattle.ppm_cli.specs.declared.capsules.CapsuleLimit.{CapsuleLimit}
 use Rattle.ppm_cli.specs.declared.command.Command.{Command}
@@ -185,7 +185,7 @@ replay_are rows =
 
 -- a replay is in range where its options are, whether its counts are told or not
 replays_by : (is_counted : Bool) (o : ReplayOptions) (t : Text) (rows : List Row) → AreReplayed o → IfSome (replay_by is_counted o t rows) IsInRange
-replays_by true o t rows h = by_input_are (commands.CountedReplay o t) (commands.CountedReplayCase o t) rows h h
+replays_by true o t rows h = by_any_input_are (commands.CountedReplay o t) (commands.CountedReplayCase o t) (counted_saved o t) rows h h h.1
 replays_by false o t rows h = by_any_input_are (commands.Replay o t) (commands.ReplayCase o t) (replay_saved o t) rows h h h.1
 
 replays_are : (options : Option ReplayOptions) (rows : List Row) → IfSome options AreReplayed

@@ -106,10 +106,14 @@ replay_options rows =
 abbrev pub replay_saved : ReplayOptions → Text → Command
 replay_saved options t = commands.ReplaySaved (record { turns = options.turns }) t
 
--- the command `replay` with its options and its schedule, over a source, a case or a saved text; if what is counted is told, it is another command,
--- and over a saved text there is none
+-- where what is counted is told, too
+abbrev pub counted_saved : ReplayOptions → Text → Command
+counted_saved options t = commands.CountedReplaySaved (record { turns = options.turns }) t
+
+-- the command `replay` with its options and its schedule, over a source, a case or a saved text; if what is counted is told, it is another command
 abbrev pub replay_by : (is_counted : Bool) → ReplayOptions → Text → List Row → Option Command
-replay_by true options text rows = by_input (commands.CountedReplay options text) (commands.CountedReplayCase options text) rows
+replay_by true options text rows =
+    by_any_input (commands.CountedReplay options text) (commands.CountedReplayCase options text) (counted_saved options text) rows
 replay_by false options text rows = by_any_input (commands.Replay options text) (commands.ReplayCase options text) (replay_saved options text) rows
 
 abbrev pub replay_with : ReplayOptions → Text → List Row → Option Command
@@ -433,6 +437,7 @@ IsInRange (commands.RunCase options _) = AreRun options
 IsInRange (commands.ReplayCase options _) = AreReplayed options
 IsInRange (commands.CountedReplay options _) = AreReplayed options
 IsInRange (commands.CountedReplayCase options _) = AreReplayed options
+IsInRange (commands.CountedReplaySaved options _) = AreSavedReplayed options
 IsInRange (commands.CountedRun options _) = AreRun options
 IsInRange (commands.CountedRunCase options _) = AreRun options
 IsInRange (commands.CountedResume options _) = AreResumed options

@@ -98,6 +98,9 @@ pub enum Command {
     /// To go on from the words of the saved text that is read, by a schedule, of which these are the
     /// bytes.
     ReplaySaved(ReplaySavedOptions, Items<u8>),
+    /// To go on from the words of the saved text that is read, by a schedule, of which these are the
+    /// bytes, and to tell what is counted in that run.
+    CountedReplaySaved(ReplaySavedOptions, Items<u8>),
     /// To judge the text that is read, and to explain why it is refused.
     Explain(ExplainedText),
     /// To run the source that is read as `serial` does, and to explain its trap, or why it is refused.

@@ -2,13 +2,13 @@
 ghost use Rattle.std.specs.Prelude.{◌≡◌, IfOk, IfSome};
 ghost use Rattle.clap.specs.Words.{found_of, rows_of};
 ghost use Rattle.ppm_cli.specs.declared.command.Command.TheVariants as commands;
-ghost use Rattle.ppm_cli.specs.Words.{AreReplayed, IsInRange, by_any_input, by_input, replay_in};
+ghost use Rattle.ppm_cli.specs.Words.{AreReplayed, IsInRange, by_any_input, counted_saved, replay_in};
 ghost use Rattle.ppm_cli.specs.Words.{replay_options as options_in, replay_saved, replay_with};
 
 use crate::command::Command;
 use crate::counts::are_counted;
 use crate::getters::{bytes_of, number_of};
-use crate::input::{InputKind, input_of, is_case};
+use crate::input::{InputKind, input_of};
 use crate::room::room_of;
 use crate::table::{PROCESSORS, ROOM, SCHEDULE, SLOTS, TURNS};
 use crate::takeover::takeover_of;
@@ -79,8 +79,7 @@ fn replay_of(
     }
 }
 
-/// The command that tells its counts: over a source or over a case, as the matches say. Over a
-/// saved text nothing is counted, and there is none.
+/// The command that tells its counts: over a source, a case or a saved text, as the matches say.
 fn counted_replay_of(
     matches: &ArgMatches<'_>,
     options: ReplayOptions,
@@ -88,15 +87,18 @@ fn counted_replay_of(
 ) -> Option<Command>
     requires { AreReplayed options }
     ensures value { result
-        ≡ by_input (commands.CountedReplay options schedule) (commands.CountedReplayCase options schedule)
-        (rows_of (found_of matches.now)) }
+        ≡ by_any_input (commands.CountedReplay options schedule) (commands.CountedReplayCase options schedule)
+        (counted_saved options schedule) (rows_of (found_of matches.now)) }
     ensures in_range { IfSome result IsInRange }
 {
-    let of_case = is_case(matches)?;
-    if of_case {
-        Some(Command::CountedReplayCase(options, schedule))
-    } else {
-        Some(Command::CountedReplay(options, schedule))
+    let kind = input_of(matches)?;
+    match kind {
+        InputKind::Source => Some(Command::CountedReplay(options, schedule)),
+        InputKind::Case => Some(Command::CountedReplayCase(options, schedule)),
+        InputKind::Saved => {
+            let turns = options.turns;
+            Some(Command::CountedReplaySaved(ReplaySavedOptions { turns }, schedule))
+        }
     }
 }
 

@@ -6,6 +6,8 @@
 -- (`StepsLemmas`). A round of a frame is such steps too, with registers alone between them
 -- (`CapsuleLemmas`); it enters a capsule as from 0 in all registers, where those hold 0 that it reads
 -- (`WidthLemmas` of `ppm_engine`), and where it halts a `Local` is built that stands there (`WaitingLemmas` there).
+-- Where it halts before words that it asks for, or at its end, the block and the stores of the end are such steps
+-- too (`AfterLemmas`, `EndLemmas`), so the place goes on with a restart and no `Local` is built.
 
 pub mod CopyLemmas
 pub mod ListLemmas
@@ -15,5 +17,7 @@ pub mod TurnLemmas
 pub mod MomentLemmas
 pub mod StepsLemmas
 pub mod CapsuleLemmas
+mod AfterLemmas
 mod AloneLemmas
+mod EndLemmas
 mod RowLemmas

@@ -1,5 +1,5 @@
 -- Lists with one element changed, or one more.
-use Rattle.std.proofs.Common.{◌≡◌, ℕ, zero, suc, List, [], ◌∷◌, ◌++◌, length, set, slice_get, Some, ◌⊎◌, inl, inr, refl, ap}
+use Rattle.std.proofs.Common.{◌≡◌, ◌<◌, ℕ, zero, suc, List, [], ◌∷◌, ◌++◌, length, set, slice_get, Some, ◌⊎◌, inl, inr, refl, ap, arith}
 
 -- what stands at a place, where one has changed
 again : {X : Type 0} (n m : ℕ) (x y : X) (zs : List X) → ((m ≡ n) × (x ≡ y)) ⊎ (slice_get zs m ≡ Some y)
@@ -20,6 +20,12 @@ pub get_changed : {X : Type 0} (xs : List X) (n : ℕ) (x y : X) → slice_get x
 get_changed [] n x y e = cc
 get_changed (z ∷ zs) zero x y e = refl
 get_changed (z ∷ zs) (suc n) x y e = get_changed zs n x y e
+
+-- what stands at a place stands within
+pub get_there : {X : Type 0} (xs : List X) (n : ℕ) (x : X) → slice_get xs n ≡ Some x → n < length xs
+get_there [] n x e = absurd cc
+get_there (z ∷ zs) zero x e = omega arith
+get_there (z ∷ zs) (suc n) x e = omega (arith, get_there zs n x e)
 
 -- what stands there put there again
 pub set_same : {X : Type 0} (xs : List X) (n : ℕ) (x : X) → slice_get xs n ≡ Some x → set xs n x ≡ xs

@@ -26,13 +26,14 @@ use Rattle.ppm_engine.specs.declared.tally.Tally.{Tally}
 use Rattle.ppm_engine.specs.Memory.{Counts, Spot, spot, works, settles, forks_by, takes_by}
 use Rattle.ppm_engine.specs.Steps.{HasRow, Settles}
 use Rattle.ppm_engine.proofs.KindLemmas.{row_looks}
+use Rattle.ppm_core.specs.declared.frames.Framed.{Framed}
 use Rattle.ppm_core.specs.declared.rows.Count.{Count}
 use Rattle.ppm_core.specs.declared.steps.Steps.{Steps}
 use Rattle.ppm_core.specs.Alone.{Led}
 use Rattle.ppm_core.specs.Worked.{HasEnded}
 use Rattle.ppm_core.specs.Moments.{Moment, moment, moved, moved_by, work_at, work_in, LastWorks, Goes, Leads, NoFurther, StepsTo}
 use Rattle.ppm_core.specs.Steps.{is_of_frame}
-use Rattle.ppm_core.proofs.MomentLemmas.{behind_finish_word}
+use Rattle.ppm_core.proofs.MomentLemmas.{behind_finish_word, leads_both}
 
 -- a number that is 1 by a test
 one_by : (b : Bool) → ◌≡◌ {A = ℕ} (if b then 1 else 0) 1 → b ≡ true
@@ -208,13 +209,6 @@ row_no_further s code own left place restart words row = record {
   before = λ some finish of_frame. let e : true ≡ false = sym of_frame ∙ not_of_frame restart.kind row in absurd cc;
 }
 
--- the place goes on with the restart of a row
-pub no_further_at : (s : Shape) (code : CodeParts) (own left place : ℕ) (restart at : Restart) (words : List ℕ) (y : Standing) → y ≡ IsAt place (Some at)
-    → at ≡ restart → HasRow restart.kind → NoFurther s code own left (moment words y)
-no_further_at s code own left place restart at words y is same row =
-    subst (λ (st : Standing). NoFurther s code own left (moment words st)) (sym is)
-    (subst (λ (r : Restart). NoFurther s code own left (moment words (IsAt place (Some r)))) (sym same) (row_no_further s code own left place restart words row))
-
 -- the same steps
 pub stays_leads : (s : Shape) (code : CodeParts) (own n w f h : ℕ) (t : Moment) (words words' : List ℕ) (x y : Standing)
     → Leads s code own n w f h t (moment words x) → words' ≡ words → y ≡ x → Leads s code own n w f h t (moment words' y)
@@ -263,3 +257,26 @@ pub count_leads : (s : Shape) (code : CodeParts) (own : ℕ) (t u : Moment) (cou
     → Leads s code own (count.made + (work + 1)) (count.work + work) (count.forks + forks_by mark) (count.takes + takes_by mark) t u
     → Leads s code own sum.made sum.work sum.forks sum.takes t u
 count_leads s code own t u count sum work mark is l = subst (λ (k : Count). Leads s code own k.made k.work k.forks k.takes t u) (sym is) l
+
+-- capsules of a frame more
+abbrev pub with_frames : Count → Framed → Count
+with_frames count framed = record { made = count.made + framed.made; work = count.work + framed.work; forks = count.forks; takes = count.takes }
+
+pub frames_few : (count sum : Count) (framed : Framed) → sum ≡ with_frames count framed → framed.work ≤ framed.made → count.work ≤ count.made → count.forks ≤ count.made
+    → count.takes ≤ count.made
+    → (sum.made ≡ count.made + framed.made) × (sum.work ≤ sum.made) × (sum.forks ≤ sum.made) × (sum.takes ≤ sum.made)
+frames_few count sum framed is w a b c =
+    subst (λ (k : Count). (k.made ≡ count.made + framed.made) × (k.work ≤ k.made) × (k.forks ≤ k.made) × (k.takes ≤ k.made)) (sym is)
+    (refl, omega (arith, a, w), omega (arith, b), omega (arith, c))
+
+pub frames_lead : (s : Shape) (code : CodeParts) (own : ℕ) (t x u : Moment) (count sum : Count) (framed : Framed) → sum ≡ with_frames count framed
+    → Leads s code own count.made count.work count.forks count.takes t x → StepsTo s code own framed.made framed.work x u
+    → Leads s code own sum.made sum.work sum.forks sum.takes t u
+frames_lead s code own t x u count sum framed is l more =
+    subst (λ (k : Count). Leads s code own k.made k.work k.forks k.takes t u) (sym is)
+    (subst (λ (f : ℕ). Leads s code own (count.made + framed.made) (count.work + framed.work) f count.takes t u) (as_many count.forks)
+    (subst (λ (h : ℕ). Leads s code own (count.made + framed.made) (count.work + framed.work) (count.forks + 0) h t u) (as_many count.takes)
+    (leads_both s code own l more)))
+  where
+    as_many : (n : ℕ) → n + 0 ≡ n
+    as_many n = omega arith

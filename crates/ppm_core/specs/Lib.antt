@@ -8,3 +8,5 @@ pub mod Rounds
 pub mod Alone
 pub mod AloneLaws
 pub mod Worked
+pub mod Ends
+pub mod After

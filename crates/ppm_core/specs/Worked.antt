@@ -1,9 +1,6 @@
 -- The rows of work of the scheduler.
 use Rattle.std.specs.Prelude.{◌≡◌, ◌≤◌, ◌<◌, ℕ, ◌+◌, List, Option, Some, None, Result, Ok, Err}
-use Rattle.ppm_cells.specs.Memory.{read}
 use Rattle.ppm_cells.specs.Restart.{IsRestart}
-use Rattle.ppm_cells.specs.declared.cell.Cell.TheVariants.{FinishWord}
-use Rattle.ppm_cells.specs.declared.restart.Restart.{Restart}
 use Rattle.ppm_cells.specs.declared.shape.Shape.{Shape}
 use Rattle.ppm_code.specs.declared.code.CodeParts.{CodeParts}
 use Rattle.ppm_step.specs.declared.row.Seat.{Seat}
@@ -12,19 +9,12 @@ use Rattle.ppm_engine.specs.declared.memory.Stop.{Stop}
 use Rattle.ppm_engine.specs.declared.memory.Stop.TheVariants.{Over, Refused, Broken}
 use Rattle.ppm_engine.specs.declared.tally.Settled.{Settled}
 use Rattle.ppm_engine.specs.Memory.{forks_by, takes_by}
-use Rattle.ppm_engine.specs.Steps.{HasRow}
 use Rattle.ppm_core.specs.declared.rows.Rowed.{Rowed}
 use Rattle.ppm_core.specs.Moments.{moment, Leads}
 
 -- the most steps that a row of work has, with the load of the finish word
 abbrev pub most_of_a_row : ℕ
 most_of_a_row = 16
-
--- a row of work comes next, for which so many steps suffice, and the run goes on
-pub record IsRowNext (s : Shape) (restart : Restart) (words : List ℕ) (left : ℕ) : Type 0 where
-  pub row : HasRow restart.kind
-  pub enough : most_of_a_row ≤ left
-  pub finish : read s words FinishWord ≡ 0
 
 module _ (s : Shape) (code : CodeParts) (seat : Seat) where
   -- where a processor stands after a row of so many steps of work, with the load of the finish word before them
@@ -38,7 +28,8 @@ module _ (s : Shape) (code : CodeParts) (seat : Seat) where
   HasEnded words words' work (Err Over) = ⊥
   HasEnded words words' work (Err Refused) = ⊥
 
-  -- what came of a row: no step is there, or so many steps of work were made after the load of the finish word
-  abbrev pub HasRowed : (words words' : List ℕ) → Option Rowed → Type 0
-  HasRowed words words' None = words' ≡ words
-  HasRowed words words' (Some rowed) = (0 < rowed.work) × (rowed.work ≤ 12) × HasEnded words words' rowed.work rowed.end
+  -- what came of a row for which so many steps were left: none was made, or so many steps of work after the load of the finish word
+  abbrev pub HasRowed : (words words' : List ℕ) → (left : ℕ) → Option Rowed → Type 0
+  HasRowed words words' left None = words' ≡ words
+  HasRowed words words' left (Some rowed) =
+      (0 < rowed.work) × (rowed.work ≤ 12) × (most_of_a_row ≤ left) × HasEnded words words' rowed.work rowed.end

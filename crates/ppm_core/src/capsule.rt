@@ -110,8 +110,8 @@ fn step_at(
     }
 }
 
-/// Goes through a capsule from its first instruction on, at most so many steps, up to its end,
-/// while the finish word is 0.
+/// Goes through a capsule from an instruction on, at most so many steps, up to its end, while the
+/// finish word is 0.
 #[inline(always)]
 pub(crate) fn go_along(
     words: &mut Vec<u64>,
@@ -121,15 +121,16 @@ pub(crate) fn go_along(
     home: &Home,
     instrs: &[Instr],
     registers: &mut [u64; 64],
+    from: usize,
     most: u64,
 ) -> Stretch
     requires words { AreWordsOf shape.now words.old.items }
     requires home { IsHome home.now }
     ensures few { result.made ≤ most }
-    ensures led { LedTo shape.now code.now seat.now home.now instrs.now 0 registers.old registers.new words.old.items words.new.items result.made result.way }
+    ensures led { LedTo shape.now code.now seat.now home.now instrs.now from registers.old registers.new words.old.items words.new.items result.made result.way }
     ensures count { AreWordsOf shape.now words.new.items }
 {
-    let mut at = 0;
+    let mut at = from;
     let mut made = 0;
     while made < most {
         if finish_word(words, shape) != 0 {

@@ -1,30 +1,33 @@
 //! Rounds of frames: a capsule gone through from its beginning, and its frame goes on with the next
 //! one. Between their steps there are registers and numbers alone.
-ghost use Rattle.std.specs.Prelude.{◌≡◌, ◌<◌, ◌≤◌, ◌-◌, ◌↔◌, IfSome, IsTrue, Some};
+ghost use Rattle.std.specs.Prelude.{◌≡◌, ◌<◌, ◌≤◌, ◌+◌, ◌^◌, ◌↔◌, IfSome, IsTrue, Some};
 ghost use Rattle.ppm_cells.specs.Memory.{AreWordsOf, read};
 ghost use Rattle.ppm_cells.specs.Restart.{IsRestart};
 ghost use Rattle.ppm_cells.specs.declared.cell.Cell.TheVariants.{FinishWord};
-ghost use Rattle.ppm_core.specs.Moments.{moment, NoFurther, StepsTo};
+ghost use Rattle.ppm_core.specs.After.{HasFramed, stands_framed};
+ghost use Rattle.ppm_core.specs.Moments.{moment, NoFurther};
 ghost use Rattle.ppm_core.specs.Rounds.{Circled, HaltsAt, HasBegun, WentAlong};
 ghost use Rattle.ppm_step.specs.Facts.{IsHome, IsSeat};
+ghost use Rattle.ppm_core.specs.declared.frames.FrameEnd.TheVariants.{Installed};
 ghost use Rattle.ppm_step.specs.Locals.{IsLocal, standing_of};
 ghost use Rattle.ppm_step.specs.Standings.{IsAt, Standing};
 ghost use Rattle.ppm_widths.specs.Widths.{AreWidths};
 
 use crate::acts::{finish_word, found_by};
+use crate::after::go_after;
 use crate::capsule::{Stretch, Turned, Way, go_along, go_round};
 use crate::steps::{NONE, Steps};
 use ppm_cells::{Restart, RestartKind, Shape};
 use ppm_code::{Code, End, Reached};
-use ppm_engine::{wait_at, wait_broken, wait_midway, wait_stopped};
+use ppm_engine::{wait_broken, wait_midway, wait_stopped};
 use ppm_step::{Home, Local, Seat, Want, header_of};
 use ppm_widths::set_to_0;
 
 /// A frame whose next capsule is the one with this number.
 #[derive(Clone, Copy, Debug, PartialEq, Eq)]
-struct NextCapsule {
-    home: Home,
-    number: u64,
+pub(crate) struct NextCapsule {
+    pub home: Home,
+    pub number: u64,
 }
 
 /// The frame of a seat and the number of its next capsule, for which the finish word and the
@@ -91,6 +94,7 @@ fn capsule_along(
         &coming.home,
         found.instrs.as_slice(),
         registers,
+        0,
         most,
     ))
 }
@@ -177,8 +181,52 @@ fn may_go_round(words: &Vec<u64>, shape: &Shape, left: u64) -> bool
     finish_word(words, shape) == 0
 }
 
-/// Goes through capsules of the frame that the place goes on with, each from its beginning, at most
-/// so many steps, while the finish word is 0. The first step of each is no work.
+/// How capsules of a frame ended.
+#[derive(Clone, Copy, Debug, PartialEq, Eq)]
+pub(crate) enum FrameEnd {
+    /// The place goes on with this restart.
+    Installed(Restart),
+    /// The processor has been put where it stands.
+    Stands,
+}
+
+/// Capsules of a frame: so many steps, of which so many were work, and how they ended.
+#[derive(Clone, Copy, Debug, PartialEq, Eq)]
+pub(crate) struct Framed {
+    pub made: u64,
+    pub work: u64,
+    pub end: FrameEnd,
+}
+
+/// So many steps, of which so many were work, up to this restart.
+#[inline(always)]
+fn installed(made: u64, work: u64, restart: Restart) -> Framed
+    ensures { result ≡ record { made = made; work = work; end = Installed restart } }
+{
+    Framed {
+        made,
+        work,
+        end: FrameEnd::Installed(restart),
+    }
+}
+
+/// These steps, and those after them, all of which are work.
+#[inline(always)]
+fn framed_after(made: u64, work: u64, after: Framed) -> Framed
+    requires { (made + after.made < 2 ^ 64) × (work + after.made < 2 ^ 64) }
+    ensures { result ≡ record { made = made + after.made; work = work + after.made; end = after.end } }
+{
+    Framed {
+        made: made + after.made,
+        work: work + after.made,
+        end: after.end,
+    }
+}
+
+/// Goes through capsules of the frame that the place goes on with, each from its beginning, with the
+/// block that the last one asks for and the stores of its end, at most so many steps, while the
+/// finish word is 0. The first step of each is no work.
+#[inline(always)]
 pub(crate) fn rounds(
     local: &mut Local,
     words: &mut Vec<u64>,
@@ -188,19 +236,17 @@ pub(crate) fn rounds(
     place: u32,
     restart: Restart,
     most: u64,
-) -> Steps
-    requires local { IsLocal shape.now code.now local.old }
+) -> Framed
+    requires own { local.old.own < shape.now.processors }
     requires place { place < shape.now.processors }
     requires restart { IsRestart restart }
     requires words { AreWordsOf shape.now words.old.items }
     requires widths { AreWidths code.now widths.now }
     ensures few { (result.made ≤ most) × (result.work ≤ result.made) }
-    ensures leads { StepsTo shape.now code.now local.old.own result.made result.work
-        (moment words.old.items (IsAt place (Some restart)))
-        (moment words.new.items (standing_of shape.now code.now local.new)) }
+    ensures framed { HasFramed shape.now code.now local.old.own place
+        (moment words.old.items (IsAt place (Some restart))) words.new.items local.new result }
     ensures no_further { result.made ≡ 0
-        → NoFurther shape.now code.now local.old.own most (moment words.new.items (standing_of shape.now code.now local.new)) }
-    ensures holds { IsLocal shape.now code.now local.new }
+        → NoFurther shape.now code.now local.old.own most (moment words.new.items (stands_framed shape.now code.now place local.new result.end)) }
     ensures own_stays { local.new.own ≡ local.old.own }
     ensures count { AreWordsOf shape.now words.new.items }
 {
@@ -214,8 +260,7 @@ pub(crate) fn rounds(
             restart: at,
         };
         let Some(coming) = begin(words, shape, code, seat) else {
-            wait_at(local, shape, code, place, at);
-            return steps;
+            return installed(steps.made, steps.work, at);
         };
         let left = most - steps.made - 2;
         let circuit = round(
@@ -240,18 +285,26 @@ pub(crate) fn rounds(
                 };
             }
             RoundEnd::Halts(way) => {
-                wait_halted(local, shape, code, seat, coming, way);
-                return steps;
+                let after = go_after(
+                    local,
+                    words,
+                    shape,
+                    code,
+                    seat,
+                    coming,
+                    way,
+                    most - steps.made,
+                );
+                return framed_after(steps.made, steps.work, after);
             }
         }
     }
-    wait_at(local, shape, code, place, at);
-    steps
+    installed(steps.made, steps.work, at)
 }
 
 /// Stands where a round of a frame halts.
 #[inline(never)]
-fn wait_halted(
+pub(crate) fn wait_halted(
     local: &mut Local,
     shape: &Shape,
     code: &Code,

@@ -1,17 +1,19 @@
-//! The rows of work of the scheduler, each made whole on a machine's words by `ppm_engine`.
-ghost use Rattle.std.specs.Prelude.{◌≡◌, ◌≤◌, ◌<◌, ◌+◌, ◌^◌, true, Some};
-ghost use Rattle.ppm_cells.specs.Memory.{AreWordsOf, read};
+//! The rows of work of the scheduler, each made whole on a machine's words by `ppm_engine`, and
+//! capsules of frames between them.
+ghost use Rattle.std.specs.Prelude.{◌≡◌, ◌≤◌, ◌<◌, ◌+◌, ◌^◌, Some};
+ghost use Rattle.ppm_cells.specs.Memory.{AreWordsOf};
 ghost use Rattle.ppm_cells.specs.Restart.{IsRestart};
-ghost use Rattle.ppm_cells.specs.declared.cell.Cell.TheVariants.{FinishWord};
 ghost use Rattle.ppm_core.specs.Moments.{moment, Leads, NoFurther};
-ghost use Rattle.ppm_core.specs.Worked.{HasRowed, IsRowNext};
+ghost use Rattle.ppm_core.specs.Worked.{HasRowed};
 ghost use Rattle.ppm_engine.specs.Memory.{forks_by, takes_by};
 ghost use Rattle.ppm_engine.specs.Steps.{HasRow};
 ghost use Rattle.ppm_step.specs.Locals.{IsLocal, standing_of};
 ghost use Rattle.ppm_step.specs.Standings.{IsAt};
+ghost use Rattle.ppm_widths.specs.Widths.{AreWidths};
 
 use crate::acts::finish_word;
 use crate::alone::Alone;
+use crate::frames::{FrameEnd, Framed, rounds};
 use ppm_cells::{Restart, Shape};
 use ppm_code::Code;
 use ppm_engine::{Mark, Settled, Stop, Tally, has_row, make_row, wait_at, wait_broken};
@@ -70,19 +72,25 @@ fn takes_by(mark: Mark) -> u64
     }
 }
 
-/// Makes the row of a restart of work, where the finish word is 0; `None` where its first step of
-/// work isn't there, and then it makes none.
+/// Makes the row of a restart of work, for which so many steps are left; `None` where they may not
+/// suffice, the finish word isn't 0, or the row's first step of work isn't there, and then it makes
+/// none.
 #[inline(always)]
-fn row_at(words: &mut Vec<u64>, shape: &Shape, code: &Code, seat: &Seat) -> Option<Rowed>
+fn row_at(words: &mut Vec<u64>, shape: &Shape, code: &Code, seat: &Seat, left: u64) -> Option<Rowed>
     requires words { AreWordsOf shape.now words.old.items }
     requires own { seat.now.own < shape.now.processors }
     requires place { seat.now.place < shape.now.processors }
     requires restart { IsRestart seat.now.restart × HasRow seat.now.restart.kind }
-    requires finish { read shape.now words.old.items FinishWord ≡ 0 }
-    ensures rowed { HasRowed shape.now code.now seat.now words.old.items words.new.items result }
+    ensures rowed { HasRowed shape.now code.now seat.now words.old.items words.new.items left result }
     ensures count { AreWordsOf shape.now words.new.items }
 {
     let _ = code.parts().root;
+    if left < MOST_OF_A_ROW {
+        return None;
+    }
+    if finish_word(words, shape) != 0 {
+        return None;
+    }
     if !restart_there(shape, seat.restart) {
         return None;
     }
@@ -102,22 +110,6 @@ fn row_at(words: &mut Vec<u64>, shape: &Shape, code: &Code, seat: &Seat) -> Opti
         work: tally.made,
         end,
     })
-}
-
-/// Whether the place goes on with a row of work, for which so many steps suffice, and the finish
-/// word is 0.
-#[inline(always)]
-fn is_row_next(words: &Vec<u64>, shape: &Shape, restart: Restart, left: u64) -> bool
-    requires { AreWordsOf shape.now words.now.items }
-    ensures { result ≡ true → IsRowNext shape.now restart words.now.items left }
-{
-    if left < MOST_OF_A_ROW {
-        return false;
-    }
-    if !has_row(restart.kind) {
-        return false;
-    }
-    finish_word(words, shape) == 0
 }
 
 /// These steps, and then those of a row that came to its end.
@@ -141,22 +133,44 @@ fn with_row(count: Count, work: u64, mark: Mark) -> Count
     }
 }
 
-/// Makes rows of work, one after the other, by which the place goes on, at most so many steps,
-/// while the finish word is 0.
+/// These steps, and then those of capsules of a frame, among which there is neither a fork nor a
+/// take.
+#[inline(always)]
+fn with_frames(count: Count, framed: Framed) -> Count
+    requires few { (count.made + framed.made < 2 ^ 64) × (count.work ≤ count.made) × (framed.work ≤ framed.made) }
+    ensures { result ≡ record {
+      made = count.made + framed.made;
+      work = count.work + framed.work;
+      forks = count.forks;
+      takes = count.takes;
+    } }
+{
+    Count {
+        made: count.made + framed.made,
+        work: count.work + framed.work,
+        forks: count.forks,
+        takes: count.takes,
+    }
+}
+
+/// Makes capsules of frames and rows of work, by which the place goes on, one after the other, at
+/// most so many steps, while the finish word is 0.
 #[inline(never)]
-pub(crate) fn rows_along(
+pub(crate) fn work_along(
     local: &mut Local,
     words: &mut Vec<u64>,
     shape: &Shape,
     code: &Code,
+    widths: &[u8],
     place: u32,
     restart: Restart,
     most: u64,
 ) -> Count
-    requires local { IsLocal shape.now code.now local.old }
+    requires own { local.old.own < shape.now.processors }
     requires place { place < shape.now.processors }
-    requires restart { IsRestart restart × HasRow restart.kind }
+    requires restart { IsRestart restart }
     requires words { AreWordsOf shape.now words.old.items }
+    requires widths { AreWidths code.now widths.now }
     ensures few { (result.made ≤ most) × (result.work ≤ result.made) × (result.forks ≤ result.made) × (result.takes ≤ result.made) }
     ensures leads { Leads shape.now code.now local.old.own result.made result.work result.forks result.takes
         (moment words.old.items (IsAt place (Some restart)))
@@ -169,25 +183,49 @@ pub(crate) fn rows_along(
     let own = local.own;
     let mut at = restart;
     let mut count = NOTHING;
-    while is_row_next(words, shape, at, most - count.made) {
-        let seat = Seat {
-            own,
-            place,
-            restart: at,
-        };
-        let Some(rowed) = row_at(words, shape, code, &seat) else {
-            wait_at(local, shape, code, place, at);
-            return count;
-        };
-        match rowed.end {
-            Ok(settled) => {
-                count = with_row(count, rowed.work, settled.mark);
-                at = settled.restart;
+    while most - count.made >= 2 {
+        if has_row(at.kind) {
+            let seat = Seat {
+                own,
+                place,
+                restart: at,
+            };
+            let Some(rowed) = row_at(words, shape, code, &seat, most - count.made) else {
+                wait_at(local, shape, code, place, at);
+                return count;
+            };
+            match rowed.end {
+                Ok(settled) => {
+                    count = with_row(count, rowed.work, settled.mark);
+                    at = settled.restart;
+                }
+                // It has met broken words: a machine's words know no other stop.
+                Err(_) => {
+                    wait_broken(local, shape, code, place);
+                    return with_row(count, rowed.work, Mark::Plain);
+                }
             }
-            // It has met broken words: a machine's words know no other stop.
-            Err(_) => {
-                wait_broken(local, shape, code, place);
-                return with_row(count, rowed.work, Mark::Plain);
+        } else {
+            let framed = rounds(
+                local,
+                words,
+                shape,
+                code,
+                widths,
+                place,
+                at,
+                most - count.made,
+            );
+            count = with_frames(count, framed);
+            match framed.end {
+                FrameEnd::Installed(next) => {
+                    if framed.made == 0 {
+                        wait_at(local, shape, code, place, next);
+                        return count;
+                    }
+                    at = next;
+                }
+                FrameEnd::Stands => return count,
             }
         }
     }

@@ -1,6 +1,7 @@
 //! The steps that one processor makes in a row: what `act_on` makes of them one by one. A capsule
 //! gone through from its beginning is held as registers and numbers (`frames.rt`), one that is
-//! already under way as a `Running`; rows of work are straight code (`rows.rt`).
+//! already under way as a `Running`; rows of work and the stores of ends are straight code
+//! (`rows.rt`, `ends.rt`).
 ghost use Rattle.std.specs.Prelude.{◌≡◌, ◌<◌, ◌≤◌, ◌-◌, true};
 ghost use Rattle.ppm_cells.specs.Memory.{AreWordsOf, read};
 ghost use Rattle.ppm_cells.specs.declared.cell.Cell.TheVariants.{FinishWord};
@@ -13,11 +14,9 @@ ghost use Rattle.ppm_step.specs.declared.going.Going.TheVariants.{Went};
 ghost use Rattle.ppm_widths.specs.Widths.{AreWidths};
 
 use crate::acts::{finish_word, make};
-use crate::frames::rounds;
-use crate::rows::{Count, NOTHING, rows_along};
+use crate::rows::{Count, NOTHING, work_along};
 use ppm_cells::Shape;
 use ppm_code::Code;
-use ppm_engine::has_row;
 use ppm_step::{Going, Local, Running, Stand};
 
 /// Steps in a row, and how many of them were work.
@@ -254,13 +253,7 @@ fn steps_from(
 {
     match local.stand {
         Stand::At { place, restart } => match restart {
-            Some(restart) => {
-                if has_row(restart.kind) {
-                    rows_along(local, words, shape, code, place, restart, most)
-                } else {
-                    plain(rounds(local, words, shape, code, widths, place, restart, most))
-                }
-            }
+            Some(restart) => { work_along(local, words, shape, code, widths, place, restart, most) }
             None => NOTHING,
         },
         Stand::Runs(running) => plain(resume(local, words, shape, code, running, most)),

@@ -8,7 +8,7 @@ use ppm_program::have_one_answer as texts_have_one_program;
 
 /// Where there is one processor, two answers of a text are one, whatever the other options and the
 /// plan: a processor that acts alone has one run in which it obeys. With all options, what stands
-/// behind more bytes than a text may have changes no answer.
+/// after more bytes than a text may have changes no answer.
 pub fn answers_are_one()
     ensures one { AnswersAreOne }
     ensures front { FrontsDecideAnswers }

@@ -112,13 +112,13 @@ lent_from found b x place (t ∷ ts) =
     if nat_le place t.place then found else lent_from (lent_with found b x t ts) (lead_after t.kind) x place ts
 
 -- a place where a region is lent before, if there is one
-abbrev pub before_text : List ℕ → Option ℕ → List ℕ
-before_text text None = []
-before_text text (Some place) = codes "lent before: " ++ place_text (line_of text place) (column_of text place)
+abbrev pub lent_before_text : List ℕ → Option ℕ → List ℕ
+lent_before_text text None = []
+lent_before_text text (Some place) = codes "lent before: " ++ place_text (line_of text place) (column_of text place)
 
 -- that of the name at this place
 abbrev pub kind_lent : List ℕ → List Token → ℕ → Kind → List ℕ
-kind_lent text tokens place (kind.Name x) = before_text text (lent_from None lead.Other x place tokens)
+kind_lent text tokens place (kind.Name x) = lent_before_text text (lent_from None lead.Other x place tokens)
 kind_lent text tokens place (kind.Keyword w) = []
 kind_lent text tokens place (kind.Sign sign) = []
 kind_lent text tokens place (kind.Number value) = []

@@ -8,7 +8,7 @@ ghost use Rattle.ppm_explain.specs.Lendings.{is_end as is_end_role, is_break as 
 ghost use Rattle.ppm_explain.specs.Lendings.{ends_kind as ends_with, breaks_kind as breaks_with};
 ghost use Rattle.ppm_explain.specs.Lendings.{ends_argument as ends_in, is_argument as is_argument_of};
 ghost use Rattle.ppm_explain.specs.Lendings.{or_place as or_this, lent_with as lent_behind};
-ghost use Rattle.ppm_explain.specs.Lendings.{lent_from, before_text, kind_lent, lent_text};
+ghost use Rattle.ppm_explain.specs.Lendings.{lent_from, lent_before_text, kind_lent, lent_text};
 
 use crate::names::is_name;
 use crate::place::push_place_of;
@@ -211,7 +211,7 @@ fn lent(tokens: &[Token], name: &[u8], place: u32) -> Option<u32>
 
 /// Appends a place where a region is lent before, if there is one.
 fn push_before(text: &mut Vec<u8>, source: &[u8], found: Option<u32>) -> Result<(), NoMemory>
-    ensures { OnOk result (text.new.items ≡ text.old.items ++ before_text source.now found) }
+    ensures { OnOk result (text.new.items ≡ text.old.items ++ lent_before_text source.now found) }
 {
     match found {
         None => Ok(()),

@@ -4,6 +4,7 @@
 -- carried: a step is `goes_on`, an early exit `ends` with "of these nothing is made".
 -- The turns of a schedule that may be obeyed name processors of the machine alone
 -- (`ScheduledLemmas`): what stands above takes it for the laws of runs.
+-- What the pools have given out is worked out place by place (`GivenLemmas`): those above read it off.
 
 pub mod BothLemmas
 pub mod DoesLemmas
@@ -11,3 +12,4 @@ pub mod AheadLemmas
 pub mod ReadyLemmas
 pub mod ListLemmas
 pub mod ScheduledLemmas
+pub mod GivenLemmas

@@ -1,2 +1,4 @@
+pub mod OrderedFaults
+pub mod Room
 pub mod Followed
 pub mod Following

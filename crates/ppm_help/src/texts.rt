@@ -93,7 +93,7 @@ pub(crate) fn meaning_of(command: &str, option: &str) -> &'static str {
         "only" => "lines: all, those that end a row, or those with a mark",
         "input" => input_of(command),
         "racy" => "with yes strands may race, and gaps are told too",
-        "counts" => counts_of(command),
+        "counts" => "with yes a last line of counts; the run takes longer",
         _ => NO_WORDS,
     }
 }
@@ -104,14 +104,6 @@ fn schedule_of(command: &str) -> &'static str {
         "explain" => "to be explained, as 0*9,1>0,1!h",
         "strands" => "as 0*9,1,1!s: steps and soft faults of strands",
         _ => "as 0*9,1>0,1!h: acts, a victim, a hard fault",
-    }
-}
-
-/// What the counts of a command are.
-fn counts_of(command: &str) -> &'static str {
-    match command {
-        "replay" => "with yes a last line of counts; not with saved",
-        _ => "with yes a last line of counts; the run takes longer",
     }
 }
 

@@ -260,6 +260,11 @@ fn line_of(alloc: Global, command: &Command) -> Result<Vec<u8>, Fault> {
             plan = schedule.as_slice();
             format!(in alloc; "replay of a saved text turns {}", it.turns)?
         }
+        Command::CountedReplaySaved(it, schedule) => {
+            front = " schedule=";
+            plan = schedule.as_slice();
+            format!(in alloc; "replay of a saved text with counts turns {}", it.turns)?
+        }
         Command::StopSaved(it, schedule) => {
             front = " schedule=";
             plan = schedule.as_slice();

@@ -35,6 +35,7 @@ use Rattle.ppm_saved.specs.declared.names.NamedLength.{NamedLength}
 use Rattle.ppm_saved_reader.specs.Correct.{FaultsTellSavedTexts}
 use Rattle.ppm_answers.specs.declared.answer.Answer.{Answer}
 use Rattle.ppm_answers.specs.declared.answer.Answer.TheVariants as answers
+use Rattle.ppm_answers.specs.declared.sweep.Came.{Came}
 use Rattle.ppm_answers.specs.declared.tally.Tally.{Tally}
 use Rattle.ppm_cli.specs.declared.replay.ReplaySavedOptions.{ReplaySavedOptions}
 use Rattle.ppm_loading.specs.Says.{arrays_from, IsOfFinish, IsOfEnding, IsTheOne}
@@ -43,7 +44,7 @@ use Rattle.ppm_outcomes.specs.AsCode.{MayRun, CodeNeedsMoreRoom}
 use Rattle.ppm_outcomes.specs.CodeResumes.{CodeWordsComeBack, IsLeftByCode, legs_of}
 use Rattle.ppm_outcomes.specs.Legs.{finish_at_last, worked_in_all}
 use Rattle.ppm_outcomes.specs.LegsAsCode.{EndsAsCodeInAll, IsAsCodeInAll, RunsInLegsAreAsCode}
-use Rattle.ppm_outcomes.specs.Replays.{IsSaid, tally_of}
+use Rattle.ppm_outcomes.specs.Replays.{IsSaid, tally_of, with_tally}
 use Rattle.ppm_outcomes.specs.Resumes.{SavedState, saved_finish, GoesOnFrom, IsTextOf, named}
 use Rattle.ppm_outcomes.proofs.MeantRows.{ended_replay, trapped_replay, full_replay, broken_replay}
 use Rattle.ppm_outcomes.proofs.MeantRows.{no_other, no_other_trap, no_other_room, no_other_broken}
@@ -157,6 +158,11 @@ module _ (acts : ℕ) (m : Situation) (arrays : List NamedArray) where
   pub said_kind : (a : Answer) → IsSaid acts m arrays a → IsOfReplay a
   said_kind a h = kind (ending_of (finish_in m)) a h
 
+-- what is said is the answer that the leg came to this, with the machine's forks and takes
+pub leg_said : {P : Answer → Type 0} (m : Situation) (c : Came) (tally : Tally) (a : Answer) → tally ≡ tally_of m → a ≡ with_tally c tally
+    → IsTheOne P (with_tally c (tally_of m)) → IsTheOne P a
+leg_said {P} m c tally a counted is only = subst (IsTheOne P) (sym (is ∙ ap (with_tally c) counted)) only
+
 -- the machine after a leg has the arrays of the state
 pub leg_lengths : (z : SavedState) (items : List ScheduleItem) (acts : ℕ) (m : Situation) → IsLegOf z items acts m → (names : List NamedLength)
     → names ≡ z.arrays → m.array_lengths ≡ lengths_of names
@@ -177,7 +183,7 @@ module _ (options : ReplaySavedOptions) where
   }
 
   -- a state has one
-  state_one : (items : List ScheduleItem) (z : SavedState) (a b : Answer) → StateReplays options items z a → StateReplays options items z b → a ≡ b
+  pub state_one : (items : List ScheduleItem) (z : SavedState) (a b : Answer) → StateReplays options items z a → StateReplays options items z b → a ≡ b
   state_one items z a b h k =
       let same : k.start ≡ h.start = one_start z k.start h.start k.goes_on h.goes_on in
       one_said z.shape.processors options.turns (followed h.start items options.turns) (named z.arrays) a b h.says

@@ -2,6 +2,8 @@ pub mod SavedTexts
 pub mod SavedStops
 pub mod SavedReplays
 pub mod SavedReplayRows
+pub mod CountedReplays
+pub mod CountedReplayRows
 pub mod SavedTraces
 pub mod SavedTraceRows
 pub mod Chains

@@ -5,7 +5,7 @@ ghost use Rattle.ppm_ports.specs.Outside.{ports};
 ghost use Rattle.ppm_cells.specs.Finish.{finish_of};
 ghost use Rattle.ppm_cli.specs.Words.{AreSavedReplayed};
 ghost use Rattle.ppm_core.specs.Machine.{seen};
-ghost use Rattle.ppm_outcomes.specs.Replays.{IsSaid};
+ghost use Rattle.ppm_outcomes.specs.Replays.{IsSaid, tally_of, with_tally};
 ghost use Rattle.ppm_outcomes.specs.Resumes.{named, saved_finish, state_of};
 ghost use Rattle.ppm_loading.specs.Says.{IsTheOne, arrays_from};
 ghost use Rattle.ppm_saved.specs.Names.{lengths_of};
@@ -16,7 +16,7 @@ ghost use Rattle.ppm_legs.specs.SavedReplayRows.{IsReplayed};
 use crate::leg::leg;
 use crate::saved_answers::saved_replays_have_one_answer;
 use crate::saved_reading::read_leg;
-use ppm_answers::{Answer, Status, Tally, deliver};
+use ppm_answers::{Answer, Came, Status, Tally, deliver};
 use ppm_cells::{Ending, Finish, UNKNOWN_PLACE};
 use ppm_cli::ReplaySavedOptions;
 use ppm_core::Machine;
@@ -104,25 +104,56 @@ fn leg_answer(
     requires lengths { (seen machine.now).array_lengths ≡ lengths_of names.now }
     ensures { IfOk result (IsTheOne (IsSaid turns (seen machine.now) (named names.now))) }
 {
-    let tally = Tally {
+    let came = leg_came(alloc, machine, names, turns)?;
+    let tally = tally_of(machine);
+    Ok(answer_with(came, tally))
+}
+
+/// How many forks and takes a machine counts.
+fn tally_of(machine: &Machine) -> Tally
+    ensures { result ≡ tally_of (seen machine.now) }
+{
+    Tally {
         forks: machine.forks(),
         takes: machine.takes(),
-    };
+    }
+}
+
+/// The answer that a leg came to this, with its forks and takes.
+fn answer_with(came: Came, tally: Tally) -> Answer
+    ensures { result ≡ with_tally came tally }
+{
+    match came {
+        Came::Ended(arrays) => Answer::EndedWith(arrays, tally),
+        Came::Trapped(trap, line) => Answer::TrappedWith(trap, line, tally),
+        Came::Unfinished(acts) => Answer::Unfinished(acts),
+        Came::OutOfRoom(place) => Answer::OutOfRoom(place),
+        Came::Broken(place) => Answer::Broken(place),
+    }
+}
+
+/// What a leg of at most so many acts came to, by the finish word.
+pub(crate) fn leg_came(
+    alloc: Global,
+    machine: &Machine,
+    names: &Names,
+    turns: u64,
+) -> Result<Came, NoMemory>
+    requires lengths { (seen machine.now).array_lengths ≡ lengths_of names.now }
+    ensures { IfOk result (λ came. IsTheOne (IsSaid turns (seen machine.now) (named names.now)) (with_tally came (tally_of (seen machine.now)))) }
+{
     match machine.outcome() {
-        Ending::NotYet => Ok(Answer::Unfinished(turns)),
+        Ending::NotYet => Ok(Came::Unfinished(turns)),
         Ending::With(finish) => match finish {
-            Finish::Ended => {
-                let arrays = arrays_of_names(alloc, machine, names.as_slice())?;
-                Ok(Answer::EndedWith(arrays, tally))
-            }
-            Finish::Trapped { trap, line } => Ok(Answer::TrappedWith(trap, line, tally)),
-            Finish::OutOfRoom { place } => Ok(Answer::OutOfRoom(place)),
-            Finish::OutOfTurns { processor } => Ok(Answer::OutOfTurns(processor)),
-            Finish::Broken { place } => Ok(Answer::Broken(place)),
-            // Of no run, as are unknown words.
-            Finish::Stopped | Finish::Unset => Ok(Answer::Broken(UNKNOWN_PLACE)),
+            Finish::Ended => Ok(Came::Ended(arrays_of_names(alloc, machine, names.as_slice())?)),
+            Finish::Trapped { trap, line } => Ok(Came::Trapped(trap, line)),
+            Finish::OutOfRoom { place } => Ok(Came::OutOfRoom(place)),
+            Finish::Broken { place } => Ok(Came::Broken(place)),
+            // Of no leg, as are unknown words.
+            Finish::OutOfTurns { .. } => Ok(Came::Broken(UNKNOWN_PLACE)),
+            Finish::Stopped | Finish::Unset => Ok(Came::Broken(UNKNOWN_PLACE)),
         },
-        Ending::Unknown => Ok(Answer::Broken(UNKNOWN_PLACE)),
+        Ending::Unknown => Ok(Came::Broken(UNKNOWN_PLACE)),
     }
 }
 

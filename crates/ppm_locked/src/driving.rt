@@ -158,11 +158,13 @@ fn says_stopped(finish: u64) -> bool
 
 /// Runs the processors of a lock on threads, one for each where the system makes so many, until the
 /// run has ended: the machine under the lock. Each processor makes the acts that `next_act` chooses
-/// for its pace, by the plan and the limits; the lock's own limit of work turns holds too. A
-/// processor that rests leaves, whatever `limits.idle` says. The seats are those of `load`, none of
-/// which has made a turn, and the plan is for as many processors. Some run has come to the machine
-/// from the opening. Its finish word isn't 0, nor the one of a run that a watcher has stopped. `Err`
-/// where memory is refused, and for that word: nobody watches here. It may never return.
+/// for its pace, by the plan and the limits. `limits.turns` below the lock's own limit of work turns
+/// has no effect: the quit that it asks for is made where the lock's limit is spent alone, and
+/// before that a step is made in its place. A processor that rests leaves, whatever `limits.idle`
+/// says. The seats are those of `load`, none of which has made a turn, and the plan is for as many
+/// processors. Some run has come to the machine from the opening. Its finish word isn't 0, nor the
+/// one of a run that a watcher has stopped. `Err` where memory is refused, and for that word: nobody
+/// watches here. It may never return.
 pub fn drive_locked<L: Keeping + Send + Sync, E: Ledger + Send + Sync, R: Threads + Wait + Sync>(
     rt: &R,
     locked: Locked<L, E>,

@@ -4,10 +4,10 @@
 -- answer of a replay (`OneReplay`). No more faults strike than the plan has (`StrikeLemmas`, `FaultLemmas`).
 -- That a run is as its code is, run depth first, is shown of each sound code on each input (`AsCodeLemmas`), and over legs (`LegsOfCode`); what the
 -- program says more is added to it (`MeantLemmas`, `LegsMeant`). An answer of a replay says so (`CodeReplayRows`), and what it says of a program
--- comes from the law of runs (`MeantRows`). A law of a run reaches a command's rows as a field of what the program has (`ProgramHas`); an answer that
+-- comes from the law of runs (`MeantRows`). Its answer tells what it came to (`CameLemmas`). A law of a run reaches a command's rows as a field of what the program has (`ProgramHas`); an answer that
 -- no run gives is left out of the kinds of answers, and all rows of the crates above close by their last case.
 -- Where what is counted in a run is told, its answer is the one without counts, and they are those of its turns (`CountedLemmas`, `CountedResumeLemmas`), of its words
--- (`GivenLemmas`) and of its plan (`PlannedFaults`).
+-- (`GivenLemmas` of `ppm_following`) and of its plan (`PlannedFaults`).
 -- A resumed run (`ResumeLemmas`) is the latest leg of each run that left its state (`ResumedOfCode`), whose words come back (`LeftLemmas`); so it is
 -- complete as a run is (`ResumeComplete`). That is shown of each sound code; of programs it is said by their codes.
 
@@ -30,8 +30,8 @@ pub mod LegsMeant
 pub mod MeantRows
 pub mod RunLemmas
 pub mod CountedLemmas
-pub mod GivenLemmas
 pub mod PlannedFaults
+pub mod CameLemmas
 pub mod CodeReplayRows
 pub mod StrikeLemmas
 pub mod ResumeLemmas

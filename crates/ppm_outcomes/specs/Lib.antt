@@ -3,9 +3,7 @@ pub mod RunOf
 pub mod Meant
 pub mod AsCode
 pub mod Runs
-pub mod OrderedFaults
 pub mod Strikes
-pub mod Room
 pub mod RunCounts
 pub mod CountedRuns
 pub mod Completeness

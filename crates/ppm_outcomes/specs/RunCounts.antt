@@ -6,7 +6,7 @@ use Rattle.ppm_core.specs.Situation.{Situation}
 use Rattle.ppm_step.specs.declared.turn.Turn.{Turn}
 use Rattle.ppm_table.specs.declared.act_counts.ActCounts.{ActCounts}
 use Rattle.ppm_table.specs.Counting.{TellsTurns, all_counts}
-use Rattle.ppm_outcomes.specs.Room.{most_given}
+use Rattle.ppm_following.specs.Room.{most_given}
 use Rattle.ppm_outcomes.specs.RunOf.{table_of, words_behind}
 
 -- The counts of a run in which the processors together counted so much, with these words after it, and a plan with faults for so many turns. A look is

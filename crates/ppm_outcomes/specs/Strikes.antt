@@ -14,7 +14,7 @@ use Rattle.ppm_core.specs.Situation.{Situation}
 use Rattle.ppm_choice.specs.Obeying.{ObeyAll}
 use Rattle.ppm_choice.specs.Schedules.{schedule_turns}
 use Rattle.ppm_choice.specs.declared.limits.Limits.{Limits}
-pub use Rattle.ppm_outcomes.specs.OrderedFaults.{fails}
+pub use Rattle.ppm_following.specs.OrderedFaults.{fails}
 use Rattle.ppm_runs.specs.Deques.{one_if}
 use Rattle.ppm_outcomes.specs.Meant.{faults_in, struck_in, undone_in}
 

@@ -2,7 +2,7 @@
 ghost use Rattle.std.specs.Prelude.{◌≡◌, ◌<◌, ◌≤◌, if◌then◌else◌};
 ghost use Rattle.std.specs.List.{list_any};
 ghost use Rattle.ppm_plan.specs.Faults.{is_at as is_item_at};
-ghost use Rattle.ppm_outcomes.specs.Room.{given_by as given, larger, most_given as most};
+ghost use Rattle.ppm_following.specs.Room.{given_by as given, larger, most_given as most};
 ghost use Rattle.ppm_outcomes.specs.RunCounts.{counts_told};
 ghost use Rattle.ppm_outcomes.specs.Strikes.{fault_count};
 

@@ -44,7 +44,7 @@ pub fn replays_are_as_code()
 /// outcome, it is the program's serial outcome, with the arrays of the words then, or its trap; and
 /// each right branch that was forked was taken: as many as the code of the program, run depth
 /// first, forks. Where it says that a pool is full, the program, run whole, takes more words than a
-/// pool has, or has no end. That words are broken it says only behind more than 2^34 work turns.
+/// pool has, or has no end. That words are broken it says only after more than 2^34 work turns.
 /// All work turns are fewer than 256 for each capsule that its code runs depth first and each fault
 /// that undoes work.
 pub fn runs_are_as_programs()

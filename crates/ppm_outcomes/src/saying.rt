@@ -1,4 +1,4 @@
-//! What is answered behind a run, by the finish word: these arrays with their values, the trap, or
+//! What is answered after a run, by the finish word: these arrays with their values, the trap, or
 //! why there are none. `Err` comes only where memory is refused.
 ghost use Rattle.std.specs.Prelude.{◌≡◌, IfOk, length, map, option_map};
 ghost use Rattle.ppm_core.specs.Machine.{seen};
@@ -20,7 +20,7 @@ use ppm_table::Closed;
 use ppm_words::{NamedArray, NoMemory};
 use std::alloc::Global;
 
-/// What is answered behind a run in which processors obey.
+/// What is answered after a run in which processors obey.
 pub fn run_answer(alloc: Global, closed: &Closed, arrays: &[NamedArray]) -> Result<Answer, NoMemory>
     requires lengths { closed.now.array_lengths ≡ map (λ a. length a.values) arrays.now }
     ensures { IfOk result (IsTheOne (IsSaidOfRun closed.now.shape closed.now.array_lengths arrays.now closed.now.words)) }
@@ -100,7 +100,7 @@ fn why_unended(closed: &Closed) -> Option<Ran>
     }
 }
 
-/// What is answered behind a replay of at most so many acts.
+/// What is answered after a replay of at most so many acts.
 pub fn replay_answer(
     alloc: Global,
     machine: &Machine,

@@ -278,7 +278,7 @@ fn push_mark_arrow(
     }
 }
 
-/// The same, if there is a mark.
+/// Appends what leads from a lane to an act in another, if the act has a mark.
 fn push_arrow_of(
     alloc: Global,
     text: &mut Vec<u8>,

@@ -152,7 +152,7 @@ fn push_sign(
     }
 }
 
-/// The same, if there is a mark.
+/// Appends what is drawn at an act, if it has a mark.
 fn push_sign_of(
     alloc: Global,
     text: &mut Vec<u8>,

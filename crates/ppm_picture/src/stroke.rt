@@ -86,7 +86,7 @@ fn source_in(scene: &Scene, own: u32, kind: RestartKind) -> u32
     }
 }
 
-/// The same, of what a processor is at.
+/// The lane from which an arrow to an act leads, by what its processor is at.
 fn source_of(scene: &Scene, own: u32, doing: Doing) -> u32
     ensures { result ≡ source_of scene.now own doing }
 {

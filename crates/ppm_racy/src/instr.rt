@@ -40,7 +40,7 @@ fn exchanging(old: u64, act: Act) -> RacyAct
     }
 }
 
-/// Likewise where the put makes this step.
+/// What a compare-and-modify does where a put in its place makes this step.
 fn exchanging_step(old: u64, step: Step) -> RacyAct
     ensures { result ≡ exchanging_by old (Steps step) }
 {
@@ -50,7 +50,7 @@ fn exchanging_step(old: u64, step: Step) -> RacyAct
     }
 }
 
-/// Likewise where it stores a word to this location.
+/// What a compare-and-modify does where a put in its place stores a word to this location.
 fn exchanging_at(old: u64, location: Location, new: u64) -> RacyAct
     ensures { result ≡ exchanging_by old (Steps (Stores location new)) }
 {

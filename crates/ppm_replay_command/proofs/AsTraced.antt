@@ -22,8 +22,8 @@ use Rattle.ppm_trace.specs.Laws.{CountsAreTheMachines}
 use Rattle.ppm_trace.specs.Trace.{counts_along as traced_along, is_told, told_counts}
 use Rattle.ppm_trace.specs.declared.counts.Counts.{Counts}
 use Rattle.ppm_replay_command.specs.CountLaws.{AreAsTraced, CountsAreAsTraced}
-use Rattle.ppm_replay_command.specs.RunCounts.{run_counts}
-use Rattle.ppm_replay_command.proofs.CountTurnLemmas.{of_turns, told_since}
+use Rattle.ppm_trace.specs.RunCounts.{run_counts}
+use Rattle.ppm_trace.proofs.CountTurnLemmas.{of_turns, told_since}
 use Rattle.ppm_replay_command.proofs.GoneOnLemmas.{counted_goes, few_gone, goes_at, gone_on}
 use Rattle.ppm_replay_command.proofs.GoingMarks.{Grows, act_tells, all_grow, in_turn}
 

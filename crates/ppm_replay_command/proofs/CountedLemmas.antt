@@ -1,5 +1,5 @@
 -- The answers that codes, programs and cases have where a replay's counts are told.
-use Rattle.std.proofs.Common.{◌≡◌, ◌≢◌, ◌+◌, ℕ, zero, suc, List, length, refl, sym, ap, ◌∙◌, subst, arith}
+use Rattle.std.proofs.Common.{◌≡◌, ◌≢◌, ◌+◌, ℕ, zero, suc, List, length, sym, ap, subst, arith}
 use Rattle.ppm_words.specs.declared.named_array.NamedArray.{NamedArray}
 use Rattle.ppm_words.specs.declared.trap.Trap.{Trap}
 use Rattle.ppm_cells.specs.Ending.{ending_of}
@@ -24,9 +24,8 @@ use Rattle.ppm_answers.specs.declared.sweep.Came.TheVariants as came
 use Rattle.ppm_answers.specs.declared.tally.Tally.{Tally}
 use Rattle.ppm_answers.specs.Texts.{tally_in}
 use Rattle.ppm_cli.specs.declared.replay.ReplayOptions.{ReplayOptions}
-use Rattle.ppm_replay_command.specs.RunCounts.{run_counts}
-use Rattle.ppm_replay_command.specs.CountLaws.{CountsAreOfTurns}
-use Rattle.ppm_outcomes.specs.OrderedFaults.{ordered_faults}
+use Rattle.ppm_trace.specs.RunCounts.{CountsAreOfTurns, run_counts}
+use Rattle.ppm_following.specs.OrderedFaults.{ordered_faults}
 use Rattle.ppm_loading.specs.declared.loading.Sizes.{Sizes}
 use Rattle.ppm_loading.specs.Loading.{OpensRun}
 use Rattle.ppm_loading.specs.Says.{arrays_from, IsTheOne, IsOfFinish, IsOfEnding}
@@ -61,26 +60,6 @@ module _ (options : ReplayOptions) (items : List ScheduleItem) where
   -- nor is one of a program
   pub of_program : (t : ProgramTree) (a : Answer) → ProgramHas options items t a → IsOfCode a
   of_program t a h = of_code (code_of t) (initial_arrays t) a h
-
--- what a replay came to, by its answer
-abbrev came_by : Answer → Came
-came_by (answers.EndedWith arrays tally) = came.Ended arrays
-came_by (answers.TrappedWith trap line tally) = came.Trapped trap line
-came_by (answers.Unfinished acts) = came.Unfinished acts
-came_by (answers.OutOfRoom place) = came.OutOfRoom place
-came_by (answers.Broken place) = came.Broken place
-came_by _ = came.Unfinished 0
-
-came_back : (c : Came) (tally : Tally) → c ≡ came_by (with_tally c tally)
-came_back (came.Ended arrays) tally = refl
-came_back (came.Trapped trap line) tally = refl
-came_back (came.Unfinished acts) tally = refl
-came_back (came.OutOfRoom place) tally = refl
-came_back (came.Broken place) tally = refl
-
--- answers that are one came to one thing
-pub one_came : (c d : Came) (s t : Tally) → with_tally c s ≡ with_tally d t → c ≡ d
-one_came c d s t same = came_back c s ∙ ap came_by same ∙ sym (came_back d t)
 
 -- what is said came to something
 module _ (processors turns : ℕ) (m : Situation) (arrays : List NamedArray) where

@@ -6,9 +6,8 @@ use Rattle.ppm_case.specs.Faults.{HasFault}
 use Rattle.ppm_case.specs.Rules.{case_limit}
 use Rattle.ppm_case.specs.declared.case_error.CaseFault.{CaseFault}
 use Rattle.ppm_core.specs.Situation.{Situation}
-use Rattle.ppm_replay_command.specs.RunCounts.{run_counts}
-use Rattle.ppm_replay_command.specs.CountLaws.{CountsAreOfTurns}
-use Rattle.ppm_outcomes.specs.OrderedFaults.{ordered_faults}
+use Rattle.ppm_trace.specs.RunCounts.{CountsAreOfTurns, run_counts}
+use Rattle.ppm_following.specs.OrderedFaults.{ordered_faults}
 use Rattle.ppm_layout.specs.Correct.{ImagesAreOne}
 use Rattle.ppm_plan.specs.declared.schedule_item.ScheduleItem.{ScheduleItem}
 use Rattle.ppm_plan.specs.Correct.{HaveOneAnswer as PlansHaveOneAnswer}
@@ -45,8 +44,9 @@ use Rattle.ppm_replay_command.specs.CountedCases as counted_cases
 use Rattle.ppm_replay_command.specs.CountedReplays.{IsCounted, CodeHas, ProgramHas, TextHas, HaveOneAnswer}
 use Rattle.ppm_outcomes.specs.Replays.{with_tally}
 use Rattle.ppm_outcomes.specs.Replays.{sizes_of}
-use Rattle.ppm_replay_command.proofs.CountedLemmas.{kinds, case_kinds, of_code, of_program, one_came, some_counted}
+use Rattle.ppm_replay_command.proofs.CountedLemmas.{kinds, case_kinds, of_code, of_program, some_counted}
 use Rattle.ppm_orders.proofs.ScheduledLemmas.{some_scheduled}
+use Rattle.ppm_outcomes.proofs.CameLemmas.{one_came}
 use Rattle.ppm_outcomes.proofs.OneReplay as replays
 use Rattle.ppm_outcomes.proofs.ReplayLemmas.{replayed_sizes}
 

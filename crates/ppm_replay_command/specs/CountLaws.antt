@@ -1,28 +1,15 @@
--- The laws that join the counts to the turns.
-use Rattle.std.specs.Prelude.{◌≡◌, ℕ, ◌+◌, List, length}
+-- The law that joins the counts of processors to those of a trace.
+use Rattle.std.specs.Prelude.{◌≡◌, ℕ, ◌+◌, List}
 use Rattle.ppm_answers.specs.declared.run_counts.RunCounts.{RunCounts}
 use Rattle.ppm_cells.specs.declared.shape.Shape.{Shape}
 use Rattle.ppm_code.specs.declared.code.CodeParts.{CodeParts}
-use Rattle.ppm_core.specs.Situation.{Situation, loaded}
-use Rattle.ppm_replay_command.specs.RunCounts.{run_counts}
-use Rattle.ppm_step.specs.State.{along, forks_of, opening, takes_of, work_of}
+use Rattle.ppm_core.specs.Situation.{loaded}
+use Rattle.ppm_trace.specs.RunCounts.{run_counts}
+use Rattle.ppm_step.specs.State.{opening}
 use Rattle.ppm_step.specs.declared.turn.Turn.{Turn}
 use Rattle.ppm_table.specs.declared.act_counts.ActCounts.{ActCounts}
 use Rattle.ppm_table.specs.Counting.{all_counts, kept, together}
 use Rattle.ppm_table.specs.Run.{AllTold}
-
-module _ (ordered : ℕ) (m : Situation) (turns : List Turn) where
-  -- each turn is an act, and is work or a look; the forks and takes are those that the turns tell
-  pub record IsOfTurns : Type 0 where
-    pub acts : (run_counts ordered m turns).acts ≡ length turns
-    pub work : (run_counts ordered m turns).work ≡ length (along m.shape m.code work_of m.state turns)
-    pub each : (run_counts ordered m turns).work + (run_counts ordered m turns).looks ≡ (run_counts ordered m turns).acts
-    pub forks : (run_counts ordered m turns).forks ≡ length (along m.shape m.code forks_of m.state turns)
-    pub takes : (run_counts ordered m turns).takes ≡ length (along m.shape m.code takes_of m.state turns)
-
--- so it is of all runs
-abbrev pub CountsAreOfTurns : Type 0
-CountsAreOfTurns = (ordered : ℕ) (m : Situation) (turns : List Turn) → IsOfTurns ordered m turns
 
 -- What the processors of a run have counted together, and what a trace of the run counts: the same acts, work turns, forks, takes and faults, each up
 -- to 2^64 - 1; and as many processors that go on as a thief, as an heir or at a dead processor's place.

@@ -23,8 +23,8 @@ use Rattle.ppm_answers.specs.Rows.{IsDone, IsShown, PlannedRows, PortsSay}
 use Rattle.ppm_answers.specs.Texts.{arrays_text, tally_in, tally_text, trap_text, unfinished_text, room_text, broken_text, run_counts_text}
 use Rattle.ppm_cli.specs.declared.replay.ReplayOptions.{ReplayOptions}
 use Rattle.ppm_core.specs.Situation.{Situation}
-use Rattle.ppm_replay_command.specs.RunCounts.{run_counts}
-use Rattle.ppm_outcomes.specs.OrderedFaults.{ordered_faults}
+use Rattle.ppm_trace.specs.RunCounts.{run_counts}
+use Rattle.ppm_following.specs.OrderedFaults.{ordered_faults}
 use Rattle.ppm_loading.specs.MachineRows as machine
 use Rattle.ppm_loading.specs.Planned.{IsRefusedBy, HasByItems}
 use Rattle.ppm_outcomes.specs.AsCode.{IsAsCode}

@@ -28,8 +28,8 @@ use Rattle.ppm_step.specs.declared.turn.Turn.{Turn}
 use Rattle.ppm_loading.specs.MachineRows as machine
 use Rattle.ppm_loading.specs.Planned.{IsRefusedBy, HasByItems}
 use Rattle.ppm_core.specs.Situation.{Situation}
-use Rattle.ppm_replay_command.specs.RunCounts.{run_counts}
-use Rattle.ppm_outcomes.specs.OrderedFaults.{ordered_faults}
+use Rattle.ppm_trace.specs.RunCounts.{run_counts}
+use Rattle.ppm_following.specs.OrderedFaults.{ordered_faults}
 use Rattle.ppm_outcomes.specs.CodeReplays.{turns_in}
 use Rattle.ppm_replay_command.specs.CountedReplays.{ProgramHas, CountedHas, CountedMay, TextHas}
 use Rattle.ppm_replay_command.specs.ReplayRows.{AreAsPrograms}

@@ -19,8 +19,8 @@ use Rattle.ppm_cli.specs.declared.replay.ReplayOptions.{ReplayOptions}
 use Rattle.ppm_cli.specs.Words.{AreReplayed}
 use Rattle.ppm_loading.specs.Planned.{PlannedHas, PlannedMay, HasSomeAnswer}
 use Rattle.ppm_loading.specs.Programs as programs
-use Rattle.ppm_replay_command.specs.RunCounts.{run_counts}
-use Rattle.ppm_outcomes.specs.OrderedFaults.{ordered_faults}
+use Rattle.ppm_trace.specs.RunCounts.{run_counts}
+use Rattle.ppm_following.specs.OrderedFaults.{ordered_faults}
 use Rattle.ppm_outcomes.specs.CodeReplays.{turns_in}
 use Rattle.ppm_outcomes.specs.Replays.{with_tally}
 use Rattle.ppm_outcomes.specs.Replays as plain

@@ -1,4 +1,3 @@
-pub mod RunCounts
 pub mod CountLaws
 pub mod ReplayRows
 pub mod CaseReplays

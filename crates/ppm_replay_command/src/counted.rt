@@ -9,8 +9,6 @@ ghost use Rattle.ppm_cut_bounds.specs.Bounds.{IsWithinBounds};
 ghost use Rattle.ppm_replay_command.specs.CountedReplays.{CodeHas, ProgramHas, CountedMay};
 ghost use Rattle.ppm_replay_command.specs.CountedReplayRows.{IsCountedReplay};
 
-use crate::count_laws::counts_are_of_turns;
-use crate::counting::count_replay;
 use crate::one_counted::counted_replays_have_one_answer;
 use crate::replay::sizes_of;
 use ppm_answers::{Answer, Status, deliver};
@@ -22,6 +20,7 @@ use ppm_outcomes::{replay_came, runs_are_as_programs};
 use ppm_plan::{Schedule, have_one_answer as schedules_have_one_answer};
 use ppm_ports::{Sink, Source};
 use ppm_regions::Admitted;
+use ppm_trace::{count_replay, counts_are_of_turns};
 use ppm_words::{Input, NoMemory};
 use std::alloc::Global;
 

@@ -2,7 +2,7 @@
 //! says, and what is counted in its run.
 //! Model: what a schedule says is that of `ppm_choice`, and what it makes of a machine that of
 //! `ppm_following`; the answer of a replay is that of `ppm_outcomes` (`specs/Replays` there), and
-//! what is counted is of its turns, its words and its schedule (`specs/RunCounts`).
+//! what is counted is of its turns, its words and its schedule (`specs/RunCounts` of `ppm_trace`).
 //! Contract: `replay_command` and `replay_case_command` deliver the one answer of a text
 //! (`specs/CaseReplays`), and always return. What follows from each status: `specs/ReplayRows`,
 //! `specs/CaseReplayRows`. `counted_replay_command` and `counted_replay_case_command` deliver that,
@@ -18,16 +18,13 @@ mod complete_replay;
 mod count_laws;
 mod counted;
 mod counted_case;
-mod counting;
 mod one_counted;
 mod one_replay;
-mod ordered;
 mod replay;
 mod replay_case;
-mod room;
 
 pub use complete_replay::{replays_complete, replays_of_code_complete};
-pub use count_laws::{counts_are_as_traced, counts_are_of_turns};
+pub use count_laws::counts_are_as_traced;
 pub use counted::counted_replay_command;
 pub use counted_case::counted_replay_case_command;
 pub use one_counted::{counted_case_replays_have_one_answer, counted_replays_have_one_answer};

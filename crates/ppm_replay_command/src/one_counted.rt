@@ -2,13 +2,13 @@
 ghost use Rattle.ppm_replay_command.specs.CountedCases.{HaveOneCountedAnswer};
 ghost use Rattle.ppm_replay_command.specs.CountedReplays.{HaveOneAnswer};
 
-use crate::count_laws::counts_are_of_turns;
 use ppm_case::faults_tell_cases;
 use ppm_cut_code::keeps_the_rules;
 use ppm_layout::images_are_one;
 use ppm_plan::have_one_answer as schedules_have_one_answer;
 use ppm_program::have_one_answer as texts_have_one_program;
 use ppm_rows::trees_are_within;
+use ppm_trace::counts_are_of_turns;
 
 /// With all options and each schedule a text has one answer at most: the schedule is refused by one
 /// number, or the text is refused for one reason, or its program's replay comes to one answer with

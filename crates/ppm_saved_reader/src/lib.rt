@@ -19,6 +19,6 @@ mod rules;
 mod saved_error;
 
 pub use laws::faults_tell_saved_texts;
-pub use lines::Sizes;
+pub use lines::{Sizes, run_in};
 pub use reading::{SAVED_LIMIT, read_saved};
 pub use saved_error::{Fault, SavedError};

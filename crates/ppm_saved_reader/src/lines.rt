@@ -209,7 +209,7 @@ fn times_in(digits: &[u8], number: Option<u64>) -> Option<(Option<u64>, u64)>
 }
 
 /// The run that a line says: its word, if that has 64 bits, and how often it stands there.
-pub(crate) fn run_in(line: &[u8]) -> Option<(Option<u64>, u64)>
+pub fn run_in(line: &[u8]) -> Option<(Option<u64>, u64)>
     ensures { result ≡ run line.now }
 {
     match split_once(line, b'*') {

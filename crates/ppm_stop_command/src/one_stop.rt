@@ -9,7 +9,7 @@ use ppm_program::have_one_answer as texts_have_one_program;
 use ppm_rows::trees_are_within;
 
 /// With all options and each schedule a text has one answer at most: the schedule is refused by one
-/// number, or the text is refused for one reason, or the state behind its program's run is saved as
+/// number, or the text is refused for one reason, or the state after its program's run is saved as
 /// one text. With options in their ranges a text that is not refused has one.
 pub fn stops_have_one_answer()
     ensures law { HaveOneAnswer }

@@ -16,7 +16,7 @@ use Rattle.ppm_step.specs.Locals.{IsLocal, StandsFor, standing_at, standing_of}
 use Rattle.ppm_step.specs.Stages.{IsStage, IsUnderWay, rest_at}
 use Rattle.ppm_step.specs.Standings.{running, running_if}
 use Rattle.ppm_table.specs.declared.view.Opening.{Opening}
-use Rattle.ppm_table.specs.Run.{stands_by, deeds_in, Mine, IsSeat}
+use Rattle.ppm_table.specs.Run.{Mine, IsSeat}
 use Rattle.ppm_words.specs.declared.event.Event.{Event}
 use Rattle.ppm_stretch.specs.declared.way.EndStep.{EndStep}
 use Rattle.ppm_stretch.specs.declared.way.EndStep.TheVariants.{Stored, Installed, Gone, Refused}
@@ -53,21 +53,6 @@ module _ {W : Type 0} (told : W → Option (List Event)) where
     h.2,
   )
   ended_one k s seat rest a b w0 w1 Refused sits h = h
-
-  -- where the next one comes
-  pub stored_at : (k : Opening) (s : Shape) (seat : Seat) (rest : Rest) (a b : Mine) (w0 w1 : W) (most made : ℕ) (step : EndStep) → true ≡ is_stored step
-      → HasMadeEnds told k s seat rest a b w0 w1 most made step → stands_by k seat.own (deeds_in b.0) ≡ running s seat rest
-  stored_at k s seat rest a b w0 w1 most made Stored e h = h.1
-  stored_at k s seat rest a b w0 w1 most made (Installed restart) e h = absurd cc
-  stored_at k s seat rest a b w0 w1 most made Gone e h = absurd cc
-  stored_at k s seat rest a b w0 w1 most made Refused e h = absurd cc
-
-  pub stored_sits : (k : Opening) (s : Shape) (seat : Seat) (rest : Rest) (a b : Mine) (w0 w1 : W) (most made : ℕ) (step : EndStep) → true ≡ is_stored step
-      → HasMadeEnds told k s seat rest a b w0 w1 most made step → IsSeat seat.own b
-  stored_sits k s seat rest a b w0 w1 most made Stored e h = h.0.goes.sits
-  stored_sits k s seat rest a b w0 w1 most made (Installed restart) e h = absurd cc
-  stored_sits k s seat rest a b w0 w1 most made Gone e h = absurd cc
-  stored_sits k s seat rest a b w0 w1 most made Refused e h = absurd cc
 
   -- where none does, whatever would be left
   pub ended_so : (k : Opening) (s : Shape) (seat : Seat) (left rest : Rest) (a b : Mine) (w0 w1 : W) (n most made : ℕ) (step : EndStep) → false ≡ is_stored step → n ≤ most
@@ -110,11 +95,12 @@ made_few (Installed restart) = omega arith
 made_few Gone = omega arith
 made_few Refused = omega arith
 
--- behind the last store there is none
-pub ended_last : {W : Type 0} (told : W → Option (List Event)) (k : Opening) (s : Shape) (seat : Seat) (left rest : Rest) (a b : Mine) (w0 w1 : W) (most made : ℕ)
-    (step : EndStep) → step ≢ Stored
-    → HasMadeEnds told k s seat left a b w0 w1 most made step → HasMadeEnds told k s seat rest a b w0 w1 most made step
-ended_last told k s seat left rest a b w0 w1 most made Stored last h = absurd (last refl)
-ended_last told k s seat left rest a b w0 w1 most made (Installed restart) last h = h
-ended_last told k s seat left rest a b w0 w1 most made Gone last h = h
-ended_last told k s seat left rest a b w0 w1 most made Refused last h = h
+-- where the next one comes, and where none does
+pub stored_is : (step : EndStep) → true ≡ is_stored step → step ≡ Stored
+stored_is Stored e = refl
+stored_is (Installed restart) e = absurd cc
+stored_is Gone e = absurd cc
+stored_is Refused e = absurd cc
+
+pub not_stored : (step : EndStep) → false ≡ is_stored step → step ≢ Stored
+not_stored step e stored = (let same : false ≡ true = e ∙ ap is_stored stored in absurd cc)

@@ -9,7 +9,7 @@ ghost use Rattle.ppm_stretch.specs.Entering.{HaltsAt};
 ghost use Rattle.ppm_stretch.specs.Framing.{HasFramed, end_in, end_of, is_finish, is_over};
 
 use crate::asking::fill_along;
-use crate::ending::{MOST_OF_AN_END, end_straight, finish_along};
+use crate::ending::{MOST_OF_AN_END, end_along, finish_along};
 use crate::waiting::wait_halted;
 use crate::way::{EndStep, FrameEnd, Framed, Halt, RoundEnd};
 use atomic_table::Seat;
@@ -66,7 +66,18 @@ fn end_or_wait<W: Watch>(
     let _ = code.parts().root;
     if most >= MOST_OF_AN_END {
         if let Some(end) = end_in(halt) {
-            let ended = end_straight(words, sizes, code, mine, watch, seat, home, end);
+            let ended = end_along(
+                words,
+                sizes,
+                code,
+                mine,
+                watch,
+                seat,
+                home,
+                end,
+                0,
+                MOST_OF_AN_END,
+            );
             return match ended.step {
                 EndStep::Installed(restart) => framed(ended.made, FrameEnd::Installed(restart)),
                 EndStep::Gone => {

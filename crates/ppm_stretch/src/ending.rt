@@ -119,139 +119,6 @@ pub(crate) fn end_at<W: Watch>(
     }
 }
 
-/// Makes the n-th store of an end, and counts it.
-#[inline(always)]
-fn one_at<W: Watch>(
-    words: &Words,
-    shape: &Shape,
-    code: &Code,
-    mine: &mut Seat<(), View>,
-    watch: &mut W,
-    place: &Place,
-    home: &Home,
-    end: End,
-    n: usize,
-) -> Ended
-    requires table { IsAtTable mine.old.table_id words.now.shared.table_id words.now.shared.key shape.now }
-    requires sits { IsSeat place.now.own mine.old.me }
-    requires seat { IsPlace shape.now place.now }
-    requires home { IsHome home.now }
-    requires end { IsEnd end }
-    requires n { n < 16 }
-    requires stands { stands_by words.now.shared.key place.now.own (deeds_in mine.old.me.0)
-        ≡ running shape.now place.now (ending code.now home.now end n) }
-    ensures table { mine.new.table_id ≡ mine.old.table_id }
-    ensures few { (result.made ≤ 1) × (result.step ≡ Stored → n + 1 ≤ 11) }
-    ensures ended { HasMadeEnds W.told words.now.shared.key shape.now place.now (ending code.now home.now end (n + 1))
-        mine.old.me mine.new.me watch.old watch.new 1 result.made result.step }
-{
-    let step = end_at(words, shape, code, mine, watch, place, home, end, n);
-    let made = made_by(step);
-    Ended { made, step }
-}
-
-/// Makes two stores of an end, from the n-th on.
-#[inline(always)]
-fn two_at<W: Watch>(
-    words: &Words,
-    shape: &Shape,
-    code: &Code,
-    mine: &mut Seat<(), View>,
-    watch: &mut W,
-    place: &Place,
-    home: &Home,
-    end: End,
-    n: usize,
-) -> Ended
-    requires table { IsAtTable mine.old.table_id words.now.shared.table_id words.now.shared.key shape.now }
-    requires sits { IsSeat place.now.own mine.old.me }
-    requires seat { IsPlace shape.now place.now }
-    requires home { IsHome home.now }
-    requires end { IsEnd end }
-    requires n { n < 16 }
-    requires stands { stands_by words.now.shared.key place.now.own (deeds_in mine.old.me.0)
-        ≡ running shape.now place.now (ending code.now home.now end n) }
-    ensures table { mine.new.table_id ≡ mine.old.table_id }
-    ensures few { (result.made ≤ 2) × (result.step ≡ Stored → n + 2 ≤ 11) }
-    ensures ended { HasMadeEnds W.told words.now.shared.key shape.now place.now (ending code.now home.now end (n + 2))
-        mine.old.me mine.new.me watch.old watch.new 2 result.made result.step }
-{
-    let first = one_at(words, shape, code, mine, watch, place, home, end, n);
-    if !is_stored(first.step) {
-        return first;
-    }
-    let next = one_at(words, shape, code, mine, watch, place, home, end, n + 1);
-    ended_behind(first, next)
-}
-
-/// Makes four stores of an end, from the n-th on.
-#[inline(always)]
-fn four_at<W: Watch>(
-    words: &Words,
-    shape: &Shape,
-    code: &Code,
-    mine: &mut Seat<(), View>,
-    watch: &mut W,
-    place: &Place,
-    home: &Home,
-    end: End,
-    n: usize,
-) -> Ended
-    requires table { IsAtTable mine.old.table_id words.now.shared.table_id words.now.shared.key shape.now }
-    requires sits { IsSeat place.now.own mine.old.me }
-    requires seat { IsPlace shape.now place.now }
-    requires home { IsHome home.now }
-    requires end { IsEnd end }
-    requires n { n < 16 }
-    requires stands { stands_by words.now.shared.key place.now.own (deeds_in mine.old.me.0)
-        ≡ running shape.now place.now (ending code.now home.now end n) }
-    ensures table { mine.new.table_id ≡ mine.old.table_id }
-    ensures few { (result.made ≤ 4) × (result.step ≡ Stored → n + 4 ≤ 11) }
-    ensures ended { HasMadeEnds W.told words.now.shared.key shape.now place.now (ending code.now home.now end (n + 4))
-        mine.old.me mine.new.me watch.old watch.new 4 result.made result.step }
-{
-    let first = two_at(words, shape, code, mine, watch, place, home, end, n);
-    if !is_stored(first.step) {
-        return first;
-    }
-    let next = two_at(words, shape, code, mine, watch, place, home, end, n + 2);
-    ended_behind(first, next)
-}
-
-/// Makes eight stores of an end, from the n-th on.
-#[inline(always)]
-fn eight_at<W: Watch>(
-    words: &Words,
-    shape: &Shape,
-    code: &Code,
-    mine: &mut Seat<(), View>,
-    watch: &mut W,
-    place: &Place,
-    home: &Home,
-    end: End,
-    n: usize,
-) -> Ended
-    requires table { IsAtTable mine.old.table_id words.now.shared.table_id words.now.shared.key shape.now }
-    requires sits { IsSeat place.now.own mine.old.me }
-    requires seat { IsPlace shape.now place.now }
-    requires home { IsHome home.now }
-    requires end { IsEnd end }
-    requires n { n < 16 }
-    requires stands { stands_by words.now.shared.key place.now.own (deeds_in mine.old.me.0)
-        ≡ running shape.now place.now (ending code.now home.now end n) }
-    ensures table { mine.new.table_id ≡ mine.old.table_id }
-    ensures few { (result.made ≤ 8) × (result.step ≡ Stored → n + 8 ≤ 11) }
-    ensures ended { HasMadeEnds W.told words.now.shared.key shape.now place.now (ending code.now home.now end (n + 8))
-        mine.old.me mine.new.me watch.old watch.new 8 result.made result.step }
-{
-    let first = four_at(words, shape, code, mine, watch, place, home, end, n);
-    if !is_stored(first.step) {
-        return first;
-    }
-    let next = four_at(words, shape, code, mine, watch, place, home, end, n + 4);
-    ended_behind(first, next)
-}
-
 /// The steps of a store of an end.
 #[inline(always)]
 fn made_by(step: EndStep) -> u64
@@ -274,24 +141,12 @@ fn is_stored(step: EndStep) -> bool
     }
 }
 
-/// These stores, and those after them.
-#[inline(always)]
-fn ended_behind(first: Ended, next: Ended) -> Ended
-    requires { (first.made ≤ 8) × (next.made ≤ 8) }
-    ensures { result ≡ record { made = first.made + next.made; step = next.step } }
-{
-    Ended {
-        made: first.made + next.made,
-        step: next.step,
-    }
-}
-
 /// So many stores suffice for each end, with that of the restart word.
 pub(crate) const MOST_OF_AN_END: u64 = 16;
 
-/// Makes all stores of an end, as straight code.
-#[inline(always)]
-fn end_along<W: Watch>(
+/// Makes the stores of an end, from the n-th on, at most so many.
+#[inline(never)]
+pub(crate) fn end_along<W: Watch>(
     words: &Words,
     shape: &Shape,
     code: &Code,
@@ -300,6 +155,8 @@ fn end_along<W: Watch>(
     place: &Place,
     home: &Home,
     end: End,
+    from: usize,
+    most: u64,
 ) -> Ended
     requires table { IsAtTable mine.old.table_id words.now.shared.table_id words.now.shared.key shape.now }
     requires sits { IsSeat place.now.own mine.old.me }
@@ -307,78 +164,34 @@ fn end_along<W: Watch>(
     requires home { IsHome home.now }
     requires end { IsEnd end }
     requires stands { stands_by words.now.shared.key place.now.own (deeds_in mine.old.me.0)
-        ≡ running shape.now place.now (ending code.now home.now end 0) }
+        ≡ running shape.now place.now (ending code.now home.now end from) }
     ensures table { mine.new.table_id ≡ mine.old.table_id }
-    ensures few { result.made ≤ 16 }
-    ensures last { result.step ≢ Stored }
-    ensures ended { (rest : Rest) → HasMadeEnds W.told words.now.shared.key shape.now place.now rest
-        mine.old.me mine.new.me watch.old watch.new 16 result.made result.step }
+    ensures few { result.made ≤ most }
+    ensures last { result.step ≡ Stored → (result.made ≡ most) × (0 < most → from + most ≤ 11) }
+    ensures ended { HasMadeEnds W.told words.now.shared.key shape.now place.now (ending code.now home.now end (from + result.made))
+        mine.old.me mine.new.me watch.old watch.new most result.made result.step }
 {
-    let first = eight_at(words, shape, code, mine, watch, place, home, end, 0);
-    if !is_stored(first.step) {
-        return first;
+    // Copies, as in `rounds`.
+    let sizes = *shape;
+    let at = *place;
+    let own = *home;
+    let mut n = from;
+    let mut made = 0;
+    while made < most {
+        let step = end_at(words, &sizes, code, mine, watch, &at, &own, end, n);
+        if !is_stored(step) {
+            let more = made_by(step);
+            return Ended {
+                made: made + more,
+                step,
+            };
+        }
+        n += 1;
+        made += 1;
     }
-    let next = eight_at(words, shape, code, mine, watch, place, home, end, 8);
-    ended_behind(first, next)
-}
-
-/// Makes all stores of an end, each kind by straight code of its own.
-#[inline(always)]
-pub(crate) fn end_straight<W: Watch>(
-    words: &Words,
-    shape: &Shape,
-    code: &Code,
-    mine: &mut Seat<(), View>,
-    watch: &mut W,
-    place: &Place,
-    home: &Home,
-    end: End,
-) -> Ended
-    requires table { IsAtTable mine.old.table_id words.now.shared.table_id words.now.shared.key shape.now }
-    requires sits { IsSeat place.now.own mine.old.me }
-    requires seat { IsPlace shape.now place.now }
-    requires home { IsHome home.now }
-    requires end { IsEnd end }
-    requires stands { stands_by words.now.shared.key place.now.own (deeds_in mine.old.me.0)
-        ≡ running shape.now place.now (ending code.now home.now end 0) }
-    ensures table { mine.new.table_id ≡ mine.old.table_id }
-    ensures few { result.made ≤ 16 }
-    ensures last { result.step ≢ Stored }
-    ensures ended { (rest : Rest) → HasMadeEnds W.told words.now.shared.key shape.now place.now rest
-        mine.old.me mine.new.me watch.old watch.new 16 result.made result.step }
-{
-    match end {
-        End::Call {
-            procedure,
-            capsule,
-            to,
-        } => {
-            let call = End::Call {
-                procedure,
-                capsule,
-                to,
-            };
-            end_along(words, shape, code, mine, watch, place, home, call)
-        }
-        End::Fork {
-            left,
-            right,
-            capsule,
-            left_to,
-            right_to,
-        } => {
-            let fork = End::Fork {
-                left,
-                right,
-                capsule,
-                left_to,
-                right_to,
-            };
-            end_along(words, shape, code, mine, watch, place, home, fork)
-        }
-        End::Next { .. } | End::Finish | End::Trap { .. } => {
-            end_along(words, shape, code, mine, watch, place, home, end)
-        }
+    Ended {
+        made,
+        step: EndStep::Stored,
     }
 }
 

@@ -13,7 +13,7 @@ ghost use Rattle.ppm_stretch.specs.Rows.{Makes, GivesUpIfRefused};
 ghost use Rattle.ppm_stretch.specs.Steady.{looks_behind};
 
 use crate::behind::go_behind;
-use crate::ending::end_at;
+use crate::ending::end_along;
 use crate::entering::round;
 use crate::refusing::withdraw;
 use crate::way::{EndStep, FrameEnd, Framed, Halt, REFUSED, RoundEnd, Steps, looks_behind, row};
@@ -206,30 +206,27 @@ pub(crate) fn ends<W: Watch>(
         restart: under_way.seat.restart,
     };
     let home = under_way.home;
-    // As in `rounds`.
-    let sizes = *shape;
-    let mut n = from;
-    let mut made = 0;
-    while made < most {
-        match end_at(words, &sizes, code, mine, watch, &seat, &home, end, n) {
-            EndStep::Stored => {
-                n += 1;
-                made += 1;
-            }
-            EndStep::Installed(restart) => {
-                wait_at(local, shape, code, seat.place, restart);
-                return row(made + 1, made + 1, 0, false);
-            }
-            EndStep::Gone => {
-                wait_broken(local, shape, code, seat.place);
-                return row(made, made, 0, false);
-            }
-            EndStep::Refused => {
-                withdraw(local, words, mine, shape, code, true);
-                return REFUSED;
-            }
+    let ended = end_along(
+        words, shape, code, mine, watch, &seat, &home, end, from, most,
+    );
+    let made = ended.made;
+    match ended.step {
+        EndStep::Stored => {
+            let n = from + made as usize;
+            wait_ending(local, shape, code, seat, home, under_way.capsule, end, n);
+            row(made, made, 0, false)
+        }
+        EndStep::Installed(restart) => {
+            wait_at(local, shape, code, seat.place, restart);
+            row(made, made, 0, false)
+        }
+        EndStep::Gone => {
+            wait_broken(local, shape, code, seat.place);
+            row(made, made, 0, false)
+        }
+        EndStep::Refused => {
+            withdraw(local, words, mine, shape, code, true);
+            REFUSED
         }
     }
-    wait_ending(local, shape, code, seat, home, under_way.capsule, end, n);
-    row(made, made, 0, false)
 }

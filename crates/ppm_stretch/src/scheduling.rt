@@ -77,7 +77,7 @@ fn work_at<W: Watch>(
 }
 
 /// Makes the row of a restart of work.
-#[inline(always)]
+#[inline(never)]
 fn row_at<W: Watch>(
     memory: &Seated<'_>,
     mine: &mut Seat<(), View>,
@@ -94,7 +94,10 @@ fn row_at<W: Watch>(
     ensures rowed { HasRowed W.told memory.now.words.now.shared.key place.now mine.old.me mine.new.me watch.old watch.new
         result.work result.exchanged result.end }
 {
-    let finish = load_finish(memory.words, &memory.shape, code, mine, watch, place);
+    // Copies, as in `rounds`.
+    let seated = *memory;
+    let at = *place;
+    let finish = load_finish(seated.words, &seated.shape, code, mine, watch, &at);
     if finish.word != 0 {
         if finish.fine {
             return Rowed {
@@ -116,14 +119,14 @@ fn row_at<W: Watch>(
             end: RowEnd::Refused(true),
         };
     }
-    if !restart_there(&memory.shape, place.restart) {
+    if !restart_there(&seated.shape, at.restart) {
         return Rowed {
             work: 0,
             exchanged: false,
             end: RowEnd::Broken,
         };
     }
-    work_at(memory, mine, watch, code, place)
+    work_at(&seated, mine, watch, code, &at)
 }
 
 /// These steps, and then those of a row.
@@ -195,8 +198,8 @@ pub(crate) fn work_along<W: Watch>(
     ensures stands_on { standing_of memory.now.shape code.now local.new ≡ stands_by memory.now.words.now.shared.key local.old.own (deeds_in mine.new.me.0) }
     ensures holds { IsLocal memory.now.shape code.now local.new × (local.new.own ≡ local.old.own) }
 {
-    // As in `rounds`.
-    let seated = *memory;
+    // As in `rounds`. No reference to it goes to a function that isn't inlined.
+    let sizes = memory.shape;
     let own = local.own;
     let place = from.place;
     let mut at = from.restart;
@@ -208,7 +211,7 @@ pub(crate) fn work_along<W: Watch>(
                 place,
                 restart: at,
             };
-            let rowed = row_at(&seated, mine, watch, code, &seat);
+            let rowed = row_at(memory, mine, watch, code, &seat);
             if let RowEnd::Refused(lives) = rowed.end {
                 withdraw(local, memory.words, mine, &memory.shape, code, lives);
                 return REFUSED;
@@ -233,7 +236,7 @@ pub(crate) fn work_along<W: Watch>(
                 mine,
                 watch,
                 &memory.shape,
-                &seated.shape,
+                &sizes,
                 code,
                 widths,
                 place,

@@ -209,7 +209,7 @@ fn sweep_window(
     further(alloc, spot, sweeping, wanted, tally)
 }
 
-/// So it does for one window after another.
+/// Goes through the schedules of a sweep, one window after another.
 fn sweep_windows(
     alloc: Global,
     machine: &Machine,

@@ -23,9 +23,9 @@ pub fn replays_end_by_places()
     ensures law { ReplaysEndByPlaces }
 {}
 
-/// So it is from the words with which fresh processors go on after legs, with more laps: for each
-/// fault that struck a row in a leg before, for what fresh processors do again, and for the tags
-/// that holder words had as they came back.
+/// A replay from the words with which fresh processors go on after legs is over by as many rounds
+/// for each lap, but has more laps: for each fault that struck a row in a leg before, for what
+/// fresh processors do again, and for the tags that holder words had as they came back.
 pub fn legs_replayed_end_by_places()
     ensures law { LegsReplaysEndByPlaces }
 {}

@@ -11,7 +11,7 @@ use crate::sample::Outcome;
 use ppm_strands::{any_order, calm_by_listed_regions};
 
 /// Branches that race are not calm, and a capsule made ahead may then change the end. They are not
-/// calm either where the race stands behind or beside a branch without end, in trees that
+/// calm either where the race stands after or beside a branch without end, in trees that
 /// themselves have none. Branches that keep apart are calm.
 pub fn races_are_not_calm()
     ensures race { RacesAreNotCalm }

@@ -213,7 +213,7 @@ fn trees_run_depth_first(rt: HostRuntime) -> Result<(), Fail> {
             start,
             end(finished, [2, 2, 15, 105], (7, 2, 17)),
         ),
-        // no end; the last two race, behind the branch without end and beside it
+        // no end; the last two race, after the branch without end and beside it
         (SmallTree::Strand(4), start, None),
         (fork(9, 4, 0), start, None),
         (fork(9, 14, 12), start, None),

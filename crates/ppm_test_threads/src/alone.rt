@@ -20,7 +20,7 @@ fn is_among(processors: u32, act: Act) -> bool
 }
 
 /// An act of processor 0, if its victim is there: what is told of it, and whether a victim is due
-/// behind it.
+/// after it.
 fn take_turn(machine: &mut Machine, act: Act) -> Option<(Told, bool)> {
     let processors = machine.processors();
     if processors < 1 || !is_among(processors, act) || machine.turns() > 100_000 {

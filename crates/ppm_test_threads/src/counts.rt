@@ -39,3 +39,17 @@ fn several_count_together(rt: HostRuntime) -> Result<(), Fail> {
     }
     Ok(())
 }
+
+#[test]
+fn who_lives_takes_over_and_steals_nothing(rt: HostRuntime) -> Result<(), Fail> {
+    let alloc = rt.alloc();
+    // Processor 0 dies before its fork, so the other one makes that at the place which it takes over,
+    // and nobody is left who could steal.
+    for faults in ["0@2h", "0@0h", "0@9h,1@0s"] {
+        let counts = counted_run(&rt, alloc, faults, 2)?;
+        assert!(&rt; counts.takeovers == 1 && counts.stolen == 0, "{faults}");
+        assert!(&rt; counts.forks == 1 && counts.takes == 1, "{faults}");
+        assert!(&rt; counts.hard == 1, "{faults}");
+    }
+    Ok(())
+}

@@ -91,7 +91,7 @@ fn stops(pace: &Pace, plan: &Plan, limits: Limits) -> bool {
     matches!(limits.idle, Idle::Leave) && matches!(choose(pace, plan, limits), Choice::Leave)
 }
 
-/// Goes by these events, as a processor that obeys from its first act on: its pace behind them.
+/// Goes by these events, as a processor that obeys from its first act on: its pace after them.
 /// `None` where one of them is not what it is told.
 fn pace_behind(
     shape: &Shape,

@@ -1,4 +1,4 @@
-//! Runs whose watchers refuse nothing: what they are told, and what the words are behind the run.
+//! Runs whose watchers refuse nothing: what they are told, and what the words are after the run.
 use crate::alone::record;
 use crate::obeying::obeys;
 use crate::tables::{

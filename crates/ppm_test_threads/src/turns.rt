@@ -162,7 +162,7 @@ fn soften(shared: &Shared, processor: &mut Processor) -> Option<Event>
     processor.turn(shared, Act::Soft).event
 }
 
-/// What the restart word of the only place is set to; and the fault behind that, and two steps.
+/// What the restart word of the only place is set to; and the fault after that, and two steps.
 fn behind_a_fault(alloc: Global) -> Result<(u32, Option<u64>, [Option<Event>; 3]), Fail> {
     let (shared, mut all) = table_of(alloc, SUM, [1, 2, 3, 4], 1)?;
     let mut only = last_of(&shared, &mut all).ok_or("a processor")?;

@@ -5,10 +5,11 @@ ghost use Rattle.ppm_cli.specs.Words.{AreRun};
 
 use crate::sources::SUM;
 use ppm_answers::Status;
-use ppm_calls::{counter, follow_schedule, record_run, sound_run, take_turns};
+use ppm_calls::{counter, follow_schedule, hear_schedule, record_run, sound_run, take_turns};
 use ppm_case::Case;
 use ppm_cells::{Ending, Finish, Shape, Takeover};
 use ppm_cli::RunOptions;
+use ppm_lines::Mark;
 use ppm_loading::Sizes;
 use ppm_plan::read_schedule;
 use ppm_words::{Idle, Outcome};
@@ -68,6 +69,36 @@ fn a_counter_follows_a_schedule(rt: HostRuntime) -> Result<(), Fail> {
     assert_eq!(rt; followed.ending, Ending::With(Finish::Ended));
     let first = followed.arrays.first().ok_or("an array")?;
     assert!(rt; first.as_slice() == [42].as_slice());
+    Ok(())
+}
+
+#[test]
+fn a_listener_hears_a_schedule(rt: HostRuntime) -> Result<(), Fail> {
+    let alloc = rt.alloc();
+    let case = forty_one(alloc)?;
+    let sizes = Sizes {
+        processors: 2,
+        room: 64,
+        slots: 2,
+        takeover: Takeover::ByPlaces,
+    };
+    let schedule = read_schedule(alloc, b"0*9,0!h", 2).map_err(|_| "no schedule")?;
+    let run = hear_schedule(alloc, sizes, case, &schedule, 1000).map_err(|_| "memory")?;
+    assert_eq!(rt; run.end.ending, Ending::With(Finish::Ended));
+    let mut number = 0u64;
+    for act in &run.acts {
+        assert_eq!(rt; act.number, number);
+        // Processor 0 makes ten acts, and the last of these is its death; the others are made by
+        // processor 1.
+        let own = if number < 10 { 0 } else { 1 };
+        assert_eq!(rt; act.turn.processor, own, "{number}");
+        let dies = act.marks.first == Some(Mark::Hard);
+        assert_eq!(rt; dies, number == 9, "{number}");
+        number = number.saturating_add(1);
+    }
+    // The last one sets the finish word.
+    let last = run.acts.last().ok_or("an act")?;
+    assert_eq!(rt; last.marks.first, Some(Mark::End));
     Ok(())
 }
 

@@ -49,6 +49,7 @@ use Rattle.ppm_strands_command.specs.Strands.{TextHas as StrandsTextHas}
 use Rattle.ppm_sweep_command.specs.Sweeps.{TextHas as SweepTextHas}
 use Rattle.ppm_trace_command.specs.Traces.{TextHas as TraceTextHas}
 use Rattle.ppm_outcomes.specs.Runs.{TextHas as RunTextHas}
+use Rattle.ppm_legs.specs.CountedReplays.{CountedHas as CountedSavedHas}
 use Rattle.ppm_legs.specs.SavedReplays.{ReplayHas as ReplaySavedHas}
 use Rattle.ppm_legs.specs.SavedStops.{StopReads as StopSavedReads}
 use Rattle.ppm_legs.specs.SavedTraces.{TraceHas as TraceSavedHas}
@@ -83,6 +84,8 @@ memory_before (Some (commands.Resume options plan)) o h =
 memory_before (Some (commands.Stop options schedule)) o h =
     planned.memory_before schedule_form schedule options.processors (StopTextReads options) text_limit o.source h
 memory_before (Some (commands.ReplaySaved options schedule)) o h = judged.memory_before saved_limit (ReplaySavedHas options schedule) o.source h
+memory_before (Some (commands.CountedReplaySaved options schedule)) o h =
+    judged.memory_before saved_limit (CountedSavedHas options schedule) o.source h
 memory_before (Some (commands.StopSaved options schedule)) o h = judged.memory_before saved_limit (StopSavedReads options schedule) o.source h
 memory_before (Some (commands.TraceSaved options schedule)) o h = judged.memory_before saved_limit (TraceSavedHas options schedule) o.source h
 memory_before (Some (commands.RunCase options plan)) o h =
@@ -154,6 +157,7 @@ told_nothing (Some (commands.Replay options schedule)) o answer lists = refl
 told_nothing (Some (commands.Resume options plan)) o answer lists = untold_source options plan o.source answer lists
 told_nothing (Some (commands.Stop options schedule)) o answer lists = refl
 told_nothing (Some (commands.ReplaySaved options schedule)) o answer lists = refl
+told_nothing (Some (commands.CountedReplaySaved options schedule)) o answer lists = refl
 told_nothing (Some (commands.StopSaved options schedule)) o answer lists = refl
 told_nothing (Some (commands.TraceSaved options schedule)) o answer lists = refl
 told_nothing (Some (commands.RunCase options plan)) o answer lists = untold options.processors _ _ answer lists

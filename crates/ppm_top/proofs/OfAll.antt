@@ -63,6 +63,7 @@ use Rattle.ppm_strands_command.specs.Drawn.{DrawnHas}
 use Rattle.ppm_strands_command.specs.Strands.{TextHas as StrandsTextHas}
 use Rattle.ppm_sweep_command.specs.Sweeps.{TextHas as SweepTextHas}
 use Rattle.ppm_trace_command.specs.Traces.{TextHas as TraceTextHas}
+use Rattle.ppm_legs.specs.CountedReplays.{CountedHas as CountedSavedHas}
 use Rattle.ppm_legs.specs.SavedReplays.{ReplayHas as ReplaySavedHas}
 use Rattle.ppm_legs.specs.SavedStops.{StopReads as StopSavedReads}
 use Rattle.ppm_legs.specs.SavedTraces.{TraceHas as TraceSavedHas}
@@ -175,6 +176,7 @@ command_reports o (Some (commands.Resume options plan)) = judging_reports saved_
 command_reports o (Some (commands.Stop options schedule)) =
     planned_reports schedule_form schedule options.processors (StopTextReads options) text_limit o
 command_reports o (Some (commands.ReplaySaved options schedule)) = judging_reports saved_limit (ReplaySavedHas options schedule) o
+command_reports o (Some (commands.CountedReplaySaved options schedule)) = judging_reports saved_limit (CountedSavedHas options schedule) o
 command_reports o (Some (commands.StopSaved options schedule)) = judging_reports saved_limit (StopSavedReads options schedule) o
 command_reports o (Some (commands.TraceSaved options schedule)) = judging_reports saved_limit (TraceSavedHas options schedule) o
 command_reports o (Some (commands.Example options)) = example_reports options o
@@ -280,6 +282,7 @@ program_rows laws words o status a = record {
   stop_case = of_cases.stops_case laws words o status a;
   stop_saved = of_legs.stops_saved laws words o status a;
   replay_saved = of_legs.replays_saved laws words o status a;
+  counted_saved = of_legs.counts_saved laws words o status a;
   trace_saved = of_legs.traces_saved laws words o status a;
   example = λ options e.
       let range = is_in_range words (commands.Example options) e in

@@ -12,17 +12,19 @@ use Rattle.ppm_cli.specs.declared.stop.StopSavedOptions.{StopSavedOptions}
 use Rattle.ppm_cli.specs.declared.trace.TraceSavedOptions.{TraceSavedOptions}
 use Rattle.ppm_cli.specs.Words.{command_of}
 use Rattle.ppm_cli.proofs.RangeLemmas.{is_in_range}
+use Rattle.ppm_legs.specs.CountedReplayRows.{CountedSays}
 use Rattle.ppm_legs.specs.SavedReplayRows.{ReplaySays}
 use Rattle.ppm_legs.specs.SavedTexts.{RefusesSchedule}
 use Rattle.ppm_legs.specs.SavedStopRows.{StopSays}
 use Rattle.ppm_legs.specs.SavedTraceRows.{TraceSays}
+use Rattle.ppm_legs.proofs.OfCountedLeg.{counted_rows}
 use Rattle.ppm_legs.proofs.OfSavedReplay.{replay_rows}
 use Rattle.ppm_legs.proofs.OfSavedStop.{stop_rows}
 use Rattle.ppm_legs.proofs.OfSavedTrace.{trace_rows}
 use Rattle.ppm_top.specs.Causes.{CommandMay, CommandTells, IsAnswered}
 use Rattle.ppm_top.specs.Laws.{ProgramLaws}
-use Rattle.ppm_top.specs.Rows.{ReplaysSavedByWords, StopsSavedByWords, TracesSavedByWords}
-use Rattle.ppm_top.proofs.SavedEndLemmas.{saved_replay_ends}
+use Rattle.ppm_top.specs.Rows.{CountsSavedByWords, ReplaysSavedByWords, StopsSavedByWords, TracesSavedByWords}
+use Rattle.ppm_top.proofs.SavedEndLemmas.{counted_saved_replay_ends, saved_replay_ends}
 
 module _ (laws : ProgramLaws) (words : List (List ℕ)) (o : Outside) (status : Status) (a : IsAnswered words o status) where
   -- what was delivered of the command that the words give
@@ -59,6 +61,20 @@ module _ (laws : ProgramLaws) (words : List (List ℕ)) (o : Outside) (status : 
       → status ≡ statuses.WordsRefused → RefusesSchedule schedule (ports_of o)
   replay_refused options schedule e refused =
       subst (ReplaySays options schedule (ports_of o)) refused (replays_saved options schedule e).1.rows.says
+
+  -- where its counts are told
+  pub counts_saved : CountsSavedByWords words o status
+  counts_saved options schedule e = (
+    is_in_range words (commands.CountedReplaySaved options schedule) e,
+    counted_rows laws.resumes options schedule (ports_of o) status (delivered (commands.CountedReplaySaved options schedule) e) laws.counted_saved,
+    counted_saved_replay_ends laws.unfinished_saved options schedule (ports_of o) status,
+  )
+
+  -- status 3 comes of its schedule alone
+  pub counted_refused : (options : ReplaySavedOptions) (schedule : List ℕ) → command_of words ≡ Some (commands.CountedReplaySaved options schedule)
+      → status ≡ statuses.WordsRefused → RefusesSchedule schedule (ports_of o)
+  counted_refused options schedule e refused =
+      subst (CountedSays options schedule (ports_of o)) refused (counts_saved options schedule e).1.rows.says
 
   -- of a trace
   pub traces_saved : TracesSavedByWords words o status

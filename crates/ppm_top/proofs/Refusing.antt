@@ -62,6 +62,8 @@ no_command (Some (commands.RunCase options plan)) o answer h e = inr (ByPlan (co
 no_command (Some (commands.Resume options plan)) o answer h e = inr (IsResume options plan refl)
 no_command (Some (commands.Strands options schedule)) o answer h e = inr (IsStrands options schedule refl)
 no_command (Some (commands.ReplaySaved options schedule)) o answer h e = inr (BySaved (commands.ReplaySaved options schedule) schedule refl refl)
+no_command (Some (commands.CountedReplaySaved options schedule)) o answer h e =
+    inr (BySaved (commands.CountedReplaySaved options schedule) schedule refl refl)
 no_command (Some (commands.StopSaved options schedule)) o answer h e = inr (BySaved (commands.StopSaved options schedule) schedule refl refl)
 no_command (Some (commands.TraceSaved options schedule)) o answer h e = inr (BySaved (commands.TraceSaved options schedule) schedule refl refl)
 no_command (Some (commands.Replay options schedule)) o answer h e = inr (BySchedule (commands.Replay options schedule) _ refl refl)
@@ -219,6 +221,8 @@ module _ (laws : ProgramLaws) (words : List (List ℕ)) (o : Outside) (status : 
         subst (λ (x : List ℕ). RefusesSchedule x (ports_of o)) (same_bytes is) (of_legs.stop_refused laws words o status a options given c refused)
     saved_refused (commands.ReplaySaved options given) schedule c is =
         subst (λ (x : List ℕ). RefusesSchedule x (ports_of o)) (same_bytes is) (of_legs.replay_refused laws words o status a options given c refused)
+    saved_refused (commands.CountedReplaySaved options given) schedule c is =
+        subst (λ (x : List ℕ). RefusesSchedule x (ports_of o)) (same_bytes is) (of_legs.counted_refused laws words o status a options given c refused)
     saved_refused (commands.TraceSaved options given) schedule c is =
         subst (λ (x : List ℕ). RefusesSchedule x (ports_of o)) (same_bytes is) (of_legs.trace_refused laws words o status a options given c refused)
     saved_refused command schedule c is = cc

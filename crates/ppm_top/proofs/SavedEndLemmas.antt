@@ -49,7 +49,7 @@ use Rattle.ppm_outcomes.proofs.EndLemmas.{keeper_opened}
 use Rattle.ppm_outcomes.proofs.ResumeLemmas.{saved_or_none}
 use Rattle.ppm_replay_command.proofs.ActsAmong.{acts_among}
 use Rattle.ppm_legs.specs.SavedReplays.{HasCause, Unended, Proposed, Stood, IsLasting}
-use Rattle.ppm_top.specs.SavedReplayEnds.{UnfinishedSavedNeedMore, SavedReplayEnds}
+use Rattle.ppm_top.specs.SavedReplayEnds.{UnfinishedSavedNeedMore, SavedReplayEnds, CountedSavedReplayEnds}
 
 -- numbers of legs are low
 split : (p d n : ℕ) → (p + 1) * n + d * n ≡ (p + d + 1) * n
@@ -182,4 +182,13 @@ pub saved_replay_ends : UnfinishedSavedNeedMore → (options : ReplaySavedOption
 saved_replay_ends more options schedule o status = record {
   unfinished = λ w code input may left.
       more options schedule w.read.2.has.items w.read.2.state w.read.2.has.accepted options.turns w.read.2.has.has code input may left;
+}
+
+-- where its counts are told, too
+pub counted_saved_replay_ends : UnfinishedSavedNeedMore → (options : ReplaySavedOptions) (schedule : List ℕ) (o : Ports) (status : Status)
+    → CountedSavedReplayEnds options schedule o status
+counted_saved_replay_ends more options schedule o status = record {
+  unfinished = λ w code input may left.
+      let read = w.replays.read in
+      more options schedule read.2.has.items read.2.state read.2.has.accepted options.turns read.2.has.has.has code input may left;
 }

@@ -39,6 +39,7 @@ use Rattle.ppm_strands_command.specs.Drawn.{DrawnMay}
 use Rattle.ppm_strands_command.specs.Strands.{StrandsMay}
 use Rattle.ppm_sweep_command.specs.Sweeps.{SweepMay}
 use Rattle.ppm_trace_command.specs.Traces.{TraceMay}
+use Rattle.ppm_legs.specs.CountedReplays.{CountedMay as CountedReplaySavedMay}
 use Rattle.ppm_legs.specs.SavedReplays.{ReplayMay as ReplaySavedMay}
 use Rattle.ppm_legs.specs.SavedStops.{StopMay as StopSavedMay}
 use Rattle.ppm_legs.specs.SavedTraces.{TraceMay as TraceSavedMay}
@@ -76,6 +77,7 @@ CommandMay (Some (commands.RunCase options plan)) o answer = RunCaseMay options 
 CommandMay (Some (commands.ReplayCase options schedule)) o answer = ReplayCaseMay options schedule o.source answer
 CommandMay (Some (commands.CountedReplay options schedule)) o answer = CountedMay options schedule o.source answer
 CommandMay (Some (commands.CountedReplayCase options schedule)) o answer = CountedCaseMay options schedule o.source answer
+CommandMay (Some (commands.CountedReplaySaved options schedule)) o answer = CountedReplaySavedMay options schedule o.source answer
 CommandMay (Some (commands.CountedRun options plan)) o answer = CountedRunMay options plan o.source answer
 CommandMay (Some (commands.CountedRunCase options plan)) o answer = CountedRunCaseMay options plan o.source answer
 CommandMay (Some (commands.CountedResume options plan)) o answer = CountedResumeMay options plan o.source answer
@@ -115,6 +117,7 @@ CommandTells (Some (commands.RunCase options plan)) o = RunCaseTells options opt
 CommandTells (Some (commands.ReplayCase options schedule)) o = TellsNothing
 CommandTells (Some (commands.CountedReplay options schedule)) o = TellsNothing
 CommandTells (Some (commands.CountedReplayCase options schedule)) o = TellsNothing
+CommandTells (Some (commands.CountedReplaySaved options schedule)) o = TellsNothing
 CommandTells (Some (commands.CountedRun options plan)) o = TellsNothing
 CommandTells (Some (commands.CountedRunCase options plan)) o = TellsNothing
 CommandTells (Some (commands.CountedResume options plan)) o = TellsNothing

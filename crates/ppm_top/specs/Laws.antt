@@ -42,6 +42,7 @@ use Rattle.ppm_sweep_command.specs.SweepRows.{SweepsAreAsCode}
 use Rattle.ppm_sweep_command.specs.Sweeps.{HaveOneAnswer as SweepsHaveOneAnswer}
 use Rattle.ppm_trace_command.specs.Traces.{HaveOneAnswer as TracesHaveOneAnswer}
 use Rattle.ppm_legs.specs.Chains.{StopsBeginChains, StopsGoOnChains}
+use Rattle.ppm_legs.specs.CountedReplays.{HaveOneAnswer as CountedSavedReplaysHaveOneAnswer}
 use Rattle.ppm_legs.specs.SavedReplays.{HaveOneAnswer as SavedReplaysHaveOneAnswer}
 use Rattle.ppm_legs.specs.SavedStops.{HaveOneAnswer as SavedStopsHaveOneAnswer}
 use Rattle.ppm_legs.specs.SavedTraces.{HaveOneAnswer as SavedTracesHaveOneAnswer}
@@ -83,6 +84,7 @@ pub record ProgramLaws : Type 0 where
   pub stops : StopsHaveOneAnswer
   pub saved_stops : SavedStopsHaveOneAnswer
   pub saved_replays : SavedReplaysHaveOneAnswer
+  pub counted_saved : CountedSavedReplaysHaveOneAnswer
   pub saved_traces : SavedTracesHaveOneAnswer
   pub begin_chains : StopsBeginChains
   pub chains : StopsGoOnChains

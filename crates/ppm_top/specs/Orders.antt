@@ -35,5 +35,6 @@ schedule_of _ = None
 abbrev pub saved_schedule_of : Command → Option (List ℕ)
 saved_schedule_of (commands.StopSaved options schedule) = Some schedule
 saved_schedule_of (commands.ReplaySaved options schedule) = Some schedule
+saved_schedule_of (commands.CountedReplaySaved options schedule) = Some schedule
 saved_schedule_of (commands.TraceSaved options schedule) = Some schedule
 saved_schedule_of _ = None

@@ -64,6 +64,7 @@ use Rattle.ppm_strands_command.specs.DrawnRows.{DrawnRows}
 use Rattle.ppm_strands_command.specs.StrandsRows.{StrandsRows}
 use Rattle.ppm_sweep_command.specs.SweepRows.{SweepRows}
 use Rattle.ppm_trace_command.specs.TraceRows.{TraceRows}
+use Rattle.ppm_legs.specs.CountedReplayRows.{CountedSavedRows}
 use Rattle.ppm_legs.specs.SavedReplayRows.{SavedReplayRows}
 use Rattle.ppm_legs.specs.SavedTexts.{RefusesSchedule}
 use Rattle.ppm_legs.specs.SavedStopRows.{SavedStopRows}
@@ -71,7 +72,7 @@ use Rattle.ppm_legs.specs.SavedTraceRows.{SavedTraceRows}
 use Rattle.ppm_plan.specs.Forms.{plan_form, schedule_form}
 use Rattle.ppm_plan.specs.Strands.{strand_form}
 use Rattle.ppm_top.specs.Orders.{Orders, plan_of, saved_schedule_of, schedule_of}
-use Rattle.ppm_top.specs.SavedReplayEnds.{SavedReplayEnds}
+use Rattle.ppm_top.specs.SavedReplayEnds.{CountedSavedReplayEnds, SavedReplayEnds}
 
 -- the rows of `run` hold where the words ask for a run, with these options, which are in their ranges, and this plan
 abbrev pub RunsByWords : List (List ℕ) → Outside → Status → Type 0
@@ -250,6 +251,12 @@ abbrev pub ReplaysSavedByWords : List (List ℕ) → Outside → Status → Type
 ReplaysSavedByWords words o status = (options : ReplaySavedOptions) (schedule : List ℕ) → command_of words ≡ Some (commands.ReplaySaved options schedule)
     → AreSavedReplayed options × SavedReplayRows options schedule (ports_of o) status × SavedReplayEnds options schedule (ports_of o) status
 
+-- and those of such a `replay` where they ask for its counts too
+abbrev pub CountsSavedByWords : List (List ℕ) → Outside → Status → Type 0
+CountsSavedByWords words o status =
+    (options : ReplaySavedOptions) (schedule : List ℕ) → command_of words ≡ Some (commands.CountedReplaySaved options schedule)
+    → AreSavedReplayed options × CountedSavedRows options schedule (ports_of o) status × CountedSavedReplayEnds options schedule (ports_of o) status
+
 -- those of `trace` of a saved text where they ask for that, with these options, which are in their ranges, and this schedule
 abbrev pub TracesSavedByWords : List (List ℕ) → Outside → Status → Type 0
 TracesSavedByWords words o status = (options : TraceSavedOptions) (schedule : List ℕ) → command_of words ≡ Some (commands.TraceSaved options schedule) →
@@ -332,6 +339,7 @@ pub record ProgramRows (words : List (List ℕ)) (o : Outside) (status : Status)
   pub stop_case : StopsCaseByWords words o status
   pub stop_saved : StopsSavedByWords words o status
   pub replay_saved : ReplaysSavedByWords words o status
+  pub counted_saved : CountsSavedByWords words o status
   pub trace_saved : TracesSavedByWords words o status
   pub example : SumsByWords words o status
   pub words_refused : RefusesWords words o status

@@ -18,6 +18,7 @@ use Rattle.ppm_outcomes.specs.AsCode.{MayRun}
 use Rattle.ppm_outcomes.specs.CodeResumes.{IsLeftByCode}
 use Rattle.ppm_outcomes.specs.Legs.{struck_in_all}
 use Rattle.ppm_outcomes.specs.Resumes.{SavedState}
+use Rattle.ppm_legs.specs.CountedReplayRows.{WritesUnfinished as WritesCountedUnfinished}
 use Rattle.ppm_legs.specs.SavedReplayRows.{WritesUnfinished}
 use Rattle.ppm_legs.specs.SavedReplays.{StateReplays}
 
@@ -40,3 +41,8 @@ UnfinishedSavedNeedMore = (options : ReplaySavedOptions) (schedule : List ℕ) (
 pub record SavedReplayEnds (options : ReplaySavedOptions) (schedule : List ℕ) (o : Ports) (status : Status) : Type 0 where
   pub unfinished : (w : WritesUnfinished options schedule o) → (code : CodeParts) (input : List NamedArray) → MayRun code input
       → (left : IsLeftByCode code input w.read.2.state) → NeedsMoreActsInAll options w.read.2.has.items left
+
+-- and those where its counts are told
+pub record CountedSavedReplayEnds (options : ReplaySavedOptions) (schedule : List ℕ) (o : Ports) (status : Status) : Type 0 where
+  pub unfinished : (w : WritesCountedUnfinished options schedule o) → (code : CodeParts) (input : List NamedArray) → MayRun code input
+      → (left : IsLeftByCode code input w.replays.read.2.state) → NeedsMoreActsInAll options w.replays.read.2.has.items left

@@ -18,8 +18,8 @@ use ppm_explained::{
     traps_have_one_answer,
 };
 use ppm_legs::{
-    saved_replays_have_one_answer, saved_stops_have_one_answer, saved_traces_have_one_answer,
-    stops_go_on_chains,
+    counted_saved_replays_have_one_answer, saved_replays_have_one_answer,
+    saved_stops_have_one_answer, saved_traces_have_one_answer, stops_go_on_chains,
 };
 use ppm_opening::images_begin_the_depth_first_run;
 use ppm_outcomes::{programs_are_as_code, replays_are_as_code, resume_laws, runs_are_as_programs};
@@ -72,6 +72,7 @@ pub fn program_laws()
     stops_have_one_answer();
     saved_stops_have_one_answer();
     saved_replays_have_one_answer();
+    counted_saved_replays_have_one_answer();
     saved_traces_have_one_answer();
     stops_go_on_chains();
     answers_are_as_code();

@@ -19,7 +19,9 @@ use ppm_driver::{
     self_command,
 };
 use ppm_explained::{explain_command, explain_orders_command, explain_trap_command};
-use ppm_legs::{replay_saved_command, stop_saved_command, trace_saved_command};
+use ppm_legs::{
+    counted_replay_saved_command, replay_saved_command, stop_saved_command, trace_saved_command,
+};
 use ppm_ports::{Sink, Source, Watch};
 use ppm_replay_command::{
     counted_replay_case_command, counted_replay_command, replay_case_command, replay_command,
@@ -231,6 +233,14 @@ fn answer_words<R: Threads + Wait + Sync, S: Source, K: Sink, E: Sink, W: Watch>
             alloc,
             options,
             leg_acts.as_slice(),
+            source,
+            out,
+            err,
+        ),
+        Ok(Some(Command::CountedReplaySaved(options, leg_counted))) => counted_replay_saved_command(
+            alloc,
+            options,
+            leg_counted.as_slice(),
             source,
             out,
             err,

@@ -1,4 +1,4 @@
--- One act: it is told, and then made.
+-- One act: it is heard, and then made.
 use Rattle.std.proofs.Common.{◌≡◌, ◌∙◌, ◌==◌, ℕ, ◌+◌, ◌-◌, ◌<◌, ◌≤◌, Bool, true, false, not}
 use Rattle.std.proofs.Common.{◌&&◌, nat_lt, if◌then◌else◌, [], ◌∷◌, ◌++◌, None, ap, arith, refl, subst, sym}
 use Rattle.ppm_choice.specs.Course.{InRound, Listed, behind_act, behind_all, is_made, loads_behind, processor_of, turn_of, turns_of}
@@ -8,15 +8,12 @@ use Rattle.ppm_core.proofs.RunLemmas.{run_none, run_step}
 use Rattle.ppm_following.proofs.ReadyLemmas.{ready_behind}
 use Rattle.ppm_following.specs.Following.{course, Does}
 use Rattle.ppm_following.specs.declared.following.Way.{Way}
-use Rattle.ppm_naming.specs.declared.names.Names.{Names}
 use Rattle.ppm_plan.specs.declared.schedule_item.ScheduledAct.{ScheduledAct}
 use Rattle.ppm_plan.specs.declared.schedule_item.ScheduledAct.TheVariants as scheduled
 use Rattle.ppm_step.specs.State.{happens, stand_of}
 use Rattle.ppm_step.specs.declared.turn.Turn.{Turn}
-use Rattle.ppm_trace.specs.Counts.{total}
-use Rattle.ppm_trace.specs.Telling.{telling, HasTold, IsTelling, Telling, Tells}
-use Rattle.ppm_trace.specs.declared.tale.Tale.{Tale}
-use Rattle.ppm_trace.specs.declared.tale.Excerpt.{Excerpt}
+use Rattle.ppm_trace.proofs.HearingLemmas.{Heard}
+use Rattle.ppm_trace.specs.Hearing.{hearing, Hearing, Hears, IsHearing}
 
 -- a test that holds, and one that fails
 both_hold : (a b : Bool) → a ≡ true → b ≡ false → (a && true && not b) ≡ true
@@ -52,26 +49,23 @@ module _ (m : Situation) (way : Way) (act : ScheduledAct) (turn : Turn) (some : 
       course_path : course m' (record { loads = v.loads; left = v.left - 1 }) ≡ behind_act m.shape m.code (course m way) act
       course_path = λ i. record { state = state_path i; loads = loads i; left = ap (λ n. n - 1) left i }
 
-  -- it is told as it is made
-  pub tells_one : (names : Names) (excerpt : Excerpt) (m' : Situation) (v : Way) (a b : Tale)
-      → v.loads ≡ loads_behind (course m way) act → v.left ≡ way.left → m' ≡ turned m turn → HasTold names excerpt m (turn ∷ []) a b
-      → Tells names excerpt (Listed act ∷ []) (telling m way a) (telling m' (record { loads = v.loads; left = v.left - 1 }) b)
-  tells_one names excerpt m' v a b loads left is told = record {
+  -- it is heard as it is made
+  pub hears_one : {Notes : Type 0} (heard : Heard Notes) (m' : Situation) (v : Way) (a b : Notes)
+      → v.loads ≡ loads_behind (course m way) act → v.left ≡ way.left → m' ≡ turned m turn → heard m (turn ∷ []) a b
+      → Hears heard (Listed act ∷ []) (hearing m way a) (hearing m' (record { loads = v.loads; left = v.left - 1 }) b)
+  hears_one heard m' v a b loads left is told = record {
     does = does_one m' v loads left is;
-    told = subst (λ turns. HasTold names excerpt m turns a b) (sym turns_one) told;
+    hears = subst (λ turns. heard m turns a b) (sym turns_one) told;
   }
 
--- there is room for what it counts
-pub may_count : (m : Situation) (way : Way) (a : Tale) → IsTelling (telling m way a) → 0 < way.left
-    → total a.counts + 3 < 18446744073709551616
-may_count m way a is some = omega (arith, is.few, is.ready.turns, some)
-
-pub counts_on : {m m' : Situation} {way v : Way} {a b : Tale} (act : ScheduledAct) (turn : Turn) → IsTelling (telling m way a) → 0 < way.left
-    → v.loads ≡ loads_behind (course m way) act → v.left ≡ way.left → m' ≡ turned m turn → total b.counts ≤ total a.counts + 3
-    → IsTelling (telling m' (record { loads = v.loads; left = v.left - 1 }) b)
-counts_on {m} {m'} {way} {v} {a} {b} act turn is some loads left same bound = record {
+-- the listener can go on after it
+pub listens_on : {Notes : Type 0} (listens : Situation → Notes → Type 0) {m m' : Situation} {way v : Way} {a : Notes} (b : Notes) (act : ScheduledAct)
+    (turn : Turn) → IsHearing listens (hearing m way a) → 0 < way.left
+    → v.loads ≡ loads_behind (course m way) act → v.left ≡ way.left → m' ≡ turned m turn → listens (turned m turn) b
+    → IsHearing listens (hearing m' (record { loads = v.loads; left = v.left - 1 }) b)
+listens_on listens b act turn is some loads left same can = record {
   ready = ready_behind act turn is.ready some loads left same;
-  few = omega (arith, is.few, bound, ap (λ k. k.turns) same);
+  can = subst (λ (k : Situation). listens k b) (sym same) can;
 }
 
 -- the step of a processor after the list is as one of the list, while the finish word says nothing
@@ -82,9 +76,9 @@ module _ (processor : ℕ) (m : Situation) (way : Way) (none : finish_in m ≡ 0
   as_listed : is_made m.shape m.code (course m way) (InRound processor) ≡ is_made m.shape m.code (course m way) (Listed act)
   as_listed = ap (λ word. nat_lt 0 way.left && (word == 0) && not (is_done_at (stand_of m.state processor))) none
 
-  pub in_round : (names : Names) (excerpt : Excerpt) (a : Tale) (new : Telling) → Tells names excerpt (Listed act ∷ []) (telling m way a) new
-      → Tells names excerpt (InRound processor ∷ []) (telling m way a) new
-  in_round names excerpt a new d =
+  pub in_round : {Notes : Type 0} (heard : Heard Notes) (a : Notes) (new : Hearing Notes) → Hears heard (Listed act ∷ []) (hearing m way a) new
+      → Hears heard (InRound processor ∷ []) (hearing m way a) new
+  in_round heard a new d =
       let w = course m way in
       let turns : turns_of m.shape m.code w (InRound processor ∷ []) ≡ turns_of m.shape m.code w (Listed act ∷ [])
       = ap (λ b. (if b then turn_of m.shape.processors w act ∷ [] else []) ++ []) as_listed in
@@ -95,5 +89,5 @@ module _ (processor : ℕ) (m : Situation) (way : Way) (none : finish_in m ≡ 0
           machine = d.does.machine ∙ ap (run_on m) (sym turns);
           course_is = d.does.course_is ∙ sym course_after;
         };
-        told = subst (λ ts. HasTold names excerpt m ts a new.tale) (sym turns) d.told;
+        hears = subst (λ ts. heard m ts a new.notes) (sym turns) d.hears;
       }

@@ -1,10 +1,9 @@
 -- A picture of the whole run.
-use Rattle.std.proofs.Common.{◌≡◌, ◌∙◌, Bool, true, false, if◌then◌else◌, List, [], ◌∷◌, ◌++◌, ℕ, ◌+◌, ◌≤◌, ◌^◌, length, replicate, ap, arith, Some}
+use Rattle.std.proofs.Common.{◌≡◌, ◌∙◌, Bool, true, false, if◌then◌else◌, List, [], ◌∷◌, ◌++◌, ℕ, ◌+◌, ◌≤◌, ◌^◌, length, ap, arith, Some}
 use Rattle.std.proofs.lemmas.List.{length-append}
 use Rattle.ppm_choice.proofs.SkipLemmas.{makes_no_more}
-use Rattle.ppm_choice.specs.Schedules.{dues_of, schedule_turns}
+use Rattle.ppm_choice.specs.Schedules.{schedule_turns}
 use Rattle.ppm_core.specs.Situation.{Situation, finish_in, run_on, turned}
-use Rattle.ppm_following.specs.declared.following.Way.{Way}
 use Rattle.ppm_lines.specs.Line.{scene_of}
 use Rattle.ppm_lines.specs.Scene.{Scene}
 use Rattle.ppm_naming.specs.declared.names.Names.{Names}
@@ -15,10 +14,9 @@ use Rattle.ppm_step.specs.Locals.{standing_of}
 use Rattle.ppm_step.specs.Standings.{Standing}
 use Rattle.ppm_step.specs.declared.local.Local.{Local}
 use Rattle.ppm_step.specs.declared.turn.Turn.{Turn}
-use Rattle.ppm_trace.proofs.TellingLemmas.{shape_stays, whole}
 use Rattle.ppm_trace.specs.Counts.{no_counts}
 use Rattle.ppm_trace.specs.Picture.{canvas_of, picture_text, told_dead, told_drawn, trace_picture}
-use Rattle.ppm_trace.specs.Telling.{telling, Telling, Tells}
+use Rattle.ppm_trace.specs.Telling.{HasTold}
 use Rattle.ppm_trace.specs.Trace.{along_turns, counts_along, is_told}
 use Rattle.ppm_lines.specs.declared.form.Form.TheVariants.{Picture}
 use Rattle.ppm_trace.specs.declared.tale.Excerpt.{Excerpt}
@@ -59,39 +57,35 @@ module _ (names : Names) (from : ℕ) where
   abbrev pub pictures : Excerpt
   pictures = record { form = Some Picture; from = from }
 
-  module _ (m n : Situation) (way u : Way) (a b : Tale) (given items : List ScheduleItem) (turns : ℕ) (same : given ≡ items)
-      (first : way ≡ record { loads = replicate 64 0; left = turns }) (no_strokes : a.strokes.items ≡ [])
-      (tells : Tells names pictures (dues_of m.shape.processors given way.left) (telling m way a) (telling n u b)) where
+  module _ (m : Situation) (a b : Tale) (items : List ScheduleItem) (acts : ℕ) (no_strokes : a.strokes.items ≡ [])
+      (told : HasTold names pictures m (schedule_turns m.shape m.code m.state items acts) a b) where
     abbrev all : List Turn
-    all = schedule_turns m.shape m.code m.state items turns
+    all = schedule_turns m.shape m.code m.state items acts
 
     strokes_are : b.strokes.items ≡ along_turns (told_drawn names from) m all
-    strokes_are =
-        let d = whole names pictures m n way u a b given items turns same first tells in
-        d.told.strokes ∙ ap (λ front. front ++ along_turns (told_drawn names from) m all) no_strokes
+    strokes_are = told.strokes ∙ ap (λ front. front ++ along_turns (told_drawn names from) m all) no_strokes
 
     -- no more is shown than acts are made
-    pub strokes_few : length b.strokes.items ≤ turns
+    pub strokes_few : length b.strokes.items ≤ acts
     strokes_few =
-        let made : length all ≤ turns = makes_no_more m.shape m.code m.state items turns in
+        let made : length all ≤ acts = makes_no_more m.shape m.code m.state items acts in
         omega (arith, ap length strokes_are, drawn_few m all, made)
 
     -- the picture of what was told is that of the run
-    pub pictures_are : (text : List ℕ) → a.text.items ≡ [] → a.counts ≡ no_counts
+    pub pictures_are : (n : Situation) (text : List ℕ) → a.text.items ≡ [] → a.counts ≡ no_counts → n ≡ run_on m all
         → text ≡ picture_text names n.shape (canvas_of n.shape.processors from (length b.strokes.items)) b.strokes.items b.text.items b.counts (finish_in n)
         → text ≡ trace_picture names from m all
-    pictures_are text no_text zero is =
-        let d = whole names pictures m n way u a b given items turns same first tells in
+    pictures_are n text no_text zero made is =
         let dead = along_turns (told_dead from) m all in
         let drawn = along_turns (told_drawn names from) m all in
         let s = m.shape in
         is
         ∙ ap (λ s. picture_text names s (canvas_of s.processors from (length b.strokes.items)) b.strokes.items b.text.items b.counts (finish_in n))
-        (shape_stays names pictures tells)
+        (ap (λ (k : Situation). k.shape) made)
         ∙ ap (λ k. picture_text names s (canvas_of s.processors from (length k)) k b.text.items b.counts (finish_in n)) strokes_are
         ∙ ap (λ k. picture_text names s (canvas_of s.processors from (length drawn)) drawn k b.counts (finish_in n))
-        (d.told.text ∙ ap (λ front. front ++ dead) no_text)
+        (told.text ∙ ap (λ front. front ++ dead) no_text)
         ∙ ap (λ c. picture_text names s (canvas_of s.processors from (length drawn)) drawn dead c (finish_in n))
-        (d.told.counts ∙ ap (λ c. counts_along from c m all) zero)
-        ∙ ap (λ k. picture_text names s (canvas_of s.processors from (length drawn)) drawn dead (counts_along from no_counts m all) (finish_in k))
-        d.does.machine
+        (told.counts ∙ ap (λ c. counts_along from c m all) zero)
+        ∙ ap (λ (k : Situation). picture_text names s (canvas_of s.processors from (length drawn)) drawn dead (counts_along from no_counts m all) (finish_in k))
+        made

@@ -6,7 +6,7 @@ use Rattle.ppm_lines.specs.Shown.{is_shown}
 use Rattle.ppm_lines.specs.declared.shown.Only.{Only}
 use Rattle.ppm_naming.specs.declared.names.Names.{Names}
 use Rattle.ppm_step.specs.declared.turn.Turn.{Turn}
-use Rattle.ppm_trace.proofs.AlongLemmas.{along_both}
+use Rattle.ppm_trace.specs.TellingLaws.{along_both}
 use Rattle.ppm_trace.specs.Trace.{along_turns, is_told, shown_line}
 
 module _ (names : Names) (only : Only) where

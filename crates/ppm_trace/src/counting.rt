@@ -7,10 +7,10 @@ ghost use Rattle.ppm_trace.specs.Counts.{no_counts};
 ghost use Rattle.ppm_trace.specs.Trace.{counts_along};
 
 use crate::counts::Counts;
+use crate::hearing::follow_heard;
 use crate::tale::{Excerpt, Tale};
-use crate::telling::follow_told;
+use crate::teller::Teller;
 use ppm_core::Machine;
-use ppm_following::Way;
 use ppm_naming::Names;
 use ppm_plan::Schedule;
 use ppm_words::{Items, NoMemory};
@@ -18,7 +18,7 @@ use std::alloc::Global;
 
 /// Makes the run of a schedule, of so many acts at most, and answers what is counted in it. `Err`
 /// only where memory is refused.
-pub fn count_run(
+pub(crate) fn count_run(
     alloc: Global,
     machine: &mut Machine,
     schedule: &Schedule,
@@ -42,19 +42,14 @@ pub fn count_run(
         strokes: Vec::new(alloc),
         counts: Counts::none(),
     };
-    let mut way = Way::first(turns);
     let excerpt = Excerpt {
         form: None,
         from: 0,
     };
-    follow_told(
-        alloc,
-        machine,
-        &mut way,
-        &mut tale,
-        &names,
+    let teller = Teller {
+        names: &names,
         excerpt,
-        schedule.items(),
-    )?;
+    };
+    follow_heard(alloc, machine, schedule, turns, &teller, &mut tale)?;
     Ok(tale.counts)
 }

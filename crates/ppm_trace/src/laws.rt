@@ -1,6 +1,7 @@
 //! Laws of traces, each in a function with no body.
 ghost use Rattle.ppm_trace.specs.Laws.{CountsAreTheMachines, CountsFollowOn, LinesFollowOn};
 ghost use Rattle.ppm_trace.specs.Laws.{ThinnerAreAmong, WindowsAreParts};
+ghost use Rattle.ppm_trace.specs.RunCounts.{CountsAreOfTurns};
 
 /// The lines of turns after others are those from the situation that these make, and so is what is
 /// counted.
@@ -24,4 +25,10 @@ pub fn windows_are_parts()
 /// are those that the machine counts.
 pub fn counts_are_the_machines()
     ensures law { CountsAreTheMachines }
+{}
+
+/// Each turn of a run is an act, and is work or a look; the forks and takes are those that the turns
+/// tell.
+pub fn counts_are_of_turns()
+    ensures law { CountsAreOfTurns }
 {}

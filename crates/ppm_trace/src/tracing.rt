@@ -9,11 +9,11 @@ ghost use Rattle.ppm_trace.specs.Trace.{trace_text};
 
 use crate::counts::Counts;
 use crate::ends::{push_head, push_tail};
+use crate::hearing::follow_heard;
 use crate::picture::picture;
 use crate::tale::{Excerpt, Tale};
-use crate::telling::follow_told;
+use crate::teller::Teller;
 use ppm_core::Machine;
-use ppm_following::Way;
 use ppm_lines::{Form, Only, push_json_head, push_json_tail};
 use ppm_naming::Names;
 use ppm_plan::Schedule;
@@ -45,20 +45,12 @@ fn trace_lines(
         counts: Counts::none(),
     };
     push_head(&mut tale.text, &machine.shape(), from)?;
-    let mut way = Way::first(from + acts);
     let excerpt = Excerpt {
         form: Some(Form::Lines(only)),
         from,
     };
-    follow_told(
-        alloc,
-        machine,
-        &mut way,
-        &mut tale,
-        names,
-        excerpt,
-        schedule.items(),
-    )?;
+    let teller = Teller { names, excerpt };
+    follow_heard(alloc, machine, schedule, from + acts, &teller, &mut tale)?;
     push_tail(alloc, &mut tale.text, tale.counts, machine.finish_word())?;
     Ok(tale.text)
 }
@@ -87,20 +79,12 @@ fn trace_json(
         counts: Counts::none(),
     };
     push_json_head(&mut tale.text, machine.processors())?;
-    let mut way = Way::first(from + acts);
     let excerpt = Excerpt {
         form: Some(Form::Events),
         from,
     };
-    follow_told(
-        alloc,
-        machine,
-        &mut way,
-        &mut tale,
-        names,
-        excerpt,
-        schedule.items(),
-    )?;
+    let teller = Teller { names, excerpt };
+    follow_heard(alloc, machine, schedule, from + acts, &teller, &mut tale)?;
     push_json_tail(&mut tale.text)?;
     Ok(tale.text)
 }
@@ -128,20 +112,12 @@ fn trace_svg(
         strokes: Vec::new(alloc),
         counts: Counts::none(),
     };
-    let mut way = Way::first(from + acts);
     let excerpt = Excerpt {
         form: Some(Form::Picture),
         from,
     };
-    follow_told(
-        alloc,
-        machine,
-        &mut way,
-        &mut tale,
-        names,
-        excerpt,
-        schedule.items(),
-    )?;
+    let teller = Teller { names, excerpt };
+    follow_heard(alloc, machine, schedule, from + acts, &teller, &mut tale)?;
     let shape = machine.shape();
     let text = picture(alloc, &shape, names, from, &tale, machine.finish_word())?;
     Ok(text)

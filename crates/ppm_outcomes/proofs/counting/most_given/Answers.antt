@@ -1,5 +1,5 @@
 use Rattle.std.proofs.Common.{arith}
-use Rattle.ppm_outcomes.proofs.GivenLemmas.{most_step}
+use Rattle.ppm_following.proofs.GivenLemmas.{most_step}
 use Rattle.ppm_outcomes.proofs.counting.most_given.Goals as goal
 
 -- a place more

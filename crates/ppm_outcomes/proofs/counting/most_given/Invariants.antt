@@ -1,5 +1,5 @@
 use Rattle.std.proofs.Common.{◌≡◌, ◌-◌, ◌≤◌}
-use Rattle.ppm_outcomes.specs.Room.{most_given}
+use Rattle.ppm_following.specs.Room.{most_given}
 use Rattle.ppm_outcomes.proofs.counting.most_given.Given as goal
 
 -- the most of the places so far

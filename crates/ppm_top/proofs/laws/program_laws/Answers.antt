@@ -39,6 +39,7 @@ returns c = record {
     stops = c.stops_have_one_answer.ensures.law;
     saved_stops = c.saved_stops_have_one_answer.ensures.law;
     saved_replays = c.saved_replays_have_one_answer.ensures.law;
+    counted_saved = c.counted_saved_replays_have_one_answer.ensures.law;
     saved_traces = c.saved_traces_have_one_answer.ensures.law;
     begin_chains = c.stops_go_on_chains.ensures.begin;
     chains = c.stops_go_on_chains.ensures.law;

@@ -163,6 +163,12 @@ returns-in-Ok-Some-ReplaySaved-clause-answers g c = by_ports (map string_bytes c
     (cc (c.in-Ok-Some-ReplaySaved.ensures.value, c.in-Ok-Some-ReplaySaved.field-0-is, c.in-Ok-Some-ReplaySaved.field-0-0-is)) refl refl
     c.replay_saved_command.ensures.delivers
 
+-- the words ask to go on from a saved text by a schedule, and to tell what is counted, which was answered
+pub returns-in-Ok-Some-CountedReplaySaved-clause-answers : goal.returns-in-Ok-Some-CountedReplaySaved-clause-answers
+returns-in-Ok-Some-CountedReplaySaved-clause-answers g c = by_ports (map string_bytes c.args.words.now) _ _ (Some (commands.CountedReplaySaved _ _))
+    (cc (c.in-Ok-Some-CountedReplaySaved.ensures.value, c.in-Ok-Some-CountedReplaySaved.field-0-is, c.in-Ok-Some-CountedReplaySaved.field-0-0-is)) refl refl
+    c.counted_replay_saved_command.ensures.delivers
+
 -- the words ask for a stop of a saved text, which was answered
 pub returns-in-Ok-Some-StopSaved-clause-answers : goal.returns-in-Ok-Some-StopSaved-clause-answers
 returns-in-Ok-Some-StopSaved-clause-answers g c = by_ports (map string_bytes c.args.words.now) _ _ (Some (commands.StopSaved _ _))

@@ -1,4 +1,4 @@
-use Rattle.ppm_trace.proofs.AlongLemmas.{along_both, counts_both}
+use Rattle.ppm_trace.specs.TellingLaws.{along_both, counts_both}
 use Rattle.ppm_trace.specs.Trace.{shown_line}
 use Rattle.ppm_trace.proofs.laws.lines_follow_on.Goals as goal
 
