@@ -81,6 +81,18 @@ fn has<R: Abort>(rt: &R, text: &str, part: &str, row: Row) -> Result<(), Fail> {
     Ok(())
 }
 
+/// The words of a command that follows a schedule.
+fn command(alloc: Global, front: &str, takeover: &str, row: Row) -> Result<String, Fail> {
+    let mut words = String::from_str(alloc, front)?;
+    words.push_str(" --room 256 --slots 8 --takeover ")?;
+    words.push_str(takeover)?;
+    words.push_str(" --processors ")?;
+    words.push_str(row.processors)?;
+    words.push_str(" --schedule ")?;
+    words.push_str(row.schedule)?;
+    Ok(words)
+}
+
 /// What the trace of a program by a schedule tells. Fails unless this is, of its array words, what the
 /// replay prints; of forks, takes, thefts and takeovers, what the replay counts, with as many takes
 /// as forks; and as many faults as the row says.
@@ -91,28 +103,12 @@ fn told_of<R: Abort + Threads + Wait + Sync>(
     takeover: &str,
     row: Row,
 ) -> Result<Told, Fail> {
-    let options = format!(in alloc;
-        "--processors {} --room 256 --slots 8 --takeover {takeover} --schedule {}",
-        row.processors, row.schedule
-    )?;
-    let trace = shown(
-        rt,
-        alloc,
-        &format!(in alloc; "trace {options}")?,
-        program.source,
-    )?;
-    let replay = shown(
-        rt,
-        alloc,
-        &format!(in alloc; "replay {options}")?,
-        program.source,
-    )?;
-    let counted = shown(
-        rt,
-        alloc,
-        &format!(in alloc; "replay --counts yes {options}")?,
-        program.source,
-    )?;
+    let tracing = command(alloc, "trace", takeover, row)?;
+    let trace = shown(rt, alloc, &tracing, program.source)?;
+    let replaying = command(alloc, "replay", takeover, row)?;
+    let replay = shown(rt, alloc, &replaying, program.source)?;
+    let counting = command(alloc, "replay --counts yes", takeover, row)?;
+    let counted = shown(rt, alloc, &counting, program.source)?;
     let replay = str::from_utf8(&replay).map_err(|_| "a text")?;
     let mut told = Told::first(alloc, program.arrays)?;
     told.read(alloc, str::from_utf8(&trace).map_err(|_| "a text")?)?;
@@ -125,18 +121,15 @@ fn told_of<R: Abort + Threads + Wait + Sync>(
     assert_eq!(rt; told.takes, told.forks, "{}", row.schedule);
     assert_eq!(rt; told.soft, row.soft, "{}", row.schedule);
     assert_eq!(rt; told.hard, row.hard, "{}", row.schedule);
-    let forks = format!(in alloc; "forks {} takes {}", told.forks, told.takes)?;
-    has(rt, replay, &format!(in alloc; "{forks}\n")?, row)?;
+    let (forks, takes) = (told.forks, told.takes);
+    let (thefts, takeovers) = (told.thefts, told.takeovers);
+    let ends = format!(in alloc; "forks {forks} takes {takes}\n")?;
+    has(rt, replay, &ends, row)?;
     let all = format!(in alloc;
-        " {forks} stolen {} takeovers {} ",
-        told.thefts, told.takeovers
+        " forks {forks} takes {takes} stolen {thefts} takeovers {takeovers} "
     )?;
-    has(
-        rt,
-        str::from_utf8(&counted).map_err(|_| "a text")?,
-        &all,
-        row,
-    )?;
+    let counted = str::from_utf8(&counted).map_err(|_| "a text")?;
+    has(rt, counted, &all, row)?;
     Ok(told)
 }
 
