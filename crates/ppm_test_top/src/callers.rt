@@ -77,7 +77,7 @@ fn a_counter_follows_a_schedule(rt: HostRuntime) -> Result<(), Fail> {
 /// A case whose root forks two branches. Each puts the number of its branch into its part of the
 /// array.
 const FORKS: &str =
-    "array a 0 0 7 4\nppm 1\nroot 0 0\nproc 0 slots 1 entry 0\nproc 1 slots 2 entry 2\n\
+    "array a 4 0 0 7 4\nppm 1\nroot 0 0\nproc 0 slots 1 entry 0\nproc 1 slots 2 entry 2\n\
 capsule 0 proc 0\nroom 21\nloadslot r0 0\nconst r1 1\nconst r2 2\ncutl r3 r0 r1 1\ncutr r4 r0 r1 1\n\
 storenew 11 r3\nstorenew 12 r1\nstorenew 19 r4\nstorenew 20 r2\nfork 1 1 1\ncapsule 1 proc 0\nend\n\
 capsule 2 proc 1\nloadslot r0 0\nconst r1 0\nloadslot r2 1\nput r0 r1 r2 1\nend\n";
