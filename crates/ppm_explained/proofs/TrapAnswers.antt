@@ -235,7 +235,7 @@ module _ (programs : ProgramsAreOne) (explained : ExplainedAreOne) (outcomes : O
       of_answer (answers.Ended arrays) h free = (answers.Accepted, record { arrays = arrays; comes = h })
       of_answer (answers.Trapped t line) h free = trap_has text t line h
       of_answer (answers.NotWithin n) h free =
-          let s = stand_has turns text spends stands h.1 in (answers.StandExplained n s.0, h.0, s.1)
+          let s = stand_has turns text spends stands h.1 in (answers.StandExplained n s.0, (h.0, s.1))
       of_answer (answers.SourceRefused r) h free = absurd (free r h)
       of_answer a h free = absurd h
 
