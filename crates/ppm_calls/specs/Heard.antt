@@ -19,4 +19,4 @@ acts_of m items acts = along_turns act_at m (schedule_turns m.shape m.code m.sta
 pub record HasHeard (sizes : Sizes) (code : CodeParts) (input : List NamedArray) (items : List ScheduleItem) (acts : ℕ) (r : HeardRun)
     : Type 0 where
   pub followed : HasFollowed sizes code input items acts r.end
-  pub acts : map shown_act r.acts.items ≡ acts_of followed.start items acts
+  pub kept : map shown_act r.acts.items ≡ acts_of followed.start items acts

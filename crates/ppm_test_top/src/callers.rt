@@ -5,8 +5,10 @@ ghost use Rattle.ppm_cli.specs.Words.{AreRun};
 
 use crate::sources::SUM;
 use ppm_answers::Status;
-use ppm_calls::{counter, follow_schedule, hear_schedule, record_run, sound_run, take_turns};
-use ppm_case::Case;
+use ppm_calls::{
+    HeardAct, counter, follow_schedule, hear_schedule, record_run, sound_run, take_turns,
+};
+use ppm_case::{Case, read_case};
 use ppm_cells::{Ending, Finish, Shape, Takeover};
 use ppm_cli::RunOptions;
 use ppm_lines::Mark;
@@ -72,33 +74,54 @@ fn a_counter_follows_a_schedule(rt: HostRuntime) -> Result<(), Fail> {
     Ok(())
 }
 
+/// A case whose root forks two branches. Each puts the number of its branch into its part of the
+/// array.
+const FORKS: &str =
+    "array a 4 0 0 7 4\nppm 1\nroot 0 0\nproc 0 slots 1 entry 0\nproc 1 slots 2 entry 2\n\
+capsule 0 proc 0\nroom 21\nloadslot r0 0\nconst r1 1\nconst r2 2\ncutl r3 r0 r1 1\ncutr r4 r0 r1 1\n\
+storenew 11 r3\nstorenew 12 r1\nstorenew 19 r4\nstorenew 20 r2\nfork 1 1 1\ncapsule 1 proc 0\nend\n\
+capsule 2 proc 1\nloadslot r0 0\nconst r1 0\nloadslot r2 1\nput r0 r1 r2 1\nend\n";
+
+/// 1 where an act has a mark, else 0.
+fn marked(act: &HeardAct, mark: Mark) -> u32 {
+    let first = act.marks.first == Some(mark);
+    let second = act.marks.second == Some(mark);
+    if first || second { 1 } else { 0 }
+}
+
 #[test]
 fn a_listener_hears_a_schedule(rt: HostRuntime) -> Result<(), Fail> {
     let alloc = rt.alloc();
-    let case = forty_one(alloc)?;
+    let case = read_case(alloc, FORKS.as_bytes()).map_err(|_| "no case")?;
     let sizes = Sizes {
         processors: 2,
-        room: 64,
-        slots: 2,
+        room: 128,
+        slots: 4,
         takeover: Takeover::ByPlaces,
     };
-    let schedule = read_schedule(alloc, b"0*9,0!h", 2).map_err(|_| "no schedule")?;
+    let schedule = read_schedule(alloc, b"0*30,1!s,1*40", 2).map_err(|_| "no schedule")?;
     let run = hear_schedule(alloc, sizes, case, &schedule, 1000).map_err(|_| "memory")?;
     assert_eq!(rt; run.end.ending, Ending::With(Finish::Ended));
+    let first = run.end.arrays.first().ok_or("an array")?;
+    assert!(rt; first.as_slice() == [1, 2, 7, 4].as_slice());
     let mut number = 0u64;
+    let (mut forks, mut takes, mut ends) = (0u32, 0u32, 0u32);
     for act in &run.acts {
         assert_eq!(rt; act.number, number);
-        // Processor 0 makes ten acts, and the last of these is its death; the others are made by
-        // processor 1.
-        let own = if number < 10 { 0 } else { 1 };
-        assert_eq!(rt; act.turn.processor, own, "{number}");
-        let dies = act.marks.first == Some(Mark::Hard);
-        assert_eq!(rt; dies, number == 9, "{number}");
+        // After 30 acts of processor 0 comes the only fault.
+        let struck = marked(act, Mark::Soft) == 1;
+        assert_eq!(rt; struck, number == 30, "{number}");
+        forks = forks.saturating_add(marked(act, Mark::Fork));
+        takes = takes.saturating_add(marked(act, Mark::Take));
+        ends = ends.saturating_add(marked(act, Mark::End));
         number = number.saturating_add(1);
     }
-    // The last one sets the finish word.
+    assert_eq!(rt; forks, 1);
+    assert_eq!(rt; takes, 1);
+    // The last act sets the finish word.
+    assert_eq!(rt; ends, 1);
     let last = run.acts.last().ok_or("an act")?;
-    assert_eq!(rt; last.marks.first, Some(Mark::End));
+    assert_eq!(rt; marked(last, Mark::End), 1);
     Ok(())
 }
 

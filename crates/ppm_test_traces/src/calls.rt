@@ -21,7 +21,7 @@ pub(crate) fn shown<R: Abort + Threads + Wait + Sync>(
     alloc: Global,
     command: &str,
     source: &str,
-) -> Result<Vec<u8>, Fail> {
+) -> Result<String, Fail> {
     let mut given = Vec::new(alloc);
     given.push(String::from_str(alloc, "ppm")?)?;
     for word in command.split_whitespace() {
@@ -44,7 +44,15 @@ pub(crate) fn shown<R: Abort + Threads + Wait + Sync>(
         &mut silent,
     );
     assert_eq!(rt; status, Status::Ended);
-    Ok(out.bytes().to_vec(alloc)?)
+    text_of(alloc, out.bytes())
+}
+
+/// Bytes as a text.
+fn text_of(alloc: Global, bytes: &[u8]) -> Result<String, Fail> {
+    match str::from_utf8(bytes) {
+        Ok(text) => Ok(String::from_str(alloc, text)?),
+        Err(_) => Err(Fail::from("a text")),
+    }
 }
 
 /// A sink that never fails.

@@ -77,8 +77,55 @@ const ROWS: [Row; 4] = [
 
 /// Fails unless a text has a part.
 fn has<R: Abort>(rt: &R, text: &str, part: &str, row: Row) -> Result<(), Fail> {
-    assert!(rt; text.find(part).is_some(), "{}: no {part}", row.schedule);
+    let found = text.find(part).is_some();
+    assert!(rt; found, "{}: no {part}", row.schedule);
     Ok(())
+}
+
+/// Fails unless the lines leave the arrays that the replay prints.
+fn has_arrays<R: Abort>(
+    rt: &R,
+    alloc: Global,
+    told: &Told,
+    replay: &str,
+    row: Row,
+) -> Result<(), Fail> {
+    let wanted = words_of(alloc, replay)?;
+    let same = told.words.as_slice() == wanted.as_slice();
+    assert!(rt; same, "{}", row.schedule);
+    Ok(())
+}
+
+/// Fails unless there are as many takes as forks, and as many faults as the row says.
+fn has_marks<R: Abort>(rt: &R, told: &Told, row: Row) -> Result<(), Fail> {
+    let paired = told.takes == told.forks;
+    let struck = told.soft == row.soft && told.hard == row.hard;
+    assert!(rt; paired, "{}", row.schedule);
+    assert!(rt; struck, "{}", row.schedule);
+    Ok(())
+}
+
+/// The end of what `replay` prints, and a part of what it prints with counts.
+fn counts_of(alloc: Global, told: &Told) -> Result<(String, String), Fail> {
+    let (forks, takes) = (told.forks, told.takes);
+    let (thefts, takeovers) = (told.thefts, told.takeovers);
+    let end = format!(in alloc; "forks {forks} takes {takes}\n")?;
+    let part = format!(in alloc;
+        " forks {forks} takes {takes} stolen {thefts} takeovers {takeovers} "
+    )?;
+    Ok((end, part))
+}
+
+/// The words of a command that follows a schedule.
+fn command(alloc: Global, front: &str, takeover: &str, row: Row) -> Result<String, Fail> {
+    let mut words = String::from_str(alloc, front)?;
+    words.push_str(" --room 256 --slots 8 --takeover ")?;
+    words.push_str(takeover)?;
+    words.push_str(" --processors ")?;
+    words.push_str(row.processors)?;
+    words.push_str(" --schedule ")?;
+    words.push_str(row.schedule)?;
+    Ok(words)
 }
 
 /// What the trace of a program by a schedule tells. Fails unless this is, of its array words, what the
@@ -91,52 +138,19 @@ fn told_of<R: Abort + Threads + Wait + Sync>(
     takeover: &str,
     row: Row,
 ) -> Result<Told, Fail> {
-    let options = format!(in alloc;
-        "--processors {} --room 256 --slots 8 --takeover {takeover} --schedule {}",
-        row.processors, row.schedule
-    )?;
-    let trace = shown(
-        rt,
-        alloc,
-        &format!(in alloc; "trace {options}")?,
-        program.source,
-    )?;
-    let replay = shown(
-        rt,
-        alloc,
-        &format!(in alloc; "replay {options}")?,
-        program.source,
-    )?;
-    let counted = shown(
-        rt,
-        alloc,
-        &format!(in alloc; "replay --counts yes {options}")?,
-        program.source,
-    )?;
-    let replay = str::from_utf8(&replay).map_err(|_| "a text")?;
+    let tracing = command(alloc, "trace", takeover, row)?;
+    let trace = shown(rt, alloc, &tracing, program.source)?;
+    let replaying = command(alloc, "replay", takeover, row)?;
+    let replay = shown(rt, alloc, &replaying, program.source)?;
+    let counting = command(alloc, "replay --counts yes", takeover, row)?;
+    let counted = shown(rt, alloc, &counting, program.source)?;
     let mut told = Told::first(alloc, program.arrays)?;
-    told.read(alloc, str::from_utf8(&trace).map_err(|_| "a text")?)?;
-    let wanted = words_of(alloc, replay)?;
-    assert!(rt;
-        told.words.as_slice() == wanted.as_slice(),
-        "{}",
-        row.schedule
-    );
-    assert_eq!(rt; told.takes, told.forks, "{}", row.schedule);
-    assert_eq!(rt; told.soft, row.soft, "{}", row.schedule);
-    assert_eq!(rt; told.hard, row.hard, "{}", row.schedule);
-    let forks = format!(in alloc; "forks {} takes {}", told.forks, told.takes)?;
-    has(rt, replay, &format!(in alloc; "{forks}\n")?, row)?;
-    let all = format!(in alloc;
-        " {forks} stolen {} takeovers {} ",
-        told.thefts, told.takeovers
-    )?;
-    has(
-        rt,
-        str::from_utf8(&counted).map_err(|_| "a text")?,
-        &all,
-        row,
-    )?;
+    told.read(alloc, &trace)?;
+    has_arrays(rt, alloc, &told, &replay, row)?;
+    has_marks(rt, &told, row)?;
+    let (end, part) = counts_of(alloc, &told)?;
+    has(rt, &replay, &end, row)?;
+    has(rt, &counted, &part, row)?;
     Ok(told)
 }
 

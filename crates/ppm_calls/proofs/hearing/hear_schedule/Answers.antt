@@ -20,6 +20,6 @@ returns c =
         ending = c.outcome-ending.ensures ∙ ap (λ (m : Situation). ending_of (finish_in m)) c.in_ok-follow_heard.ensures.made;
         arrays = c.in_ok-arrays.ensures ∙ ap values_in c.in_ok-follow_heard.ensures.made;
       };
-      acts = c.in_ok-follow_heard.ensures.heard
+      kept = c.in_ok-follow_heard.ensures.heard
           ∙ ap (λ kept. map shown_act kept ++ acts_of start c.args.schedule.now.items c.args.acts) c.new-heard.ensures.items;
     }
