@@ -87,7 +87,7 @@ module _ (limit : ℕ) (Has : List ℕ → Answer → Type 0) where
   judging_told Tells o a status told wanting h (inr d) =
       record { answer = answers.NoMemory; cause = memory_may o.source a h d.0; delivered = d.1; told = wanting }
 
-  -- the rows of the command, where what stands behind the limit changes no answer
+  -- the rows of the command, where what stands after the limit changes no answer
   pub text_rows : FrontsDecide limit Has → (Says : Status → Type 0) (o : Ports) (status : Status) →
       DeliversAnswer (JudgingMay limit Has o.source) o status → SaysOfPorts o Says →
       ((answer : Answer) → ReadHas limit Has o.source answer → IsWritten o.out o.err answer (status_of answer) → Says (status_of answer)) →

@@ -44,14 +44,14 @@ is_named arrays name = list_any (λ a. bytes_eq a.name name) arrays
 abbrev pub is_past : List NamedArray → (len : ℕ) → Bool
 is_past arrays len = nat_le array_limit (length arrays) || nat_lt word_limit (value_count arrays + len)
 
--- an array may stand behind others: it is written as it should be, its name is new, and all are within their limits
+-- an array may stand after others: it is written as it should be, its name is new, and all are within their limits
 pub record Follows (arrays : List NamedArray) (a : Written) : Type 0 where
   pub form : has_form a ≡ true
   pub range : is_in_range a ≡ true
   pub new : is_named arrays a.name ≡ false
   pub within : is_past arrays (value a.len) ≡ false
 
--- each array of some may stand behind those in front of it
+-- each array of some may stand after those in front of it
 abbrev pub AllFollow : (arrays : List NamedArray) → List Written → Type 0
 AllFollow arrays [] = Unit {0}
 AllFollow arrays (a ∷ more) = Follows arrays a × AllFollow (arrays ++ array_of a ∷ []) more

@@ -25,7 +25,7 @@ pub record IsPace (plan : Planned) (limits : Limits) (past : Past) (stood : Stan
   pub next : pace.next ≡ next_of stood
   pub due : pace.due ≡ seeks_holder stood
 
--- the looks in a row behind steps in a row: so many looks more, or the first since the last work
+-- the looks in a row after steps in a row: so many looks more, or the first since the last work
 abbrev pub looks_along : (before work looks : ℕ) → ℕ
 looks_along before work looks = if work == 0 then before + looks else looks
 

@@ -36,7 +36,7 @@ module _ (ends : HaveOneEnd) (stuck : NoneIsStuck) (t : ProgramTree) (turns : �
             subst (λ (c : Counts). turns < c.turns) same.0 (omega (arith, leb-false k.turns turns e))),
       )
 
-  -- a run that goes on past the turns ends behind them, if at all
+  -- a run that goes on past the turns ends after them, if at all
   of_run : BeginsBody Plain t.procedures (suc turns) (main_of t) (main_frame t.arrays (main_of t).parameters) (values_of (initial_arrays t))
       → (o : Outcome) × Serial t turns o
   of_run b = (

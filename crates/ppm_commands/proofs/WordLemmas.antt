@@ -35,7 +35,7 @@ one_word input word x y i j h k =
     let place = same_place h.front k.front h.array k.array h.rest k.rest i j (sym h.all ∙ k.all) (sym h.address ∙ k.address) h.inside k.inside in
     (h.name_is ∙ ap (λ (a : NamedArray). a.name) place.0 ∙ sym k.name_is, place.1)
 
--- the word is in the arrays that are left, so many words behind their start, and so many arrays stand in front of them
+-- the word is in the arrays that are left, so many words after their start, and so many arrays stand in front of them
 pub record IsSoFar (arrays : List NamedArray) (word : ℕ) (left : List NamedArray) (number index : ℕ) : Type 0 where
   pub front : List NamedArray
   pub all : arrays ≡ front ++ left
@@ -47,7 +47,7 @@ pub record IsSoFar (arrays : List NamedArray) (word : ℕ) (left : List NamedArr
 pub so_far : (arrays : List NamedArray) (word : ℕ) → word < value_count arrays → IsSoFar arrays word arrays 0 word
 so_far arrays word less = record { front = []; all = refl; number_is = refl; address = omega arith; inside = less }
 
--- an array more behind others
+-- an array more after others
 count_push : (front : List NamedArray) (a : NamedArray) → value_count (front ++ (a ∷ [])) ≡ value_count front + length a.values
 count_push [] a = omega (arith, count-cons a [])
 count_push (b ∷ front) a = omega (arith, count-cons b front, count-cons b (front ++ (a ∷ [])), count_push front a)

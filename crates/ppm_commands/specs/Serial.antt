@@ -42,7 +42,7 @@ TreeMay turns t (answers.NotWithin n) = (n ≡ turns) × Serial t turns outcome.
 TreeMay turns t answers.NoMemory = ⊤
 TreeMay turns t _ = ⊥
 
--- Within each number of turns two answers of a text are one, and what stands behind more bytes than a text may have changes none. Each text
+-- Within each number of turns two answers of a text are one, and what stands after more bytes than a text may have changes none. Each text
 -- has one: it is refused, or its program has an outcome.
 pub record HasOneAnswer (turns : ℕ) : Type 0 where
   pub one : AreOne (SerialHas turns)

@@ -12,7 +12,7 @@ use Rattle.ppm_cut.proofs.Growing.{adds_then}
 use Rattle.ppm_cut.specs.Counts.{own_count}
 use Rattle.ppm_cut.specs.Growth.{Adds, capsule_of}
 
--- names that are there, and more behind them
+-- names that are there, and more after them
 pub record Extends (start now : Layout) : Type 0 where
   pub more : Layout
   pub is : now ≡ start ++ more

@@ -26,7 +26,7 @@ module _ (xs : List Stmt) (k : ℕ) (s : Stmt) (in' : k < length xs) (at : s ≡
   most_ahead : most_in_force (block_of (drop k xs)) ≡ max (most_within (statement_of s)) (length (lets_of (statement_of s)) + most_in_force (block_of (drop (k + 1) xs)))
   most_ahead = ap most_in_force (block_ahead xs k s in' at)
 
-  -- the names of a block fit exactly where those behind a statement do
+  -- the names of a block fit exactly where those after a statement do
   pub names_step : (all room left behind : ℕ) → most_within (statement_of s) ≤ left → behind + length (lets_of (statement_of s)) ≡ left
       → (all ≤ room ↔ most_in_force (block_of (drop k xs)) ≤ left)
       → (all ≤ room ↔ most_in_force (block_of (drop (k + 1) xs)) ≤ behind)

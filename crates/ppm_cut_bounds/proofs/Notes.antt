@@ -24,7 +24,7 @@ both true n x y = refl
 both false true x y = refl
 both false false x y = refl
 
--- names behind a declaration
+-- names after a declaration
 behind : (a o x l r : Bool) → ((a || (not o && x)) || (not (o || l) && r)) ≡ (a || (not o && (x || (r && not l))))
 behind true o x l r = refl
 behind false true x l r = refl

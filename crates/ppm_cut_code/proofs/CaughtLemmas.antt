@@ -74,7 +74,7 @@ once_filter test (x ∷ layout) h = go (test x) (once_filter test layout h.1)
 pub once_push : (layout : Layout) (x : List ℕ) → IsEachOnce layout → IsNew layout x → IsEachOnce (layout ++ x ∷ [])
 once_push layout x h new = IsDistinct-push bytes_laws layout x h (new_absent layout x new)
 
--- behind a statement that fits
+-- after a statement that fits
 pub once_lets : (procedures : List Procedure) (scope : Scope) (layout : Layout) (s : Statement) → FitsStatement procedures scope layout s
     → IsEachOnce layout
     → IsEachOnce (with_lets layout s)
@@ -183,7 +183,7 @@ caught_is_counted layout i x block h new_i new_x =
         ∙ ap (λ b. b && not (is_member bytes_eq (i.name ∷ x.name ∷ []) q)) used
         ∙ ap (λ b. not (b || (bytes_eq q x.name || false))) no_index ∙ ap (λ b. not (b || false)) no_part
 
--- a name keeps a slot behind another name
+-- a name keeps a slot after another name
 has_later : (y : List ℕ) (layout : Layout) (z : List ℕ) → Has layout z → Has (y ∷ layout) z
 has_later y layout z h = go (bytes_eq y z)
   where

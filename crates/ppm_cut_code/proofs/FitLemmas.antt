@@ -1,4 +1,4 @@
--- The instructions of expressions, arguments and stores fit wherever they stand in a capsule, if those behind them do.
+-- The instructions of expressions, arguments and stores fit wherever they stand in a capsule, if those after them do.
 use Rattle.std.proofs.Common.{◌≡◌, ◌≤◌, ◌<◌, ◌+◌, ℕ, zero, suc, List, [], ◌∷◌, ◌++◌, Some, length, map, slice_get, refl, ap, subst, arith}
 use Rattle.std.specs.List.{All, AllByRecursion, flat_map}
 use Rattle.std.proofs.lemmas.List.Elements.{All-head}

@@ -18,7 +18,7 @@ abbrev mutual
   has_assignment Nil = false
   has_assignment (Then s rest) = assigns s || has_assignment rest
 
--- the slots behind all names: an index and a value, or a value alone
+-- the slots after all names: an index and a value, or a value alone
 abbrev pub spare_slots : Block → ℕ
 spare_slots block = if has_put block then 2 else if has_assignment block then 1 else 0
 

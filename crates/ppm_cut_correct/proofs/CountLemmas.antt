@@ -176,7 +176,7 @@ outside_in layout i x block q other h =
     first_of_both (is_member bytes_eq layout q) (is_member bytes_eq (free_names block) q)
     (sym (caught_member layout block q) ∙ hidden_in layout i x block q h other)
 
--- those behind a statement, but for the name that it declares
+-- those after a statement, but for the name that it declares
 behind_in : (layout : Layout) (s : Statement) (xs : List (List ℕ)) → AllByRecursion (In (with_lets layout s)) xs
     → AllByRecursion (In layout) (without (names.lets_of s) xs)
 behind_in layout (Let x e) xs all =

@@ -53,7 +53,7 @@ shape_begins [] k = refl
 shape_begins (a ∷ input) zero = refl
 shape_begins (a ∷ input) (suc k) = shape_begins input k
 
--- the words of the first array, and of those behind it
+-- the words of the first array, and of those after it
 first_word : (a : NamedArray) (input : List NamedArray) (i : ℕ) → i < length a.values
     → words_of (words_in (a ∷ input)) (0 + i) ≡ word_of (get_or a.values i (pos 0))
 first_word a input i low =

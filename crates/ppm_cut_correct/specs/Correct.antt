@@ -69,7 +69,7 @@ EndAsMeant = (t : ProgramTree) → IsWithin t → IsAdmitted t → IsWithinBound
 
 -- From the arrays that its text gives, what the program's code comes to depth first is the program's serial outcome within some number of turns.
 -- Arrays within n turns are what the code comes to, in two capsules a turn at most; and where the program has an outcome within n turns, the code
--- comes to no other. Behind a trap the branches beside it still run in the code, and may run for ever.
+-- comes to no other. After a trap the branches beside it still run in the code, and may run for ever.
 pub record HasSerialEnd (t : ProgramTree) : Type 0 where
   pub serially : (e : CapsuleEnd Result) → ComesTo (code_of t) (initial_arrays t) e
       → (n : ℕ) × Serial t n (said_of (initial_arrays t) e.words e.outcome)

@@ -112,7 +112,7 @@ module _ (t : ProgramTree) (code : CodeParts) (rules : KeepsRules t) (admitted :
         (next_tame m' (0 + size_of e + 1) g (back (tree.Let x e)) (step_back (tree.Let x e) (own_of m')
         (stored m v (length layout) (held g (register 0)) (off_behind v (length layout) (omega arith)) a))))
 
-    -- the spare slots are behind all names
+    -- the spare slots are after all names
     spare_off : (s : Statement) (k : ℕ) → IsAt t code l (own_of m) (front s) → spare ≤ k → IsOff (front s) k
     spare_off s k a low = let r = a.stays.room in off_behind (front s) k (omega (arith, r, low))
 

@@ -219,7 +219,7 @@ module _ (world : World) (scope : Scope) (layout : Layout) (m : Memory Where)
         (tames_right (suc d) from u w last h h (omega (arith, at_is, none)) refl (keeps_itself (suc d) h k.file) (λ h' k'.
         operator_tame world m line d w there is f h' (keeps_on d (suc d) f h h' (omega arith) k k') go o (omega (arith, e, none))))))
 
-    -- behind the right operand, from where it was to begin
+    -- after the right operand, from where it was to begin
     past_right : (o : Operator) (r from target u : ℕ) (h : List ℕ) → last_size o ≡ 2 → target ≡ u + 1 + size_of right
         → there ≡ u + 1 + size_of right + 2 → Keeps d f h
         → Then world u (max target (u + 1)) (expression_code layout right r from (operator_code o line d is)) h m

@@ -57,7 +57,7 @@ tree_at Root t = t
 tree_at (On w v s) t = tree_at s (waits_for v t)
 
 module _ (code : CodeParts) where
-  -- the word behind a frame
+  -- the word after a frame
   abbrev pub end_of : Frame → ℕ
   end_of frame = frame.base + size_at code frame.capsule
 

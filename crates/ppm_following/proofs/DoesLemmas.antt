@@ -22,7 +22,7 @@ nothing {m} = record { machine = run_none m; course_is = refl }
 pub shape_stays : {dues : List Due} {m m' : Situation} {way way' : Way} → Does dues m way m' way' → m'.shape ≡ m.shape
 shape_stays d = ap (λ k. k.shape) d.machine
 
--- the turns of what comes behind
+-- the turns of what comes after
 turns_behind : (m n : Situation) (way way' : Way) (first more : List Due)
     → n ≡ run_on m (turns_of m.shape m.code (course m way) first)
     → course n way' ≡ behind_all m.shape m.code (course m way) first

@@ -28,13 +28,13 @@ pub count_ons : {C : Type 0} (cs : List C) (m : Mark C) (ms : List (Mark C)) (r 
     count_first cs (ons (m ∷ ms) r) ≡ ons (counting cs (m ∷ ms)) r
 count_ons cs m ms r = refl
 
--- and behind a move
+-- and after a move
 pub count_goes_on : {K P C : Type 0} (cs : List C) (o : Option (Move K P C)) (next : List (Due K P) → Trace C) →
     goes_on (counted cs o) next ≡ count_first cs (goes_on o next)
 count_goes_on cs None next = refl
 count_goes_on cs (Some m) next = refl
 
--- marks behind others
+-- marks after others
 pub ons_append : {C : Type 0} (ms ns : List (Mark C)) (r : Trace C) → ons (ms ++ ns) r ≡ ons ms (ons ns r)
 ons_append [] ns r = refl
 ons_append (m ∷ ms) ns r = ap (On m) (ons_append ms ns r)

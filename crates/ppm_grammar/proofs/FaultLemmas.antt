@@ -85,7 +85,7 @@ module _ {T K P V C : Type 0} (g : Grammar T K P V C) (l : Limits T C) where
           },
         )
 
-    -- the tokens behind those that were read, and which fault they have
+    -- the tokens after those that were read, and which fault they have
     walk : (ground : (n : P) → HasGround g n) (ts front all : List T) (ms : List (Mark C)) (later : List (Due K P)) → all ≡ front ++ ts →
         Moves g (beginning g) front ms later → Keeps l ms all none_counted → Answer all
     walk ground [] front all ms later shape a k =

@@ -127,7 +127,7 @@ module _ (i : Setting) (fair : IsFair i.code) (root : Tree (Frame FrameWord Poin
     same_at u o at (Branch Right b) he at_ = absurd at_
     same_at u o at (Forked x y) he at_ = absurd at_
 
-    -- none that begins the frame there, and none behind whose job that frame is
+    -- none that begins the frame there, and none after whose job that frame is
     pub runs_none : (u y : ℕ) → s.kind u ≡ Run r y → ⊥
     runs_none u y ku =
         let o = leaf i fair root input s t law u (ap (carried m) ku) in

@@ -300,7 +300,7 @@ readied_same u (Leaf Inlined st f n) none = refl
 readied_same u (Calling f n y t) none = refl
 readied_same u (Forking f n y q a b) none = refl
 
--- the loads of the row of a last branch, behind which none begins
+-- the loads of the row of a last branch, after which none begins
 abbrev LastPoint : RowPoint → Type 0
 LastPoint (JoinLink r) = Unit {0}
 LastPoint (JoinLeft r g y) = Unit {0}

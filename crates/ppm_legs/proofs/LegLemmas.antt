@@ -129,7 +129,7 @@ module _ (Has : List ScheduleItem → SavedState → Answer → Type 0) where
       pub leg_wants : LegMay Has schedule source answers.NoMemory
       leg_wants = let s = read.state in ((s.0, s.1.whole.most, s.1.whole.front), s.1.holds)
 
-    -- what stands behind the limit of a saved text changes none
+    -- what stands after the limit of a saved text changes none
     pub fronts : FrontsDecide saved_limit (TextHas Has schedule)
     fronts text rest (answers.SavedRefused r) long h = fronts_decide any [] [] [] text rest (answers.SavedRefused r) long h
       where

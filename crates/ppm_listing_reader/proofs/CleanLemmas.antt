@@ -203,7 +203,7 @@ module _ (code : CodeParts) where
     instr_fits (StoreNew o a) clean = within_room room o whole r clean.room
     instr_fits (Ends e) clean = end_fits e clean
 
-  -- the room behind an instruction is that of the capsule too
+  -- the room after an instruction is that of the capsule too
   pub room_kept : (front : List Instr) (i : Instr) (rest whole : List Instr) (room : Option ℕ) → whole ≡ front ++ i ∷ rest → RoomIs room whole
       → RoomIs (room_behind (length front) (Some i) room) whole
   room_kept (x ∷ front) i rest whole room e r words h = r words h

@@ -140,7 +140,7 @@ module _ (code : CodeParts) where
   is_no_end (Within capsule procedure at room) (part.Instr (Some i)) = (at + 1 == length (instrs_of code capsule)) && not (is_end i)
   is_no_end _ _ = false
 
-  -- 5: whether an instruction asks for room behind the first place, or takes room that there is not
+  -- 5: whether an instruction asks for room after the first place, or takes room that there is not
   abbrev pub instr_has_wrong_room : (at : ℕ) → (room : Option ℕ) → Instr → Bool
   instr_has_wrong_room at room (Room words) = not (at == 0)
   instr_has_wrong_room at room (StoreNew offset from) = is_past_room room offset

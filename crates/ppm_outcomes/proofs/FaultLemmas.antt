@@ -75,7 +75,7 @@ module _ (s : Shape) (code : CodeParts) where
   legs_struck_few words (leg ∷ legs) =
       let rest = legs_struck_few words legs in let last = struck_few leg.turns (state_then s code words legs) in omega (arith, rest, last)
 
--- Of a schedule: each turn is an act of its list, or a step behind it.
+-- Of a schedule: each turn is an act of its list, or a step after it.
 module _ (s : Shape) (code : CodeParts) where
   abbrev faults_due : List Due → ℕ
   faults_due [] = 0

@@ -140,7 +140,7 @@ module _ (options : ReplayOptions) (items : List ScheduleItem) where
     abbrev ending : Situation
     ending = followed start items options.turns
 
-    -- what is said of the machine behind the run of the schedule is the code's answer
+    -- what is said of the machine after the run of the schedule is the code's answer
     pub has_said : (a : Answer) → IsSaid options.turns ending input a → CodeHas options items code input a
     has_said a h = record {
       keeper = keeper;

@@ -1,4 +1,4 @@
--- What watchers were told, as lists: behind a drive, and where there was none.
+-- What watchers were told, as lists: after a drive, and where there was none.
 use Rattle.std.specs.Prelude.{⊤}
 use Rattle.std.proofs.Common.{◌≡◌, ◌<◌, ◌≤◌, ℕ, zero, suc, nat_lt, Bool, true, false, List, [], ◌∷◌, ◌++◌, length, map, get_or, slice_index_or, Option, Some, None, refl, sym, ap, ◌∙◌, subst, arith, append-nil}
 use Rattle.std.proofs.lemmas.Bool.{ltb-true, ltb-false}

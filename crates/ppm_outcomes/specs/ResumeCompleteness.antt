@@ -12,7 +12,7 @@ use Rattle.ppm_outcomes.specs.Legs.{lost_in_all}
 use Rattle.ppm_outcomes.specs.Resumes.{SavedState, IsTextOf, TextHas, IsLeftBy}
 use Rattle.ppm_outcomes.specs.Strikes.{fault_count}
 
--- How many rows of work a run may lose that goes on by the items of a plan behind so many that were lost: one of each place, whose processor is a
+-- How many rows of work a run may lose that goes on by the items of a plan after so many that were lost: one of each place, whose processor is a
 -- fresh one, and one by each fault of the plan.
 abbrev pub lost_with : (lost processors : ℕ) → List PlanItem → ℕ
 lost_with lost processors items = lost + processors + fault_count items

@@ -75,7 +75,7 @@ abbrev pub OwnApart : Type 0
 OwnApart = (t : ProgramTree) → IsAdmitted t → FramesOwnApart t
 
 -- A run changes no words but those that its frame may write. From arrays with the same words where the frame owns it ends the same,
--- with the same counts; and each word that was the same in front, owned or not, is the same behind.
+-- with the same counts; and each word that was the same before, owned or not, is the same after.
 pub record IsWithin {A : Type 0} (scope : Scope) (f : Frame) (run : Arrays → Counts → End A → Type 0) : Type 0 where
   pub changes : (a : Arrays) (k : Counts) (z : End A) → run a k z → ChangesOnly (MayWrite scope f.regions) a (arrays_of z)
   pub local : (a b : Arrays) (k : Counts) (z : End A) → run a k z → AreSameAt (Owns scope f.regions) a b
@@ -96,8 +96,8 @@ pub record StaysWithin (form : Form) (t : ProgramTree) : Type 0 where
 abbrev pub StayWithin : Type 0
 StayWithin = (form : Form) (t : ProgramTree) → IsAdmitted t → StaysWithin form t
 
--- Of two runs: where the second comes behind the first, it may as well come in front of it; each ends as it did, and the same words
--- are left. Where both may begin from the same arrays, the second ends behind the first as it does from these.
+-- Of two runs: where the second comes after the first, it may as well come before it; each ends as it did, and the same words
+-- are left. Where both may begin from the same arrays, the second ends after the first as it does from these.
 pub record MaySwap {A B : Type 0} (first : Arrays → Counts → End A → Type 0) (second : Arrays → Counts → End B → Type 0) : Type 0 where
   pub swap : (a : Arrays) (j k : Counts) (x : End A) (y : End B) → first a j x → second (arrays_of x) k y
       → (c : Arrays) × second a k (over y c) × first c j (over x (arrays_of y))

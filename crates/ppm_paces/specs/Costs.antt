@@ -76,7 +76,7 @@ Finishes (Exchange cell old new next) = (cell ≡ FinishWord) × (old ≡ ANumbe
 Finishes _ = ⊥
 
 -- a row of kind k that has made so many word steps makes at most `left` more, whatever it finds, and what it installs is paid; it begins
--- again behind the finish word alone
+-- again after the finish word alone
 abbrev pub Leads : Shape → Seat → RestartKind → (left made : ℕ) → Row → Type 0
 Leads s seat k zero made (Now next) = IsStop next
 Leads s seat k zero made (Store cell content next) = ⊥

@@ -16,7 +16,7 @@ use Rattle.ppm_text.specs.Tokens.{HasForm}
 use Rattle.ppm_printer.specs.Spelled.{token_text, blank_behind_sign, blank_behind, spaced, text_of}
 use Rattle.ppm_printer.proofs.SpellingLemmas.{longest_before_blank, text_spells}
 
--- how many lines end behind a token
+-- how many lines end after a token
 abbrev sign_ends : Sign → ℕ
 sign_ends s.Semicolon = 1
 sign_ends s.OpenBrace = 1
@@ -27,7 +27,7 @@ abbrev pub ends : Kind → ℕ
 ends (kind.Sign sign) = sign_ends sign
 ends _ = 0
 
--- the place behind a token and its blank
+-- the place after a token and its blank
 abbrev pub past : Kind → ℕ → ℕ
 past k p = p + length (token_text k) + 1
 
@@ -36,7 +36,7 @@ abbrev pub located_from : ℕ → ℕ → List Kind → List Token
 located_from p l [] = []
 located_from p l (k ∷ ks) = located k p l ∷ located_from (past k p) (l + ends k) ks
 
--- the blank behind a token is one
+-- the blank after a token is one
 sign_skips : (sign : Sign) (bs : List ℕ) → Skips (blank_behind_sign sign ∷ bs) 1 (sign_ends sign)
 sign_skips s.Semicolon bs = line_feed refl
 sign_skips s.OpenBrace bs = line_feed refl

@@ -1,4 +1,4 @@
--- The text of a token spells it, and no longer token begins where a blank stands behind it.
+-- The text of a token spells it, and no longer token begins where a blank stands after it.
 use Rattle.std.proofs.Common.{◌≡◌, ℕ, zero, suc, ◌<◌, ◌≤◌, ◌^◌, Bool, true, false, cond, nat_lt, ◌&&◌, ◌||◌, List, [], ◌∷◌, ◌++◌, length, take}
 use Rattle.std.proofs.Common.{Some, arith, rules, refl, subst}
 use Rattle.std.specs.Prelude.{decimal}

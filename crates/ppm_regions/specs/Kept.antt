@@ -17,7 +17,7 @@ pub record Veil : Type 0 where
 abbrev pub through : Veil → Declaration → Declaration
 through v d = if v.outer then seen_in_each v.region d else seen_in_split v.region d
 
--- so many declarations as they are seen, and those behind them
+-- so many declarations as they are seen, and those after them
 abbrev pub under : (Declaration → Declaration) → ℕ → Scope → Scope
 under seen n [] = []
 under seen zero (d ∷ items) = d ∷ items

@@ -134,7 +134,7 @@ module _ (s : Shape) (code : CodeParts) (m : Spot → Word) (k : ℕ → Restart
         let few = s.within.processors_most in
         omega (arith, lt, few)
 
-    -- the bid, and what is left behind it
+    -- the bid, and what is left after it
     bids_so : (t c : ℕ) → IsHolder (record { tag = t; processor = c }) → c ≡ seat.own → Held t c ≡ m (Bid seat.place) → Goal (lowered t seat v d (record { tag = t; processor = c }))
     bids_so zero c fit own noted = tt
     bids_so (suc t) c fit own noted = (omega arith, own, (d_low, (let f = fit.1.0 in omega (arith, f), tt)), fit, kind, sym noted)

@@ -185,7 +185,7 @@ module _ (s : Shape) (code : CodeParts) (fair : IsFair code) (root : Tree (Frame
         ]
     closed_before c seat _ v slot e ke on by = absurd on
 
-    -- a load behind which a place is to open the block is that of its link
+    -- a load after which a place is to open the block is that of its link
     module _ (there : w < s.processors) (aw : IsAway l w) (c v : ℕ) (seat : Seat) (next : Then) (on : CarriesOn next) (by : OpensBlock r next) where
       abbrev Right : Type 0
       Right = OpensAs r (link_at (z.words (BlockWord r))).kind (kind_then next)

@@ -589,7 +589,7 @@ module _ (i : Setting) (fair : IsFair i.code) (root : Tree (Frame FrameWord Poin
   act_step (Quit why) IsDone e so away = as_seen t well
   act_step (Quit why) _ e so away = proposed_well so.0.words (finish_word (quit_with c why)) (slice_index words 0 == 0)
 
--- by which no place goes on with what it inherited, and behind which words are kept
+-- by which no place goes on with what it inherited, and after which words are kept
 pub well_stays_left : (s : Shape) (code : CodeParts) → IsFair code
     → (root : Tree (Frame FrameWord Point) Result) (input : Words) (state : Machine) (l : List Followed) → AreApart l → (t : Skeleton)
     → IsKept (setting s code) root input (left (setting s code) l (places_of s state)) t → IsWell code (view s state.words) Root t → (turn : Turn)

@@ -36,7 +36,7 @@ RunsAreOrderly = (code : CodeParts) (input : List NamedArray) (s : Shape) (keepe
     → (turns : List Turn) → AllByRecursion (IsTurnAmong s.processors) turns
     → AreOrderly s code (opening image.words s.processors) (λ r. Unborn) [] turns
 
--- so with takeover by places are the turns behind legs, and those of each leg, which are turns behind the earlier ones
+-- so with takeover by places are the turns after legs, and those of each leg, which are turns after the earlier ones
 abbrev pub LegsAreOrderly : Type 0
 LegsAreOrderly = (code : CodeParts) (input : List NamedArray) (s : Shape) (keeper : ℕ) (image : Image)
     → s.takeover ≡ ByPlaces → IsFair code → Opens code input s keeper image

@@ -1,5 +1,5 @@
 -- Each moment of a run, whatever the turns: no turn leads out of a run's states, also where it stops the
--- run, and behind such a turn; so at each moment no branch was forked twice, and none was taken twice.
+-- run, and after such a turn; so at each moment no branch was forked twice, and none was taken twice.
 use Rattle.std.specs.Prelude.{◌≡◌, ℕ, true, List, [], ◌++◌}
 use Rattle.std.specs.List.{AllByRecursion}
 use Rattle.ppm_strands.specs.Tree.{Words, Tree}

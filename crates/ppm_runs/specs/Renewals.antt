@@ -40,7 +40,7 @@ RunsComeBack = (s : Shape) (code : CodeParts) → s.takeover ≡ ByPlaces → Is
     → (back : List ℕ) → IsRenewal s state.words back → NoOutcome (read s back FinishWord)
     → IsRun s code root input (opening back s.processors) h forked taken t
 
--- What holds behind a run in parts: turns among the processors, whatever they are, and words that come
+-- What holds after a run in parts: turns among the processors, whatever they are, and words that come
 -- back, which are a renewal of those before, with a finish word that says no outcome. Homes and lists
 -- go on from part to part. Legs (`specs/Legs`) are such parts in which words come back as `renew` gives
 -- them, where the finish word stays or becomes 0; here it may be any that says no outcome.

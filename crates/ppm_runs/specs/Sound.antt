@@ -80,7 +80,7 @@ Noted s m p (Take v d) = TakesPlaces s.takeover
 Noted s m p (Take2 v) = TakesPlaces s.takeover × IsHeld (m (Bid p))
 Noted s m p kind = Unit {0}
 
--- so it is behind the store of this content
+-- so it is after the store of this content
 abbrev pub NotedBy : Shape → Content → RestartKind → Type 0
 NotedBy s (AnEntry entry) (Steal v i) = IsRisingEntry s entry × IsEntry entry
 NotedBy s content (Steal v i) = ⊥

@@ -71,7 +71,7 @@ WhatIsLeftEndsSo = (code : CodeParts) (input : List NamedArray) (s : Shape) (kee
     → IsLeft s code (root_strand code input) (arrays_at (view s image.words)) (reached s code image.words turns).words
     (homes_by s code image.words turns) (forked_in s code (opening image.words s.processors) [] turns)
 
--- so with takeover by places, whatever the legs and the turns behind them
+-- so with takeover by places, whatever the legs and the turns after them
 abbrev pub WhatIsLeftOverLegs : Type 0
 WhatIsLeftOverLegs = (code : CodeParts) (input : List NamedArray) (s : Shape) (keeper : ℕ) (image : Image)
     → s.takeover ≡ ByPlaces → IsFair code → Opens code input s keeper image

@@ -1,4 +1,4 @@
--- Whole runs: what joins the halves of a run's state stays behind each turn, and what all turns come to.
+-- Whole runs: what joins the halves of a run's state stays after each turn, and what all turns come to.
 use Rattle.std.specs.Prelude.{◌≡◌, ℕ, List, [], Some}
 use Rattle.std.specs.List.{AllByRecursion}
 use Rattle.ppm_strands.specs.Tree.{Words, Tree}

@@ -25,7 +25,7 @@ use Rattle.ppm_saved_reader.proofs.SpelledLemmas.{sizes_are, place_words}
 number_short : (n : ℕ) → IsWord n → length (decimal n) ≤ 20
 number_short n h = length-decimal-le 20 n (omega arith) (omega (arith, h)) h
 
--- numbers behind a word
+-- numbers after a word
 numbers_short : (ns : List ℕ) → AllByRecursion IsWord ns → length (flat_map spaced ns) ≤ 21 * length ns
 numbers_short [] h = omega arith
 numbers_short (n ∷ ns) h =

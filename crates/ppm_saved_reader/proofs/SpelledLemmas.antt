@@ -395,7 +395,7 @@ state_read text s z arrays code words k l sizes runs count =
     read_text text s z arrays code runs.runs words runs.last (runs.leads text z arrays code l) sizes runs.words_are (runs.many ∙ count)
     (whole_state text s z arrays (lengths_of arrays) code words k sizes refl (runs.many ∙ count))
 
--- a code was read behind arrays, which are the same
+-- a code was read after arrays, which are the same
 pub coded_read : (text : List ℕ) (z : Sizes) (items arrays : List NamedLength) (code : CodeParts) {line later : ℕ} {r rest : List ℕ} → arrays ≡ items
     → (IsRead text (AtArrays z arrays) line r → IsRead text (AtWords z arrays code) later rest) → IsRead text (AtArrays z items) line r
     → IsRead text (AtWords z items code) later rest

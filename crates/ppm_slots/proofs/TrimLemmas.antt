@@ -310,7 +310,7 @@ frames_stay_trim code words is_code = record {
       (Own (Slot i)) h;
 }
 
--- what a capsule leaves behind the slots of its frame
+-- what a capsule leaves after the slots of its frame
 pub leaves_trim : (code : CodeParts) (words : ℕ) → IsCode code → (f : Frame FrameWord Point) (a : Words) → IsTrim code f
     → (i : ℕ) → slots_at code f.point.capsule ≤ i
     → leaves code_locations (capsule_of words (instrs_of code f.point.capsule)) (start code_locations (table_of code words) f a) (Own (Slot i)) ≡ 0

@@ -158,7 +158,7 @@ module _ (s : Shape) (code : CodeParts) where
   RoomHasFrame = (words : List ℕ) (turns : List Turn) (place : ℕ) → read s words FinishWord ≡ 0
       → finish_of (finish_at s (reached words turns)) ≡ Some (OutOfRoom place) → IsFilledIn place words turns
 
-  -- such a turn behind these turns, where the capsule is that of the frame's header: its number is the word that the processor's turn before
+  -- such a turn after these turns, where the capsule is that of the frame's header: its number is the word that the processor's turn before
   -- it loaded there
   pub record FindsFullBehind (place : ℕ) (words : List ℕ) (first : List Turn) (turn : Turn) : Type 0 where
     pub full : FindsFullIn place (reached words first) turn

@@ -206,7 +206,7 @@ record Stands (p l size : ℕ) (t : Token) : Type 0 where
   first_line : l ≤ t.line
   line : t.line + p ≤ l + t.place
 
--- the tokens behind a piece of n bytes and at most one line stand behind its place
+-- the tokens after a piece of n bytes and at most one line stand after its place
 stands_on : (p l n l' size : ℕ) (t : Token) → 0 < n → n ≤ size → l ≤ l' → l' ≤ l + 1 → Stands (p + n) l' (size - n) t → Stands p l size t
 stands_on p l n l' size t some within above lines s = record {
   form = s.form;

@@ -57,7 +57,7 @@ pub acts_both : (s : Shape) (code : CodeParts) (own : ℕ) (st : Standing) (ds e
 acts_both s code own st [] es = refl
 acts_both s code own st (d ∷ ds) es = ap (λ (l : List Acted). acted s st d ∷ l) (acts_both s code own (behind s code own st d) ds es)
 
--- the past behind steps for which nothing was chosen
+-- the past after steps for which nothing was chosen
 module _ (s : Shape) (code : CodeParts) (own : ℕ) where
   abbrev pub past_along : Past → Standing → List Deed → Past
   past_along past st [] = past

@@ -50,7 +50,7 @@ module _ (form : Form) (procedures : List Procedure) where
     sweep : (i x : Named) (s : Block) (r : Region) (f : Frame) (k m : ℕ) (a : Arrays) → OfSweep n i x s r f k m a
 
   module _ (n : ℕ) (p : Goes n) where
-    -- what stands behind a statement that ended
+    -- what stands after a statement that ended
     rest : (b : Block) (f : Frame) (u : End Locals) → OfRest n b f u
     rest b f (Ended l a) = elim (p.block b (with_locals f l) a) [ inl d ↦ inl (d.0, d.1, GoesOn b f l a d.2) | inr q ↦ inr (Behind b f l a q) ]
     rest b f (Trapped stop a) = inl (none, Trapped stop a, Stops b f stop a)

@@ -20,7 +20,7 @@ not_both p q = cc
 err_same : {A T : Type 0} {r : Result A T} {x y : T} → r ≡ Err x → r ≡ Err y → x ≡ y
 err_same p q = cc
 
--- behind a trap the plain form does not go on
+-- after a trap the plain form does not go on
 pub not_on : {A : Type 0} {form : Form} {x : End A} {stop : TrapAt} {a : Arrays} → form ≡ Plain → x ≡ Trapped stop a → goes_on form x ≡ true → ⊥
 not_on {form = Plain} {x = Ended v b} p q h = cc
 not_on {form = Plain} {x = Trapped s b} p q h = cc

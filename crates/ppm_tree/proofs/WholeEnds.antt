@@ -33,7 +33,7 @@ before_rest (Ended l a) z h = (record {}, h)
 before_rest (Trapped stop a) z h = absurd h
 
 module _ (procedures : List Procedure) where
-  -- what follows is without a trap only behind what has none
+  -- what follows is without a trap only after what has none
   before : {b : Block} {f : Frame} {u : End Locals} {k : Counts} {z : End Locals} → Follows Plain procedures b f u k z → IsEnd z → IsEnd u
   before (GoesOn b f l a r) h = record {}
   before (Stops b f stop a) h = h

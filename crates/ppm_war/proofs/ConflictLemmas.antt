@@ -45,7 +45,7 @@ module _ (is : List Instr) where
   of_class read write c d reads x = subst (λ (k : Class). IsConflict is read write k) (one_class read c d reads x.exposed.reads) x
 
   module _ (read : ℕ) (c : Class) where
-    -- the write of a conflict is one to which a path leads from behind its read
+    -- the write of a conflict is one to which a path leads from after its read
     leads : (write : ℕ) → IsConflict is read write c → LeadsToWrite is c (read + 1) write
     leads write x = (subst (λ (n : ℕ). Path is Any n write) x.goes_on x.between, x.writes)
 
@@ -162,7 +162,7 @@ module _ (is : List Instr) (place : ℕ) where
     | inr here ↦ absurd (none c (same_what is Any place (Read c) m here does))
   ]
 
-  -- behind the last instruction all classes were met
+  -- after the last instruction all classes were met
   pub all_met : (found : Option Found) → length is ≤ place → IsAnswer (IsReadBelow is place) is found
       → MatchOption found (HasNoConflict is) (IsFirstConflict is)
   all_met None past none = λ read write c x.
