@@ -78,7 +78,7 @@ module _ (limit : ℕ) (Has : List ℕ → Answer → Type 0) where
   judging_delivered o a status h (inr d) =
       record { answer = answers.NoMemory; cause = memory_may o.source a h d.0; delivered = d.1 }
 
-  -- the same of a command with watchers, which were told what belongs to both
+  -- what was delivered of an answer of a command with watchers, which were told what belongs to both
   pub judging_told : (Tells : Answer → ToldLists → ToldLists → Type 0) (o : Outside) (a : Answer) (status : Status)
       → Tells a o.told_before o.told_now → Tells answers.NoMemory o.told_before o.told_now → JudgingMay limit Has o.source a
       → Delivers o.out o.err a status ⊎ ((¬ IsFixed a) × Delivers o.out o.err answers.NoMemory status)

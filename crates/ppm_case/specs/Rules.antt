@@ -17,7 +17,7 @@ case_limit = 536870912
 abbrev pub run_fits : (room : ℕ) → Run → Bool
 run_fits room r = is_some r.number && (nat_le 1 r.times && nat_le r.times room)
 
--- likewise of what a word says, if it says a run
+-- whether what a word says is in its range, and there is room for it, if it says a run
 abbrev pub said_fits : (room : ℕ) → Option Run → Bool
 said_fits room None = false
 said_fits room (Some r) = run_fits room r

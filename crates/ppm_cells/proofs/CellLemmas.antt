@@ -56,7 +56,7 @@ module _ (s : Shape) where
       let slots : s.processors * (5 + s.slots) ≤ 64 * (5 + s.slots) = mul-le-mul_right (5 + s.slots) s.within.processors_most in
       omega (arith, slots, s.within.slots_most, s.within.pools_most)
 
-  -- so a place begins
+  -- the words of all places in front of one are few
   pub place_low : (place : ℕ) → place ≤ s.processors → place * place_size s ≤ 71303488
   place_low place h =
       let m : place * place_size s ≤ s.processors * place_size s = mul-le-mul_right (place_size s) h in

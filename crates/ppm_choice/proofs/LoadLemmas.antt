@@ -135,7 +135,7 @@ module _ (s : Shape) (code : CodeParts) where
         told_behind w due dues p,
       )
 
-  -- so a turn has the victim that the run before it says
+  -- a turn has the victim that the run before it says
   turn_same : (state : State) (w : Course) (first : List Turn) (act : ScheduledAct)
       → w.state ≡ after s code state first → loads_of w (processor_of act) ≡ loads_made s code (processor_of act) state first
       → turn_of s.processors w act ≡ turn_behind s code state first act

@@ -41,7 +41,7 @@ IsChoice plan limits processor past stood (Do act) =
     × (next_act plan limits processor past stood ≡ act)
     × ((is_step act && seeks_holder stood) ≡ false)
 
--- the same by a pace
+-- what a processor without faults chooses, by its pace
 abbrev pub unfaulted : Limits → Pace → Choice
 unfaulted limits pace = if is_work_next pace.next && nat_le limits.turns pace.work then Do (Quit Turns) else (if pace.due then Draw else Do (Step 0))
 

@@ -48,7 +48,7 @@ all_simple : (options : List OptionRule) → list_all (λ (a : Rule). a.is_simpl
 all_simple [] = refl
 all_simple (o ∷ os) = all_simple os
 
--- so is each argument of a built subcommand,
+-- each argument of a built subcommand is simple,
 flags_simple : (i : ℕ) (options : List OptionRule) → list_all (λ (a : Rule). a.is_simple) (flags i options) ≡ true
 flags_simple i [] = refl
 flags_simple i (o ∷ os) = flags_simple i os

@@ -174,7 +174,7 @@ version_tokens (Name k ∷ ts) e =
     go (t ∷ u ∷ us) h p = let f = (both (is_of sort.Version t) false h).1 in cc
 version_tokens (t ∷ ts) e = cc
 
--- so its line has five bytes
+-- the words of the version's line are short
 sized : (ws : List (List ℕ)) (n : ℕ) → map token_of ws ≡ Name keyword.Ppm ∷ Number n ∷ [] → n ≡ 1 → total ws ≤ 6
 sized [] n e f = cc
 sized (v ∷ []) n e f = cc

@@ -86,7 +86,7 @@ pub split_off : (xs : List NamedArray) (a : NamedArray) → 1 ≤ length xs → 
 split_off [] a h e = absurd (omega (arith, h))
 split_off (x ∷ xs) a h e = ap₂ (λ (y : NamedArray) (ys : List NamedArray). y ∷ ys) (sym e) (sym (take_all (length (x ∷ xs) - 1) xs (omega arith)))
 
--- so the word is in the others, where it is not in the first
+-- a word that is not in the first array is in the others
 pub passed_by : (arrays : List NamedArray) (word : ℕ) (left : List NamedArray) (a : NamedArray) (number index n : ℕ) → IsSoFar arrays word left number index
     → 1 ≤ length left → a ≡ get_or left 0 a → n ≡ length a.values → n ≤ index
     → IsSoFar arrays word (take (length left - 1) (drop 1 left)) (number + 1) (index - n)

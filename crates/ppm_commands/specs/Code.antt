@@ -72,7 +72,7 @@ pub record IsFaithful (t : ProgramTree) : Type 0 where
   pub sound : (input : List NamedArray) → IsInputOf t input → IsSound (code_of t) input
   pub ends_as_meant : (input : List NamedArray) → IsInputOf t input → EndsAsMeant t input
 
--- so it is with the program of each text
+-- the code of each text's program is true to it
 abbrev pub CodesAreFaithful : Type 0
 CodesAreFaithful = (text : List ℕ) (t : ProgramTree) → HasProgram text t → IsFaithful t
 

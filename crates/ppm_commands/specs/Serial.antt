@@ -49,7 +49,7 @@ pub record HasOneAnswer (turns : ℕ) : Type 0 where
   pub front : FrontsDecide text_limit (SerialHas turns)
   pub some : (text : List ℕ) → ((r : Refusal) → ¬ IsRefusal text r) → (a : Answer) × SerialHas turns text a
 
--- so it is with all numbers of turns
+-- `serial` has one answer, whatever the number of turns
 abbrev pub HaveOneAnswer : Type 0
 HaveOneAnswer = (turns : ℕ) → HasOneAnswer turns
 

@@ -36,7 +36,7 @@ adds_then {q = q} {xs = xs} {ys = ys} {a = a} h k = record {
       ∙ ap (λ l. a ++ l) (sym (map-append (capsule_of q) xs ys));
 }
 
--- the same instructions
+-- what grows by some instructions grows by equal ones
 pub alike : {f g : Instrs → Instrs} {a b : Instrs} → ((rest : Instrs) → f rest ≡ g rest) → Grows f a b → Grows g a b
 alike {a = a} e h = record { whole = λ rest. ap (λ l. a ++ l) (sym (e rest)) ∙ h.whole rest }
 

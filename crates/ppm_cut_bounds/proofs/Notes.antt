@@ -95,7 +95,7 @@ then_noted {xs = xs} {ys = ys} {a = a} {b = b} {c = c} f g = record {
   once = λ d. g.once (f.once d);
 }
 
--- the same names
+-- names that are equal are noted alike
 pub noted_same : {xs ys : List (List ℕ)} {a b : Walked} → xs ≡ ys → Notes xs a b → Notes ys a b
 noted_same {a = a} {b = b} e n = subst (λ l. Notes l a b) e n
 

@@ -29,7 +29,7 @@ new_absent (y ∷ layout) x h = go (bytes_eq y x) refl h (new_absent layout x)
     go true e h rest = absurd (omega (arith, h))
     go false e h rest = ap (λ c. c || is_member bytes_eq layout x) (bytes_laws.symm x y ∙ e) ∙ rest (omega (arith, h))
 
--- so it differs from each of them
+-- a name that is none of the layout differs from each of its names
 pub absent_apart : (layout : Layout) (x : List ℕ) → is_member bytes_eq layout x ≡ false → AllByRecursion (λ y. bytes_eq x y ≡ false) layout
 absent_apart [] x h = tt
 absent_apart (y ∷ layout) x h = go (bytes_eq x y) refl h (absent_apart layout x)
@@ -203,6 +203,6 @@ own_slots : (layout : Layout) → AllByRecursion (Has layout) layout
 own_slots [] = tt
 own_slots (y ∷ layout) = (has_first y layout, has_all_later y layout layout (own_slots layout))
 
--- so do those that a block catches
+-- the names that a block catches have slots
 pub caught_have_slots : (layout : Layout) (block : Block) → AllByRecursion (Has layout) (caught layout block)
 caught_have_slots layout block = all_filter (Has layout) (is_member bytes_eq (free_names block)) layout (own_slots layout)

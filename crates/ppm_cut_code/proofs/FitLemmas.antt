@@ -147,7 +147,7 @@ module _ (code : CodeParts) (q : ℕ) (is : Instrs) where
       let e : suc at + k ≡ at + suc k = omega arith in
       subst (λ (n : ℕ). Fits code q is n i) e (fit_at rest (suc at) k i h.1 found)
 
-  -- so the capsule of these instructions keeps its rules
+  -- a capsule of these instructions keeps the rules of a capsule
   pub capsule_fits : IsProcedure code q → length is ≤ instr_limit → IsClosed is → AllFit 0 is → IsCapsule code (of_procedure q is)
   capsule_fits there most closed fit = record {
     procedure = there;

@@ -63,7 +63,7 @@ pub record EndsAsMeant (t : ProgramTree) (input : List NamedArray) : Type 0 wher
   pub goes_on : (n : ℕ) → ((k : Counts) × (z : End ℤ) × Means Whole t (values_of input) k z)
       ⊎ ((i : CapsuleCounts) × (u : Tree (CapsuleFrame FrameWord Point) Result) × (b : Words) × BeginsWith (code_of t) input i u b × (n ≤ i.capsules))
 
--- so it is with each program that the compiler takes, and each input for its arrays
+-- the code of each program that the compiler takes ends as the program means, from each input for its arrays
 abbrev pub EndAsMeant : Type 0
 EndAsMeant = (t : ProgramTree) → IsWithin t → IsAdmitted t → IsWithinBounds t → (input : List NamedArray) → IsInputOf t input → EndsAsMeant t input
 
@@ -79,6 +79,6 @@ pub record HasSerialEnd (t : ProgramTree) : Type 0 where
   pub no_other : (n : ℕ) (o : Outcome) → Serial t n o → o ≢ outcome.NotWithin
       → (e : CapsuleEnd Result) → ComesTo (code_of t) (initial_arrays t) e → said_of (initial_arrays t) e.words e.outcome ≡ o
 
--- so it is with each program that the compiler takes
+-- what the code of each program that the compiler takes comes to is the program's serial outcome
 abbrev pub EndsSerially : Type 0
 EndsSerially = (t : ProgramTree) → IsWithin t → IsAdmitted t → IsWithinBounds t → HasSerialEnd t

@@ -44,7 +44,7 @@ use Rattle.ppm_cut_sound.proofs.LevelLemmas.{behind_at, Runs, Begins, Moves, Put
 abbrev pub zeros : List ℕ
 zeros = replicate 64 0
 
--- the same declarations in a block inside, and around it
+-- a level inside, with the declarations of the one around it, is under that one
 pub under_same : (scope : Scope) (layout : Layout) (v w : Level) → v.layout ≡ layout → w.layout ≡ layout → v.scope ≡ scope → w.scope ≡ scope ++ []
     → IsUnder w v
 under_same scope layout v w p q r s = record {

@@ -26,7 +26,7 @@ use Rattle.ppm_cut_sound.proofs.TameLemmas.{go_work, go_load, go_get, go_zero, g
 
 -- instructions that are passed over
 module _ (words : ℕ) (g : List ℕ) where
-  -- the same place by other numbers
+  -- a place stays the same by other numbers
   shift : (is : List Instr) (here there k n : ℕ) → k ≡ n → there ≡ here → capsule_from words here k is g ≡ capsule_from words there n is g
   shift is here there k n e f = ap (λ (j : ℕ). capsule_from words here j is g) e ∙ ap (λ (j : ℕ). capsule_from words j n is g) (sym f)
 
@@ -118,7 +118,7 @@ module _ (words : ℕ) (g : List ℕ) where
 
 -- an operator, once its operands are there
 module _ (world : World) (m : Memory Where) where
-  -- the same place by another number
+  -- a place stays the same by another number
   pub moved : (is : List Instr) (g : List ℕ) (here there : ℕ) → there ≡ here → Goes world there is g m → Goes world here is g m
   moved is g here there e h = subst (λ (n : ℕ). Goes world n is g m) e h
 

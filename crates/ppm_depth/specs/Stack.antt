@@ -106,7 +106,7 @@ module _ (code : CodeParts) where
     pub tree : t ≡ tree_at above leaf
     pub at : IsNow blocks current above leaf
 
-  -- likewise, with these frames above this leaf
+  -- stack, frames that wait and what is done now show these frames above this leaf
   pub record IsShownAt (blocks : List ℕ) (waiting : List Waiting) (current : Now) (s : Above) (leaf : Strands) : Type 0 where
     pub waits : listed s ≡ waiting
     pub at : IsNow blocks current s leaf

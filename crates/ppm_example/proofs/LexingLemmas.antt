@@ -101,7 +101,7 @@ sign_is : (bytes : List ℕ) → sign_of bytes ≡ spelled signs bytes
 unfolding sign_of
 sign_is bytes = refl
 
--- the same piece is the same token
+-- equal pieces are one token
 same_token : (bytes : List ℕ) (n m : ℕ) (k j : Kind) → Some (A_token n k) ≡ Some (A_token m j) → Longest bytes n k → Longest bytes m j
 same_token bytes n m k j is t = let one : n ≡ m = cc (is) in let two : k ≡ j = cc (is) in rw (sym one, sym two) t
 
@@ -189,7 +189,7 @@ abbrev pub AllInRange : List Spot → Type 0
 AllInRange [] = Unit {0}
 AllInRange (s ∷ spots) = IsInRange s.kind × AllInRange spots
 
--- the same as a test
+-- a test that a token is within the limits
 abbrev is_in_range : Kind → Bool
 is_in_range (kind.Name bytes) = nat_le (length bytes) name_limit
 is_in_range (kind.Number value) = nat_lt value value_bound

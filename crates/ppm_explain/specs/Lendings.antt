@@ -73,7 +73,7 @@ is_break role.Closes = false
 is_break role.Opens = false
 is_break role.Other = false
 
--- the same of a token
+-- whether a token ends a statement, or the front of one with a block
 abbrev pub ends_kind : Kind → Bool
 ends_kind (kind.Sign sign) = is_end (role_of sign)
 ends_kind (kind.Keyword w) = false

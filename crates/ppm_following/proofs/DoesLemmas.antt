@@ -66,7 +66,7 @@ pub ends : (dues rest : List Due) {m n : Situation} {way v : Way}
     → LeadsTo dues rest m way n v → Idle n.shape n.code (course n v) rest → Does dues m way n v
 ends dues rest {n = n} {v = v} l idle = l n v (idles idle)
 
--- the same, where the first part is seen by an equation
+-- a step leads on, where the first part is seen by an equation
 pub goes_on_by : (dues whole first rest : List Due) {m n o : Situation} {way v u : Way}
     → whole ≡ first ++ rest → LeadsTo dues whole m way n v → Does first n v o u → LeadsTo dues rest m way o u
 goes_on_by dues whole first rest {m} {n} {o} {way} {v} {u} is l =

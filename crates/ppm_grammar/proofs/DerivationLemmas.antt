@@ -23,7 +23,7 @@ abbrev pub count_first : {C : Type 0} → List C → Trace C → Trace C
 count_first cs (On m r) = On (mark m.depth (cs ++ m.counts)) r
 count_first cs r = r
 
--- so it is with marks
+-- counts in front of a trace that begins with marks go to the first of these
 pub count_ons : {C : Type 0} (cs : List C) (m : Mark C) (ms : List (Mark C)) (r : Trace C) →
     count_first cs (ons (m ∷ ms) r) ≡ ons (counting cs (m ∷ ms)) r
 count_ons cs m ms r = refl

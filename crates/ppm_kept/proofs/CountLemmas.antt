@@ -332,7 +332,7 @@ module _ (i : Setting) (fair : IsFair i.code) (root : Tree (Frame FrameWord Poin
   abbrev other : Setting
   other = asked i root input S t law
 
-  -- the same with the other question
+  -- what is kept stays so with another question to the counts
   other_law : IsKept other root input (left other l (places_of i.shape state)) t
   other_law = subst (λ (z : State). IsKept other root input z t) (sym (left_same i (exactly k) l (places_of i.shape state))) (as_asked i root input S t law)
 

@@ -203,7 +203,7 @@ module _ (w : Who) (r f n y : ℕ) (a b : Skeleton) where
   fork_count : (h : LinkKind) (c : Around) → 1 ≤ count h (plug c fork) r
   fork_count h c = let sum = count_plug h c fork r in let one = head_in r r refl in omega (arith, sum, one)
 
-  -- so its right branch is what is seen of it
+  -- the right branch of a block that is in the tree once is what is seen of the block
   here_only : (h : LinkKind) (c : Around) → count h (plug c fork) r ≤ 1 → HasUnrun w r (plug c fork) → IsLeafOf w b
   here_only h Top most (inl x) = x.1
   here_only h Top most (inr (inl x)) = absurd (let one = has_count w r (Branch Left r) a x in let two = head_in r r refl in omega (arith, most, one, two))

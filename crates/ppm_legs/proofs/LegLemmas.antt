@@ -148,7 +148,7 @@ goes_on saved keeper r begun is loads =
       loads = loads ∙ (λ i. loaded (is.shape_is i) (is.code_is i) (lengths i) r.image.words);
     }
 
--- so it is after the acts of a schedule
+-- what a machine has come to after the acts of a schedule is a leg of the state
 pub leg_is : (saved : Saved) (keeper : ℕ) (r : Renewed) (begun m : Situation) (items : List ScheduleItem) (acts : ℕ) → IsRenewalOf saved keeper r
     → begun ≡ loaded r.image.shape r.code r.image.lengths r.image.words → m ≡ followed begun items acts → IsLegOf (state_of saved) items acts m
 leg_is saved keeper r begun m items acts is loads ends = record { start = begun; goes_on = goes_on saved keeper r begun is loads; ends = ends }

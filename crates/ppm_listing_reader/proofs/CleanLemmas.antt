@@ -55,7 +55,7 @@ module _ (code : CodeParts) where
   AllClean place [] = ends_early fault.NotThere place ≡ false
   AllClean place (x ∷ xs) = IsClean place x × AllClean (next place (Some x)) xs
 
-  -- so are all lines where no rule is broken
+  -- all lines are parts that stand at their places and break no rule there
   pub record AreClean (place : Place) (ls standing : List (Option Part)) : Type 0 where
     pub parts : List Part
     pub lines : ls ≡ map Some parts

@@ -157,7 +157,7 @@ module _ {A : Type 0} (form : Form A) (plan : List ℕ) (processors : ℕ) (Has 
   planned_delivered Tells law o a status told wanting h (inr d) =
       record { answer = answers.NoMemory; cause = memory_may law o.source a h d.0; delivered = d.1; told = wanting }
 
-  -- the same of a command without watchers
+  -- what was delivered of an answer of a command without watchers is the answer, or out of memory in its place
   pub planned_done : PlansHaveOneAnswer form → (o : Ports) (a : Answer) (status : Status) → May o.source a
       → Delivers o.out o.err a status ⊎ ((¬ IsFixed a) × Delivers o.out o.err answers.NoMemory status) → DeliversAnswer (May o.source) o status
   planned_done law o a status h (inl d) = record { answer = a; cause = h; delivered = d }

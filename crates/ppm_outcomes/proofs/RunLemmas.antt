@@ -250,12 +250,12 @@ module _ (options : RunOptions) (watching : ℕ) (before now : ToldLists) (items
     };
   }
 
--- so is that of a program
+-- an answer of a program's run is of no other kind
 pub of_program : (options : RunOptions) (watching : ℕ) (before now : ToldLists) (items : List PlanItem) (t : ProgramTree) (a : Answer)
     → ProgramHas options watching before now items t a → IsOfProgram options.processors a
 of_program options watching before now items t = of_code options watching before now items (code_of t) (initial_arrays t)
 
--- so are those of texts, and those with a plan
+-- an answer of a text is one whatever watchers were told, with a plan too
 pub text_forgets : (options : RunOptions) (watching : ℕ) (before now : ToldLists) (items : List PlanItem) (text : List ℕ) (a : Answer)
     → TextHas options watching before now items text a → TextHas options 0 [] [] items text a
 text_forgets options watching before now items text (answers.SourceRefused r) h = h

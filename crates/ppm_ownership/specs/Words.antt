@@ -43,7 +43,7 @@ pub record KeepsSameness (a b c d : Arrays) : Type 0 where
   pub shape : HaveOneShape c d
   pub words : (k i : ℕ) → word a k i ≡ word b k i → word c k i ≡ word d k i
 
--- the same end, over other arrays
+-- an end, over other arrays
 abbrev pub over : {A : Type 0} → End A → Arrays → End A
 over (Ended x arrays) others = Ended x others
 over (Trapped stop arrays) others = Trapped stop others

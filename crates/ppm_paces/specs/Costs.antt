@@ -137,7 +137,7 @@ IsFree (Now (Install restart)) = due restart.kind ≡ 0
 IsFree (Now (Fork block)) = ⊥
 IsFree _ = Unit {0}
 
--- so it is after so many steps of the row, whatever these find
+-- nothing has to be set aside after so many steps of the row, whatever these find
 abbrev pub AreFree : Shape → Seat → (steps : ℕ) → Row → Type 0
 AreFree s seat zero row = IsFree row
 AreFree s seat (suc n) (Now (Load point)) = (victim : ℕ) (w : Content) → AreFree s seat n (found_at s seat victim point w)

@@ -25,7 +25,7 @@ pub data RowPaces (s : Shape) (seat : Seat) (made : ℕ) (row : Row) : Type 0 wh
       → Leads s seat seat.restart.kind left made row → RowPaces s seat made row
   OfLook : is_work seat.restart.kind ≡ false → made ≡ 0 → RowPaces s seat made row
 
--- so of what is left of a capsule
+-- what is left of a capsule with so many word steps made, which with these are the most
 pub record CapsulePaces (s : Shape) (seat : Seat) (made : ℕ) (rest : Rest) : Type 0 where
   pub frame : ℕ
   pub copy : ℕ

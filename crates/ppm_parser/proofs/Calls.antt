@@ -51,7 +51,7 @@ pub record CountsElement (room room' : Room) : Type 0 where
 pub element_of : {room room' : Room} → (room.elements ≡ suc room'.elements) × (room' ≡ with_elements room'.elements room) → CountsElement room room'
 element_of h = record { less = h.0; same = h.1 }
 
--- so it is after it
+-- the room after an element is that of a tally with one element more
 pub after_counted : {room room' : Room} → CountsElement room room' → (c : Tally) → Has room c → Has room' (adds elements 1 c)
 after_counted {room = room} {room' = room'} h c has = after_element room room' h.less h.same c has
 

@@ -51,7 +51,7 @@ pub record Counts (room room' : Room) : Type 0 where
 pub counts_of : {room room' : Room} → (room.nodes ≡ suc room'.nodes) × (room' ≡ with_nodes room'.nodes room) → Counts room room'
 counts_of h = record { less = h.0; same = h.1 }
 
--- so it is after it
+-- the room after a node is that of a tally with one node more
 after : {room room' : Room} → Counts room room' → (c : _) → Has room c → Has room' (adds nodes 1 c)
 after {room = room} {room' = room'} h c has = after_node room room' h.less h.same c has
 

@@ -57,7 +57,7 @@ module _ {depth : ℕ} where
   pub refused : {room : Room} {xs : Items} {ts : List Token} {e : Stop} → e ≡ stop.NoMemory → Stops depth room xs ts e
   refused {room = room} {xs = xs} {ts = ts} h = subst (λ q. Stops depth room xs ts q) (sym h) (record { fails = chains.none_fails language limits Has free })
 
-  -- the same values
+  -- what is read as some values is read as equal ones
   pub of_same : {room room' : Room} {xs : Items} {ts rest : List Token} {vs ws : List Value} → vs ≡ ws → Parses depth room xs ts vs room' rest →
       Parses depth room xs ts ws room' rest
   of_same {room = room} {room' = room'} {xs = xs} {ts = ts} {rest = rest} h a = subst (λ q. Parses depth room xs ts q room' rest) h a

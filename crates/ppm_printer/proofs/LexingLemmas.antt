@@ -108,6 +108,6 @@ lexed_from (k ∷ ks) p l q forms is =
     let (m, rest) = lexed_from ks (p + length (token_text k) + 1) (l + ends k) q forms.1 (omega (arith, is, long)) in
     (m, subst (λ bs. Lexes p l bs (located_from p l (k ∷ ks)) q m []) (sym split) (one k (text_of ks) p l q m _ forms.0 rest))
 
--- so it is with a whole text
+-- a whole text is lexed into its tokens
 pub lexed : (ks : List Kind) → AllByRecursion HasForm ks → IsTextOf (text_of ks) (located_from 0 1 ks)
 lexed ks forms = lexed_from ks 0 1 (length (text_of ks)) forms (omega arith)

@@ -19,6 +19,6 @@ pub record HasOneAnswer (text : List ℕ) : Type 0 where
   pub none : ((r : Refusal) → ¬ IsRefusal text r) → (t : ProgramTree) × HasProgram text t
   pub front : (rest : List ℕ) (r : Refusal) → text_limit < length text → IsRefusal text r → IsRefusal (text ++ rest) r
 
--- so it is with every text
+-- every text has one answer: a program or a refusal
 abbrev pub HaveOneAnswer : Type 0
 HaveOneAnswer = (text : List ℕ) → HasOneAnswer text

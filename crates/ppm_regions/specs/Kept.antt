@@ -55,7 +55,7 @@ pub record Becomes (f : Scope → Scope) (old new : Kept) : Type 0 where
 abbrev pub entered : Kept → Named → Bool → Kept
 entered k region outer = record { items = k.items; veils = k.veils ++ record { region = region; count = length k.items; outer = outer } ∷ [] }
 
--- the same declarations, seen through one block more
+-- the declarations in force, seen through one block more
 pub record Enters (front inner : Kept) : Type 0 where
   pub items : inner.items ≡ front.items
   pub veil : Veil

@@ -173,7 +173,7 @@ each_within d i x r s arrays words procedures n m o q =
     (All-cons IsNamed i (x ∷ r ∷ []) n (All-cons IsNamed x (r ∷ []) m (All-cons IsNamed r [] o (All-nil IsNamed))))
     (All-nil IsLine) (All-nil IsSmallSide)) q.small q.deep q.free
 
--- the same from where the nodes are counted anew
+-- a statement within the limits, where the nodes are counted anew
 anew_within : (d : ℕ) {a b c : Tally} (s : Statement) → b 1 ≡ a 1 → b 2 ≡ a 2 → b 3 ≡ a 3 → IsStatement d b c s → IsStatement d a c s
 anew_within d s arrays words procedures h = record {
   arrays = h.arrays ∙ arrays;

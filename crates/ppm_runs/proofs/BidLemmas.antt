@@ -171,7 +171,7 @@ module _ (s : Shape) (code : CodeParts) (m : Spot → Word) (k : ℕ → Restart
   take_or (Take v d) = inl (v, d, refl)
   take_or _ = inr tt
 
-  -- so it is with each row
+  -- a row that has seen words makes lawful bids, and stores no holder word
   pub row_bids : (row : Row) → HasSeen s M seat row → Goal row
   row_bids row (Strand is quiet) = row_quiet s code m seat row quiet
   row_bids row (Looks u ws fit is saw) = subst Goal is (elim (take_or seat.restart.kind) [

@@ -492,7 +492,7 @@ module _ (s : Shape) (code : CodeParts) (fair : IsFair code) (root : Tree (Frame
     again_done : is_done_at x ≡ true → agains l n ≡ agains l state
     again_done e = ap (agains l) (done_stays e)
 
-    -- so it is by a step
+    -- a step leaves `agains` as it is, or smaller
     again_step : s.takeover ≡ ByEntries → finish_at s n ≡ 0 → (v : ℕ) → act ≡ Step v → agains l n ≤ agains l state
     again_step ih then_ v is = elim (cases_Bool (is_done_at x)) [
       | inl e ↦ let same = again_done e in omega (arith, same)

@@ -303,7 +303,7 @@ fills_begun s seat (Check v x) = inr (λ r. tt, inr (λ r. tt))
 fills_begun s seat (Take v x) = inr (places_row s.takeover s.takeover no_fills _ tt)
 fills_begun s seat (Take2 v) = inr (places_row s.takeover s.takeover no_fills _ tt)
 
--- so of a row that has seen words
+-- Push1 alone fills an empty entry, in a row that has seen words
 filler : (s : Shape) (m : Spot → Word) (seat : Seat) (cell : Cell) (old new : Content) (next : Then) → HasSeen s m seat (Exchange cell old new next)
     → ((r : ℕ) × (seat.restart.kind ≡ Push1 r)) ⊎ (IsQuietCell cell ⊎ TameOld s.takeover no_fills old)
 filler s m seat cell old new next (Strand is quiet) = inr (inl quiet.0)
@@ -1015,7 +1015,7 @@ module _ (s : Shape) (code : CodeParts) (fair : IsFair code) (root : Tree (Frame
     went_loads ih (IsBroken p) e to = absurd (gone_out _ tt to)
     went_loads ih IsDone e to = absurd (gone_out _ tt to)
 
-    -- so it opens a block by its link
+    -- the act opens a block by its link
     own_opens : (x : Standing) → stand_of state c ≡ x → Comes x → (w r : ℕ) → Closed s.takeover (spots.view s (acts s code state c (Step v) x).words) w → IsAway l w → kinds_of s (acts s code state c (Step v) x).words w ≡ Bump r → OpensBlock r next
         → OpensAs r (link_at (left_words (setting s code) l (view s (acts s code state c (Step v) x).words) (BlockWord r))).kind (kind_then next)
     own_opens x e to w r shut aw kw by =

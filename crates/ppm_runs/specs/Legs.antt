@@ -82,7 +82,7 @@ module _ (s : Shape) (code : CodeParts) (words : List ℕ) where
   strikes_then (leg ∷ legs) = strikes_then legs + strikes_in s code (state_then legs) leg.turns
 
   module _ (legs : List Leg) (turns : List Turn) where
-    -- so after turns that follow
+    -- the state after legs and the turns that follow
     abbrev pub last_state : RunState
     last_state = after s code (state_then legs) turns
 
@@ -171,7 +171,7 @@ WorkOverLegs = (code : CodeParts) (input : List NamedArray) (s : Shape) (keeper 
     → all_work s code image.words legs turns
     ≤ 218 * end.counts.capsules + 171 * all_strikes s code image.words legs turns + 172 * (s.processors * length legs) + 6
 
--- so they are fewer than 256 for each capsule, each such fault, and each fresh processor
+-- all work turns over legs are fewer than 256 for each capsule, each fault that strikes a row, and each fresh processor
 abbrev pub WorkOverLegsIsWithin256 : Type 0
 WorkOverLegsIsWithin256 = (code : CodeParts) (input : List NamedArray) (s : Shape) (keeper : ℕ) (image : Image)
     → s.takeover ≡ ByPlaces → IsFair code → Opens code input s keeper image

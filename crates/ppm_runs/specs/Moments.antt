@@ -54,7 +54,7 @@ pub record AreOnce (forked taken : List ℕ) : Type 0 where
   pub taken_once : Once taken
   pub forked_first : (r : ℕ) → has taken r ≡ true → has forked r ≡ true
 
--- so it is at each moment of a run from an image of a sound code, whatever the turns, also where the
+-- no right branch was forked or taken twice, at each moment of a run from an image of a sound code, whatever the turns, also where the
 -- run was stopped
 abbrev pub OnceAtEachMoment : Type 0
 OnceAtEachMoment = (code : CodeParts) (input : List NamedArray) (s : Shape) (keeper : ℕ) (image : Image)

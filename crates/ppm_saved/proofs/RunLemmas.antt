@@ -36,7 +36,7 @@ first_run w (v ∷ vs) = ap (in_front w) (first_run v vs) ∙ by (v == w) (eqb_t
     by false (inl t) first = absurd (both_ways false refl t.0)
     by false (inr t) first = ap (λ rs. run w 1 ∷ rs) (sym first)
 
--- the same of words by the first and those after it
+-- the longest runs of words, by the first word and those after it
 pub first_of : (ws : List ℕ) → 1 ≤ length ws
     → runs_of ws ≡ run (get_or ws 0 0) (1 + more (get_or ws 0 0) (take (length ws - 1) (drop 1 ws)))
     ∷ runs_of (drop (more (get_or ws 0 0) (take (length ws - 1) (drop 1 ws))) (take (length ws - 1) (drop 1 ws)))

@@ -203,7 +203,7 @@ module _ (listings : FaultsTellListings) (text : List ℕ) (none : (f : Fault) (
       by None e = absurd (right (reads_all text short) (NoVersion e))
       by (Some (line, rest)) e = sizes 2 rest (reads_on (reads_all text short) (Version e)) (first_line sizes_in rest) refl
 
-  -- so it is that of a state
+  -- a text in which nothing is wrong is that of a state
   pub covers : HasState text
   covers =
       let h = text_out in

@@ -302,7 +302,7 @@ read_at text k = leads_at text k.short k.leads (record { has = tt; same = refl }
 pub read_sizes_fit : (text : List ℕ) {z : Sizes} {arrays : List NamedLength} {r : List ℕ} {line : ℕ} → IsRead text (AtArrays z arrays) line r → sizes_fit z ≡ true
 read_sizes_fit text k = (read_at text k).has.sizes
 
--- so does the code, and the rest is no longer than a text may be
+-- the names that were read keep the rules; the code does, and the rest is no longer than a text may be
 pub read_names : (text : List ℕ) {z : Sizes} {arrays : List NamedLength} {r : List ℕ} {line : ℕ} → IsRead text (AtArrays z arrays) line r → AreNames arrays
 read_names text k = (read_at text k).has.names
 

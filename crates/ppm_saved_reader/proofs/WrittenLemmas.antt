@@ -271,7 +271,7 @@ fine f (NoRun some e) = some refl
 fine f (Same e other) = not_both refl e
 fine f (NoWord e) = not_both refl e
 
--- so the text of a state is wrong nowhere
+-- the text of a state is wrong nowhere
 pub text_right : (text : List ℕ) (s : Shape) (arrays : List NamedLength) (code : CodeParts) (words : List ℕ) (f : Fault) (line : ℕ)
     → length text ≤ saved_limit → IsSavedText text s arrays code words → IsWrongAt text f line → ⊥
 text_right text s arrays code words f line short h (Breaks r w) = none_wrong stuck fine (text_leads s arrays code words text h).1 r.leads w

@@ -210,7 +210,7 @@ pub(crate) fn read_code<'a>(
     let code = match read_listing(alloc, listing) {
         Ok(code) => code,
         Err(error) => {
-            // so it is the listing of no code
+            // a listing with such a fault is the listing of no code
             faults_tell_listings();
             return Err(SavedError::for_listing(line, error));
         }

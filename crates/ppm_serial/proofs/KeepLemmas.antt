@@ -63,7 +63,7 @@ noted_there names y = go (nat_lt (slot_in names y) (length names)) refl
     go true e = ltb-true (slot_in names y) (length names) e
     go false e = last_slot names y
 
--- so with the names of a procedure
+-- the names of a procedure keep their slots
 pub record KeepsBoth (n m : Slotted) : Type 0 where
   pub locals : Keeps n.locals m.locals
   pub regions : Keeps n.regions m.regions

@@ -228,7 +228,7 @@ module _ (procedures : List Procedure) where
   ArePlaced blocks (p ∷ ps) [] = ⊥
   ArePlaced blocks (p ∷ ps) (r ∷ rs) = IsRoutine procedures blocks p r × ArePlaced blocks ps rs
 
-  -- so they are, after those that were there
+  -- procedures are laid out after those that were there
   pub record LaysMore (ps : List Procedure) (old new : List (List Step)) (before after : List Routine) : Type 0 where
     pub grows : Grows old new
     pub added : List Routine

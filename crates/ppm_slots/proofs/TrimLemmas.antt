@@ -58,7 +58,7 @@ module _ (code : CodeParts) (procedure : ℕ) where
       (procedure_at code k ≡ procedure) × IfSome left_to (λ slot. slot < slots) × IfSome right_to (λ slot. slot < slots)
       × (procedure_at code (entry_of code l) ≡ l) × (procedure_at code (entry_of code r) ≡ r)
 
-  -- so do all paths of a capsule
+  -- all paths of a capsule store in the frame's slots, or in none of them, and come to such ends
   abbrev Within : Capsule Where End → Type 0
   Within (Reads l go) = (v : ℕ) → Within (go v)
   Within (Writes l v go) = IsInside l × Within go

@@ -37,7 +37,7 @@ module _ (Built : Type 0) where
   EndsPlainly (Fork left right capsule left_to right_to) = Built
   EndsPlainly _ = Unit {0}
 
-  -- so does a capsule, which asks for no room
+  -- a capsule that asks for no room, stores into old words alone, and ends plainly
   abbrev pub IsPlain : Capsule Where End → Type 0
   IsPlain (Reads location go) = (word : ℕ) → IsPlain (go word)
   IsPlain (Writes location word go) = IsOld location × IsPlain go

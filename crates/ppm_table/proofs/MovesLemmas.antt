@@ -197,7 +197,7 @@ from_none n looks = by (n == 0)
     by false = refl
 
 module _ {W : Type 0} (told : W → Option (List Event)) where
-  -- the same with the sums by name, and with a watcher
+  -- steps one after the other, with the sums by name, and with a watcher
   pub moves_both : (k : Opening) (own : ℕ) (a b c : Mine) (w0 w1 w2 : W) (m n v w x y made work looks : ℕ) (p q : Bool) → m + n ≡ made → v + w ≡ work → looks_behind x w y ≡ looks
       → Moves told k own a b w0 w1 m v x p → Moves told k own b c w1 w2 n w y q → Moves told k own a c w0 w2 made work looks (p || q)
   moves_both k own a b c w0 w1 w2 m n v w x y made work looks p q count works looked f g = record {

@@ -49,7 +49,7 @@ keeps_both (Some before) (Some now) None f g = absurd g
 keeps_both (Some before) (Some now) (Some later) f g =
     (f.0 ++ g.0, g.1 ∙ ap (λ (l : List Event). l ++ g.0) f.1 ∙ append_assoc before f.0 g.0)
 
--- so does one that has these events after it, whatever it was
+-- a list that has these events after it, whatever it was, keeps its front
 pub keeps_known : (before now : Option (List Event)) (events : List Event) → ((list : List Event) → before ≡ Some list → now ≡ Some (list ++ events))
     → KeepsFront before now
 keeps_known None now events h = tt

@@ -72,12 +72,12 @@ no_both (line_feed {b = b} {bs = bs} is) m k t = no_token_class b bs LineFeed is
 no_both (blank {b = b} {bs = bs} is) m k t = no_token_class b bs Blank is (λ e. cc (e)) (λ e. cc (e)) (λ e. cc (e)) m k t
 no_both (comment {b = b} {bs = bs} is len) m k t = no_token_class b bs Hash is (λ e. cc (e)) (λ e. cc (e)) (λ e. cc (e)) m k t
 
--- the same piece taken off
+-- a piece taken off, by equal lengths
 moved : (p l : ℕ) (bs : List ℕ) (n f n' f' : ℕ) {us : List Token} {r o : ℕ} {rest : List ℕ} → n ≡ n' → f ≡ f'
     → Lexes (p + n') (l + f') (drop n' bs) us r o rest → Lexes (p + n) (l + f) (drop n bs) us r o rest
 moved p l bs n f n' f' same lines c = rw (same, lines) c
 
--- the same token taken off
+-- a token taken off, by an equal length
 moved_token : (p l : ℕ) (bs : List ℕ) (n n' : ℕ) {us : List Token} {r o : ℕ} {rest : List ℕ} → n ≡ n'
     → Lexes (p + n') l (drop n' bs) us r o rest → Lexes (p + n) l (drop n bs) us r o rest
 moved_token p l bs n n' same c = rw same c

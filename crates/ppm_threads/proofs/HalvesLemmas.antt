@@ -96,7 +96,7 @@ module _ {W : Type 0} (told : W → Option (List Event)) (plan : Planned) (limit
       (subst (λ (b : Bool). AllEnd told plan limits s b (ps ++ []) (ws ++ rest) (qs ++ []) (vs ++ rest)) (sym (and_true x))
       (end_append x true ps ws qs vs [] rest [] rest e h (refl, refl))))
 
-  -- the same of vectors whose slices these were
+  -- the ends of processors and watchers, of vectors whose slices these were
   pub end_lent : (x : Bool) (ps : List Processor) (ws : List W) (qs : List Processor) (vs rest : List W) (processors : List Processor) (watch : List W) (processors' : List Processor) (watch' : List W)
       → length ps ≡ length ws → ps ≡ processors → ws ++ rest ≡ watch → processors' ≡ qs → watch' ≡ vs ++ rest
       → AllEnd told plan limits s x ps ws qs vs → AllEnd told plan limits s x processors watch processors' watch'

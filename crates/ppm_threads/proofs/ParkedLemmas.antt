@@ -74,7 +74,7 @@ pub none_rests : (plan : Planned) (limits : Limits) (own : ℕ) (past : Past) (s
     → ¬ Rests plan (from_none limits) own (rested past) st
 none_rests plan limits own past st r = let e : 1 ≤ 0 = r.looked in absurd (omega (arith, e))
 
--- so it makes its next act then
+-- a processor that rested makes its next act then
 pub next_rested : (plan : Planned) (limits : Limits) (k : Opening) (own : ℕ) (deeds : List Deed) (pace pace' : Pace) (victims victims' : Drawing)
     (act : Option Act)
     → (r : Resting plan limits k own deeds pace victims) → pace'.processor ≡ pace.processor

@@ -46,7 +46,7 @@ module _ {W : Type 0} (told : W → Option (List Event)) (plan : Planned) (limit
     pub quits : taken ≡ false → HasQuit plan limits (opening_of s) p.local.own (told w) (told v)
         (told_of_deeds plan limits (opening_of s) p.local.own (deeds_of_processor p)) (deeds_of_processor q)
 
-  -- the same of each, where all watchers together refused nothing, or one did; those after the last processor stay
+  -- each processor before and after, where all watchers together refused nothing, or one did; those after the last processor stay
   abbrev pub AllEnd : Shared → (taken : Bool) → List Processor → List W → List Processor → List W → Type 0
   AllEnd s taken [] ws [] vs = (ws ≡ vs) × (taken ≡ true)
   AllEnd s taken [] ws (q ∷ qs) vs = ⊥

@@ -66,12 +66,12 @@ module _ (plan : Planned) (limits : Limits) where
     pub drawn : HasDrawn plan limits own past victims
     pub follows : Follows k own deeds past
 
-  -- so it does, and it rests
+  -- what a processor has done obeys so far, and it rests
   pub record Resting (k : Opening) (own : ℕ) (deeds : List Deed) (pace : Pace) (victims : Drawing) : Type 0 where
     pub obeying : Obeying k own deeds pace victims
     pub rests : Rests plan limits own obeying.past (stands_by k own deeds)
 
-  -- so it does, with such a past, and goes on to make its next act; where it was to park, it has
+  -- what a processor has done obeys, with such a past, and it goes on to make its next act; where it was to park, it has
   pub record Acting (k : Opening) (own : ℕ) (deeds : List Deed) (past : Past) (pace : Pace) (victims : Drawing) (act : Act) : Type 0 where
     pub number : pace.processor ≡ own
     pub pace_is : IsPace plan limits (awake plan limits own past (stands_by k own deeds)) (stands_by k own deeds) pace

@@ -217,7 +217,7 @@ module _ (form : Form) (procedures : List Procedure) where
     sweep = next_sweep n p;
   }
 
--- so with the run of a program
+-- no run of a program is stuck
 pub none_is_stuck : NoneIsStuck
 none_is_stuck form t a = record {
   goes_on = λ n. (goes form t.procedures n).body (main_of t) (main_frame t.arrays (main_of t).parameters) a;

@@ -171,6 +171,6 @@ module _ (form : Form) (procedures : List Procedure) where
     one_sweeps (SweepStops i x s r f n m a c stop plain d) (SweepStops i' x' s' r' f' n' m' a' c' stop' plain' d') = let p =
         one d d' in (ap (both (spent 8)) p.0, p.1)
 
-  -- so in the law's words
+  -- the law of one end, of all blocks and procedures
   pub one_end : HasOneEnd form procedures
   one_end = record { block = λ b f a j k y z d d'. one d d'; procedure = λ p f a j k y z d d'. one_enters d d' }

@@ -82,7 +82,7 @@ module _ (procedures : List Procedure) where
         Sweep i x s r f n m a (wholly d ends.0) refl (wholly_sweeps w ends.1)
     wholly_sweeps (SweepStops i x s r f n m a c stop plain d) h = absurd h
 
--- so with the run of a program
+-- where the whole form of a program ends, so does the plain one, and the other way round without a trap
 pub ends_whole : (t : ProgramTree) → EndsWhole t
 ends_whole t = record {
   plain = λ a k z r. whole_enters t.procedures r;

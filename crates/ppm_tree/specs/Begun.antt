@@ -87,6 +87,6 @@ pub record IsNeverStuck (form : Form) (t : ProgramTree) (a : Arrays) : Type 0 wh
   pub spends : (n : ℕ) (k : Counts) (z : End ℤ) → BeginsBody form t.procedures n (main_of t) (main_frame t.arrays (main_of t).parameters) a
       → Means form t a k z → n ≤ k.turns
 
--- so it is with all programs, from all arrays, in both forms
+-- no program is stuck, from any arrays, in either form
 abbrev pub NoneIsStuck : Type 0
 NoneIsStuck = (form : Form) (t : ProgramTree) (a : Arrays) → IsNeverStuck form t a

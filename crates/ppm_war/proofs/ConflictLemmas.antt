@@ -27,7 +27,7 @@ none_below P n below here k less p = by (nat_lt k n) refl
     by true e = below k (ltb-true k n e) p
     by false e = let same : k ≡ n = omega (arith, less, ltb-false k n e) in here (subst P same p)
 
--- so a number of which it holds is not below
+-- a number with a property that none below n has is not below n
 at_most : (P : ℕ → Type 0) (n k : ℕ) → ((j : ℕ) → j < n → P j → ⊥) → P k → n ≤ k
 at_most P n k below p = by (nat_lt k n) refl
   where
@@ -59,7 +59,7 @@ module _ (is : List Instr) where
       writes = h.1;
     }
 
-    -- so the first one is the first in conflict
+    -- the first write that is led to is the first in conflict
     pub first_in_conflict : (o : Option ℕ) → Does is read (Read c) → Path is (Exposes c) 0 read → IsFirst (LeadsToWrite is c (read + 1)) o
         → IsFirst (λ write. IsConflict is read write c) o
     first_in_conflict o reads before =
