@@ -100,7 +100,7 @@ module _ (texts : TextsHaveOneProgram) (spends : SpendTheirTurns) (turns : ℕ) 
   has_none : (text : List ℕ) (o : Outcome) → text_limit < length text → ComesTo turns text o → ⊥
   has_none text o long h = let short = h.program.admitted.tree.lexed.short in absurd (omega (arith, long, short))
 
-  -- what is answered of a text that is too long is a refusal, which any longer text has as well
+  -- what is answered of a text that is too long is a refusal, which each text that goes on from it has as well
   front : (text rest : List ℕ) (a : Answer) → text_limit < length text → SerialHas turns text a → SerialHas turns (text ++ rest) a
   front text rest a long h = go (of_text text a h) where
     go : IsOutcomes text a ⊎ IsRefusals text a → SerialHas turns (text ++ rest) a

@@ -70,7 +70,7 @@ pub record FramesOwnApart (t : ProgramTree) : Type 0 where
       → ComesTo t p g scope (Then (tree.Fork s u) b) f → both_entered t.procedures f a s u ≡ Ok (left, right)
       → ForkIsApart t scope s u f left right
 
--- in all admitted programs frames own apart
+-- wherever a run of an admitted program comes to, frames own apart
 abbrev pub OwnApart : Type 0
 OwnApart = (t : ProgramTree) → IsAdmitted t → FramesOwnApart t
 

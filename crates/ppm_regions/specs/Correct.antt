@@ -68,7 +68,7 @@ pub record KeepsRules (t : ProgramTree) : Type 0 where
   pub gives_nothing : (scope : Scope) (g : Give) → ¬ Makes t scope (MainGives g)
   pub inputs : (scope : Scope) (i : ArrayInput) → Makes t scope (Fills i) → HasRoom t i
 
--- all admitted programs keep the rules
+-- each use of an admitted program is as it may be
 abbrev pub KeepRules : Type 0
 KeepRules = (t : ProgramTree) → IsAdmitted t → KeepsRules t
 

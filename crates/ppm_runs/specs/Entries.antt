@@ -82,7 +82,7 @@ pub record EndsAsRun (s : Shape) (code : CodeParts) (root : Tree (Frame FrameWor
   pub forked_once : Once forked
   pub taken_once : Once taken
 
--- with takeover by entries the depth-first run of the root ends so where the finish word says an outcome
+-- with takeover by entries an outcome in the finish word is that of the root's depth-first run
 abbrev pub RunsEndByEntries : Type 0
 RunsEndByEntries = (code : CodeParts) (input : List NamedArray) (s : Shape) (keeper : ℕ) (image : Image)
     → s.takeover ≡ ByEntries → IsFair code → Opens code input s keeper image

@@ -60,7 +60,7 @@ pub record EndsInParts (s : Shape) (code : CodeParts) (root : Tree (Frame FrameW
   pub ends : (finish : Finish) → finish_of (read s state.words FinishWord) ≡ Some finish → IsOutcome finish
       → (t : Skeleton) × EndsWell s code root input state forked taken t finish
 
--- a run in parts from an image of a sound code comes to such a state, whatever the parts
+-- over all parts of a run no branch is forked or taken twice, and an outcome in the finish word is that of the root's depth-first run
 abbrev pub PartsComeTo : Type 0
 PartsComeTo = (code : CodeParts) (input : List NamedArray) (s : Shape) (keeper : ℕ) (image : Image)
     → s.takeover ≡ ByPlaces → IsFair code → Opens code input s keeper image

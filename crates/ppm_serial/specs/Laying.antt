@@ -209,7 +209,7 @@ module _ (procedures : List Procedure) where
     pub grows : Grows old new
     pub lies : (longer : List (List Step)) → Grows new longer → HasNames n b → Lies procedures longer n b (get_or longer place [])
 
-  -- so far the statements of a block are laid out, with these left
+  -- the statements of a block that are laid out, with these left
   pub record LaysSome (n : Slotted) (b left : Block) (old new : List (List Step)) (steps : List Step) : Type 0 where
     pub grows : Grows old new
     pub names : HasNames n b → HasNames n left

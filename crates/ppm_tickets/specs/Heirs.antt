@@ -80,7 +80,7 @@ module _ (shut : ℕ → Type 0) (m : Spot → Word) (k : ℕ → RestartKind) (
   ChecksSo (Exchange cell old new next) = ⊥
   ChecksSo row = Unit {0}
 
--- in each lawful state the row of such a place goes on so
+-- in each lawful state a row of Check ends, and loads next, as what its place may inherit says
 abbrev pub HeirsSee : Type 0
 HeirsSee = (s : Shape) (code : CodeParts) → s.takeover ≡ ByEntries
     → (state : State) (h : ℕ → Home) (forked taken : List ℕ) (law : IsLawful s code state h forked taken)
