@@ -78,7 +78,7 @@ module _ (limit : ℕ) (Has : List ℕ → Answer → Type 0) where
   judging_delivered o a status h (inr d) =
       record { answer = answers.NoMemory; cause = memory_may o.source a h d.0; delivered = d.1 }
 
-  -- the same of a command with watchers, which were told what belongs to both
+  -- what was delivered of an answer of a command with watchers, which were told what belongs to both
   pub judging_told : (Tells : Answer → ToldLists → ToldLists → Type 0) (o : Outside) (a : Answer) (status : Status)
       → Tells a o.told_before o.told_now → Tells answers.NoMemory o.told_before o.told_now → JudgingMay limit Has o.source a
       → Delivers o.out o.err a status ⊎ ((¬ IsFixed a) × Delivers o.out o.err answers.NoMemory status)
@@ -87,7 +87,7 @@ module _ (limit : ℕ) (Has : List ℕ → Answer → Type 0) where
   judging_told Tells o a status told wanting h (inr d) =
       record { answer = answers.NoMemory; cause = memory_may o.source a h d.0; delivered = d.1; told = wanting }
 
-  -- the rows of the command, where what stands behind the limit changes no answer
+  -- the rows of the command, where what stands after the limit changes no answer
   pub text_rows : FrontsDecide limit Has → (Says : Status → Type 0) (o : Ports) (status : Status) →
       DeliversAnswer (JudgingMay limit Has o.source) o status → SaysOfPorts o Says →
       ((answer : Answer) → ReadHas limit Has o.source answer → IsWritten o.out o.err answer (status_of answer) → Says (status_of answer)) →

@@ -39,7 +39,7 @@ module _ (May Reads : Port → Answer → Type 0) (are : AreCauses May Reads) (o
   abbrev pub Written : Type 0
   Written = (answer : Answer) × Reads o.source answer × IsWritten o.out o.err answer status
 
-  -- so it is at each status but those of faults and of want of memory
+  -- an answer is written at each status but those of faults and of want of memory
   pub is_written : IsJudged status → Written
   is_written j = go (are.cause o.source d.answer d.cause)
     where

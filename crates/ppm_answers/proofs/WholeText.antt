@@ -23,7 +23,7 @@ pub long_all : (limit : ℕ) (all : List ℕ) (now : Option (List ℕ)) (text : 
     limit < length all
 long_all limit all now text r h = let less : length text ≤ length all = front_short all now text r in omega (arith, h, less)
 
--- where what stands behind the limit changes no answer, what a text that was read has for an answer, the whole text has
+-- where what stands after the limit changes no answer, what a text that was read has for an answer, the whole text has
 pub whole : (limit : ℕ) (Has : List ℕ → Answer → Type 0) → FrontsDecide limit Has → (all : List ℕ) (now : Option (List ℕ)) (text : List ℕ)
     (a : Answer) → ReadsTo limit (Some all) now text → Has text a → Has all a
 whole limit Has front all None text a r h = absurd r.front

@@ -55,7 +55,7 @@ JudgingMay limit Has source answer = ReadHas limit Has source answer
 abbrev pub AreOne : (List ℕ → Answer → Type 0) → Type 0
 AreOne Has = (text : List ℕ) (a b : Answer) → Has text a → Has text b → a ≡ b
 
--- what stands behind more bytes than the limit changes no answer of a text
+-- what stands after more bytes than the limit changes no answer of a text
 abbrev pub FrontsDecide : ℕ → (List ℕ → Answer → Type 0) → Type 0
 FrontsDecide limit Has = (text rest : List ℕ) (a : Answer) → limit < length text → Has text a → Has (text ++ rest) a
 
@@ -70,7 +70,7 @@ abbrev pub TellsNothing : Answer → ToldLists → ToldLists → Type 0
 TellsNothing answer before now = now ≡ before
 
 -- That of a command whose run tells them its turns. What is refused, or can't be read, is so before the run, and nothing was told; memory
--- may be wanting before the run, in it or behind it, and each list keeps what it had in front; with every other answer it is what the run says.
+-- may be wanting before the run, in it or after it, and each list keeps what it had before; with every other answer it is what the run says.
 abbrev pub TellsOfRun : (Answer → ToldLists → ToldLists → Type 0) → Answer → ToldLists → ToldLists → Type 0
 TellsOfRun Tells answers.NoMemory before now = KeepFronts before now
 TellsOfRun Tells answers.ReadFault before now = TellsNothing answers.ReadFault before now

@@ -30,7 +30,7 @@ pub(crate) fn sums_text_of(alloc: Global, sums: Sums) -> Result<Vec<u8>, AllocEr
     Ok(text.into_bytes())
 }
 
-/// The digits of a value, behind a minus where it is negative.
+/// The digits of a value, after a minus where it is negative.
 fn digits_of(alloc: Global, value: &i64) -> Result<String, AllocError>
     ensures { IfOk result (λ text. string_bytes text ≡ signed_decimal value.now) }
 {

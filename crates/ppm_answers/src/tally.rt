@@ -13,7 +13,7 @@ pub struct Tally {
     pub takes: u64,
 }
 
-/// The text with the line of the tally behind it.
+/// The text with the line of the tally after it.
 pub(crate) fn with_tally(
     alloc: Global,
     mut text: Vec<u8>,

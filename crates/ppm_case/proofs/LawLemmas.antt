@@ -21,12 +21,12 @@ no_array : (rest other : List ℕ) (code : CodeParts) → IsListing rest code �
 no_array rest other code h e k = both_ways (begins_array other) (ap (λ (t : List ℕ). begins_array t) (sym e) ∙ listing_begins rest code h) k
 
 module _ (law : FaultsTellListings) {text : List ℕ} where
-  -- two fronts, behind one of which stands a listing
+  -- two fronts, after one of which stands a listing
   by_listing : (f g : Front text) (code : CodeParts) → IsListing f.rest code → begins_array g.rest ≡ false → (f.arrays ≡ g.arrays) × (f.rest ≡ g.rest)
   by_listing f g code h k =
       same_front f g (other_ends (map array_of f.arrays) f.rest (listing_begins f.rest code h)) (other_ends (map array_of g.arrays) g.rest k)
 
-  -- no bad line stands behind a front with a listing, or with what is none
+  -- no bad line stands after a front with a listing, or with what is none
   not_bad : (f g : Front text) {bad : InputFault} → begins_array f.rest ≡ false → IsBadLine (map array_of g.arrays) g.rest bad → ⊥
   not_bad f g h b =
       let same = same_front f g (other_ends (map array_of f.arrays) f.rest h) (bad_ends b) in
@@ -82,7 +82,7 @@ module _ (law : FaultsTellListings) {text : List ℕ} where
       let same = by_listing f g c a (listing_begins g.rest d b) in
       (refl, ap (λ (l : List Written). length l + 2) same.0)
 
--- what stands behind a text that is too long changes nothing
+-- what stands after a text that is too long changes nothing
 pub front : (text rest : List ℕ) (f : CaseFault) (line : ℕ) → case_limit < length text → HasFault text f line → HasFault (text ++ rest) f line
 front text rest f line long (TooLong a) = TooLong (omega (arith, a, length-append text rest))
 front text rest f line long (BadLine g bad b) = absurd (omega (arith, long, g.short))

@@ -10,7 +10,7 @@ use Rattle.ppm_case.specs.declared.row.Row.{Row}
 use Rattle.ppm_case.specs.Text.{row, same_value, in_front, rows_of}
 use Rattle.ppm_case.proofs.OptionLemmas.{and_true}
 
--- the same values are one
+-- values for which the test holds are equal
 pub same_is : (y z : ℤ) → same_value y z ≡ true → y ≡ z
 same_is (pos n) (pos m) h = ap (λ (k : ℕ). pos k) (eqb-true n m h)
 same_is (negsuc n) (negsuc m) h = ap (λ (k : ℕ). negsuc k) (eqb-true n m h)
@@ -96,7 +96,7 @@ first_is z (y ∷ ys) = by (same_value y z) refl (first_is z ys)
         let one : suc k ≡ 1 + k = omega arith in
         subst (λ (m : ℕ). IsFirst z (y ∷ ys) m (drop m (y ∷ ys))) one (one_more y z ys k (drop k ys) (same_is y z e) f)
 
--- likewise by what was found
+-- the first row of values, by what was found
 module _ (z : ℤ) (zs left : List ℤ) (more : ℕ) (many : more ≡ prefix_len (λ v. same_value v z) zs) (is_left : left ≡ drop more zs) where
   found : IsFirst z zs more left
   found = subst (λ (ys : List ℤ). IsFirst z zs more ys) (sym is_left) (subst (λ (n : ℕ). IsFirst z zs n (drop n zs)) (sym many) (first_is z zs))

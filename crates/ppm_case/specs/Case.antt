@@ -16,7 +16,7 @@ pub record Front (text : List ℕ) : Type 0 where
   pub rest : List ℕ
   pub same : text ≡ flat_map array_line arrays ++ rest
 
--- a text is of a case: behind the lines of arrays stands the listing of a code, whose root names none but these
+-- a text is of a case: after the lines of arrays stands the listing of a code, whose root names none but these
 pub record IsCaseOf (text : List ℕ) (code : CodeParts) (input : List NamedArray) : Type 0 where
   pub front : Front text
   pub listed : IsListing front.rest code

@@ -33,7 +33,7 @@ pub record HasCase (text : List ℕ) : Type 0 where
   pub is : IsCaseOf text code input
 
 -- The text of a case has no fault, and is of one case. A text has one fault at most, and without one it is of a case. A text that is too long is of
--- no case, and what stands behind it changes no fault.
+-- no case, and what stands after it changes no fault.
 pub record FaultsTellCases : Type 0 where
   pub excludes : (text : List ℕ) (code : CodeParts) (input : List NamedArray) (f : CaseFault) (line : ℕ) → IsCaseOf text code input
       → HasFault text f line → ⊥

@@ -27,7 +27,7 @@ input_number input.NamedTwice = 3
 input_number input.TooMuch = 4
 input_number input.NotThere = 5
 
--- what is wrong with the line of an array behind others: the rule of the least number that it breaks
+-- what is wrong with the line of an array after others: the rule of the least number that it breaks
 pub data IsBadLine (arrays : List NamedArray) (rest : List ℕ) : InputFault → Type 0 where
   NoForm : begins_array rest ≡ true → ((a : Written) (more : List ℕ) → has_form a ≡ true → rest ≡ array_line a ++ more → ⊥)
       → IsBadLine arrays rest input.NoSuchForm
@@ -38,7 +38,7 @@ pub data IsBadLine (arrays : List NamedArray) (rest : List ℕ) : InputFault →
   TooMany : (a : Written) (more : List ℕ) → rest ≡ array_line a ++ more → has_form a ≡ true → is_in_range a ≡ true → is_named arrays a.name ≡ false
       → is_past arrays (value a.len) ≡ true → IsBadLine arrays rest input.TooMuch
 
--- A text has a fault at a line, counted from 1: it is too long, which is a fault of its first line; or behind lines of arrays stands a bad one; or
+-- A text has a fault at a line, counted from 1: it is too long, which is a fault of its first line; or after lines of arrays stands a bad one; or
 -- there stands no listing, with its first fault; or its root, which is the second line of a listing, names an array that is not there.
 pub data HasFault (text : List ℕ) : CaseFault → (line : ℕ) → Type 0 where
   TooLong : case_limit < length text → HasFault text (fault.OfInput input.TooMuch) 1
@@ -66,7 +66,7 @@ IsArrayRefusal text (error.Refused (fault.OfInput bad) line) = HasBadArray text 
 IsArrayRefusal text (error.Refused (fault.OfListing rule) line) = ⊥
 IsArrayRefusal text error.NoMemory = Unit {0}
 
--- the refusal where the listing behind so many lines is refused
+-- the refusal where the listing after so many lines is refused
 abbrev pub listing_refused : (lines : ℕ) → ListingError → CaseError
 listing_refused lines (listing.NoSuchForm line) = error.Refused (fault.OfListing listing_fault.NoSuchForm) (lines + line)
 listing_refused lines (listing.OutOfRange line) = error.Refused (fault.OfListing listing_fault.OutOfRange) (lines + line)

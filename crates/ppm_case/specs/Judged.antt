@@ -54,7 +54,7 @@ pub record CanStand (name numbers : List ℕ) (len : ℕ) : Type 0 where
   pub range : is_in_range array ≡ true
   pub of_it : IsWordsOf array name numbers len
 
--- a line is that of an array that may stand behind others
+-- a line is that of an array that may stand after others
 pub record IsNext (arrays : List NamedArray) (line name numbers : List ℕ) (len : ℕ) : Type 0 where
   pub array : Written
   pub same : line ≡ array_text array

@@ -17,7 +17,7 @@ case_limit = 536870912
 abbrev pub run_fits : (room : ℕ) → Run → Bool
 run_fits room r = is_some r.number && (nat_le 1 r.times && nat_le r.times room)
 
--- likewise of what a word says, if it says a run
+-- whether what a word says is in its range, and there is room for it, if it says a run
 abbrev pub said_fits : (room : ℕ) → Option Run → Bool
 said_fits room None = false
 said_fits room (Some r) = run_fits room r
@@ -44,14 +44,14 @@ is_named arrays name = list_any (λ a. bytes_eq a.name name) arrays
 abbrev pub is_past : List NamedArray → (len : ℕ) → Bool
 is_past arrays len = nat_le array_limit (length arrays) || nat_lt word_limit (value_count arrays + len)
 
--- an array may stand behind others: it is written as it should be, its name is new, and all are within their limits
+-- an array may stand after others: it is written as it should be, its name is new, and all are within their limits
 pub record Follows (arrays : List NamedArray) (a : Written) : Type 0 where
   pub form : has_form a ≡ true
   pub range : is_in_range a ≡ true
   pub new : is_named arrays a.name ≡ false
   pub within : is_past arrays (value a.len) ≡ false
 
--- each array of some may stand behind those in front of it
+-- each array of some may stand after those in front of it
 abbrev pub AllFollow : (arrays : List NamedArray) → List Written → Type 0
 AllFollow arrays [] = Unit {0}
 AllFollow arrays (a ∷ more) = Follows arrays a × AllFollow (arrays ++ array_of a ∷ []) more

@@ -46,7 +46,7 @@ from_zero n = if nat_lt n (2 ^ 63) then Some (pos n) else None
 abbrev pub below_zero : ℕ → Option ℤ
 below_zero n = if nat_le n (2 ^ 63) then Some (negsuc (n - 1)) else None
 
--- the number that digits behind a minus spell: not 0
+-- the number that digits after a minus spell: not 0
 abbrev pub negative_in : List ℕ → Option (Option ℤ)
 negative_in digits = if is_numeral digits && not (value digits == 0) then Some (below_zero (value digits)) else None
 
@@ -98,7 +98,7 @@ run_values (Some r) = number_values r.times r.number
 abbrev pub values_in : List (List ℕ) → List ℤ
 values_in words = flat_map (λ w. run_values (run_in w)) words
 
--- values with zeros behind them, so many in all
+-- values with zeros after them, so many in all
 abbrev pub filled : (len : ℕ) → List ℤ → List ℤ
 filled len zs = zs ++ replicate (len - length zs) (pos 0)
 
@@ -106,7 +106,7 @@ filled len zs = zs ++ replicate (len - length zs) (pos 0)
 abbrev pub array_of : Written → NamedArray
 array_of a = record { name = a.name; values = filled (value a.len) (values_in a.values) }
 
--- whether the bytes behind a word end it: a space, the line's end, or the text's
+-- whether the bytes after a word end it: a space, the line's end, or the text's
 abbrev pub ends_word : List ℕ → Bool
 ends_word [] = true
 ends_word (b ∷ bs) = b == 32 || b == 10

@@ -30,7 +30,7 @@ fn is_named(arrays: &[NamedArray], name: &[u8]) -> bool
     false
 }
 
-/// Whether an array of so many words is one too many behind others of so many words in all, or one
+/// Whether an array of so many words is one too many after others of so many words in all, or one
 /// with too many words.
 fn is_past(arrays: &[NamedArray], words: u64, len: u64) -> bool
     requires words { words ≡ value_count arrays.now }
@@ -46,7 +46,7 @@ fn is_past(arrays: &[NamedArray], words: u64, len: u64) -> bool
     words + len > u64::from(WORD_LIMIT)
 }
 
-/// An array that may stand behind others, by its line.
+/// An array that may stand after others, by its line.
 #[derive(Clone, Copy, Drop)]
 struct Next<'a> {
     name: &'a [u8],
@@ -54,7 +54,7 @@ struct Next<'a> {
     len: u64,
 }
 
-/// The array of a line behind others of so many words in all, or what is wrong with the line.
+/// The array of a line after others of so many words in all, or what is wrong with the line.
 fn judge<'a>(arrays: &[NamedArray], words: u64, line: &'a [u8]) -> Result<Next<'a>, InputFault>
     requires words { words ≡ value_count arrays.now }
     requires few { words ≤ word_limit }
@@ -97,7 +97,7 @@ fn make_array(alloc: Global, name: &[u8], numbers: &[u8], len: u64) -> Result<Na
     })
 }
 
-/// Arrays that were read, in how many lines, and the text behind them.
+/// Arrays that were read, in how many lines, and the text after them.
 #[derive(Drop)]
 pub struct Arrays<'a> {
     pub arrays: Vec<NamedArray>,

@@ -68,7 +68,7 @@ impl CaseError {
         CaseError::Refused(CaseFault::OfInput(fault), line)
     }
 
-    /// The refusal where the listing behind so many lines is refused.
+    /// The refusal where the listing after so many lines is refused.
     pub fn of_listing(lines: u32, error: ListingError) -> CaseError
         requires { lines + line_of error < 2 ^ 32 }
         ensures { result ≡ listing_refused lines error }

@@ -4,7 +4,7 @@ ghost use Rattle.ppm_case.specs.Correct.{FaultsTellCases, WrittenCasesAreRead};
 use ppm_listing_reader::faults_tell_listings;
 
 /// A text has a fault exactly where it is of no case; it is of one case at most, and has one fault
-/// at most. What stands behind more bytes than a case may have changes none.
+/// at most. What stands after more bytes than a case may have changes none.
 pub fn faults_tell_cases()
     ensures law { FaultsTellCases }
 {

@@ -18,7 +18,7 @@ use ppm_words::{NAME_LIMIT, WORD_LIMIT};
 /// The word with which the line of an array begins.
 const ARRAY: &[u8] = b"array";
 
-/// Whether the bytes behind a word end it.
+/// Whether the bytes after a word end it.
 fn ends_word(bytes: &[u8]) -> bool
     ensures { result ≡ word_ends bytes.now }
 {

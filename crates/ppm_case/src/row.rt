@@ -55,7 +55,7 @@ fn row_of(number: i64, more: usize) -> Row
     }
 }
 
-/// The row of a value in front of others, and the values behind it; `None` where all are zeros.
+/// The row of a value in front of others, and the values after it; `None` where all are zeros.
 fn front_row(value: i64, rest: &[i64]) -> Option<(Row, &[i64])>
     ensures rows { MatchOption result
         (rows_of (value ∷ rest.now) ≡ [])
@@ -70,7 +70,7 @@ fn front_row(value: i64, rest: &[i64]) -> Option<(Row, &[i64])>
     Some((row_of(value, more), left))
 }
 
-/// The first of the longest rows of values, and the values behind it; `None` where there are none
+/// The first of the longest rows of values, and the values after it; `None` where there are none
 /// but zeros.
 pub(crate) fn first_row(values: &[i64]) -> Option<(Row, &[i64])>
     ensures rows { MatchOption result

@@ -37,7 +37,7 @@ fn below_zero(number: u64) -> Option<i64>
     }
 }
 
-/// The number of digits behind a minus.
+/// The number of digits after a minus.
 fn negative_in(digits: &[u8]) -> Option<Option<i64>>
     ensures { result ≡ negative digits.now }
 {

@@ -19,7 +19,7 @@ in_place s place offset at =
     (cond (eqb offset 4) (RoomCounter place)
     (cond (ltb offset (5 + s.slots)) (EntryWord place (offset - 5)) (BlockWord at))))))
 
--- the cell at an address behind the dead words, so far from the first place
+-- the cell at an address after the dead words, so far from the first place
 behind : Shape → (far at : ℕ) → Cell
 behind s far at =
     cond (ltb far (s.processors * place_size s)) (in_place s (far / place_size s) (far % place_size s) at)
@@ -56,7 +56,7 @@ module _ (s : Shape) where
       let slots : s.processors * (5 + s.slots) ≤ 64 * (5 + s.slots) = mul-le-mul_right (5 + s.slots) s.within.processors_most in
       omega (arith, slots, s.within.slots_most, s.within.pools_most)
 
-  -- so a place begins
+  -- the words of all places in front of one are few
   pub place_low : (place : ℕ) → place ≤ s.processors → place * place_size s ≤ 71303488
   place_low place h =
       let m : place * place_size s ≤ s.processors * place_size s = mul-le-mul_right (place_size s) h in
@@ -152,7 +152,7 @@ module _ (s : Shape) where
       first (suc (suc (suc (suc zero)))) e l = (RoomCounter place, h, omega (arith, is, e))
       first (suc (suc (suc (suc (suc n))))) e l = absurd (omega (arith, l))
 
-  -- behind the dead words it lies in a place or in the arrays
+  -- after the dead words it lies in a place or in the arrays
   of_rest : (far at : ℕ) → 1 + 2 * s.processors + far ≡ at → at < word_count s → (c : Cell) × IsCell s c × (address s c ≡ at)
   of_rest far at is h =
       let size : ℕ = place_size s in

@@ -9,7 +9,7 @@ abbrev pub width_of : List Field → ℕ
 width_of [] = 0
 width_of (Bits width value ∷ above) = width + width_of above
 
--- the bits behind some fields are the number of the next one
+-- the bits after some fields are the number of the next one
 pub bits-number_of : (below : List Field) (width value : ℕ) (above : List Field) → Fit below → value < 2 ^ width
     → bits (width_of below) width (number_of (below ++ Bits width value ∷ above)) ≡ value
 unfolding number_of bits

@@ -17,7 +17,7 @@ widened Change Wider wider old new (Stays holder) = Stays holder
 widened Change Wider wider old new (Then from at to chain change) =
     Then from at to (widened Change Wider wider from at chain) (wider at to change)
 
--- the same tag, or a greater one
+-- a later holder has the tag of the earlier one as it was, or a greater one
 rises : (old new : Holder) → Later old new → (old ≡ new) ⊎ (old.tag < new.tag)
 rises old new (Stays holder) = inl refl
 rises old new (Then from at to chain change) =

@@ -60,7 +60,7 @@ IsCell s (EntryWord place slot) = (place < s.processors) × (slot < s.slots)
 IsCell s (BlockWord at) = IsInPool s at
 IsCell s (ArrayWord index) = index < s.arrays
 
--- the same, where a block word may have any address below the count
+-- the cells of a shape, where a block word may have any address below the count
 abbrev pub IsAddressable : Shape → Cell → Type 0
 IsAddressable s FinishWord = Unit {0}
 IsAddressable s (CarryWord processor) = processor < s.processors

@@ -41,7 +41,7 @@ abbrev pub posted : Entry → (block : ℕ) → Option Entry
 posted (Empty tag) block = Some (Job (tag + 1) block)
 posted _ block = None
 
--- so it is of the entry that a pop is to make, if it is to make one
+-- the entry that a pop is to make has the property, if the pop is to make one
 abbrev pub TriesTo : Pop → (Entry → Type 0) → Type 0
 TriesTo (Try entry block) Is = Is entry
 TriesTo (Mine block) Is = Unit {0}

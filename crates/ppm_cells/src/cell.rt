@@ -109,7 +109,7 @@ impl Cell {
         Cell::BlockWord { address: block + 3 }
     }
 
-    /// How far behind a fork block's first word the right branch's frame lies.
+    /// How far after a fork block's first word the right branch's frame lies.
     #[inline(always)]
     pub fn offset_word(block: u32) -> Cell
         requires { block + 4 < 2 ^ 32 }

@@ -6,7 +6,7 @@ ghost use Rattle.ppm_cells.specs.JoinOrder.{IsLast, IsInline};
 
 use crate::side::Side;
 
-/// Whether the branch is the last one to arrive, so that its strand goes on behind the join.
+/// Whether the branch is the last one to arrive, so that its strand goes on after the join.
 pub fn last(order: u64, side: Side) -> bool
     ensures exactly { IsTrue result ↔ IsLast order side }
 {

@@ -88,7 +88,7 @@ impl Shape {
         shape
     }
 
-    /// Where a place begins; behind the last one, where the arrays begin.
+    /// Where a place begins; after the last one, where the arrays begin.
     #[inline(always)]
     fn place_at(&self, place: u32) -> u32
         requires { place ≤ self.now.processors }

@@ -29,11 +29,11 @@ module _ (s : Shape) (code : CodeParts) where
     ObeysFrom past state turns =
         Obeys plan limits processor past (deeds_of s code processor state turns) (stand_of (after s code state turns) processor)
 
-    -- what is done behind the first turn
+    -- what is done after the first turn
     abbrev pub past_first : Past → State → Turn → Past
     past_first past state turn = behind (awake plan limits processor past (stand_of state processor)) (deed_of processor state turn)
 
-    -- the first turn and those behind it
+    -- the first turn and those after it
     abbrev pub FirstObeys : Past → State → Turn → List Turn → Type 0
     FirstObeys past state turn turns =
         (¬ Stops plan limits processor past (stand_of state processor))

@@ -1,4 +1,4 @@
--- A pace behind an act.
+-- A pace after an act.
 use Rattle.std.proofs.Common.{◌≡◌, ℕ, ◌+◌, ◌==◌, ◌^◌, min, Bool, true, false, if◌then◌else◌, arith, ◌∙◌, ap}
 use Rattle.ppm_plan.specs.Schedules.{Planned}
 use Rattle.ppm_step.specs.declared.turn.Next.{Next}
@@ -37,7 +37,7 @@ further_looks n m a b work looks most e f g = by (work == 0) f g
     by true f g = omega (arith, e, f, g)
     by false f g = omega (arith, f, g)
 
--- behind an act
+-- after an act
 pub counted : (plan : Planned) (limits : Limits) (past : Past) (deed : Deed) (stands : Standing) (old : Pace) (acts work looks : ℕ) (w : Bool)
     (next : Next) (due : Bool) → acts ≡ min (old.acts + 1) (2 ^ 32) → work ≡ (if w then min (old.work + 1) limits.turns else old.work)
     → looks ≡ (if w then 0 else min (old.looks + 1) limits.looks) → w ≡ is_work_deed deed → next ≡ next_of stands → due ≡ seeks_holder stands
@@ -57,7 +57,7 @@ counted plan limits past deed stands old acts work looks w next due acts_are wor
   due = due_is;
 }
 
--- behind steps in a row
+-- after steps in a row
 pub steps_counted : (plan : Planned) (limits : Limits) (past past' : Past) (stood stands : Standing) (old : Pace) (acts steps worked work looks further : ℕ)
     (next : Next) (due : Bool) → acts ≡ min (old.acts + steps) (2 ^ 32) → worked ≡ min (old.work + work) limits.turns → looks ≡ min (looks_along old.looks work further) limits.looks
     → IsPace plan limits past stood old → past'.acts ≡ past.acts + steps → past'.work ≡ past.work + work

@@ -1,4 +1,4 @@
--- What is due in two lists, one behind the other.
+-- What is due in two lists, one after the other.
 use Rattle.std.proofs.Common.{◌≡◌, refl, List, [], ◌∷◌, ◌++◌, ap, ◌∙◌, sym}
 use Rattle.std.proofs.lemmas.List.{append_assoc}
 use Rattle.ppm_cells.specs.declared.shape.Shape.{Shape}

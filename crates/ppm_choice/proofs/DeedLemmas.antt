@@ -25,7 +25,7 @@ module _ (s : Shape) (code : CodeParts) (c : ℕ) where
   abbrev pub deed_at : State → Turn → Deed
   deed_at state turn = record { stood = stand_of state c; act = turn.act }
 
-  -- those of the turns in front of it, that one, and those of the turns behind it
+  -- those of the turns before it, that one, and those of the turns after it
   pub deeds_split : (state : State) (first : List Turn) (turn : Turn) (more : List Turn) → turn.processor ≡ c
       → deeds_of s code c state (first ++ (turn ∷ more))
       ≡ deeds_of s code c state first

@@ -15,7 +15,7 @@ use Rattle.ppm_choice.specs.Deeds.{Deed}
 use Rattle.ppm_choice.specs.Obeying.{Past, behind, draws, fault_of, faulted, next_victim, next_act}
 use Rattle.ppm_choice.specs.Drawn.{HasDrawn}
 
--- what comes first behind so many, and what comes behind it
+-- what comes first after so many, and what comes after it
 first_of_drop : (j : ℕ) (l rest : List ℕ) (v : ℕ) → drop j l ≡ v ∷ rest → get_or l j 0 ≡ v
 first_of_drop zero [] rest v e = cc
 first_of_drop zero (x ∷ l) rest v e = cc
@@ -68,7 +68,7 @@ module _ (plan : Planned) (limits : Limits) (c : ℕ) (past : Past) where
       ∙ ap (λ n. drop n (victims_of limits.seed c plan.processors (d + suc k))) next
       ∙ ap (λ n. drop (d + 1) (victims_of limits.seed c plan.processors n)) far
 
-  -- behind a step that draws
+  -- after a step that draws
   pub has_drawn : (stood : Standing) (old new : Drawing) (v : ℕ) → seeks_holder stood ≡ true
       → ((k : ℕ) → next_victims old (suc k) ≡ v ∷ next_victims new k) → HasDrawn plan limits c past old
       → HasDrawn plan limits c (behind past (record { stood = stood; act = Step v })) new
@@ -77,7 +77,7 @@ module _ (plan : Planned) (limits : Limits) (c : ℕ) (past : Past) where
       ∙ ap (λ b. drop (if b then past.drawn + 1 else past.drawn)
       (victims_of limits.seed c plan.processors ((if b then past.drawn + 1 else past.drawn) + k))) (sym due)
 
-  -- behind an act that draws none
+  -- after an act that draws none
   pub draws_none : (deed : Deed) (victims : Drawing) → draws deed ≡ false → HasDrawn plan limits c past victims
       → HasDrawn plan limits c (behind past deed) victims
   draws_none deed victims none has k =

@@ -88,7 +88,7 @@ length_behind w (scheduled.Step q stated) = length_if w.loads q (loads_of w q + 
 length_behind w (scheduled.Fails q fault) = refl
 
 module _ (s : Shape) (code : CodeParts) where
-  -- the counts behind an act
+  -- the counts after an act
   loads_act : (w : Course) (act : ScheduledAct) (p : ℕ) → length w.loads ≡ 64 → processor_of act < 64
       → slice_index (loads_behind w act) p
       ≡ loads_of w p + length (along s code (load_of p) w.state (turn_of s.processors w act ∷ []))
@@ -112,7 +112,7 @@ module _ (s : Shape) (code : CodeParts) where
   length_by w due (inl m) = ap (λ v. length v.loads) m.course ∙ length_behind w (act_of due)
   length_by w due (inr k) = ap (λ v. length v.loads) k.course
 
-  -- what is told behind what is due first
+  -- what is told after what is due first
   told_behind : (w : Course) (due : Due) (dues : List Due) (p : ℕ)
       → length (along s code (load_of p) w.state (turns_of s code w (due ∷ dues)))
       ≡ length (along s code (load_of p) w.state (turns_in s code w due))
@@ -135,7 +135,7 @@ module _ (s : Shape) (code : CodeParts) where
         told_behind w due dues p,
       )
 
-  -- so a turn has the victim that the run before it says
+  -- a turn has the victim that the run before it says
   turn_same : (state : State) (w : Course) (first : List Turn) (act : ScheduledAct)
       → w.state ≡ after s code state first → loads_of w (processor_of act) ≡ loads_made s code (processor_of act) state first
       → turn_of s.processors w act ≡ turn_behind s code state first act
@@ -146,7 +146,7 @@ module _ (s : Shape) (code : CodeParts) where
       turn_with k j = record { processor = q; act = Step (victim_of s.processors q j stated (seeks_holder (stand_of k q))) }
   turn_same state w first (scheduled.Fails q fault) same count = refl
 
-  -- the turn of what is due behind these
+  -- the turn of what is due after these
   pub turn_at : (state : State) (turns : ℕ) (before : List Due) (due : Due) → AllByRecursion IsFew before
       → turn_of s.processors (behind_all s code (beginning state turns) before) (act_of due)
       ≡ turn_behind s code state (turns_of s code (beginning state turns) before) (act_of due)

@@ -67,7 +67,7 @@ module _ (s : Shape) (code : CodeParts) where
   pub made_or_not : (w : Course) (due : Due) → Makes w due ⊎ Skips w due
   made_or_not w due = by_test w due (is_made s code w due) refl
 
-  -- the state behind it is the one behind its turn
+  -- the state after it is the one after its turn
   state_by : (w : Course) (due : Due) → Makes w due ⊎ Skips w due → (behind s code w due).state ≡ after s code w.state (turns_in s code w due)
   state_by w due (inl m) = ap (λ v. v.state) m.course ∙ sym (ap (after s code w.state) m.turns)
   state_by w due (inr k) = ap (λ v. v.state) k.course ∙ sym (ap (after s code w.state) k.turns)
@@ -111,7 +111,7 @@ module _ (s : Shape) (code : CodeParts) where
   no_turn [] more turn e = omega (arith, ap length e)
   no_turn (t ∷ first) more turn e = omega (arith, ap length e)
 
-  -- the turn of what is due first, and those behind it
+  -- the turn of what is due first, and those after it
   same_head : (t u : Turn) (ts us : List Turn) → t ∷ ts ≡ u ∷ us → t ≡ u
   same_head t u ts us e = cc
 

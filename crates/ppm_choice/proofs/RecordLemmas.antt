@@ -24,7 +24,7 @@ use Rattle.ppm_choice.specs.Laws.{TellsByRecord}
 use Rattle.ppm_choice.specs.Obeying.{Past, nothing_done, behind, awake, Obeys}
 use Rattle.ppm_choice.specs.Tells.{told_before, told_from, told_by}
 
--- a past behind an act, by whether this is a step
+-- a past after an act, by whether this is a step
 abbrev behind_by : Past → Standing → Bool → Past
 behind_by past stood step = record {
   acts = past.acts + 1;
@@ -65,7 +65,7 @@ module _ (s : Shape) (code : CodeParts) where
     live standing (inl h) lives = h
     live standing (inr done) lives = absurd (lives done)
 
-    -- behind its own turn
+    -- after its own turn
     own_turn : (past : Past) (state : State) (turn : Turn) (turns : List Turn) → turn.processor ≡ c → AllSpare s code is state → AllAsk s code is state
         → stand_of state c ≢ IsDone
         → Tells (behind (awake plan limits c past (stand_of state c)) (record { stood = stand_of state c; act = turn.act })) (happens s code state turn) turns

@@ -1,4 +1,4 @@
--- The rounds are enough: behind them nothing is left to do.
+-- The rounds are enough: after them nothing is left to do.
 use Rattle.std.proofs.Common.{◌≡◌, ◌≢◌, ◌<◌, ◌≤◌, ◌+◌, ◌⊎◌, inl, inr, refl, sym, ap, ◌∙◌, subst, arith, ℕ, zero, suc, Bool, true, false, List, length}
 use Rattle.std.proofs.Common.{nat_lt, not, ◌&&◌, ◌==◌, if◌then◌else◌, map}
 use Rattle.std.specs.List.{range_with_len}

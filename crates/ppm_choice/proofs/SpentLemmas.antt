@@ -55,7 +55,7 @@ module _ (plan : Planned) (limits : Limits) (c : ℕ) where
   work_same : (past : Past) (deed : Deed) → (past_behind past deed).work ≡ (behind past deed).work
   work_same past deed = ap (λ n. if is_work_deed deed then n + 1 else n) (awake_work plan limits c past deed.stood)
 
-  -- those of one act, and of those behind it
+  -- those of one act, and of those after it
   work_first : (past : Past) (deed : Deed) (deeds : List Deed) → past.work + count_work (deed ∷ deeds) ≡ (past_behind past deed).work + count_work deeds
   work_first past deed deeds = omega (arith, work_same past deed, one_or_none (is_work_deed deed) past.work)
 

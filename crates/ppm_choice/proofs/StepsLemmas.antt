@@ -19,7 +19,7 @@ module _ (items : List PlanItem) (processor : ℕ) where
   past_all : (act : ℕ) → 2 ^ 32 ≤ act → fault_of items processor act ≡ None
   past_all act h = ap (λ b. if b then fault_at items processor act else None) (le-ltb act (2 ^ 32) h)
 
-  -- behind acts that are kept up to 2^32
+  -- after acts that are kept up to 2^32
   faults_kept : (n a k : ℕ) → a ≡ min n (2 ^ 32) → fault_of items processor (n + k) ≡ fault_of items processor (a + k)
   faults_kept n a k e = go (cases_lt a (2 ^ 32))
     where

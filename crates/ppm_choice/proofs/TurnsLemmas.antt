@@ -1,4 +1,4 @@
--- Lists of turns, one behind the other.
+-- Lists of turns, one after the other.
 use Rattle.std.proofs.Common.{◌≡◌, ◌∙◌, List, [], ◌∷◌, ◌++◌, refl, sym, ap}
 use Rattle.std.proofs.lemmas.List.{append_assoc}
 use Rattle.ppm_cells.specs.declared.shape.Shape.{Shape}

@@ -93,7 +93,7 @@ module _ (s : Shape) (code : CodeParts) where
           hard_kills keeper s.processors (behind_all s code (beginning state turns) p.before) (act_of p.due)
           (all_at (IsSpared keeper) p.before p.rest p.due (subst (AllByRecursion (IsSpared keeper)) p.dues_are all)) (sym p.turn_is)
 
-  -- so where the finish word is 0, all turns were made
+  -- where the finish word is 0 and the keeper is not done, all turns were made
   all_made : (state : State) (made turns : ℕ) (keeper : ℕ) → keeper < s.processors → read s state.words FinishWord ≡ 0
       → (stand_of state keeper ≢ IsDone) → IsOver s state made turns → made ≡ turns
   all_made state made turns keeper there none lives (AllMade is) = is

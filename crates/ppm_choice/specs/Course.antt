@@ -11,7 +11,7 @@ use Rattle.ppm_step.specs.declared.turn.Turn.{Turn}
 use Rattle.ppm_step.specs.State.{State, stand_of, happens, seeks_holder, is_done_at}
 use Rattle.ppm_choice.specs.Deeds.{act_of_fault}
 
--- what is due: an act of the list, or, behind the list, the step of a processor whose turn it is
+-- what is due: an act of the list, or, after the list, the step of a processor whose turn it is
 pub data Due : Type 0 where
   Listed : ScheduledAct → Due
   InRound : (processor : ℕ) → Due
@@ -31,7 +31,7 @@ abbrev pub processor_of : ScheduledAct → ℕ
 processor_of (scheduled.Step processor victim) = processor
 processor_of (scheduled.Fails processor fault) = processor
 
--- the victim at a processor's holder load number j, from 0: as stated, or the processors behind it in turn
+-- the victim at a processor's holder load number j, from 0: as stated, or the processors after it in turn
 abbrev pub victim_at : (processors processor j : ℕ) → Option ℕ → ℕ
 victim_at processors processor j (Some victim) = victim
 victim_at processors processor j None = (processor + 1 + j) % processors
@@ -56,14 +56,14 @@ turn_of processors w (scheduled.Step processor stated) = record {
 }
 turn_of processors w (scheduled.Fails processor fault) = record { processor = processor; act = act_of_fault fault }
 
--- the loads that were made behind it, stated victims or not
+-- the loads that were made after it, stated victims or not
 abbrev pub loads_behind : Course → ScheduledAct → List ℕ
 loads_behind w (scheduled.Step processor stated) =
     if seeks w processor then slice_set w.loads processor (loads_of w processor + 1) else w.loads
 loads_behind w (scheduled.Fails processor fault) = w.loads
 
 module _ (s : Shape) (code : CodeParts) where
-  -- an act of the list is made whatever the finish word says, one behind the list only while it says nothing
+  -- an act of the list is made whatever the finish word says, one after the list only while it says nothing
   abbrev pub is_open : State → Due → Bool
   is_open state (Listed act) = true
   is_open state (InRound processor) = read s state.words FinishWord == 0
@@ -72,7 +72,7 @@ module _ (s : Shape) (code : CodeParts) where
   abbrev pub is_made : Course → Due → Bool
   is_made w due = nat_lt 0 w.left && is_open w.state due && not (is_done_at (stand_of w.state (processor_of (act_of due))))
 
-  -- the run behind an act that is made
+  -- the run after an act that is made
   abbrev pub behind_act : Course → ScheduledAct → Course
   behind_act w act = record {
     state = happens s code w.state (turn_of s.processors w act);
@@ -80,7 +80,7 @@ module _ (s : Shape) (code : CodeParts) where
     left = w.left - 1;
   }
 
-  -- and behind what is due; what is not made is not counted
+  -- and after what is due; what is not made is not counted
   abbrev pub behind : Course → Due → Course
   behind w due = if is_made w due then behind_act w (act_of due) else w
 

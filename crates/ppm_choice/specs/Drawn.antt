@@ -17,12 +17,12 @@ is_over Seek = false
 is_over Done = true
 
 module _ (plan : Planned) (limits : Limits) where
-  -- the victims that are drawn next come behind those that were drawn
+  -- the victims that are drawn next come after those that were drawn
   abbrev pub HasDrawn : (processor : ℕ) → Past → Drawing → Type 0
   HasDrawn processor past victims =
       (k : ℕ) → next_victims victims k ≡ drop past.drawn (victims_of limits.seed processor plan.processors (past.drawn + k))
 
-  -- none where the processor rests, and no victim is drawn; else its next act, behind which so many are drawn
+  -- none where the processor rests, and no victim is drawn; else its next act, after which so many are drawn
   abbrev pub IsNext : (processor : ℕ) → Past → Standing → Drawing → Option Act → Type 0
   IsNext processor past stood victims None = Rests plan limits processor past stood × HasDrawn processor past victims
   IsNext processor past stood victims (Some act) =

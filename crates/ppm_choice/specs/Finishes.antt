@@ -17,7 +17,7 @@ module _ (s : Shape) (code : CodeParts) where
   abbrev pub FilledIfSaid : (start : State) → List Turn → (word : ℕ) → Type 0
   FilledIfSaid start turns word = (place : ℕ) → finish_of word ≡ Some (OutOfRoom place) → IsFilledBehind s code place start.words turns
 
-  -- how the finish word came to be what it is behind these turns
+  -- how the finish word came to be what it is after these turns
   pub data Finishes (limits : Limits) (start : State) (turns : List Turn) (word : ℕ) : Type 0 where
     -- a step proposed it: that the root ended or trapped, that a pool is full, or that words are broken
     Proposed : IsProposedWord s.processors word → FilledIfSaid start turns word → Finishes limits start turns word

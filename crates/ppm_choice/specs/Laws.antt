@@ -55,13 +55,13 @@ QuitsWhereSpent s code = (plan : Planned) (limits : Limits) (processor : ℕ) (s
     → ObeysIn plan limits processor s code state (first ++ (record { processor = processor; act = Quit why } ∷ more))
     → (why ≡ Turns) × (work_made s code processor state (first ++ (record { processor = processor; act = Quit why } ∷ more)) ≡ limits.turns)
 
--- a keeper that obeys is done behind the run, and no hard fault of its own is among the turns
+-- a keeper that obeys is done after the run, and no hard fault of its own is among the turns
 abbrev pub KeeperEnds : Shape → CodeParts → Type 0
 KeeperEnds s code = (plan : Planned) (limits : Limits) (processor : ℕ) (state : State) (turns : List Turn)
     → IsKeeper plan_form plan.items processor → ObeysIn plan limits processor s code state turns
     → (stand_of (after s code state turns) processor ≡ IsDone) × (¬ IsStruck processor turns)
 
--- behind a run from an opening in which each processor obeys, of a plan whose keeper is there, the finish word isn't 0, and it has a cause
+-- after a run from an opening in which each processor obeys, of a plan whose keeper is there, the finish word isn't 0, and it has a cause
 abbrev pub RunsFinish : Shape → CodeParts → Type 0
 RunsFinish s code = (plan : Planned) (limits : Limits) (keeper : ℕ) (words : List ℕ) (turns : List Turn) → AreWordsOf s words
     → IsKeeper plan_form plan.items keeper → keeper < s.processors → ObeyAll plan limits s code (opening words s.processors) turns

@@ -52,7 +52,7 @@ behind past deed = record {
   drawn = if draws deed then past.drawn + 1 else past.drawn;
 }
 
--- behind a rest the looks count from 0 again
+-- after a rest the looks count from 0 again
 abbrev pub rested : Past → Past
 rested past = record { acts = past.acts; work = past.work; looks = 0; drawn = past.drawn }
 
@@ -110,7 +110,7 @@ module _ (plan : Planned) (limits : Limits) (processor : ℕ) where
   parks past stood =
       is_park limits.idle && (is_seek (next_of stood) && not (keeps plan.items processor) && nat_le limits.looks past.looks)
 
-  -- the past with which it acts there: where it parks, behind its rest
+  -- the past with which it acts there: where it parks, after its rest
   abbrev pub awake : Past → Standing → Past
   awake past stood = if parks past stood then rested past else past
 
@@ -118,7 +118,7 @@ module _ (plan : Planned) (limits : Limits) (processor : ℕ) where
   abbrev pub Stops : Past → Standing → Type 0
   Stops past stood = (stood ≡ IsDone) ⊎ ((limits.idle ≡ Leave) × Rests past stood)
 
-  -- with such a past it obeys in these acts, and stands there behind them: it makes its next act wherever its acts don't stop, and no other;
+  -- with such a past it obeys in these acts, and stands there after them: it makes its next act wherever its acts don't stop, and no other;
   -- before it, it has parked where it was to
   abbrev pub Obeys : Past → List Deed → (stands : Standing) → Type 0
   Obeys past [] stands = Stops past stands

@@ -25,7 +25,7 @@ pub record IsPace (plan : Planned) (limits : Limits) (past : Past) (stood : Stan
   pub next : pace.next ≡ next_of stood
   pub due : pace.due ≡ seeks_holder stood
 
--- the looks in a row behind steps in a row: so many looks more, or the first since the last work
+-- the looks in a row after steps in a row: so many looks more, or the first since the last work
 abbrev pub looks_along : (before work looks : ℕ) → ℕ
 looks_along before work looks = if work == 0 then before + looks else looks
 
@@ -41,7 +41,7 @@ IsChoice plan limits processor past stood (Do act) =
     × (next_act plan limits processor past stood ≡ act)
     × ((is_step act && seeks_holder stood) ≡ false)
 
--- the same by a pace
+-- what a processor without faults chooses, by its pace
 abbrev pub unfaulted : Limits → Pace → Choice
 unfaulted limits pace = if is_work_next pace.next && nat_le limits.turns pace.work then Do (Quit Turns) else (if pace.due then Draw else Do (Step 0))
 

@@ -20,7 +20,7 @@ use Rattle.ppm_choice.specs.Deeds.{act_of_fault}
 use Rattle.ppm_choice.specs.Course.{Due, Listed, InRound, act_of, processor_of, victim_of, turns_of}
 use Rattle.ppm_choice.specs.Schedules.{dues_of, beginning, schedule_turns}
 
--- why nothing is left to do behind a run of so many turns
+-- why nothing is left to do after a run of so many turns
 pub data IsOver (s : Shape) (state : State) (made turns : ℕ) : Type 0 where
   -- as many turns were made as may be
   AllMade : made ≡ turns → IsOver s state made turns
@@ -29,7 +29,7 @@ pub data IsOver (s : Shape) (state : State) (made turns : ℕ) : Type 0 where
   -- no processor is left
   NoneLeft : ((processor : ℕ) → processor < s.processors → stand_of state processor ≡ IsDone) → IsOver s state made turns
 
--- what is due behind the list is shut once the finish word isn't 0
+-- what is due after the list is shut once the finish word isn't 0
 abbrev pub IsShut : Shape → State → Due → Type 0
 IsShut s state (Listed act) = ⊥
 IsShut s state (InRound processor) = read s state.words FinishWord ≢ 0
@@ -44,7 +44,7 @@ module _ (s : Shape) (code : CodeParts) where
   abbrev pub loads_made : (processor : ℕ) → State → List Turn → ℕ
   loads_made processor state turns = length (along s code (load_of processor) state turns)
 
-  -- the turn that an act is behind these turns; what is counted for its victim is what its processor made in them
+  -- the turn that an act is after these turns; what is counted for its victim is what its processor made in them
   abbrev pub turn_behind : State → List Turn → ScheduledAct → Turn
   turn_behind state first (scheduled.Step processor stated) = record {
     processor = processor;
@@ -64,13 +64,13 @@ module _ (s : Shape) (code : CodeParts) where
     pub turns_before : turns_of s code (beginning state turns) before ≡ first
     pub turn_is : turn ≡ turn_behind state first (act_of due)
 
-  -- why what is due behind these turns is left out: all turns were made, its processor is done, or it is shut
+  -- why what is due after these turns is left out: all turns were made, its processor is done, or it is shut
   pub data IsLeftOut (state : State) (turns : ℕ) (first : List Turn) (due : Due) : Type 0 where
     NoTurnLeft : length first ≡ turns → IsLeftOut state turns first due
     OfDone : stand_of (after s code state first) (processor_of (act_of due)) ≡ IsDone → IsLeftOut state turns first due
     Shut : IsShut s (after s code state first) due → IsLeftOut state turns first due
 
-  -- what is due comes to its turn behind these turns, exactly where it isn't left out
+  -- what is due comes to its turn after these turns, exactly where it isn't left out
   pub record ComesNext (state : State) (turns : ℕ) (before : List Due) (first : List Turn) (due : Due) : Type 0 where
     pub made : (IsLeftOut state turns first due → ⊥)
         → turns_of s code (beginning state turns) (before ++ (due ∷ [])) ≡ first ++ (turn_behind state first (act_of due) ∷ [])
@@ -103,7 +103,7 @@ module _ (s : Shape) (code : CodeParts) where
       → dues_of s.processors items turns ≡ before ++ (due ∷ rest)
       → ComesNext state turns before (turns_of s code (beginning state turns) before) due
 
-  -- the turns of a schedule's run from these words, and the finish word behind them
+  -- the turns of a schedule's run from these words, and the finish word after them
   abbrev pub turns_from : (words : List ℕ) → List ScheduleItem → (turns : ℕ) → List Turn
   turns_from words items turns = schedule_turns s code (opening words s.processors) items turns
 

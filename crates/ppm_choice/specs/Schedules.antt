@@ -1,4 +1,4 @@
--- The run of a schedule: the acts of its list, and behind them those of all processors in turn.
+-- The run of a schedule: the acts of its list, and after them those of all processors in turn.
 use Rattle.std.specs.Prelude.{ℕ, zero, suc, List, [], ◌++◌, map, replicate}
 use Rattle.std.specs.List.{range_with_len}
 use Rattle.ppm_cells.specs.declared.shape.Shape.{Shape}
@@ -13,7 +13,7 @@ use Rattle.ppm_choice.specs.Course.{Due, Listed, InRound, Course, turns_of}
 abbrev pub listed : List ScheduleItem → List Due
 listed items = map Listed (acts_of items)
 
--- behind it the processors in turn, from 0
+-- after it the processors in turn, from 0
 abbrev pub round : (processors : ℕ) → List Due
 round processors = map InRound (range_with_len 0 processors)
 

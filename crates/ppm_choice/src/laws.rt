@@ -21,7 +21,7 @@ pub fn tells_where_it_parks()
 {}
 
 /// A processor that obeys quits only for its turns, and makes as many work turns as it may make; a
-/// keeper that obeys is done behind the run, and meets no hard fault. So behind a run from an
+/// keeper that obeys is done after the run, and meets no hard fault. So after a run from an
 /// opening in which each processor obeys the finish word isn't 0: a step proposed it, or it says
 /// whose turns are spent, or it stood there before.
 pub fn runs_finish()

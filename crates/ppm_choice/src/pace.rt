@@ -53,7 +53,7 @@ impl Pace {
         }
     }
 
-    /// Behind an act of which this was told, where a victim is due for the coming step or is not.
+    /// After an act of which this was told, where a victim is due for the coming step or is not.
     pub fn count(&mut self, limits: Limits, told: Told, due: bool)
         ensures number { self.new.processor ≡ self.old.processor }
         ensures work { self.new.work ≡ (if told.work then min (self.old.work + 1) limits.turns else self.old.work) }
@@ -69,7 +69,7 @@ impl Pace {
         self.due = due;
     }
 
-    /// Behind so many steps in a row: so many of them were work, and so many were looks since the
+    /// After so many steps in a row: so many of them were work, and so many were looks since the
     /// last of these, or in all where none was; a victim is due for the coming step or is not.
     pub fn count_steps(
         &mut self,
@@ -95,7 +95,7 @@ impl Pace {
         self.due = due;
     }
 
-    /// Behind a rest: its looks count from 0 again.
+    /// After a rest: its looks count from 0 again.
     pub fn rest(&mut self)
         ensures number { self.new.processor ≡ self.old.processor }
         ensures pace { (plan : Planned) (limits : Limits) (past : Past) (stood : Standing)
@@ -117,14 +117,14 @@ fn more(count: u64, further: u64, most: u64) -> u64
     }
 }
 
-/// The work turns behind an act, up to the most.
+/// The work turns after an act, up to the most.
 fn work_behind(work: u64, most: u64, is_work: bool) -> u64
     ensures { result ≡ (if is_work then min (work + 1) most else work) }
 {
     if is_work { more(work, 1, most) } else { work }
 }
 
-/// The looks in a row behind an act, up to the most.
+/// The looks in a row after an act, up to the most.
 fn looks_behind(looks: u32, most: u32, is_work: bool) -> u32
     ensures { result ≡ (if is_work then 0 else min (looks + 1) most) }
 {
@@ -137,7 +137,7 @@ fn looks_behind(looks: u32, most: u32, is_work: bool) -> u32
     }
 }
 
-/// The looks in a row behind steps in a row, up to the most.
+/// The looks in a row after steps in a row, up to the most.
 fn looks_along(looks: u32, most: u32, work: u64, further: u64) -> u32
     ensures { result ≡ min (looks_along looks work further) most }
 {

@@ -19,7 +19,7 @@ pub fn schedules_skip_done()
 
 /// Its turns are those of the acts that are due, in their order, each with the victim that the rule
 /// names. An act is left out exactly where no turn is left, its processor is done, or it comes
-/// behind the list and the finish word isn't 0.
+/// after the list and the finish word isn't 0.
 pub fn schedules_keep_order()
     ensures order { (s : Shape) (code : CodeParts) → KeepsOrder s code }
     ensures no_more { (s : Shape) (code : CodeParts) → LeavesOutNoMore s code }

@@ -207,7 +207,7 @@ runs_are (Some o) rows h =
     bound IsInRange (text_given faults rows) (λ t. run_with o t rows)
     (λ t e. bound IsInRange (are_counts_given rows) (λ is_counted. run_by is_counted o t rows) (λ is_counted d. runs_by is_counted o t rows h))
 
--- so is a resumed run
+-- a resumed run is in range where its options are
 resumes_by : (is_counted : Option Bool) (o : ResumeOptions) (t : Text) → AreResumed o
     → IfSome (option_map (λ it. if it then commands.CountedResume o t else commands.Resume o t) is_counted) IsInRange
 resumes_by None o t h = tt
@@ -326,7 +326,7 @@ explained_are text p (Some plan) None h = h
 explained_are text p None (Some schedule) h = h
 explained_are text p (Some plan) (Some schedule) h = tt
 
--- so are the turns within which a trap is explained
+-- the turns within which a trap is explained are in their range
 trap_of_are : (text : ExplainedText) (n : ℕ) → IsOfForm turns.form n → IfSome (explain_trap_of text n) IsInRange
 trap_of_are texts.Source n h = h
 trap_of_are texts.Listing n h = tt

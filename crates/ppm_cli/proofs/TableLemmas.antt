@@ -19,7 +19,7 @@ shape name rules = record (new_shape name) { rules = rules }
 abbrev leaf : CommandRule → Shape
 leaf c = shape c.name (map argument_of c.options)
 
--- options are added behind those that stand there
+-- options are added after those that stand there
 options_shape : (name : Text) (rules : List Rule) (options : List OptionRule) →
     (with_options (record { top = shape name rules; subs = [] }) options).top ≡ shape name (rules ++ map argument_of options)
 options_shape name rules [] = ap (shape name) (sym (append-nil rules))
@@ -48,7 +48,7 @@ all_simple : (options : List OptionRule) → list_all (λ (a : Rule). a.is_simpl
 all_simple [] = refl
 all_simple (o ∷ os) = all_simple os
 
--- so is each argument of a built subcommand,
+-- each argument of a built subcommand is simple,
 flags_simple : (i : ℕ) (options : List OptionRule) → list_all (λ (a : Rule). a.is_simple) (flags i options) ≡ true
 flags_simple i [] = refl
 flags_simple i (o ∷ os) = flags_simple i os

@@ -41,7 +41,7 @@ is_free_text (c ∷ text) = not (nat_eq c 45)
 abbrev pub free_text : Text → Text → OptionRule
 free_text name default = record { name = name; form = AnyText; default = default }
 
--- the same, the two written as strings
+-- an option whose value is any such text, by its name and its default, written as strings
 abbrev pub text : String → String → OptionRule
 text name default = free_text (codes name) (codes default)
 

@@ -1,4 +1,4 @@
--- The words of a frame in a new block: a slot that it has is a word of the block, one behind is 0.
+-- The words of a frame in a new block: a slot that it has is a word of the block, one after it is 0.
 use Rattle.std.proofs.Common.{◌≡◌, ◌<◌, ◌≤◌, ℕ, ◌+◌, Bool, ap}
 use Rattle.std.specs.Prelude.{if◌then◌else◌}
 use Rattle.std.proofs.lemmas.Bool.{lt-ltb, le-ltb}
@@ -11,6 +11,6 @@ pub built_slot : (slots frame : ℕ) (block : ℕ → ℕ) (slot : ℕ) → slot
     → built slots frame block (Slot slot) ≡ block (frame + slot_at slot)
 built_slot slots frame block slot less = ap (λ (b : Bool). if b then block (frame + slot_at slot) else 0) (lt-ltb slot slots less)
 
--- one behind its slots
+-- one after its slots
 pub built_behind : (slots frame : ℕ) (block : ℕ → ℕ) (slot : ℕ) → slots ≤ slot → built slots frame block (Slot slot) ≡ 0
 built_behind slots frame block slot low = ap (λ (b : Bool). if b then block (frame + slot_at slot) else 0) (le-ltb slot slots low)

@@ -199,7 +199,7 @@ free_from words (suc n) at is r w g free enough c =
 pub no_conflict_from : (words : ℕ) (is : List Instr) (g : List ℕ) → HasNoConflict is → IsFreePast code_locations [] [] (capsule_from words 0 0 is g)
 no_conflict_from words is g free = free_from words (length is) 0 is [] [] g free (omega arith) (record { reads = λ l i. absurd i; fresh = λ l. inr (Here 0) })
 
--- so from any words, and it is idempotent
+-- such a capsule has no conflict from any words, and it is idempotent
 pub may_run_again : (words : ℕ) (is : List Instr) (m : Memory Where) → HasNoConflict is → MayRunAgain words is m
 may_run_again words is m none =
     let free = paths_are_enough code_locations (capsule_of words is) m (no_conflict_from words is (replicate 64 0) none) in

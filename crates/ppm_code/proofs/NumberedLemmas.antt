@@ -7,7 +7,7 @@ abbrev pub AllNumbered : {X : Type 0} → (ℕ → X → Type 0) → List X → 
 AllNumbered Q [] = Unit {0}
 AllNumbered Q (x ∷ xs) = Q 0 x × AllNumbered (λ n y. Q (suc n) y) xs
 
--- so it holds of what has a number
+-- what holds of each of a list with its number holds of what has a number
 pub each_numbered : {X : Type 0} (Q : ℕ → X → Type 0) (xs : List X) → AllNumbered Q xs
     → (at : ℕ) (x : X) → slice_get xs at ≡ Some x → Q at x
 each_numbered Q [] all at x one = cc

@@ -19,7 +19,7 @@ at_step go next (Loads l d) g = Reads (location_of l) (λ v. go next (slice_set 
 at_step go next (Stores l v) g = Writes (location_of l) v (go next g)
 at_step go next (Asks n) g = AsksFor n (go next g)
 
--- likewise an act; a branch that does not lead forward goes on at the next instruction
+-- an act, where `next` is the instruction after this one; a branch that does not lead forward goes on at the next instruction
 abbrev pub at_act : (ℕ → List ℕ → Capsule Where End) → (next : ℕ) → Act → List ℕ → Capsule Where End
 at_act go next (Sets d v) g = go next (slice_set g d.index v)
 at_act go next Passes g = go next g

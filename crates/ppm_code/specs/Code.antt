@@ -45,7 +45,7 @@ module _ (code : CodeParts) where
       IsProcedure left × IsProcedure right × IsCapsuleOf procedure capsule × IfSome left_to (IsSlot procedure)
       × IfSome right_to (IsSlot procedure) × (room_of is ≡ Some (fork_size code left right))
 
-  -- so does an instruction at a place of its capsule; room is asked for by the first one alone
+  -- an instruction at a place of its capsule names what is there; room is asked for by the first one alone
   abbrev pub Fits : (procedure : ℕ) → List Instr → (at : ℕ) → Instr → Type 0
   Fits procedure is at (Add to left right line) = IsLine line
   Fits procedure is at (Sub to left right line) = IsLine line

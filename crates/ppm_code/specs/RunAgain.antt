@@ -12,7 +12,7 @@ use Rattle.ppm_code.specs.Paths.{HasNoConflict}
 abbrev pub PathsDecide : Type 0
 PathsDecide = (array_words : ℕ) (is : List Instr) (g : List ℕ) → HasNoConflict is → IsFreeOnPaths code_locations (capsule_from array_words 0 0 is g)
 
--- so it has none from any words, and stopped anywhere and begun again it comes to the same end with the same words
+-- a capsule without conflicts from these words, which stopped anywhere and begun again comes to the same end with the same words
 pub record MayRunAgain (array_words : ℕ) (is : List Instr) (m : Memory Where) : Type 0 where
   pub free : IsConflictFree code_locations (capsule_of array_words is) m
   pub idempotent : IsIdempotent code_locations (capsule_of array_words is) m

@@ -40,7 +40,7 @@ abbrev pub with_value : Option ℕ → ℕ → (FrameWord → ℕ) → FrameWord
 with_value None value own word = own word
 with_value (Some slot) value own word = cond (same_frame_word word (Slot slot)) value (own word)
 
--- the words of a frame of so many slots that lies in a new block; behind its slots it has none
+-- the words of a frame of so many slots that lies in a new block; after its slots it has none
 abbrev pub built : (slots frame : ℕ) → (ℕ → ℕ) → FrameWord → ℕ
 built slots frame block (Slot slot) = if nat_lt slot slots then block (frame + slot_at slot) else 0
 built slots frame block Value = block (frame + value_at)

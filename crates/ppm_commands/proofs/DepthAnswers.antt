@@ -126,7 +126,7 @@ module _ (capsules : ℕ) (text : List ℕ) (case : HasCase text) where
       let it = there case.code case.input capsules in
       run_has it.run tidy it.is
 
--- so it is with all numbers of capsules
+-- `depth` has one answer, whatever the number of capsules
 pub have_one_answer : FaultsTellCases → RunsAreThere → HaveOneAnswer
 have_one_answer law there capsules = record {
   one = case_answers.one (DepthOf capsules) law (λ code input. one_of code input capsules);

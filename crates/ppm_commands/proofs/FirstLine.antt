@@ -117,7 +117,7 @@ number_alone false true false u m t v r n apart none e = cc
 number_alone false false z true m t v r n apart none e = cc
 number_alone false false z false m t v r n apart none e = absurd (none e)
 
--- a spelling of 1 has no byte behind its first
+-- a spelling of 1 has no byte after its first
 one_digit : (d : ℕ) (ds : List ℕ) → is_digit d ≡ true → is_numeral (d ∷ ds) ≡ true → value (d ∷ ds) ≡ 1 → ds ≡ []
 one_digit d [] h i e = refl
 one_digit d (c ∷ cs) h i e = by (d == 48) refl i where
@@ -174,7 +174,7 @@ version_tokens (Name k ∷ ts) e =
     go (t ∷ u ∷ us) h p = let f = (both (is_of sort.Version t) false h).1 in cc
 version_tokens (t ∷ ts) e = cc
 
--- so its line has five bytes
+-- the words of the version's line are short
 sized : (ws : List (List ℕ)) (n : ℕ) → map token_of ws ≡ Name keyword.Ppm ∷ Number n ∷ [] → n ≡ 1 → total ws ≤ 6
 sized [] n e f = cc
 sized (v ∷ []) n e f = cc

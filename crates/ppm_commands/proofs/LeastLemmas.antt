@@ -57,7 +57,7 @@ module _ (Has : Fault → ℕ → Type 0)
   none_is_there : (rule : Fault) (line : ℕ) → Has rule line → ⊥
   none_is_there rule line h = without_least HasRank first (rank rule line) (rule, line, h, refl)
 
--- so of a text
+-- a text without a first fault has no fault
 pub no_fault : (text : List ℕ) → ((rule : Fault) (line : ℕ) → IsFirstFault text rule line → ⊥)
     → (rule : Fault) (line : ℕ) → HasFault text rule line → ⊥
 no_fault text free = none_is_there (HasFault text) (λ rule line h least. free rule line (record { there = h; first = least }))

@@ -120,7 +120,7 @@ module _ (text : List ℕ) (long : listing_limit < length text) where
       let c = cases (first_line text) in
       record { there = there (stands (first_line text)) b.0 c b.1; first = not_before (stands (first_line text)) b.0 c b.1 }
 
--- what is behind the front of a text that is too long changes no fault
+-- what is after the front of a text that is too long changes no fault
 pub same_fault : (text rest : List ℕ) (rule : Fault) (line : ℕ) → FaultsTellListings → listing_limit < length text → IsFirstFault text rule line →
     IsFirstFault (text ++ rest) rule line
 same_fault text rest rule line law long f =

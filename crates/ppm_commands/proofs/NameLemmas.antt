@@ -83,11 +83,11 @@ abbrev names_by : List ArrayInput → List Array → List (List ℕ)
 names_by inputs arrays = map (λ (a : NamedArray). a.name) (map (initial_array inputs) arrays)
 
 module _ (t : ProgramTree) where
-  -- behind a site there is none with a fault either
+  -- after a site there is none with a fault either
   behind_first : (site : Site) (more : List Site) → IsFaultless t (site ∷ more) → IsFaultless t more
   behind_first site more h e f = h e (record { site = f.site; within = contains_tail site f.site more f.within; wrong = f.wrong })
 
-  -- the name of an array is none of those behind it
+  -- the name of an array is none of those after it
   apart : (s : Scope) (a : Array) (inputs : List ArrayInput) (all arrays : List Array)
       → IsFaultless t (declaration_sites (s ++ plain mode.Int a.name ∷ []) (declared_by all))
       → ((b : Array) → Contains arrays b → Contains all b) → AllByRecursion (λ y. bytes_eq a.name.name y ≡ false) (names_by inputs arrays)

@@ -4,7 +4,7 @@ use Rattle.std.proofs.Common.{List, [], ◌∷◌, ◌++◌, length, Option, Som
 use Rattle.std.specs.Prelude.{option_map}
 use Rattle.ppm_listing_reader.specs.Tokens.{in_front, split}
 
--- the bytes of pieces, and the separator behind each
+-- the bytes of pieces, and the separator after each
 abbrev pub total : List (List ℕ) → ℕ
 total [] = 0
 total (p ∷ ps) = suc (length p + total ps)
@@ -20,7 +20,7 @@ some_total s (b ∷ bs) = by (b == s) (some_total s bs) where
   by true same = omega (arith, same)
   by false same = total_front b (split s bs) (omega (arith, same)) ∙ ap suc same
 
--- the first of pieces, if another is behind it
+-- the first of pieces, if another is after it
 abbrev pub ended : List (List ℕ) → Option (List ℕ)
 ended [] = None
 ended (p ∷ []) = None
@@ -67,7 +67,7 @@ first_stays (b ∷ bs) rest p e = by (b == 10) (λ q. first_stays bs rest q) e w
   by false stays f = let m = map_back b (first_line bs) p f in
       ap (option_map (λ q. b ∷ q)) (stays m.0 m.1) ∙ ap Some (sym m.2)
 
--- where a text has no line feed, a first line that ends behind it is no shorter
+-- where a text has no line feed, a first line that ends after it is no shorter
 pub first_grows : (text rest p : List ℕ) → first_line text ≡ None → first_line (text ++ rest) ≡ Some p → length text ≤ length p
 first_grows [] rest p e f = omega arith
 first_grows (b ∷ bs) rest p e f = by (b == 10) (λ q. first_grows bs rest q) e f where

@@ -25,7 +25,7 @@ use Rattle.ppm_commands.specs.Cases.{HasLine, InstructionsHaveTheirLines}
 use Rattle.ppm_loading.specs.Telling.{capsule_lines, line_at}
 
 module _ {A : Type 0} where
-  -- what stands behind others
+  -- what stands after others
   behind : (xs ys : List A) (n k : ℕ) → n ≡ length xs + k → slice_get (xs ++ ys) n ≡ slice_get ys k
   behind [] ys n k e = ap (λ (m : ℕ). slice_get ys m) (omega (arith, e))
   behind (x ∷ xs) ys zero k e = absurd (omega (arith, e))

@@ -168,7 +168,7 @@ module _ (capsules : ℕ) (text : List ℕ) (case : HasCase text) where
       let it = there code case.input capsules in
       verdict_has capsules text case (record { free = free; tidy = tidy }) it.verdict it.is
 
--- so it is with all numbers of capsules
+-- `races` has one answer, whatever the number of capsules
 pub have_one_answer : FaultsTellCases → VerdictsAreOne → VerdictsAreThere → HaveOneAnswer
 have_one_answer faults law there capsules = record {
   one = case_answers.one (RacesOf capsules) faults (λ code input. one_of code input capsules law);

@@ -36,7 +36,7 @@ module _ (ends : HaveOneEnd) (stuck : NoneIsStuck) (t : ProgramTree) (turns : �
             subst (λ (c : Counts). turns < c.turns) same.0 (omega (arith, leb-false k.turns turns e))),
       )
 
-  -- a run that goes on past the turns ends behind them, if at all
+  -- a run that goes on past the turns ends after them, if at all
   of_run : BeginsBody Plain t.procedures (suc turns) (main_of t) (main_frame t.arrays (main_of t).parameters) (values_of (initial_arrays t))
       → (o : Outcome) × Serial t turns o
   of_run b = (
@@ -100,7 +100,7 @@ module _ (texts : TextsHaveOneProgram) (spends : SpendTheirTurns) (turns : ℕ) 
   has_none : (text : List ℕ) (o : Outcome) → text_limit < length text → ComesTo turns text o → ⊥
   has_none text o long h = let short = h.program.admitted.tree.lexed.short in absurd (omega (arith, long, short))
 
-  -- so its answer is a refusal, which its front has as well
+  -- what is answered of a text that is too long is a refusal, which each text that goes on from it has as well
   front : (text rest : List ℕ) (a : Answer) → text_limit < length text → SerialHas turns text a → SerialHas turns (text ++ rest) a
   front text rest a long h = go (of_text text a h) where
     go : IsOutcomes text a ⊎ IsRefusals text a → SerialHas turns (text ++ rest) a
@@ -119,7 +119,7 @@ module _ (texts : TextsHaveOneProgram) (spends : SpendTheirTurns) (turns : ℕ) 
       of_outcome text (outcome.Trapped t line) c = (answers.Trapped t line, c)
       of_outcome text outcome.NotWithin c = (answers.NotWithin turns, (refl, c))
 
--- so it is with all numbers of turns
+-- `serial` has one answer, whatever the number of turns
 pub have_one_answer : TextsHaveOneProgram → SpendTheirTurns → HaveOneEnd → NoneIsStuck → HaveOneAnswer
 have_one_answer texts spends ends stuck turns =
     record { one = one texts spends turns; front = front texts spends turns; some = some texts spends turns ends stuck }

@@ -35,7 +35,7 @@ one_word input word x y i j h k =
     let place = same_place h.front k.front h.array k.array h.rest k.rest i j (sym h.all ∙ k.all) (sym h.address ∙ k.address) h.inside k.inside in
     (h.name_is ∙ ap (λ (a : NamedArray). a.name) place.0 ∙ sym k.name_is, place.1)
 
--- the word is in the arrays that are left, so many words behind their start, and so many arrays stand in front of them
+-- the word is in the arrays that are left, so many words after their start, and so many arrays stand in front of them
 pub record IsSoFar (arrays : List NamedArray) (word : ℕ) (left : List NamedArray) (number index : ℕ) : Type 0 where
   pub front : List NamedArray
   pub all : arrays ≡ front ++ left
@@ -47,7 +47,7 @@ pub record IsSoFar (arrays : List NamedArray) (word : ℕ) (left : List NamedArr
 pub so_far : (arrays : List NamedArray) (word : ℕ) → word < value_count arrays → IsSoFar arrays word arrays 0 word
 so_far arrays word less = record { front = []; all = refl; number_is = refl; address = omega arith; inside = less }
 
--- an array more behind others
+-- an array more after others
 count_push : (front : List NamedArray) (a : NamedArray) → value_count (front ++ (a ∷ [])) ≡ value_count front + length a.values
 count_push [] a = omega (arith, count-cons a [])
 count_push (b ∷ front) a = omega (arith, count-cons b front, count-cons b (front ++ (a ∷ [])), count_push front a)
@@ -86,7 +86,7 @@ pub split_off : (xs : List NamedArray) (a : NamedArray) → 1 ≤ length xs → 
 split_off [] a h e = absurd (omega (arith, h))
 split_off (x ∷ xs) a h e = ap₂ (λ (y : NamedArray) (ys : List NamedArray). y ∷ ys) (sym e) (sym (take_all (length (x ∷ xs) - 1) xs (omega arith)))
 
--- so the word is in the others, where it is not in the first
+-- a word that is not in the first array is in the others
 pub passed_by : (arrays : List NamedArray) (word : ℕ) (left : List NamedArray) (a : NamedArray) (number index n : ℕ) → IsSoFar arrays word left number index
     → 1 ≤ length left → a ≡ get_or left 0 a → n ≡ length a.values → n ≤ index
     → IsSoFar arrays word (take (length left - 1) (drop 1 left)) (number + 1) (index - n)

@@ -56,7 +56,7 @@ ProgramMay t (answers.Listed written) = (written ≡ text_of t) × NumbersFit (c
 ProgramMay t answers.NoMemory = ⊤
 ProgramMay t _ = ⊥
 
--- Two answers of a text are one, and what stands behind more bytes than a text may have changes none. Each text has one: it is refused, or
+-- Two answers of a text are one, and what stands after more bytes than a text may have changes none. Each text has one: it is refused, or
 -- its code is written with its arrays.
 pub record HaveOneAnswer : Type 0 where
   pub one : AreOne CaseHas

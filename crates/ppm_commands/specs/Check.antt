@@ -84,7 +84,7 @@ error_answer (error.NoEnd line) = listing_refused (error.NoEnd line)
 error_answer (error.WrongRoom line) = listing_refused (error.WrongRoom line)
 error_answer (error.NotThere line) = listing_refused (error.NotThere line)
 
--- Two answers of a text are one, and what stands behind more bytes than a listing may have changes none. Each text has one: it is refused
+-- Two answers of a text are one, and what stands after more bytes than a listing may have changes none. Each text has one: it is refused
 -- for its first fault, or its code has a first conflict, or it is accepted.
 pub record HaveOneAnswer : Type 0 where
   pub one : AreOne CheckHas

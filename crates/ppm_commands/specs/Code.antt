@@ -55,7 +55,7 @@ ProgramMay t (answers.Listed listing) = (listing ≡ listing_of (code_of t)) × 
 ProgramMay t answers.NoMemory = ⊤
 ProgramMay t _ = ⊥
 
--- Two answers of a text are one, and what stands behind more bytes than a text may have changes none. Each text has one: it is refused, or
+-- Two answers of a text are one, and what stands after more bytes than a text may have changes none. Each text has one: it is refused, or
 -- its code is listed.
 pub record HaveOneAnswer : Type 0 where
   pub one : AreOne CodeHas
@@ -72,7 +72,7 @@ pub record IsFaithful (t : ProgramTree) : Type 0 where
   pub sound : (input : List NamedArray) → IsInputOf t input → IsSound (code_of t) input
   pub ends_as_meant : (input : List NamedArray) → IsInputOf t input → EndsAsMeant t input
 
--- so it is with the program of each text
+-- the code of each text's program is true to it
 abbrev pub CodesAreFaithful : Type 0
 CodesAreFaithful = (text : List ℕ) (t : ProgramTree) → HasProgram text t → IsFaithful t
 

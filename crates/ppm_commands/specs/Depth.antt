@@ -67,7 +67,7 @@ pub record HasOneAnswer (capsules : ℕ) : Type 0 where
       → ((r : ListingRefusal) → ¬ DepthHas capsules text (answers.ListingRefused r))
       → ((u : UntidyStore) → ¬ DepthHas capsules text (answers.Untidy u)) → (a : Answer) × DepthHas capsules text a
 
--- so it is with all numbers of capsules
+-- `depth` has one answer, whatever the number of capsules
 abbrev pub HaveOneAnswer : Type 0
 HaveOneAnswer = (capsules : ℕ) → HasOneAnswer capsules
 

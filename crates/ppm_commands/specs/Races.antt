@@ -142,7 +142,7 @@ pub record HasOneAnswer (capsules : ℕ) : Type 0 where
       → ((c : ToldConflict) (read write : ℕ) → ¬ RacesHas capsules text (answers.ConflictingAt c read write))
       → ((u : UntidyStore) → ¬ RacesHas capsules text (answers.Untidy u)) → (a : Answer) × RacesHas capsules text a
 
--- so it is with all numbers of capsules
+-- `races` has one answer, whatever the number of capsules
 abbrev pub HaveOneAnswer : Type 0
 HaveOneAnswer = (capsules : ℕ) → HasOneAnswer capsules
 

@@ -42,14 +42,14 @@ TreeMay turns t (answers.NotWithin n) = (n ≡ turns) × Serial t turns outcome.
 TreeMay turns t answers.NoMemory = ⊤
 TreeMay turns t _ = ⊥
 
--- Within each number of turns two answers of a text are one, and what stands behind more bytes than a text may have changes none. Each text
+-- Within each number of turns two answers of a text are one, and what stands after more bytes than a text may have changes none. Each text
 -- has one: it is refused, or its program has an outcome.
 pub record HasOneAnswer (turns : ℕ) : Type 0 where
   pub one : AreOne (SerialHas turns)
   pub front : FrontsDecide text_limit (SerialHas turns)
   pub some : (text : List ℕ) → ((r : Refusal) → ¬ IsRefusal text r) → (a : Answer) × SerialHas turns text a
 
--- so it is with all numbers of turns
+-- `serial` has one answer, whatever the number of turns
 abbrev pub HaveOneAnswer : Type 0
 HaveOneAnswer = (turns : ℕ) → HasOneAnswer turns
 

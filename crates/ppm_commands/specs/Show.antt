@@ -64,7 +64,7 @@ error_answer (error.BadListing line) = saved_refused (error.BadListing line)
 error_answer (error.BadCode line) = saved_refused (error.BadCode line)
 error_answer (error.WrongCount line) = saved_refused (error.WrongCount line)
 
--- Two answers of a text are one, and what stands behind more bytes than a saved text may have changes none. Each text has one: it is refused for
+-- Two answers of a text are one, and what stands after more bytes than a saved text may have changes none. Each text has one: it is refused for
 -- its fault, or it is that of a state, which has its lines.
 pub record HaveOneAnswer : Type 0 where
   pub one : AreOne ShowHas

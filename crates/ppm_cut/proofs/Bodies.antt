@@ -12,7 +12,7 @@ use Rattle.ppm_cut.proofs.Growing.{adds_then}
 use Rattle.ppm_cut.specs.Counts.{own_count}
 use Rattle.ppm_cut.specs.Growth.{Adds, capsule_of}
 
--- names that are there, and more behind them
+-- names that are there, and more after them
 pub record Extends (start now : Layout) : Type 0 where
   pub more : Layout
   pub is : now ≡ start ++ more
@@ -71,7 +71,7 @@ module _ (procedures : List Procedure) (q spare : ℕ) (last : Last) where
       → Adds q (last_code layout last ∷ []) m n → whole ≡ n
   body_end layout at h b whole m n is e added = e ∙ ap (λ c. m ++ rest_of layout at h c) is ∙ sym added.whole
 
--- the same capsules, from something equal
+-- the capsules of something are those of what is equal to it
 pub adds_at : {A : Type 0} {q : ℕ} {a b : List Capsule} (f : A → List Instrs) (m n : A) → m ≡ n → Adds q (f m) a b → Adds q (f n) a b
 adds_at {q = q} {a = a} {b = b} f m n e h = subst (λ k. Adds q (f k) a b) e h
 

@@ -1,4 +1,4 @@
--- Procedures behind procedures.
+-- Procedures after procedures.
 use Rattle.std.proofs.Common.{◌≡◌, ◌≤◌, ◌+◌, ℕ, suc, not, arith, List, [], ◌∷◌, ◌++◌, None, map, length, refl, sym, ap, subst, ◌∙◌}
 use Rattle.std.proofs.Common.{append_assoc, length-append}
 use Rattle.std.proofs.lemmas.List.{append-nil}
@@ -23,7 +23,7 @@ use Rattle.ppm_cut.specs.Growth.{Adds, capsule_of}
 use Rattle.ppm_cut.specs.Drafts.{Drafts, behind_all}
 use Rattle.ppm_cut.proofs.Growing.{adds_then}
 
--- what is still to be added behind some statements of a block is what was to be added, behind what was added
+-- what is still to be added after some statements of a block is what was to be added, after what was added
 pub record Rest (procedures : List Procedure) (start : Layout) (hidden : ℕ) (all : Block) (layout : Layout) (next : ℕ) (rest : Block)
     (old now : Draft) : Type 0 where
   pub added : List Routine
@@ -133,7 +133,7 @@ module _ (procedures : List Procedure) where
       (drafts_then (Hidden (record { number = h; line = r.line; part = p.name; index = i.name; names = caught layout b; block = b }) ∷ [])
       (hidden_of_block inner (suc h) b) x y z f g2)
 
-  -- behind one more statement of a block
+  -- after one more statement of a block
   pub rest_step : (start : Layout) (hidden : ℕ) (all : Block) (layout : Layout) (next : ℕ) (b rest : Block) (s : Statement) (more : Layout)
       (behind : ℕ) (x y z : Draft) → b ≡ Then s rest → more ≡ with_lets layout s → behind ≡ hidden_behind s next
       → Rest procedures start hidden all layout next b x y → Drafts procedures (hidden_of layout next s) y z

@@ -1,4 +1,4 @@
--- Instructions behind instructions, and capsules behind capsules.
+-- Instructions after instructions, and capsules after capsules.
 use Rattle.std.proofs.Common.{◌≡◌, ap, ◌∙◌, sym, subst, ℕ, suc, pos, List, [], ◌∷◌, ◌++◌, map, append_assoc, refl}
 use Rattle.std.proofs.lemmas.List.{map-append, append-nil}
 use Rattle.ppm_code.specs.declared.instr.Instr.{Instr}
@@ -18,7 +18,7 @@ same a = record { whole = λ rest. refl }
 pub one : (i : Instr) (a b : Instrs) → b ≡ a ++ i ∷ [] → Grows (λ rest. i ∷ rest) a b
 one i a b e = record { whole = λ rest. sym (append_assoc a (i ∷ []) rest) ∙ ap (λ l. l ++ rest) (sym e) }
 
--- some behind others
+-- some after others
 pub then : {f g : Instrs → Instrs} {a b c : Instrs} → Grows f a b → Grows g b c → Grows (λ rest. f (g rest)) a c
 then {g = g} h k = record { whole = λ rest. h.whole (g rest) ∙ k.whole rest }
 
@@ -26,7 +26,7 @@ then {g = g} h k = record { whole = λ rest. h.whole (g rest) ∙ k.whole rest }
 pub made : {f : Instrs → Instrs} {a b : Instrs} → a ≡ [] → Grows f a b → b ≡ f []
 made {f = f} {b = b} e h = sym (append-nil b) ∙ sym (h.whole []) ∙ ap (λ l. l ++ f []) e
 
--- no capsule, one, and some behind others
+-- no capsule, one, and some after others
 pub adds_none : (q : ℕ) (a : List Capsule) → Adds q [] a a
 adds_none q a = record { whole = sym (append-nil a) }
 
@@ -36,7 +36,7 @@ adds_then {q = q} {xs = xs} {ys = ys} {a = a} h k = record {
       ∙ ap (λ l. a ++ l) (sym (map-append (capsule_of q) xs ys));
 }
 
--- the same instructions
+-- what grows by some instructions grows by equal ones
 pub alike : {f g : Instrs → Instrs} {a b : Instrs} → ((rest : Instrs) → f rest ≡ g rest) → Grows f a b → Grows g a b
 alike {a = a} e h = record { whole = λ rest. ap (λ l. a ++ l) (sym (e rest)) ∙ h.whole rest }
 

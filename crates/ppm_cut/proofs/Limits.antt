@@ -23,7 +23,7 @@ use Rattle.ppm_cut.specs.Counts.{IsShortSide, IsShort, IsShortBlock, IsShortGive
 short_expression : (e : Expression) → length (nodes e) ≤ node_limit → size_of e ≤ size_limit
 short_expression e h = let s = size_at_most e in omega (arith, h, s)
 
--- one that stands first among those of a statement, and one behind it
+-- one that stands first among those of a statement, and one after it
 short_first : (e : Expression) (es : List Expression) → length (flat_map nodes (e ∷ es)) ≤ node_limit → size_of e ≤ size_limit
 short_first e es h = let n = length-append (nodes e) (flat_map nodes es) in let s = size_at_most e in omega (arith, h, n, s)
 
@@ -95,7 +95,7 @@ short_procedure p h = record {
   give = short_give p.give h.give;
 }
 
--- what holds of each of some procedures, declared ones behind them
+-- what holds of each of some procedures, declared ones after them
 of_declared : (P Q : Procedure → Type 0) → ((p : Procedure) → P p → Q p) → (ps : List Proc) → AllByRecursion P (map procedure_of ps)
     → AllByRecursion (λ p. Q (procedure_of p)) ps
 of_declared P Q f [] h = tt

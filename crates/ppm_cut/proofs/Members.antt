@@ -49,7 +49,7 @@ in_second xs ys q e = sym (has-append xs ys q ∙ ap (λ w. w || has ys q) e)
 pub not_name : (b : Bool) (q x : List ℕ) → (IsTrue b ↔ (q ≡ x)) → b ≡ false → has (x ∷ []) q ≡ false
 not_name b q x is e = ap (λ w. w || false) (sym (test_is b q x is) ∙ e)
 
--- in a block: it is used by the first statement, or within, or declared there, or else it is as it is behind
+-- in a block: it is used by the first statement, or within, or declared there, or else it is as it is after that
 module _ (block : Block) (s : Statement) (rest : Block) (q : List ℕ) (is : block ≡ Then s rest) where
   parts : has (free_names block) q ≡ ((has (used_by s) q || has (free_within s) q) || (has (free_names rest) q && not (has (lets_of s) q)))
   parts =

@@ -4,7 +4,7 @@ use Rattle.ppm_tree.specs.Tree.{Procedure}
 use Rattle.ppm_cut_code.specs.Routines.{Routine, routine_behind, procedures_from, capsules_from}
 use Rattle.ppm_cut.specs.declared.draft.Draft.{Draft}
 
--- the number behind the capsules of procedures, the first of which has the number `at`
+-- the number after the capsules of procedures, the first of which has the number `at`
 abbrev pub behind_all : List Routine → ℕ → ℕ
 behind_all [] at = at
 behind_all (r ∷ routines) at = behind_all routines (routine_behind r at)

@@ -20,7 +20,7 @@ use ppm_code::{Capsule, Instr};
 use ppm_tree::{Give, Stmt};
 use ppm_words::{Items, NoMemory};
 
-/// How a block goes on behind its last statement.
+/// How a block goes on after its last statement.
 #[derive(Clone, Copy)]
 pub enum Last<'a> {
     /// With a capsule.

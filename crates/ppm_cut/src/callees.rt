@@ -64,7 +64,7 @@ impl<'a> Callees<'a> {
         Ok(Callees { procedures, slots })
     }
 
-    /// The first procedure with a name; behind all others, without slots and parameters, where
+    /// The first procedure with a name; after all others, without slots and parameters, where
     /// there is none.
     pub fn find(&self, name: &[u8]) -> Callee<'a>
         ensures number { result.number ≡ number_of (map procedure_of self.now) name.now }

@@ -15,7 +15,7 @@ pub struct Numbers {
 }
 
 impl Numbers {
-    /// The numbers behind a statement that begins with these.
+    /// The numbers after a statement that begins with these.
     pub fn behind(self, statement: &Stmt) -> Numbers
         requires capsules { self.capsule + own_count (statement_of statement.now) ≤ count_limit }
         requires hidden { self.hidden + hidden_count (statement_of statement.now) ≤ count_limit }
@@ -33,7 +33,7 @@ impl Numbers {
     }
 }
 
-/// The number behind the capsules of a statement, the first of which has the number `at`.
+/// The number after the capsules of a statement, the first of which has the number `at`.
 #[cycle(capsules)]
 pub fn behind(statement: &Stmt, at: u32) -> u32
     requires counts { at + own_count (statement_of statement.now) ≤ count_limit }
@@ -66,7 +66,7 @@ pub fn end_of(block: &[Stmt], at: u32) -> u32
     next
 }
 
-/// The number behind the hidden procedures of a statement, the first of which has the number
+/// The number after the hidden procedures of a statement, the first of which has the number
 /// `hidden`.
 #[cycle(hidden)]
 pub fn hidden_behind(statement: &Stmt, hidden: u32) -> u32
@@ -90,7 +90,7 @@ pub fn hidden_behind(statement: &Stmt, hidden: u32) -> u32
     }
 }
 
-/// The number behind those of a block.
+/// The number after those of a block.
 #[cycle(hidden)]
 pub fn hidden_behind_block(block: &[Stmt], hidden: u32) -> u32
     requires counts { hidden + hidden_count_in (block_of block.now) ≤ count_limit }

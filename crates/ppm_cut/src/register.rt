@@ -17,7 +17,7 @@ pub fn register(number: u32) -> Register
     }
 }
 
-/// The register behind that with a number, or the last one.
+/// The register after that with a number, or the last one.
 pub fn register_after(number: u32) -> Register
     requires { number ≤ 4294967294 }
     ensures { result ≡ register (suc number) }

@@ -8,7 +8,7 @@ ghost use Rattle.ppm_cut.specs.Counts.{count_limit, size_limit, arguments_of};
 
 use ppm_tree::{Argument, Expr, Mode, Operator, Parameter};
 
-/// How many instructions an operator has behind its right operand.
+/// How many instructions an operator has after its right operand.
 fn last_size(operator: Operator) -> u32
     ensures { result ≡ last_size operator }
 {

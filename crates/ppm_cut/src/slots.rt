@@ -105,7 +105,7 @@ fn has_assignment(block: &[Stmt]) -> bool
     false
 }
 
-/// The slots behind all names.
+/// The slots after all names.
 pub fn spare_slots(block: &[Stmt]) -> u32
     ensures value { result ≡ spare_slots (block_of block.now) }
     ensures within { result ≤ 2 }

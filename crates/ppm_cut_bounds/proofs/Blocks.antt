@@ -1,4 +1,4 @@
--- What is left of a block behind some of its statements.
+-- What is left of a block after some of its statements.
 use Rattle.std.proofs.Common.{◌≡◌, ◌<◌, ◌+◌, ℕ, suc, arith, List, ◌∷◌, drop, length, get_or, drop-cons, sym, ap, ◌∙◌}
 use Rattle.ppm_tree.specs.declared.tree.Stmt.{Stmt}
 use Rattle.ppm_tree.specs.Tree.{Then, statement_of, block_of}

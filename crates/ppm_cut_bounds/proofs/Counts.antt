@@ -26,7 +26,7 @@ module _ (xs : List Stmt) (k : ℕ) (s : Stmt) (in' : k < length xs) (at : s ≡
   most_ahead : most_in_force (block_of (drop k xs)) ≡ max (most_within (statement_of s)) (length (lets_of (statement_of s)) + most_in_force (block_of (drop (k + 1) xs)))
   most_ahead = ap most_in_force (block_ahead xs k s in' at)
 
-  -- the names of a block fit exactly where those behind a statement do
+  -- the names of a block fit exactly where those after a statement do
   pub names_step : (all room left behind : ℕ) → most_within (statement_of s) ≤ left → behind + length (lets_of (statement_of s)) ≡ left
       → (all ≤ room ↔ most_in_force (block_of (drop k xs)) ≤ left)
       → (all ≤ room ↔ most_in_force (block_of (drop (k + 1) xs)) ≤ behind)
@@ -51,14 +51,14 @@ fits_block w d room m false r same none fit e = rw e (by (dec_le m room))
     by (yes h) = let f = fit.1 h in absurd (cc)
     by (no h) = let g = le-max_left w d in let k = lt_of_not-le h in omega (arith, k, g, same)
 
--- the same of two blocks, of which the first fits
+-- what is left of two blocks, of which the first fits
 pub fits_both : (w d room m n : ℕ) (b : Bool) (r : Option ℕ) → w ≡ max m n → d ≡ 0 → m ≤ room → (IsTrue b ↔ n ≤ room) → r ≡ then_some b room
     → MatchOption r (room < max w d) (λ left. (w ≤ room) × left + d ≡ room)
 fits_both w d room m n b r same none first fit e =
     fits_block w d room (max m n) b r same none
     (λ h. max-le first (fit.0 h), λ h. fit.1 (let g = le-max_right m n in omega (arith, g, h))) e
 
--- the same of a block in which two more names are in force
+-- what is left of a block in which two more names are in force
 pub fits_inner : (w d room m inner : ℕ) (b : Bool) (r : Option ℕ) → w ≡ 2 + m → d ≡ 0 → inner + 2 ≡ room → (IsTrue b ↔ m ≤ inner) → r ≡ then_some b room
     → MatchOption r (room < max w d) (λ left. (w ≤ room) × left + d ≡ room)
 fits_inner w d room m inner b r same none two fit e =

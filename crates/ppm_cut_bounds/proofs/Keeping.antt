@@ -81,7 +81,7 @@ module _ (b : Bound) where
     kept_ahead : statements_in (block_of (drop k xs)) ≡ statement_and_inner (statement_of s) ++ statements_in (block_of (drop (k + 1) xs))
     kept_ahead = ap statements_in (block_ahead xs k s in' at)
 
-    -- a bound is kept where it is kept behind a statement that keeps it
+    -- a bound is kept where it is kept after a statement that keeps it
     pub kept_step : {P : Type 0} → Kept (statement_and_inner (statement_of s)) → (P ↔ Kept (statements_in (block_of (drop k xs))))
         → (P ↔ Kept (statements_in (block_of (drop (k + 1) xs))))
     kept_step own h = (

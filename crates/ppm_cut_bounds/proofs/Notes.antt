@@ -24,7 +24,7 @@ both true n x y = refl
 both false true x y = refl
 both false false x y = refl
 
--- names behind a declaration
+-- names after a declaration
 behind : (a o x l r : Bool) → ((a || (not o && x)) || (not (o || l) && r)) ≡ (a || (not o && (x || (r && not l))))
 behind true o x l r = refl
 behind false true x l r = refl
@@ -95,7 +95,7 @@ then_noted {xs = xs} {ys = ys} {a = a} {b = b} {c = c} f g = record {
   once = λ d. g.once (f.once d);
 }
 
--- the same names
+-- names that are equal are noted alike
 pub noted_same : {xs ys : List (List ℕ)} {a b : Walked} → xs ≡ ys → Notes xs a b → Notes ys a b
 noted_same {a = a} {b = b} e n = subst (λ l. Notes l a b) e n
 

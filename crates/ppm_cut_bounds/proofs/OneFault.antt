@@ -26,7 +26,7 @@ keep_at b [] h = tt
 keep_at b (s ∷ ss) h =
     (within (count_of b s) (limit_of b) (λ past. h (λ k. past k.0)), keep_at b ss (λ past. h (λ k. past k.1)))
 
--- so does a procedure
+-- a procedure that cannot but keep a bound does
 keep : (b : Bound) (p : Procedure) → ((Keeps b p → ⊥) → ⊥) → Keeps b p
 keep b p h = record {
   own = within (own_count b p) (limit_of b) (λ past. h (λ k. past k.own));

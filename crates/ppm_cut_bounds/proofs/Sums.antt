@@ -53,7 +53,7 @@ module _ (s : Statement) where
   need_if e block other is =
       rw is (sum_by-cons (λ x. x) 4 (map capsules_at (statements_in block ++ statements_in other)) ∙ ap (λ n. 4 + n) (need-append (statements_in block) (statements_in other)))
 
--- what is left behind some capsules, and behind more
+-- what is left after some capsules, and after more
 pub left_more : (r : Option ℕ) (own left n d m : ℕ) → own + d ≡ left → m ≡ d + n → MatchOption r (own < n) (λ rest. rest + n ≡ own)
     → MatchOption r (left < m) (λ rest. rest + m ≡ left)
 left_more None own left n d m e f h = omega (arith, e, f, h)

@@ -17,6 +17,6 @@ pub record HasOneFault (t : ProgramTree) : Type 0 where
   pub either : (e : BoundError) → IsFault t e → ¬ IsWithinBounds t
   pub none : ((e : BoundError) → ¬ IsFault t e) → IsWithinBounds t
 
--- so it is with all programs
+-- every program has one fault, or is within the bounds
 abbrev pub HaveOneFault : Type 0
 HaveOneFault = (t : ProgramTree) → HasOneFault t

@@ -29,7 +29,7 @@ new_absent (y ∷ layout) x h = go (bytes_eq y x) refl h (new_absent layout x)
     go true e h rest = absurd (omega (arith, h))
     go false e h rest = ap (λ c. c || is_member bytes_eq layout x) (bytes_laws.symm x y ∙ e) ∙ rest (omega (arith, h))
 
--- so it differs from each of them
+-- a name that is none of the layout differs from each of its names
 pub absent_apart : (layout : Layout) (x : List ℕ) → is_member bytes_eq layout x ≡ false → AllByRecursion (λ y. bytes_eq x y ≡ false) layout
 absent_apart [] x h = tt
 absent_apart (y ∷ layout) x h = go (bytes_eq x y) refl h (absent_apart layout x)
@@ -74,7 +74,7 @@ once_filter test (x ∷ layout) h = go (test x) (once_filter test layout h.1)
 pub once_push : (layout : Layout) (x : List ℕ) → IsEachOnce layout → IsNew layout x → IsEachOnce (layout ++ x ∷ [])
 once_push layout x h new = IsDistinct-push bytes_laws layout x h (new_absent layout x new)
 
--- behind a statement that fits
+-- after a statement that fits
 pub once_lets : (procedures : List Procedure) (scope : Scope) (layout : Layout) (s : Statement) → FitsStatement procedures scope layout s
     → IsEachOnce layout
     → IsEachOnce (with_lets layout s)
@@ -183,7 +183,7 @@ caught_is_counted layout i x block h new_i new_x =
         ∙ ap (λ b. b && not (is_member bytes_eq (i.name ∷ x.name ∷ []) q)) used
         ∙ ap (λ b. not (b || (bytes_eq q x.name || false))) no_index ∙ ap (λ b. not (b || false)) no_part
 
--- a name keeps a slot behind another name
+-- a name keeps a slot after another name
 has_later : (y : List ℕ) (layout : Layout) (z : List ℕ) → Has layout z → Has (y ∷ layout) z
 has_later y layout z h = go (bytes_eq y z)
   where
@@ -203,6 +203,6 @@ own_slots : (layout : Layout) → AllByRecursion (Has layout) layout
 own_slots [] = tt
 own_slots (y ∷ layout) = (has_first y layout, has_all_later y layout layout (own_slots layout))
 
--- so do those that a block catches
+-- the names that a block catches have slots
 pub caught_have_slots : (layout : Layout) (block : Block) → AllByRecursion (Has layout) (caught layout block)
 caught_have_slots layout block = all_filter (Has layout) (is_member bytes_eq (free_names block)) layout (own_slots layout)

@@ -194,14 +194,14 @@ free_later s rest x other c =
     (Contains-append_right (used_by s ++ free_within s) (without (names.lets_of s) (free_names rest)) x
     (contains_without (names.lets_of s) (free_names rest) x other c))
 
--- behind a statement that declares nothing
+-- after a statement that declares nothing
 covers_plain : (s : Statement) (rest : Block) (scope : Scope) (layout : Layout) → ((x : List ℕ) → is_member bytes_eq (names.lets_of s) x ≡ false)
     → Covers (free_names (Then s rest)) scope layout → Covers (free_names rest) (scope ++ []) layout
 covers_plain s rest scope layout none h =
     subst (λ (scope : Scope). Covers (free_names rest) scope layout) (sym (append-nil scope))
     (covers_fewer (free_names (Then s rest)) (free_names rest) scope layout (λ x c. free_later s rest x (none x) c) h)
 
--- behind a statement
+-- after a statement
 pub covers_behind : (s : Statement) (rest : Block) (scope : Scope) (layout : Layout) → Covers (free_names (Then s rest)) scope layout
     → Covers (free_names rest) (scope ++ lets_of s) (with_lets layout s)
 covers_behind (Let x e) rest scope layout h =

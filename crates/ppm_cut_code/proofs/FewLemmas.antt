@@ -74,7 +74,7 @@ module _ (procedures : List Procedure) where
       let a = block_few spare (sweep_layout s) (element_block at) (suc s.number) (Gives None) s.block in
       omega (arith, a)
 
-  -- no capsule of a procedure stands among those of the procedures behind it
+  -- no capsule of a procedure stands among those of the procedures after it
   later_none : (m q at : ℕ) → m < q → (rs : List Routine) → capsules_among m (capsules_from procedures q at rs) ≡ 0
   later_none m q at h [] = refl
   later_none m q at h (r ∷ rs) =

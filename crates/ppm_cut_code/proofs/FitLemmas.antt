@@ -1,4 +1,4 @@
--- The instructions of expressions, arguments and stores fit wherever they stand in a capsule, if those behind them do.
+-- The instructions of expressions, arguments and stores fit wherever they stand in a capsule, if those after them do.
 use Rattle.std.proofs.Common.{◌≡◌, ◌≤◌, ◌<◌, ◌+◌, ℕ, zero, suc, List, [], ◌∷◌, ◌++◌, Some, length, map, slice_get, refl, ap, subst, arith}
 use Rattle.std.specs.List.{All, AllByRecursion, flat_map}
 use Rattle.std.proofs.lemmas.List.Elements.{All-head}
@@ -147,7 +147,7 @@ module _ (code : CodeParts) (q : ℕ) (is : Instrs) where
       let e : suc at + k ≡ at + suc k = omega arith in
       subst (λ (n : ℕ). Fits code q is n i) e (fit_at rest (suc at) k i h.1 found)
 
-  -- so the capsule of these instructions keeps its rules
+  -- a capsule of these instructions keeps the rules of a capsule
   pub capsule_fits : IsProcedure code q → length is ≤ instr_limit → IsClosed is → AllFit 0 is → IsCapsule code (of_procedure q is)
   capsule_fits there most closed fit = record {
     procedure = there;

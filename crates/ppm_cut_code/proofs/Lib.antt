@@ -1,5 +1,5 @@
 -- How the laws are shown, in the order of proof. Capsules have absolute numbers, so what stands at
--- a number is one equation; the definitions say behind each statement which number comes
+-- a number is one equation; the definitions say after each statement which number comes
 -- (`specs/Numbers`).
 -- Names have slots of their kind: `FitsLemmas`, site by site, over `CoverLemmas` (a layout has the
 -- names that a block uses, and no others than those in force).

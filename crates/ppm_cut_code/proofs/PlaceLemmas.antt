@@ -19,7 +19,7 @@ use Rattle.ppm_cut_code.specs.Routines.{hidden_from, routines_of, procedures_fro
 use Rattle.ppm_cut_code.specs.Standing.{HasStatement, HasBlock, HasBody}
 use Rattle.ppm_cut_code.specs.Correct.{ProceduresStand}
 
--- the number behind the items of a list, the first of which has the number n
+-- the number after the items of a list, the first of which has the number n
 abbrev pub past : {A : Type 0} → List A → ℕ → ℕ
 past [] n = n
 past (x ∷ xs) n = past xs (suc n)

@@ -143,7 +143,7 @@ module _ (procedures : List Procedure) (code : CodeParts) (known : IsKnown proce
     abbrev pub Keeps : Instrs → Type 0
     Keeps is = IsCapsule code (of_procedure q is)
 
-    -- an expression and a few instructions behind it
+    -- an expression and a few instructions after it
     one_keeps : (scope : Scope) (layout : Layout) (e : Expression) (tail : Instrs) → length layout ≤ slots_of code q → FitsExpression scope layout e
         → AllByRecursion IsNode (nodes e) → length (nodes e) ≤ 48 → length tail ≤ 16 → IsClosed tail
         → AllFit code q (expression_code layout e 0 0 tail) (size_of e) tail → Keeps (expression_code layout e 0 0 tail)

@@ -26,7 +26,7 @@ use Rattle.ppm_cut_code.specs.Statements.{loads_code, names_code, with_lets, wit
 use Rattle.ppm_cut_code.specs.Routines.{Routine, OfText, Hidden, hidden_of, hidden_of_block, texts_from, hidden_from}
 use Rattle.ppm_cut_code.specs.Routines.{routines_of, procedures_from, routine_code, capsules_from, routine_behind}
 
--- an operator has at least one instruction behind its operands, and three at most beside them
+-- an operator has at least one instruction after its operands, and three at most beside them
 pub last_at_least : (o : Operator) → 1 ≤ last_size o
 last_at_least operator.Add = omega arith
 last_at_least operator.Sub = omega arith

@@ -37,7 +37,7 @@ spare_at_most b = go (has_put b) (has_assignment b)
     go false true = omega arith
     go false false = omega arith
 
--- so a procedure has at most so many slots, and so has a hidden one
+-- the most slots that a procedure has, or a hidden one
 abbrev pub most_slots : ℕ
 most_slots = 25
 

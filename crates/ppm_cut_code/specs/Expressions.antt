@@ -8,7 +8,7 @@ use Rattle.ppm_tree.specs.Tree.{Expression}
 use Rattle.ppm_tree.specs.Tree as tree
 use Rattle.ppm_cut_code.specs.Layout.{Layout, slot_of, register}
 
--- how many instructions an operator has behind its right operand, and how many in front of that
+-- how many instructions an operator has after its right operand, and how many before that
 abbrev pub last_size : Operator → ℕ
 last_size operator.And = 2
 last_size operator.Or = 2

@@ -68,7 +68,7 @@ abbrev pub FitsTarget : Scope → Layout → Option Named → Type 0
 FitsTarget scope layout None = Unit {0}
 FitsTarget scope layout (Some x) = IsLocal scope layout x
 
--- the layout behind the statements of a block
+-- the layout after the statements of a block
 abbrev pub layout_behind : Layout → Block → Layout
 layout_behind layout Nil = layout
 layout_behind layout (Then s rest) = layout_behind (with_lets layout s) rest
@@ -102,7 +102,7 @@ module _ (procedures : List Procedure) where
     FitsBlock scope layout Nil = Unit {0}
     FitsBlock scope layout (Then s rest) = FitsStatement scope layout s × FitsBlock (scope ++ lets_of s) (with_lets layout s) rest
 
-  -- what a body gives, with the declarations and the layout behind its block
+  -- what a body gives, with the declarations and the layout after its block
   abbrev pub FitsGive : Scope → Layout → Option Give → Type 0
   FitsGive scope layout None = Unit {0}
   FitsGive scope layout (Some g) = FitsExpression scope layout g.value

@@ -1,5 +1,5 @@
 -- The numbers of capsules, and of the hidden procedures of each `each`: those of a statement come one after the other, in the order
--- of the text, and these functions say which number comes behind.
+-- of the text, and these functions say which number comes after.
 use Rattle.std.specs.Prelude.{ℕ, suc}
 use Rattle.ppm_tree.specs.Tree.{Statement, Block, Nil, Then}
 use Rattle.ppm_tree.specs.Tree as tree
@@ -22,7 +22,7 @@ abbrev mutual
   end_of Nil at = at
   end_of (Then s rest) at = end_of rest (behind s at)
 
--- the number behind the hidden procedures of a statement and of a block, the first of which has the number h; that of an `each` comes
+-- the number after the hidden procedures of a statement and of a block, the first of which has the number h; that of an `each` comes
 -- in front of those in its block
 abbrev mutual
   pub hidden_behind : Statement → ℕ → ℕ
@@ -36,7 +36,7 @@ abbrev mutual
   hidden_behind_block Nil h = h
   hidden_behind_block (Then s rest) h = hidden_behind_block rest (hidden_behind s h)
 
--- in the capsules of a hidden procedure that is entered at this number: where it forks, where it goes on behind that, and its block
+-- in the capsules of a hidden procedure that is entered at this number: where it forks, where it goes on after that, and its block
 abbrev pub halving : ℕ → ℕ
 halving entry = suc entry
 

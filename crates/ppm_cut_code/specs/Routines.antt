@@ -1,4 +1,4 @@
--- The code of a program: its procedures, those of the text and the hidden ones behind them, each with its capsules.
+-- The code of a program: its procedures, those of the text and the hidden ones after them, each with its capsules.
 use Rattle.std.specs.Prelude.{ℕ, suc, List, [], ◌∷◌, ◌++◌, None, length, map, codes}
 use Rattle.ppm_code.specs.declared.act.End.TheVariants as ends
 use Rattle.ppm_code.specs.declared.instr.Instr.TheVariants as instr
@@ -36,7 +36,7 @@ abbrev pub routine_slots : Routine → ℕ
 routine_slots (OfText p h) = procedure_slots p
 routine_slots (Hidden s) = hidden_slots (length s.names) s.block
 
--- the number behind its capsules, the first of which has the number `at`
+-- the number after its capsules, the first of which has the number `at`
 abbrev pub routine_behind : Routine → ℕ → ℕ
 routine_behind (OfText p h) at = suc (end_of p.body at)
 routine_behind (Hidden s) at = suc (end_of s.block (element_block at))

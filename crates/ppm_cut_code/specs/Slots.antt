@@ -18,7 +18,7 @@ abbrev mutual
   has_assignment Nil = false
   has_assignment (Then s rest) = assigns s || has_assignment rest
 
--- the slots behind all names: an index and a value, or a value alone
+-- the slots after all names: an index and a value, or a value alone
 abbrev pub spare_slots : Block → ℕ
 spare_slots block = if has_put block then 2 else if has_assignment block then 1 else 0
 
@@ -30,7 +30,7 @@ named_slots p = length p.parameters + most_in_force p.body
 abbrev pub procedure_slots : Procedure → ℕ
 procedure_slots p = named_slots p + spare_slots p.body
 
--- likewise of the hidden procedure of an `each` with this block, and with so many names of outside: its part, its first index, these
+-- the named slots of the hidden procedure of an `each` with this block, and with so many names of outside: its part, its first index, these
 -- names, and those of its block, or as many as two halves
 abbrev pub hidden_named_slots : ℕ → Block → ℕ
 hidden_named_slots names block = 2 + names + max 2 (most_in_force block)

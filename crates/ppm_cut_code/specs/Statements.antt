@@ -1,4 +1,4 @@
--- The capsules of statements: those of each go on at the capsule behind it.
+-- The capsules of statements: those of each go on at the capsule after it.
 use Rattle.std.specs.Prelude.{ℕ, zero, suc, ◌+◌, pos, List, [], ◌∷◌, ◌++◌, Option, Some, None, length, if◌then◌else◌}
 use Rattle.std.specs.Str.{bytes_eq}
 use Rattle.ppm_code.specs.declared.act.End.TheVariants as ends
@@ -46,7 +46,7 @@ put_code layout spare x next =
     instr.LoadSlot (register 0) (slot_of layout x.name) ∷ instr.LoadSlot (register 1) spare ∷ instr.LoadSlot (register 2) (suc spare)
     ∷ instr.Put (register 0) (register 1) (register 2) x.line ∷ onward next
 
--- a test: where it holds the run goes on inside, else behind
+-- a test: where it holds the run goes on inside, else after the block
 abbrev pub test_code : Layout → Expression → (inside next : ℕ) → Instrs
 test_code layout e inside next =
     expression_code layout e 0 0 (instr.BranchZero (register 0) (suc (suc (size_of e))) ∷ instr.Ends (ends.Next inside) ∷ onward next)
@@ -96,7 +96,7 @@ abbrev pub stores_code : (offset d count : ℕ) → Instrs → Instrs
 stores_code offset d zero rest = rest
 stores_code offset d (suc count) rest = instr.StoreNew offset (register d) ∷ stores_code (suc offset) (suc d) count rest
 
--- how a block goes on behind its last statement: at a capsule, or the frame is over, with what its body gives
+-- how a block goes on after its last statement: at a capsule, or the frame is over, with what its body gives
 pub data Last : Type 0 where
   OnTo : (next : ℕ) → Last
   Gives : Option Give → Last

@@ -75,7 +75,7 @@ module _ (lengths : List ℕ) where
     pub keeps : (i : ℕ) → i < d → slice_index h i ≡ slice_index g i
     pub count : length h ≡ 64
 
-  -- likewise for all arguments, from register d on
+  -- a frame before and after all arguments for some parameters, which have come into registers from d on
   pub record AreGiven (ps : List Parameter) (before : Frame) (d : ℕ) (g : List ℕ) (after : Frame) (h : List ℕ) : Type 0 where
     pub local : (y : List ℕ) (e : Declaration) → declared (map of_parameter ps) y ≡ Some e → is_region e.mode ≡ false
         → HoldsValue (slice_index h (d + slot_of (parameter_layout ps) y)) (after.locals y)

@@ -54,7 +54,7 @@ module _ (lengths : List ℕ) (code : CodeParts) (scope : Scope) (layout : Layou
     abbrev call_end : End
     call_end = ends.Call (callee_number procedures s) next (target_of layout s.target)
 
-    -- behind the arguments
+    -- after the arguments
     abbrev behind_arguments : List Instr
     behind_arguments = stores_code 6 0 count (instr.Ends call_end ∷ [])
 

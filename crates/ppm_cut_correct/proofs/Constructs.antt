@@ -179,7 +179,7 @@ module _ (t : ProgramTree) (code : CodeParts) (facts : Given t code) where
       zero_front _ ∙ ap (λ (n : ℕ). frame_words (hidden_slots n s) + (m - 1) * fork_words (hidden_slots n s) (hidden_slots n s))
       (sym (facts.counted scope layout i x r s place.once fits.1 fits.2 fits.6))
 
-  -- the frame goes on behind its `each`
+  -- the frame goes on after its `each`
   pub each_reaches : (scope : Scope) (layout : Layout) (f : Frame) (own : FrameWord → ℕ) (next : ℕ) (u : CodeTree lens code) (a b : Words) (k : Cost)
       (y : End Locals)
       → HasLocals f y → Holds lens scope layout f own → Shows lens b (arrays_of y) → Chain here k u a (Over (over_of y)) b
@@ -211,7 +211,7 @@ module _ (t : ProgramTree) (code : CodeParts) (facts : Given t code) where
   given_same None f l arrays = refl
   given_same (Some g) f l arrays = refl
 
-  -- the end of a procedure, behind its statements
+  -- the end of a procedure, after its statements
   pub gives : (p : Procedure) (f : Frame) (y : End Locals) (j : Counts) (q : ℕ) (own : FrameWord → ℕ) (a : Words)
       → Place t (scope_of p) (parameter_layout p.parameters) (named_slots p) p.body f → HasBody ps code q p → FitsProcedure ps p → IsModestProcedure p
       → Reached lens code (scope_behind (scope_of p) p.body) (layout_behind (parameter_layout p.parameters) p.body) f (budget t j)
@@ -258,7 +258,7 @@ module _ (t : ProgramTree) (code : CodeParts) (facts : Given t code) where
   module _ (scope : Scope) (layout : Layout) (spare at h : ℕ) (last : Last) (b : Block) (f : Frame) (own : FrameWord → ℕ) (a : Words)
       (arrays : Arrays)
       (held : Holds lens scope layout f own) (shows : Shows lens a arrays) where
-    -- behind the statement, in front of the rest
+    -- after the statement, before the rest
     abbrev pub Made : Statement → Cost → End Locals → Type 0
     Made s k y = Reached lens code (scope ++ lets_of s) (with_lets layout s) f k (Strand (at_work own at)) a (behind s at) y
 

@@ -169,14 +169,14 @@ hidden_in : (layout : Layout) (i x : Named) (block : Block) (q : List ℕ) → I
     → is_member bytes_eq (i.name ∷ x.name ∷ []) q ≡ false → In (caught layout block) q
 hidden_in layout i x block q h other = not_own (bytes_eq q x.name) (bytes_eq q i.name) (is_member bytes_eq (caught layout block) q) h other
 
--- so it is one of the layout
+-- a name of the hidden procedure that is neither its part nor its index is one of the layout
 outside_in : (layout : Layout) (i x : Named) (block : Block) (q : List ℕ) → is_member bytes_eq (i.name ∷ x.name ∷ []) q ≡ false
     → In (hidden_layout layout i x block) q → In layout q
 outside_in layout i x block q other h =
     first_of_both (is_member bytes_eq layout q) (is_member bytes_eq (free_names block) q)
     (sym (caught_member layout block q) ∙ hidden_in layout i x block q h other)
 
--- those behind a statement, but for the name that it declares
+-- those after a statement, but for the name that it declares
 behind_in : (layout : Layout) (s : Statement) (xs : List (List ℕ)) → AllByRecursion (In (with_lets layout s)) xs
     → AllByRecursion (In layout) (without (names.lets_of s) xs)
 behind_in layout (Let x e) xs all =

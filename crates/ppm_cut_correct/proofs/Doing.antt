@@ -1,4 +1,4 @@
--- What the capsules of each construct do, one statement a construct: in front a frame that holds the meaning's frame, behind a chain.
+-- What the capsules of each construct do, one statement a construct: before it a frame that holds the meaning's frame, after it a chain.
 use Rattle.std.proofs.Common.{◌≡◌, ◌≢◌, ◌≤◌, ℕ, zero, suc, ◌+◌, ◌-◌, ◌*◌, ◌/◌, ◌^◌, List, [], ◌∷◌, ◌++◌, Option, Some, None, length}
 use Rattle.std.specs.List.{All, sum, flat_map}
 use Rattle.ppm_strands.specs.Tree.{Words, Strand, Call as Calling, Fork as Forking, Over}

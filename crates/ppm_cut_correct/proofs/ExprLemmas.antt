@@ -66,7 +66,7 @@ goes_same p m = record { ends = refl; left = refl; asks = refl }
 pub goes_equal : (p q : Capsule Where End) (m : Memory Where) → p ≡ q → Goes p m q m
 goes_equal p q m e = subst (λ (q : Capsule Where End). Goes p m q m) e (goes_same p m)
 
--- One instruction: what it does, and the instructions behind it.
+-- One instruction: what it does, and the instructions after it.
 module _ (W at : ℕ) (i : Instr) (is : List Instr) (g : List ℕ) where
   acted : (act : Act) → does W i g ≡ act
       → capsule_from W at 0 (i ∷ is) g ≡ at_act (λ t h. capsule_from W (at + 1) (t - (at + 1)) is h) (at + 1) act g
@@ -578,7 +578,7 @@ module _ (lengths : List ℕ) (scope : Scope) (layout : Layout) (f : Frame) (arr
           )
       by (Err stop) e = goes_equal _ _ m (stops W at get rest h (Trapping stop.0 stop.1) (act ∙ ap (at_index lengths r placed step) e))
 
-  -- behind the left operand of `&&` and `||`: past the right one, or through it
+  -- after the left operand of `&&` and `||`: past the right one, or through it
   module _ (right : Expression) (d here : ℕ) (rest : List Instr) (g h : List ℕ) (x : ℤ) (low : suc d < 64) (is_x : InReg d g x h)
       (runs : Meets W (here + 1 + size_of right) (truth_code d rest) (InReg d h)
       (capsule_from W (here + 1) 0 (expression_code layout right d (here + 1) (truth_code d rest)) h) m (evaluate f arrays right)) where

@@ -62,7 +62,7 @@ module _ (lengths : List ℕ) (code : CodeParts) (scope : Scope) (layout : Layou
     abbrev fork_end : End
     fork_end = ends.Fork (callee_number procedures s) (callee_number procedures u) next (target_of layout s.target) (target_of layout u.target)
 
-    -- behind the arguments
+    -- after the arguments
     abbrev right_offset : ℕ
     right_offset = 11 + frame_words (callee_slots procedures s)
 
@@ -72,7 +72,7 @@ module _ (lengths : List ℕ) (code : CodeParts) (scope : Scope) (layout : Layou
     abbrev behind_arguments : List Instr
     behind_arguments = stores_code 11 0 left_count right_stores
 
-    -- the numbers of the right branch's first argument, and of what is behind all
+    -- the numbers of the right branch's first argument, and of what is after all
     abbrev right_from : ℕ
     right_from = suc (arguments_size lefts s.arguments)
 

@@ -173,7 +173,7 @@ module _ (t : ProgramTree) (code : CodeParts) (facts : Given t code) where
         (each_made t code facts scope layout spare at h last b f own a arrays held shows i x r s place has j y leaves)
         (within_cost (omega arith) (omega arith) (omega arith) (omega (arith, w1, w2, w3)))
 
-    -- what stands behind a statement that has been run
+    -- what stands after a statement that has been run
     pub follows : {b : Block} {f : Frame} {k : Counts} {y z : End Locals} → Follows Whole ps b f y k z → (s : Statement)
         → (scope : Scope) (layout : Layout) (spare at h : ℕ) (last : Last) (u : CodeTree lens code) (a : Words) (j total : Cost)
         → Place t scope layout spare (Then s b) f → HasBlock ps code spare (with_lets layout s) (behind s at) (hidden_behind s h) last b

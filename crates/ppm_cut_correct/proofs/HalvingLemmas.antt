@@ -145,7 +145,7 @@ module _ (lengths : List ℕ) (code : CodeParts) (scope : Scope) (layout : Layou
         (set_count with_length 1 half (set_count (slice_set (slice_set (replicate 64 0) 0 (own (Slot 0))) 1 (length_of (own (Slot 0)))) 2 2
         (set_count (slice_set (replicate 64 0) 0 (own (Slot 0))) 1 (length_of (own (Slot 0))) (set_count (replicate 64 0) 0 (own (Slot 0)) refl)))))))
 
-  -- what stands behind these: the names, and then both frames are stored
+  -- what stands after these: the names, and then both frames are stored
   module _ (h slots count line : ℕ) (half left right total : ℕ) (few : count ≤ 24) where
     abbrev fork_end : End
     fork_end = ends.Fork h h (halved at) None None
@@ -182,7 +182,7 @@ module _ (lengths : List ℕ) (code : CodeParts) (scope : Scope) (layout : Layou
         (omega (arith, few)) in
         goes_on first.1 second.1
 
-    -- all instructions behind the room
+    -- all instructions after the room
     all_goes : quotient_of line (register 1) (value_of (length_of (own (Slot 0)))) (value_of 2) ≡ Sets (register 1) half
         → cut_left_of line (register 2) (own (Slot 0)) half ≡ Sets (register 2) left
         → cut_right_of line (register 3) (own (Slot 0)) half ≡ Sets (register 3) right

@@ -43,7 +43,7 @@ module _ (lengths : List ℕ) where
       → Holds lengths scope layout f own
   no_names scope layout f own h = subst (λ (s : Scope). Holds lengths s layout f own) (append-nil scope) h
 
-  -- behind a statement what was in front of it is held
+  -- what was held before a statement is held after it
   pub holds_before : (s : Statement) (scope : Scope) (layout : Layout) (f : Frame) (own : FrameWord → ℕ)
       → Holds lengths (scope ++ lets_of s) (with_lets layout s) f own → Holds lengths scope layout f own
   holds_before (Let x e) scope layout f own h = holds_front scope (lets_of (Let x e)) layout (x.name ∷ []) f own h
@@ -56,7 +56,7 @@ module _ (lengths : List ℕ) where
   holds_before (Split line r e x y u) scope layout f own h = no_names scope layout f own h
   holds_before (Each i x r u) scope layout f own h = no_names scope layout f own h
 
-  -- behind a split what was in front of it is held
+  -- what was held before a split is held after it
   module _ (scope : Scope) (layout : Layout) (f : Frame) (r x y : Named) (q : Region) (n : ℕ) (l : Locals) (own : FrameWord → ℕ)
       (new_x : declared scope x.name ≡ None) (new_y : declared scope y.name ≡ None) where
     in_parts : (z : List ℕ) (d : Declaration) → declared scope z ≡ Some d → declared (split_scope scope r x y) z ≡ Some (seen_in_split r d)

@@ -40,7 +40,7 @@ filled_length inputs a short =
     let rest = length-replicate (a.words - length front) (pos 0) in
     omega (arith, whole, rest, short)
 
--- so all arrays are as long as they are declared
+-- all arrays of a program are as long as they are declared
 all_lengths : (inputs : List ArrayInput) (arrays : List Array) → ((a : Array) → Contains arrays a → length (input_of inputs a.name.name) ≤ a.words)
     → map (λ a. length a.values) (map (initial_array inputs) arrays) ≡ map (λ a. a.words) arrays
 all_lengths inputs [] h = refl
@@ -80,7 +80,7 @@ all_values inputs (a ∷ arrays) h =
     (All-append IsValue front (replicate (a.words - length front) (pos 0)) (input_values inputs a.name.name h) (zeros (a.words - length front)))
     (all_values inputs arrays h)
 
--- so it is an input for the program's arrays
+-- a program starts with an input for its arrays
 pub starts_with_input : StartWithInput
 starts_with_input t within admitted = record {
   names = all_names t.inputs t.arrays;
@@ -99,7 +99,7 @@ array_below arrays x there =
     let same = ap (λ (r : Region). r.array) w.2 in
     omega (arith, same, w.1)
 
--- so the numbers of the root's arrays are below their count
+-- the numbers of the root's arrays are below their count
 roots_below : (arrays : List Array) (n : ℕ) → n ≡ length arrays → (ps : List Parameter)
     → ((p : Parameter) → Contains ps p → first_named (λ a. a.name.name) arrays p.name.name ≢ None)
     → All (λ a. a < n) (map (λ p. (whole_from 0 arrays p.name.name).array) ps)

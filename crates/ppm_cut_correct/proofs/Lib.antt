@@ -5,7 +5,7 @@
 -- `SplitLemmas`, `ArgumentLemmas` for `CallLemmas` and `ForkLemmas`, `SlotLemmas` for `EntryLemmas`
 -- and `HalvingLemmas`.
 -- `Given` gathers them with what is known of the program, so nothing above it sees an instruction:
--- `Places` (where a block may stand), `ReachLemmas` (stretches one behind the other), `SweepLemmas`
+-- `Places` (where a block may stand), `ReachLemmas` (stretches one after the other), `SweepLemmas`
 -- (the halves of an `each`: the 8 turns of each block pay for them), `Constructs` (what each
 -- statement does, given what its parts do).
 -- Two directions stand on it: `Forward`, by recursion on a run of the meaning, and `Progress`, by

@@ -53,7 +53,7 @@ module _ (t : ProgramTree) where
     pub few : spare ≤ 24
     pub modest : IsModest b
 
-  -- behind a statement: whatever the locals are there
+  -- after a statement: whatever the locals are there
   pub behind_place : (scope : Scope) (layout : Layout) (spare : ℕ) (s : Statement) (b : Block) (f : Frame) (l : Locals)
       → Place scope layout spare (Then s b) f
       → Place (scope ++ lets_of s) (with_lets layout s) spare b (with_locals f l)

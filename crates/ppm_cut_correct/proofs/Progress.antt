@@ -40,7 +40,7 @@ use Rattle.ppm_cut_correct.proofs.Constructs.{fork_begun, fork_made, split_tried
 use Rattle.ppm_cut_correct.proofs.SweepLemmas.{over_of, swept as swept_all}
 use Rattle.ppm_cut_correct.proofs.ReachLemmas.{returned_over, Reached, Returned, reaches_same}
 
--- one stretch of an `each` behind another is a stretch
+-- one stretch of an `each` after another is a stretch
 joined_sweeps : (procedures : List Procedure) {i x : Named} {s : Block} {q : Region} {f : Frame} {n m : ℕ} {c : Arrays} {k : Counts} {z : End Locals}
     → Sweeps Whole procedures i x s q f n m c k z → (n' m' total : ℕ) → n' ≡ n + m → total ≡ m + m' → {k' : Counts} {z' : End Locals}
     → Sweeps Whole procedures i x s q f n' m' (arrays_of z) k' z' → (j : Counts) × (y : End Locals) × Sweeps Whole procedures i x s q f n total c j y
@@ -96,7 +96,7 @@ module _ (t : ProgramTree) (code : CodeParts) (facts : Given t code) where
   less : {n : ℕ} {u : CodeTree lens code} {a : Words} → Long here (suc n) u a → Long here n u a
   less l = (l.0, l.1, l.2, l.3, omega (arith, l.4))
 
-  -- behind what costs nothing known
+  -- after what costs nothing known
   after : {n : ℕ} {k : Cost} {u v : CodeTree lens code} {a b : Words} → 1 ≤ k.least → Chain here k u a v b → Long here n v b → Long here (suc n) u a
   after {n = n} some p l = long_then here n some p l
 
@@ -128,7 +128,7 @@ module _ (t : ProgramTree) (code : CodeParts) (facts : Given t code) where
       abbrev Stands : Statement → Type 0
       Stands s = HasBlock ps code spare layout at h last (Then s b)
 
-      -- what stands behind a statement that has been run
+      -- what stands after a statement that has been run
       rest : (s : Statement) (j : Cost) (y : End Locals) → 1 ≤ j.least → Here s → Stands s
           → Reached lens code (scope ++ lets_of s) (with_lets layout s) f j (Strand (at_work own at)) a (behind s at) y
           → ((k : Counts) × (z : End Locals) × Follows Whole ps b f y k z) ⊎ Far (suc n) own at a
@@ -300,7 +300,7 @@ module _ (t : ProgramTree) (code : CodeParts) (facts : Given t code) where
                 | inr q ↦ inr q
               ]
 
-          -- behind the left branch
+          -- after the left branch
           of_right : (i : Counts) (x : End ℤ) → Enters Whole ps (procedure_named ps m) g arrays i x → Of (tree.Fork s u)
           of_right i x l =
               let over = returned_over lens code x (left_back i x l) in
@@ -394,7 +394,7 @@ module _ (t : ProgramTree) (code : CodeParts) (facts : Given t code) where
                 chain_then here (facts.does.entry scope layout f own' a' c entry entry _ (suc (suc m)) has.0.1 slot
                 (omega (arith, low, inside)) held'.value) forks.4
 
-            -- behind the first half
+            -- after the first half
             of_second : ((c : Arrays) (own'' : FrameWord → ℕ) (a'' : Words)
                 → Holds lens inner hidden (sweep_frame f whole (n' + suc (suc m) / 2) (suc (suc m) - suc (suc m) / 2) i x) own''
                 → Shows lens a'' c → OfSweep (n' + suc (suc m) / 2) (suc (suc m) - suc (suc m) / 2) c own'' a'') → (k : Counts) (z : End Locals)

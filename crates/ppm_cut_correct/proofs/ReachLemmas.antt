@@ -30,14 +30,14 @@ module _ (lengths : List ℕ) (code : CodeParts) where
   pub record Returned (k : Cost) (t : CodeTree lengths code) (a : Words) (z : End ℤ) : Type 0 where
     pub made : Returns lengths code k t a z
 
-  -- a stretch behind a chain
+  -- a stretch after a chain
   pub chain_reaches : {scope : Scope} {layout : Layout} {f : Frame} {j k total : Cost} {t u : CodeTree lengths code} {a b : Words} {next : ℕ}
       (z : End Locals)
       → Chain here j t a u b → Reached scope layout f k u b next z → IsWithinCost (both_costs j k) total → Reached scope layout f total t a next z
   chain_reaches (Ended l arrays) p q w = let m = q.made in record { made = (m.0, m.1, m.2, m.3, chain_weaken here w (chain_then here p m.4)) }
   chain_reaches (Trapped stop arrays) p q w = let m = q.made in record { made = (m.0, m.1, chain_weaken here w (chain_then here p m.2)) }
 
-  -- a capsule that only goes on, behind a stretch that ended; behind a trap it isn't run
+  -- a capsule that only goes on, after a stretch that ended; after a trap it isn't run
   pub reaches_on : {scope : Scope} {layout : Layout} {f : Frame} {k total : Cost} {t : CodeTree lengths code} {a : Words} (at next : ℕ)
       (z : End Locals)
       → ((own : FrameWord → ℕ) (b : Words) → Chain here (cost 1 1 0 0) (Strand (at_work own at)) b (Strand (at_work own next)) b)
@@ -91,7 +91,7 @@ module _ (lengths : List ℕ) (code : CodeParts) where
   both_locals f (Some x) None v w h = record { local = h.local; region = h.region; value = h.value }
   both_locals f (Some x) (Some y) v w h = record { local = h.local; region = h.region; value = h.value }
 
-  -- a caller goes on behind its callee
+  -- a caller goes on after its callee
   pub call_reaches : {scope : Scope} {layout : Layout} {f : Frame} (own : FrameWord → ℕ)
       (x : Option Named) {k : Cost} {t : CodeTree lengths code} {a : Words} (next : ℕ) (y : End ℤ)
       → FitsTarget scope layout x → Holds lengths scope layout f own → Returned k t a y
@@ -117,7 +117,7 @@ module _ (lengths : List ℕ) (code : CodeParts) where
         );
       }
 
-  -- a frame goes on behind both its branches
+  -- a frame goes on after both its branches
   pub fork_reaches : {scope : Scope} {layout : Layout} {f : Frame} (own : FrameWord → ℕ) (x y : Option Named) {j k : Cost}
       (left right : CodeTree lengths code) {a : Words} (next : ℕ)
       (u v : End ℤ) → FitsTarget scope layout x → FitsTarget scope layout y → Holds lengths scope layout f own → Returned j left a u
@@ -173,7 +173,7 @@ module _ (lengths : List ℕ) (code : CodeParts) where
         );
       }
 
-  -- what is held behind a block is held in front of it
+  -- what is held after a block is held before it
   holds_front_of : (b : Block) (scope : Scope) (layout : Layout) (f : Frame) (own : FrameWord → ℕ)
       → Holds lengths (scope_behind scope b) (layout_behind layout b) f own
       → Holds lengths scope layout f own
@@ -201,7 +201,7 @@ module _ (lengths : List ℕ) (code : CodeParts) where
   reaches_same {scope = scope} {layout = layout} {f = f} {k = k} {t = t} {a = a} {next = next} z q =
       subst (λ (s : Scope). Reached s layout f k t a next z) (sym (append-nil scope)) q
 
-  -- behind a split
+  -- after a split
   pub reaches_whole : {scope : Scope} {layout : Layout} {f : Frame} (r x y : Named)
       (n : ℕ) {k : Cost} {t : CodeTree lengths code} {a : Words} {next : ℕ} (z : End Locals)
       → declared scope x.name ≡ None → declared scope y.name ≡ None
@@ -212,7 +212,7 @@ module _ (lengths : List ℕ) (code : CodeParts) where
   }
   reaches_whole r x y n (Trapped stop arrays) new_x new_y q = let m = q.made in record { made = (m.0, m.1, m.2) }
 
-  -- behind a statement the regions in force are those in front of it, so they lie in their arrays
+  -- after a statement the regions in force are those before it, so they lie in their arrays
   lies_behind : (s : Statement) (scope : Scope) (f : Frame) → Lies lengths scope f → Lies lengths (scope ++ lets_of s) f
   lies_behind s scope f h = record {
     within = λ x d found region shown.

@@ -53,7 +53,7 @@ shape_begins [] k = refl
 shape_begins (a ∷ input) zero = refl
 shape_begins (a ∷ input) (suc k) = shape_begins input k
 
--- the words of the first array, and of those behind it
+-- the words of the first array, and of those after it
 first_word : (a : NamedArray) (input : List NamedArray) (i : ℕ) → i < length a.values
     → words_of (words_in (a ∷ input)) (0 + i) ≡ word_of (get_or a.values i (pos 0))
 first_word a input i low =
@@ -102,7 +102,7 @@ count_words (a ∷ input) =
 words_counted : (t : ProgramTree) (input : List NamedArray) → IsInputOf t input → length (words_in input) ≡ sum (lengths_of t.arrays)
 words_counted t input is = count_words input ∙ ap sum is.lengths
 
--- so the code's strands over the input are those over arrays of these lengths
+-- the code's strands over the input are those over arrays of these lengths
 pub strands_are : (t : ProgramTree) (input : List NamedArray) → IsInputOf t input
     → strands_of (code_of t) input ≡ strands (lengths_of t.arrays) (code_of t)
 strands_are t input is = rw (words_counted t input is) refl

@@ -70,7 +70,7 @@ module _ (t : ProgramTree) (within : IsWithin t) (admitted : IsAdmitted t) (boun
       (spends.more there.0 (n + there.0) said (omega arith) (is_said input e.words e.outcome) there.1)
       (spends.more n (n + there.0) o (omega arith) some runs)
 
--- so it is with each program that the compiler takes
+-- what the code of each program that the compiler takes comes to is the program's serial outcome
 pub serially_everywhere : EndsSerially
 serially_everywhere t within admitted bounds = record {
   serially = serially t within admitted bounds;

@@ -127,7 +127,7 @@ module _ (lengths : List ℕ) (scope : Scope) (layout : Layout) (f : Frame) (i x
         → own (Slot (suc (suc (slot_of names y)))) ≡ region_word lengths (f.regions y)
 
   module _ (q : Region) where
-    -- so a frame holds the hidden procedure's, with any part of the region in hand
+    -- a frame holds the hidden procedure's, with any part of the region in hand
     pub sweep_holds : (own : FrameWord → ℕ) (n m : ℕ) → Catches own → own (Slot 0) ≡ region_word lengths (stretch n m q)
         → HoldsValue (own (Slot 1)) (pos n) → own Value ≡ 0 → Holds lengths inner hidden (sweep_frame f q n m i x) own
     sweep_holds own n m catches at_part at_index at_value = record {

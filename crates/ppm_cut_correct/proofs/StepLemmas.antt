@@ -70,7 +70,7 @@ module _ (lengths : List ℕ) (code : CodeParts) where
       (shared_of (m v))
   Tried w at e m own a (Err stop) = Chain (strands lengths code) (cost 1 1 0 w) (Strand (at_work own at)) a (Over (TrappedAt stop.0 stop.1)) a
 
-  -- p is the capsule behind an ask for w words, if there is one in front
+  -- p is the capsule after an ask for w words, if there is one in front
   pub tried : {A : Type 0} (at : ℕ) (is : List Instr) → instrs_of code at ≡ is → (own : FrameWord → ℕ) (a : Words) (p : Capsule Where End) (w : ℕ)
       → ending code_locations (capsule_of (sum lengths) is) (start_at own at a) ≡ ending code_locations p (start_at own at a)
       → leaves code_locations (capsule_of (sum lengths) is) (start_at own at a) ≡ leaves code_locations p (start_at own at a)

@@ -1,4 +1,4 @@
--- Frames with a word stored in a slot, and with new names behind those of a layout.
+-- Frames with a word stored in a slot, and with new names after those of a layout.
 use Rattle.std.proofs.Common.{◌≡◌, ◌≢◌, ◌≤◌, ◌<◌, ℕ, suc, ◌+◌, ◌==◌, ℤ, cond, Bool, true, false, List, [], ◌∷◌, ◌++◌}
 use Rattle.std.proofs.Common.{Some, None, length, refl, sym, ap, ◌∙◌, subst, subst₂, arith, inl, inr}
 use Rattle.std.proofs.lemmas.Bool.{cond-false, cond-true, eq-eqb, ne_eqb}
@@ -25,7 +25,7 @@ pub other_slot : (own : FrameWord → ℕ) (i w j : ℕ) → (j ≡ i → ⊥) �
 other_slot own i w j other = cond-false (j == i) w (own (Slot j)) (ne_eqb j i other)
 
 module _ (x : List ℕ) where
-  -- the slot of a new name, and of those behind it
+  -- the slot of a new name, and of those after it
   pub slot_behind : (layout more : Layout) → IsNew layout x → slot_of (layout ++ more) x ≡ length layout + slot_of more x
   slot_behind [] more new = omega arith
   slot_behind (y ∷ layout) more new = go (bytes_eq y x) new (slot_behind layout more)
@@ -36,7 +36,7 @@ module _ (x : List ℕ) where
       go true new on = absurd (omega (arith, new))
       go false new on = let rest = on (omega (arith, new)) in omega (arith, rest)
 
-  -- a name that isn't among those behind has its slot in front
+  -- a name that isn't among those that follow has its slot in front
   pub has_before : (layout more : Layout) → IsNew more x → Has (layout ++ more) x → Has layout x
   has_before [] more new h = omega (arith, new, h)
   has_before (y ∷ layout) more new h = go (bytes_eq y x) h (has_before layout more new)
@@ -46,7 +46,7 @@ module _ (x : List ℕ) where
       go true h on = omega arith
       go false h on = let rest = on (omega (arith, h)) in omega (arith, rest)
 
--- the first name of those behind, and another one
+-- the first name of those that follow, and another one
 pub first_slot : (x : List ℕ) (more : Layout) → slot_of (x ∷ more) x ≡ 0
 first_slot x more = ap (λ (b : Bool). cond b 0 (suc (slot_of more x))) (names_same x x refl)
 
@@ -58,7 +58,7 @@ pub apart_from : (scope : Scope) (x y : List ℕ) (d : Declaration) → declared
 apart_from scope x y d none found e = none_and_some (ap (declared scope) (sym e) ∙ none) found
 
 module _ (lengths : List ℕ) (scope : Scope) (layout : Layout) (f : Frame) (own : FrameWord → ℕ) (h : Holds lengths scope layout f own) where
-  -- with a word behind the slots of the names
+  -- with a word after the slots of the names
   pub holds_behind : (i w : ℕ) → length layout ≤ i → Holds lengths scope layout f (with_value (Some i) w own)
   holds_behind i w far = record {
     local = λ x d found kind has. subst (λ (w : ℕ). HoldsValue w (f.locals x))
@@ -67,7 +67,7 @@ module _ (lengths : List ℕ) (scope : Scope) (layout : Layout) (f : Frame) (own
     value = h.value;
   }
 
-  -- with a new local, which has the first slot behind
+  -- with a new local, which has the first slot after the layout
   module _ (x : Named) (v : ℤ) (w : ℕ) (new : IsNew layout x.name) (none : declared scope x.name ≡ None) (is : HoldsValue w v) where
     abbrev more : Scope
     more = plain mode.Int x ∷ []

@@ -98,7 +98,7 @@ module _ (t : ProgramTree) (code : CodeParts) (given : Given t code)
         → Leaves (suc n) m (arrays_of y) k z
         → Leaves n (suc m) arrays (both (spent 8) (both j k)) (first_trap y z)
 
-  -- behind all of them the locals are as they were
+  -- after all of them the locals are as they were
   pub leaves_locals : {n m : ℕ} {arrays : Arrays} {k : Counts} {z : End Locals} → Leaves n m arrays k z → HasLocals f z
   leaves_locals (NoLeaf n arrays) = refl
   leaves_locals (Leaf n m arrays j y {z = z} d rest) = first y z (leaves_locals rest)
@@ -159,7 +159,7 @@ module _ (t : ProgramTree) (code : CodeParts) (given : Given t code)
         words = omega (arith, s.words, w1, w2, v1, v2);
       }
 
-  -- The hidden procedure is over behind so many elements: after less than two capsules a turn, a fork less than it has elements, and the
+  -- The hidden procedure is over after so many elements: after less than two capsules a turn, a fork less than it has elements, and the
   -- words of these forks.
   pub record Sweeps (m : ℕ) (k : Counts) (own : FrameWord → ℕ) (a : Words) (z : End Locals) : Type 0 where
     pub most : ℕ

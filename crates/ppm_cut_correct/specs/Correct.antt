@@ -63,13 +63,13 @@ pub record EndsAsMeant (t : ProgramTree) (input : List NamedArray) : Type 0 wher
   pub goes_on : (n : ℕ) → ((k : Counts) × (z : End ℤ) × Means Whole t (values_of input) k z)
       ⊎ ((i : CapsuleCounts) × (u : Tree (CapsuleFrame FrameWord Point) Result) × (b : Words) × BeginsWith (code_of t) input i u b × (n ≤ i.capsules))
 
--- so it is with each program that the compiler takes, and each input for its arrays
+-- the code of each program that the compiler takes ends as the program means, from each input for its arrays
 abbrev pub EndAsMeant : Type 0
 EndAsMeant = (t : ProgramTree) → IsWithin t → IsAdmitted t → IsWithinBounds t → (input : List NamedArray) → IsInputOf t input → EndsAsMeant t input
 
 -- From the arrays that its text gives, what the program's code comes to depth first is the program's serial outcome within some number of turns.
 -- Arrays within n turns are what the code comes to, in two capsules a turn at most; and where the program has an outcome within n turns, the code
--- comes to no other. Behind a trap the branches beside it still run in the code, and may run for ever.
+-- comes to no other. After a trap the branches beside it still run in the code, and may run for ever.
 pub record HasSerialEnd (t : ProgramTree) : Type 0 where
   pub serially : (e : CapsuleEnd Result) → ComesTo (code_of t) (initial_arrays t) e
       → (n : ℕ) × Serial t n (said_of (initial_arrays t) e.words e.outcome)
@@ -79,6 +79,6 @@ pub record HasSerialEnd (t : ProgramTree) : Type 0 where
   pub no_other : (n : ℕ) (o : Outcome) → Serial t n o → o ≢ outcome.NotWithin
       → (e : CapsuleEnd Result) → ComesTo (code_of t) (initial_arrays t) e → said_of (initial_arrays t) e.words e.outcome ≡ o
 
--- so it is with each program that the compiler takes
+-- what the code of each program that the compiler takes comes to is the program's serial outcome
 abbrev pub EndsSerially : Type 0
 EndsSerially = (t : ProgramTree) → IsWithin t → IsAdmitted t → IsWithinBounds t → HasSerialEnd t

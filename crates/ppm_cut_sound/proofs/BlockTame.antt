@@ -44,7 +44,7 @@ use Rattle.ppm_cut_sound.proofs.LevelLemmas.{behind_at, Runs, Begins, Moves, Put
 abbrev pub zeros : List ℕ
 zeros = replicate 64 0
 
--- the same declarations in a block inside, and around it
+-- a level inside, with the declarations of the one around it, is under that one
 pub under_same : (scope : Scope) (layout : Layout) (v w : Level) → v.layout ≡ layout → w.layout ≡ layout → v.scope ≡ scope → w.scope ≡ scope ++ []
     → IsUnder w v
 under_same scope layout v w p q r s = record {
@@ -112,7 +112,7 @@ module _ (t : ProgramTree) (code : CodeParts) (rules : KeepsRules t) (admitted :
         (next_tame m' (0 + size_of e + 1) g (back (tree.Let x e)) (step_back (tree.Let x e) (own_of m')
         (stored m v (length layout) (held g (register 0)) (off_behind v (length layout) (omega arith)) a))))
 
-    -- the spare slots are behind all names
+    -- the spare slots are after all names
     spare_off : (s : Statement) (k : ℕ) → IsAt t code l (own_of m) (front s) → spare ≤ k → IsOff (front s) k
     spare_off s k a low = let r = a.stays.room in off_behind (front s) k (omega (arith, r, low))
 

@@ -66,7 +66,7 @@ new_other m j k v other = go (j == k) refl
 pub new_here : (m : Memory Where) (j k v : ℕ) → j ≡ k → store code_locations m (NewWord k) v (NewWord j) ≡ v
 new_here m j k v e = ap (λ (b : Bool). cond b v (m (NewWord j))) (eq-eqb j k e)
 
--- the same words of its own leave a frame where it is
+-- a frame whose own words are as they were stays where it is
 pub same_words : (v : Level) (m new : Memory Where) → ((s : FrameWord) → new (Own s) ≡ m (Own s)) → IsSame v (own_of m) (own_of new)
 same_words v m new h = record { same = λ x d f r has. h (Slot (slot_of v.layout x)) }
 

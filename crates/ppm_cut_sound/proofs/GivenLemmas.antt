@@ -95,7 +95,7 @@ module _ (f : Frame) where
     IsLent (p ∷ ps) [] d = Unit {0}
     IsLent (p ∷ ps) (a ∷ args) d = (is_region p.mode ≡ true → held h (register d) ≡ word (lent f a.value)) × IsLent ps args (suc d)
 
-    -- so each region of the callee is in the register of its parameter
+    -- each region of the callee is in the register of its parameter
     pub given_held : (ps : List Parameter) (args : List Argument) (g : Frame) (d : ℕ) → IsDistinctLayout (parameter_layout ps)
         → length ps ≡ length args → IsLent ps args d → (x : List ℕ) (e : Declaration) → declared (map of_parameter ps) x ≡ Some e
         → is_region e.mode ≡ true

@@ -1,4 +1,4 @@
--- How a frame that stands at a block goes on: behind its first statement, in its blocks, and in those of an `each`.
+-- How a frame that stands at a block goes on: after its first statement, in its blocks, and in those of an `each`.
 use Rattle.std.proofs.Common.{◌≡◌, ◌<◌, ℕ, suc, ◌+◌, cond, Bool, true, false, List, [], ◌∷◌, ◌++◌}
 use Rattle.std.proofs.Common.{None, length, inl, inr, ◌⊎◌, refl, ap, ◌∙◌, subst, arith}
 use Rattle.std.specs.Str.{bytes_eq}
@@ -34,7 +34,7 @@ use Rattle.ppm_cut_code.proofs.RegionWords.{lengths_of, region_word}
 use Rattle.ppm_cut_sound.proofs.OwnLemmas.{Label}
 use Rattle.ppm_cut_sound.proofs.StandLemmas.{Level, level, IsUnder, same_itself, AreOff, LastFits, Stays, IsOver, leads_on, IsAt}
 
--- a name of a longer layout is one of the front, or one behind
+-- a name of a longer layout is one of the front, or one after it
 pub has_cases : (x : List ℕ) (layout more : Layout) → Has (layout ++ more) x
     → Has layout x ⊎ (Has more x × (slot_of (layout ++ more) x ≡ length layout + slot_of more x))
 has_cases x [] more h = inr (h, omega arith)

@@ -3,7 +3,7 @@
 -- each frame in it has one. Good trees are calm, by one induction on runs (`LabelLemmas` of
 -- `ppm_strands`, over any frames).
 -- A frame stands at a level (`StandLemmas`, `LevelLemmas`): at a block, with its slots holding the
--- regions in force, whatever its locals are, and leading to a level behind the block.
+-- regions in force, whatever its locals are, and leading to a level after the block.
 -- A capsule is tame (`TameLemmas`) where it reads what its label owns, writes what that may write,
 -- and opens a good tree: `TameExpressions`, then a file for each kind of statement, joined in
 -- `CodeTame`, with the root in `RootTame`.

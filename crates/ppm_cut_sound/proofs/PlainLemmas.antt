@@ -64,7 +64,7 @@ module _ (code : CodeParts) where
   AreFine [] = Unit {0}
   AreFine (i ∷ is) = IsFine i is × AreFine is
 
-  -- what is behind a store
+  -- what is after a store
   record IsStored (is : List Instr) (at word : ℕ) : Type 0 where
     pub follow : (k : ℕ) (i : Instr) → at < k → slice_get is k ≡ Some i → MayFollow code i word
     pub builder : (i : Instr) × Contains is i × IsBuilder code i word

@@ -44,7 +44,7 @@ use Rattle.ppm_cut_sound.proofs.StandLemmas.{store_other, store_here, seen_of, I
 use Rattle.ppm_cut_sound.proofs.LevelLemmas.{behind_at, has_cases, has_one, has_none}
 use Rattle.ppm_cut_sound.proofs.BlockTame.{world, zeros, zeros_kept, value_tame, next_tame, under_same}
 
--- a region that is seen through a change of declarations, and behind none of more declarations, is seen without it
+-- a region that is seen through a change of declarations, and after none of more declarations, is seen without it
 pub seen_back : (g : Declaration → Declaration) → ((d : Declaration) → (g d).name.name ≡ d.name.name) → ((d : Declaration) → (g d).mode ≡ d.mode)
     → ((d : Declaration) → (g d).hidden ≡ false → d.hidden ≡ false) → (scope more : Scope) (z : List ℕ)
     → ((e : Declaration) → declared more z ≡ Some e → is_region e.mode ≡ true → ⊥) → IsSeen (map g scope ++ more) z → IsSeen scope z

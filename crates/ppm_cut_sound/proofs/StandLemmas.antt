@@ -1,4 +1,4 @@
--- Where a frame of the code may stand: at a block of a procedure, in which the slots hold the regions that are in force, and behind which it
+-- Where a frame of the code may stand: at a block of a procedure, in which the slots hold the regions that are in force, and after which it
 -- goes on in blocks around.
 use Rattle.std.proofs.Common.{◌≡◌, ◌≢◌, ◌≤◌, ◌<◌, ℕ, suc, ◌+◌, ◌==◌, cond, Bool, true, false, List, [], ◌∷◌}
 use Rattle.std.proofs.Common.{Option, Some, None, length, refl, sym, ap, ◌∙◌, subst, arith}
@@ -130,7 +130,7 @@ same_value v own (Some slot) n off = record { same = λ x d f r h. go (slot_of v
         at true e = absurd (other (eqb-true j slot e))
         at false e = refl
 
--- slots behind all names
+-- slots after all names
 pub off_behind : (v : Level) (k : ℕ) → length v.layout ≤ k → IsOff v k
 off_behind v k h = record { off = λ x d f r has e. omega (arith, h, has, e) }
 
@@ -188,7 +188,7 @@ module _ (t : ProgramTree) (code : CodeParts) where
   pub holds_on : (v : Level) (own new : FrameWord → ℕ) → IsSame v own new → Holds v own → Holds v new
   holds_on v own new s h = record { holds = λ x seen has. s.same x seen.declaration seen.found seen.region has ∙ h.holds x seen has }
 
-  -- behind the block the frame goes on in a level around, or is over
+  -- after the block the frame goes on in a level around, or is over
   pub data Leads (l : Label) (own : FrameWord → ℕ) : Level → Type 0 where
     IsOver : (v : Level) (g : Option tree.Give) → v.last ≡ Gives g → Leads l own v
     GoesOn : (v w : Level) → v.last ≡ OnTo w.at → IsUnder w v → Stays l w → Holds w own → Leads l own w → Leads l own v

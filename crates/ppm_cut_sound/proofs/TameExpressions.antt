@@ -26,7 +26,7 @@ use Rattle.ppm_cut_sound.proofs.TameLemmas.{go_work, go_load, go_get, go_zero, g
 
 -- instructions that are passed over
 module _ (words : ℕ) (g : List ℕ) where
-  -- the same place by other numbers
+  -- a place stays the same by other numbers
   shift : (is : List Instr) (here there k n : ℕ) → k ≡ n → there ≡ here → capsule_from words here k is g ≡ capsule_from words there n is g
   shift is here there k n e f = ap (λ (j : ℕ). capsule_from words here j is g) e ∙ ap (λ (j : ℕ). capsule_from words j n is g) (sym f)
 
@@ -118,7 +118,7 @@ module _ (words : ℕ) (g : List ℕ) where
 
 -- an operator, once its operands are there
 module _ (world : World) (m : Memory Where) where
-  -- the same place by another number
+  -- a place stays the same by another number
   pub moved : (is : List Instr) (g : List ℕ) (here there : ℕ) → there ≡ here → Goes world there is g m → Goes world here is g m
   moved is g here there e h = subst (λ (n : ℕ). Goes world n is g m) e h
 
@@ -219,7 +219,7 @@ module _ (world : World) (scope : Scope) (layout : Layout) (m : Memory Where)
         (tames_right (suc d) from u w last h h (omega (arith, at_is, none)) refl (keeps_itself (suc d) h k.file) (λ h' k'.
         operator_tame world m line d w there is f h' (keeps_on d (suc d) f h h' (omega arith) k k') go o (omega (arith, e, none))))))
 
-    -- behind the right operand, from where it was to begin
+    -- after the right operand, from where it was to begin
     past_right : (o : Operator) (r from target u : ℕ) (h : List ℕ) → last_size o ≡ 2 → target ≡ u + 1 + size_of right
         → there ≡ u + 1 + size_of right + 2 → Keeps d f h
         → Then world u (max target (u + 1)) (expression_code layout right r from (operator_code o line d is)) h m

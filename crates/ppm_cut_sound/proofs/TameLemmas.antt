@@ -157,7 +157,7 @@ module _ (world : World) where
   abbrev pub Goes : (here : ℕ) → List Instr → List ℕ → Memory Where → Type 0
   Goes here is g m = Tame (capsule_from world.words here 0 is g) m
 
-  -- how it goes on behind an instruction
+  -- how it goes on after an instruction
   abbrev pub Then : (here next : ℕ) → List Instr → List ℕ → Memory Where → Type 0
   Then here next is g m = Tame (capsule_from world.words (here + 1) (next - (here + 1)) is g) m
 

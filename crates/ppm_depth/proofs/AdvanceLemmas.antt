@@ -37,7 +37,7 @@ use Rattle.ppm_depth.proofs.FollowLemmas.{followed, followed_at, forks_opened, a
 use Rattle.ppm_depth.proofs.StackLemmas.{laid_still, lifted}
 use Rattle.ppm_depth.proofs.TurnLemmas.{zeros}
 
--- a step and nothing behind it
+-- a step and nothing after it
 pub one_step : (c : Code Own Result) (f : Own) (a : Words) → StepsInOrder c (of_capsule c f a) (Strand f) a (c.next f a) (c.after f a)
 one_step c f a = subst (λ (k : Counts). StepsInOrder c k (Strand f) a (c.next f a) (c.after f a))
     (plus_comm (of_capsule c f a) none ∙ plus_none (of_capsule c f a)) (before c (Capsule f a) tt (Done (c.next f a) (c.after f a), tt))

@@ -124,7 +124,7 @@ module _ (code : CodeParts) (input : List NamedArray) where
         );
       }
 
--- likewise, where stack, frames that wait and root are those
+-- the strand begins with the root, where stack, frames that wait and root are those
 pub begins_shown : (code : CodeParts) (input : List NamedArray) → IsCode code → (blocks : List ℕ) (waiting : List Waiting) (root : Frame)
     → blocks ≡ root_frame code input → waiting ≡ [] → root ≡ entry_at code code.root 0 → IsShown code blocks waiting (At root) (root_strand code input)
 begins_shown code input is_code blocks waiting root frame none entry = rw (frame, none, entry) (root_shown code input is_code)

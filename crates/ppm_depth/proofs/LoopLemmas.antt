@@ -36,7 +36,7 @@ module _ (code : CodeParts) where
       → StepsInOrder (strands_over code array_words) (counts_of k) t a t a
   no_steps array_words k t a e = subst (λ (j : Counts). StepsInOrder (strands_over code array_words) j t a t a) (sym e) (Done t a, tt)
 
-  -- steps behind steps
+  -- steps after steps
   pub more_steps : (array_words after_words : ℕ) (j k : Counted) (m : Counts) (t u v : Strands) (a b d : Words) → after_words ≡ array_words
       → counts_of k ≡ plus (counts_of j) m → StepsInOrder (strands_over code array_words) (counts_of j) t a u b
       → StepsInOrder (strands_over code after_words) m u b v d → StepsInOrder (strands_over code array_words) (counts_of k) t a v d

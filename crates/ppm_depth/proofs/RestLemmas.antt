@@ -159,7 +159,7 @@ module _ (slots size : ℕ) (p : Place) where
       shows = left.shows;
     }
 
-    -- likewise, where stack, words, registers and count are those after it
+    -- a step is made, where stack, words, registers and count are those after it
     pub stepped : (s : Step) (go : ℕ → List ℕ → Capsule Where End) (next so_far count : ℕ) (blocks words g blocks' words' g' : List ℕ)
         → IsLaid blocks → IsStepWithin (length words) s → count ≡ asked_by s → blocks' ≡ blocks_after p s blocks
         → words' ≡ words_after s words → g' ≡ registers_after p s blocks words g

@@ -88,7 +88,7 @@ module _ (code : CodeParts) where
   laid_higher blocks Root begin end top more le h = tt
   laid_higher blocks (On w v s) begin end top more le h = (h.0, h.1, one_higher blocks end top more w.frame w.on v le h.2, h.3)
 
--- what is listed with one more behind it is that one and what stands before it
+-- what is listed with one more after it is that one and what stands before it
 abbrev pub Innermost : List Waiting → Waiting → Above → Type 0
 Innermost ws w Root = ⊥
 Innermost ws w (On x v s) = (x ≡ w) × (listed s ≡ ws)

@@ -22,7 +22,7 @@ use Rattle.ppm_depth.specs.declared.frame.Waiting.{Waiting}
 abbrev pub entry_at : CodeParts → (procedure base : ℕ) → Frame
 entry_at code procedure base = record { base = base; capsule = entry_of code procedure }
 
--- the same frame at another capsule
+-- a frame, moved to another capsule
 abbrev pub moved : Frame → ℕ → Frame
 moved frame capsule = record { base = frame.base; capsule = capsule }
 

@@ -64,7 +64,7 @@ module _ (code : CodeParts) (input : List NamedArray) where
     pub outcome : r.outcome ≡ said_of input end.words end.outcome
     pub counts : HasCounts end.counts r
 
-  -- it takes more capsules than that: no end has fewer, and the counts are those of the first so many, behind which a capsule is next
+  -- it takes more capsules than that: no end has fewer, and the counts are those of the first so many, after which a capsule is next
   pub record IsNotWithin (limit : ℕ) (r : DepthRun) : Type 0 where
     pub outcome : r.outcome ≡ NotWithin
     pub more : (end : End Result) → ComesTo end → limit < end.counts.capsules

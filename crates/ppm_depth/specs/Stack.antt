@@ -57,7 +57,7 @@ tree_at Root t = t
 tree_at (On w v s) t = tree_at s (waits_for v t)
 
 module _ (code : CodeParts) where
-  -- the word behind a frame
+  -- the word after a frame
   abbrev pub end_of : Frame → ℕ
   end_of frame = frame.base + size_at code frame.capsule
 
@@ -106,7 +106,7 @@ module _ (code : CodeParts) where
     pub tree : t ≡ tree_at above leaf
     pub at : IsNow blocks current above leaf
 
-  -- likewise, with these frames above this leaf
+  -- stack, frames that wait and what is done now show these frames above this leaf
   pub record IsShownAt (blocks : List ℕ) (waiting : List Waiting) (current : Now) (s : Above) (leaf : Strands) : Type 0 where
     pub waits : listed s ≡ waiting
     pub at : IsNow blocks current s leaf

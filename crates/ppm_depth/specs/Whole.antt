@@ -25,7 +25,7 @@ module _ (code : CodeParts) where
   abbrev pub block_at : ℕ → ℕ
   block_at number = kept_of (room_of (instrs_of code number))
 
-  -- the stack has its frame, and behind that its new block as the last
+  -- the stack has its frame, and after that its new block as the last
   pub record IsPlace (number : ℕ) (p : Place) (blocks : List ℕ) : Type 0 where
     pub frame : p.frame + size_at code number ≤ p.block
     pub block : p.block + block_at number ≡ length blocks

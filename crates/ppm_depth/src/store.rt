@@ -13,7 +13,7 @@ pub struct Place {
     pub block: usize,
 }
 
-/// The blocks in use, one behind the other, and the words of the arrays.
+/// The blocks in use, one after the other, and the words of the arrays.
 #[derive(Drop)]
 pub struct Store {
     pub blocks: Vec<u64>,

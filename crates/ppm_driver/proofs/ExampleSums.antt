@@ -102,7 +102,7 @@ module _ (laws : Laws) (o : SelfOptions) (are : AreSelf o) (before now : ToldLis
       let few : 14 * o.size ≤ 2 ^ 40 = let most = is_size.last in omega (arith, most) in
       h.2 ∙ sums.forks (2 ^ 40) few h.0 h.1
 
-  -- so are the sums
+  -- the sums that are told are those of the example
   sums_are : (s : Sums) (u : SumsUp o before now tree s) → s ≡ sums_drawn o
   sums_are s u = λ i. record { size = u.size i; forks = forks_are s.forks u.forks i; sum = sum_is i; last = last_one i }
     where

@@ -11,7 +11,7 @@ use Rattle.ppm_step.specs.declared.frame.Put.{Put}
 use Rattle.ppm_step.specs.declared.frame.Home.{Home}
 use Rattle.ppm_ends.specs.Ends.{IsSplit}
 
--- the same store at the same address, and then the same stores
+-- stores are equal where the first ones have one address and content, and the others are equal
 next : {x y : ℕ} {c : Content} {ps qs : List Put} → x ≡ y → ps ≡ qs → put (BlockWord x) c ∷ ps ≡ put (BlockWord y) c ∷ qs
 next {c = c} p q = λ i. put (BlockWord (p i)) c ∷ q i
 

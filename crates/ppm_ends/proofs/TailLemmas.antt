@@ -211,7 +211,7 @@ module _ (code : CodeParts) (home : Home) where
   pub own_same : (ps : List (ℕ × Content)) (m : Memory Where) → own_of (after_stores code_locations (located ps) m) ≡ own_of m
   own_same ps m = fun_ext (λ w. own_passes w ps m)
 
-  -- so the tree that an end opens is the same
+  -- after the stores an end opens the tree that it opened before them
   pub opened_same : (array_words : ℕ) (point : Point) (e : End) (m : Memory Where)
       → opened code_locations (table_of code array_words) point e (after_stores code_locations (located (block_stores code home e)) m)
       ≡ opened code_locations (table_of code array_words) point e m

@@ -1,4 +1,4 @@
--- From a frame that has no words behind its slots, and a tidy code, the premises of the law on
+-- From a frame that has no words after its slots, and a tidy code, the premises of the law on
 -- ends.
 use Rattle.std.proofs.Common.{◌≡◌, ◌≤◌, ◌<◌, ℕ, ◌+◌, Bool, true, false, List, inl, inr, refl, arith}
 use Rattle.std.specs.Prelude.{nat_lt, if◌then◌else◌}
@@ -36,7 +36,7 @@ blank_by code (Fork l r k left_to right_to) new h = (
   h (right_at code l + 5) (λ b. elim b [ inl c ↦ (let to = c.1 in omega (arith, to)) | inr c ↦ (let from = c.0 in omega (arith, from)) ]),
 )
 
--- own words on slots, and 0 behind them
+-- own words on slots, and 0 after them
 own_by : (s : Shape) (words : List ℕ) (slots frame : ℕ) (own : FrameWord → ℕ)
     → ((i : ℕ) → i < slots → own (Slot i) ≡ read s words (BlockWord (frame + slot_at i)))
     → own Value ≡ read s words (BlockWord (frame + 4)) → ((i : ℕ) → slots ≤ i → own (Slot i) ≡ 0)

@@ -1,4 +1,4 @@
--- Strands whose capsules have the stores of their ends behind them, each with a home of its own.
+-- Strands whose capsules have the stores of their ends after them, each with a home of its own.
 use Rattle.std.specs.Prelude.{◌≡◌, ℕ}
 use Rattle.ppm_strands.specs.Tree.{Tree}
 use Rattle.ppm_strands.specs.Beside.{AreBeside}

@@ -88,7 +88,7 @@ located (p ∷ ps) = (New p.0, word_of p.1) ∷ located ps
 abbrev pub tails_of : CodeParts → (Point → Home) → Point → End → List (Where × ℕ)
 tails_of code homes point e = located (block_stores code (homes point) e)
 
--- so it is of each end
+-- the stores of each end are those into the block, and then that into the frame's own words
 abbrev pub EndsSplit : Type 0
 EndsSplit = (code : CodeParts) (home : Home) (e : End) → IsSplit code home e
 

@@ -47,11 +47,11 @@ sample_memory s (Own w) = own_at s sample_words 4 0 w
 sample_memory s (New o) = slice_index sample_words (10 + o)
 sample_memory s (Shared x) = 0
 
--- the words behind the end's stores
+-- the words after the end's stores
 abbrev pub sample_after : Shape → List ℕ
 sample_after s = after_puts s (puts sample sample_home sample_fork) sample_words
 
--- The tree is shown. The word behind the left frame's slots was 7, and is then the right frame's
+-- The tree is shown. The word after the left frame's slots was 7, and is then the right frame's
 -- link; both trees have 0 there.
 pub record IsForkShown (s : Shape) : Type 0 where
   pub tree : opened code_locations (table_of sample 0) (at_capsule 0) sample_fork (sample_memory s)

@@ -43,7 +43,7 @@ module _ (code : CodeParts) (array_words : ℕ) (f : Frame FrameWord Point) (a :
   memory_of = leaves code_locations (capsule_of array_words (instrs_of code f.point.capsule)) (start code_locations (table_of code array_words) f a)
 
 -- Where the words hold what the whole capsule of a frame leaves, the stores of its end make them
--- show the tree that comes next, all of whose frames have no words behind their slots again.
+-- show the tree that comes next, all of whose frames have no words after their slots again.
 abbrev pub CapsulesShow : Type 0
 CapsulesShow = (s : Shape) (code : CodeParts) (array_words : ℕ) (home : Home) (f : Frame FrameWord Point) (a : Words) (words : List ℕ)
     → IsCode code → IsTidy code → f.point.capsule < length code.capsules → IsTrim code f

@@ -5,19 +5,19 @@ ghost use Rattle.ppm_ends.specs.Sample.{ForkIsShown};
 ghost use Rattle.ppm_ends.specs.Shown.{EndsShow};
 ghost use Rattle.ppm_ends.specs.Whole.{CapsulesShow};
 
-/// The stores of an end are those into its new block, and behind them one into the frame's own
+/// The stores of an end are those into its new block, and after them one into the frame's own
 /// header or outcome, if any.
 pub fn ends_split()
     ensures law { EndsSplit }
 {}
 
-/// Those into the new block are unseen: with them behind its capsules the table of a code is the
+/// Those into the new block are unseen: with them after its capsules the table of a code is the
 /// same code.
 pub fn stores_are_unseen()
     ensures law { StoresAreUnseen }
 {}
 
-/// A capsule that may be begun again may be with these stores behind it.
+/// A capsule that may be begun again may be with these stores after it.
 pub fn long_capsules_may_begin_again()
     ensures law { MayBeginAgainWithStores }
 {}
@@ -34,7 +34,7 @@ pub fn ends_show()
     ensures law { EndsShow }
 {}
 
-/// From a frame with 0 behind its slots, by a whole capsule of a tidy code, the words come to show
+/// From a frame with 0 after its slots, by a whole capsule of a tidy code, the words come to show
 /// the tree that comes next.
 pub fn capsules_show()
     ensures law { CapsulesShow }

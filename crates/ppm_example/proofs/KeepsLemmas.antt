@@ -75,7 +75,7 @@ keeps_plain (m ∷ ms) ns (t ∷ ts) us c plain none keeps =
       subst (λ (e : Tally). Keeps limits (ms ++ ns) (ts ++ us) e) same (keeps_plain ms ns ts us c plain.2 none keeps),
     )
 
--- the same as a test
+-- a test that there is none
 abbrev is_none : Option ℕ → Bool
 is_none None = true
 is_none (Some n) = false

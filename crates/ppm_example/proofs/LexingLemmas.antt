@@ -23,7 +23,7 @@ use Rattle.ppm_text.proofs.ScanLemmas.{front_keyword, front_name, front_number}
 use Rattle.ppm_text.proofs.LexingLemmas.{skips_bounds}
 use Rattle.ppm_printer.proofs.SpellingLemmas.{text_spells}
 
--- a token with how far it stands behind some place, and its line
+-- a token with how far it stands after some place, and its line
 pub record Spot : Type 0 where
   pub kind : Kind
   pub behind : ℕ
@@ -81,7 +81,7 @@ abbrev pub with_spot : Spot → Option Lexed → Option Lexed
 with_spot s None = None
 with_spot s (Some l) = Some (record { spots = s ∷ l.spots; behind = l.behind; line = l.line; rest = l.rest })
 
--- the piece in front, and those behind it
+-- the piece in front, and those after it
 abbrev pub pieces_behind : (ℕ → ℕ → List ℕ → Option Lexed) → (n l : ℕ) → List ℕ → Option Piece → Option Lexed
 pieces_behind next n l bytes None = None
 pieces_behind next n l bytes (Some (A_blank lines)) = next (n + 1) (l + lines) (drop 1 bytes)
@@ -101,7 +101,7 @@ sign_is : (bytes : List ℕ) → sign_of bytes ≡ spelled signs bytes
 unfolding sign_of
 sign_is bytes = refl
 
--- the same piece is the same token
+-- equal pieces are one token
 same_token : (bytes : List ℕ) (n m : ℕ) (k j : Kind) → Some (A_token n k) ≡ Some (A_token m j) → Longest bytes n k → Longest bytes m j
 same_token bytes n m k j is t = let one : n ≡ m = cc (is) in let two : k ≡ j = cc (is) in rw (sym one, sym two) t
 
@@ -189,7 +189,7 @@ abbrev pub AllInRange : List Spot → Type 0
 AllInRange [] = Unit {0}
 AllInRange (s ∷ spots) = IsInRange s.kind × AllInRange spots
 
--- the same as a test
+-- a test that a token is within the limits
 abbrev is_in_range : Kind → Bool
 is_in_range (kind.Name bytes) = nat_le (length bytes) name_limit
 is_in_range (kind.Number value) = nat_lt value value_bound
@@ -277,7 +277,7 @@ spelled_digits v (a_keyword w e) is = absurd (cc (is))
 spelled_digits v (a_name w e) is = absurd (cc (is))
 spelled_digits v (a_sign e) is = absurd (cc (is))
 
--- the run of digits ends with a number behind which no digit stands
+-- the run of digits ends with a number after which no digit stands
 digits_run : (bytes rest : List ℕ) → AllByRecursion (λ b. is_digit b ≡ true) bytes → prefix_len is_digit rest ≡ 0
     → prefix_len is_digit (bytes ++ rest) ≡ length bytes
 digits_run [] rest all none = none
@@ -291,7 +291,7 @@ begins_digit : (bytes rest : List ℕ) → IsDigits bytes → BeginsWith Digit (
 begins_digit [] rest digits = absurd digits
 begins_digit (b ∷ bs) rest digits = digits.0
 
--- a number in decimal, behind which no digit stands
+-- a number in decimal, after which no digit stands
 pub number_lexed : (n p l : ℕ) (rest : List ℕ) {ts : List Token} {q m : ℕ} {end : List ℕ} → n < value_bound → prefix_len is_digit rest ≡ 0
     → Lexes (p + length (decimal n)) l rest ts q m end → Lexes p l (decimal n ++ rest) (located (kind.Number n) p l ∷ ts) q m end
 number_lexed n p l rest {ts} {q} {m} {end} small none more =

@@ -27,7 +27,7 @@ use Rattle.ppm_example.specs.Example.{named, sum_of, both_halves, sum_body, proc
 use Rattle.ppm_example.specs.Example as example
 use Rattle.ppm_example.proofs.LexingLemmas.{Spot, spot, placed}
 
--- a keyword, a sign, a name and a number behind a place
+-- a keyword, a sign, a name and a number after a place
 abbrev word : Keyword → ℕ → ℕ → Spot
 word which n l = spot (kind.Keyword which) n l
 
@@ -170,7 +170,7 @@ added d p l m j a b xs vs rest next =
     (a _ _ _ (row d (g.FromOperand level.Sum) (later first)
     (take refl (b _ _ _ (row d (g.FromOperand level.Sum) first done done))) done)) next
 
--- `(x)`, and `sum(x)` behind `call` and in a fork
+-- `(x)`, and `sum(x)` after `call` and in a fork
 abbrev lent : (d p q r l : ℕ) (x : List ℕ) (ts : List Token)
     → Front d g.ArgumentList (located (kind.Sign s.OpenParen) p l ∷ located (kind.Name x) q l ∷ located (kind.Sign s.CloseParen) r l ∷ ts)
     (v.Arguments (record { line = l; value = tree.Name (named x l) } ∷ [])) ts
@@ -269,7 +269,7 @@ module _ (p : ℕ) where
       (row (suc d) g.MoreParameters first done done))
       (take refl done))) next
 
-  -- both procedures, behind the end of the input
+  -- both procedures, after the end of the input
   abbrev pub procedures_read : Reads (Within 0 (Part g.Source) ∷ [])
       (placed p sum_spots
       ++ (placed p if_spots

@@ -21,7 +21,7 @@ use Rattle.ppm_example.proofs.ReadingLemmas.{procedure_spots}
 pub value_small : (x i : ℕ) → value_at x i < 1000
 value_small x i = mod-lt (x + 31 * i) (omega arith)
 
--- the tokens of values, each behind a comma
+-- the tokens of values, each after a comma
 abbrev pub value_tokens : (p x i count : ℕ) → List Token
 value_tokens p x i zero = []
 value_tokens p x i (suc count) =
@@ -33,7 +33,7 @@ comma_lexed : (p : ℕ) (bytes : List ℕ) → Lexes p 2 (44 ∷ 32 ∷ bytes) (
 comma_lexed p bytes =
     pieces_sound 2 p p 2 (44 ∷ 32 ∷ bytes) (record { spots = spot (kind.Sign s.Comma) 0 2 ∷ []; behind = 2; line = 2; rest = bytes }) refl refl refl
 
--- no digit stands behind a value
+-- no digit stands after a value
 behind_value : (x i count : ℕ) (rest : List ℕ) → prefix_len is_digit rest ≡ 0 → prefix_len is_digit (values_from x i count ++ rest) ≡ 0
 behind_value x i zero rest none = none
 behind_value x i (suc count) rest none = refl
@@ -104,7 +104,7 @@ grouped a b c d e f g =
     append_assoc (a ++ b ++ c ++ d ++ e) f g ∙ append_assoc (a ++ b ++ c ++ d) e (f ++ g) ∙ append_assoc (a ++ b ++ c) d (e ++ (f ++ g))
     ∙ append_assoc (a ++ b) c (d ++ (e ++ (f ++ g))) ∙ append_assoc a b (c ++ (d ++ (e ++ (f ++ g))))
 
--- the text in that order, and what stands in it behind the size and behind the first value
+-- the text in that order, and what stands in it after the size and after the first value
 abbrev text_behind_first : (size x : ℕ) → List ℕ
 text_behind_first size x = values_from x 1 (size - 1) ++ (codes ";\n" ++ procedures_text)
 

@@ -31,7 +31,7 @@ use Rattle.ppm_example.proofs.KeepsLemmas.{ArePlain, IsLess, passes_less, keeps_
 abbrev plain : ℕ → Mark Counted
 plain d = mark d []
 
--- the marks of values, each behind a comma
+-- the marks of values, each after a comma
 abbrev value_marks : ℕ → List (Mark Counted)
 value_marks zero = []
 value_marks (suc count) = plain 0 ∷ plain 0 ∷ value_marks count
@@ -98,7 +98,7 @@ module _ (size x : ℕ) where
       (token refl (token refl (part first (token refl (part first (token refl nothing) (token refl nothing))) (token refl nothing)))) input_derived)
       nothing)
 
-  -- what was counted behind the length of the array, and no less
+  -- what was counted after the length of the array, and no less
   abbrev counted : ℕ → Tally
   counted n = with_counts (Adds words n ∷ []) (with_counts (Adds arrays 1 ∷ []) none_counted)
 

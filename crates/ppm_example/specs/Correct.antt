@@ -45,6 +45,6 @@ pub record Sums (size x : ℕ) : Type 0 where
   pub words : (k : Counts) × (z : End ℤ) × Means Whole (example_tree size x) (values_of (initial_arrays (example_tree size x))) k z
       × (words_taken (example_tree size x) k ≤ 27 * size)
 
--- so it is with each example
+-- each example ends with its sums, within so many capsules, forks and words
 abbrev pub ExamplesSum : Type 0
 ExamplesSum = (size x : ℕ) → IsSize size → Sums size x

@@ -52,7 +52,7 @@ all_left n k = record {
   within = λ items i. i;
 }
 
--- so it is where they are the rows of the part
+-- at first the rows that are left are those of the part
 pub first_row : {n : Phrase} {k : Terminal} {rows : List (List Piece)} → rows ≡ rows_in n → RowsLeft n k rows
 first_row {n = n} {k = k} is = subst (RowsLeft n k) (sym is) (all_left n k)
 
@@ -74,7 +74,7 @@ pub the_row : {n : Phrase} {k : Terminal} {items : List Piece} {left : List (Lis
 the_row {n = n} {items = items} r can =
     let s = row_with (language.rows n) items (r.within items first) in record { row = s.row; within = s.within; is = s.is; can = can }
 
--- so the part can begin so
+-- a part can begin as one of its rows can
 pub part_begins : {n : Phrase} {k : Terminal} {items : List Piece} {left : List (List Piece)} → RowsLeft n k (items ∷ left) →
     can_start language (starts language) items k ≡ true → true ≡ starts language n k
 part_begins r can = sym (or_left _ _ can) ∙ r.same
@@ -92,7 +92,7 @@ abbrev pub rank_row : List Piece → ℕ
 rank_row [] = 0
 rank_row (x ∷ xs) = rank x + 1
 
--- so it is with each row
+-- the first item of each row is below its part
 pub row_below : (n : Phrase) (items : List Piece) → In items (rows_in n) → rank_row items < 3 * height n
 row_below n items i = go items (row_with (language.rows n) items i)
   where

@@ -49,7 +49,7 @@ in_order : (xs : List Terminal) → rises xs ≡ true → AllPairs Below xs
 in_order [] h = λ i j d less below. absurd (omega (arith, below))
 in_order (x ∷ xs) h = AllPairs-cons Below x xs (all_above x xs (and_left _ _ h)) (in_order xs (and_right _ _ h))
 
--- so it is with those of them that pass a test
+-- the terminals that pass a test are in order
 pub found_in_order : (p : Terminal → Bool) → AllPairs Below (filter p terminals)
 found_in_order p = AllPairs-filter Below p terminals (in_order terminals refl)
 

@@ -51,7 +51,7 @@ took x k st d m can is = go (same_kind language x k) can is
     go true e is = cc
     go false e is = cc
 
--- so it is entered
+-- a token that is to come is entered
 pub enters_take : (x k : Terminal) (old : List Piece) → Enters (Take x) k old old
 enters_take x k old = record { leaves = λ d st m left can is. ap items_due (took x k st d m can is) ∙ left }
 
@@ -119,7 +119,7 @@ front : (st : Dues) (x : Piece) (xs : List Piece) → items_due st ≡ x ∷ xs 
 front [] x xs h = cc
 front (Within d y ∷ st) x xs h = let same : y ≡ x = cc in record { depth = d; others = st; is = ap (λ q. Within d q ∷ st) same; left = cc }
 
--- so it is left out
+-- a piece that cannot begin with the token is left out
 pub advances_over : (x : Piece) (k : Terminal) (xs new : List Piece) → can_begin language x k ≡ false → Advances k xs new → Advances k (x ∷ xs) new
 advances_over x k xs new never a = record {
   leaves = λ st m left is.

@@ -20,7 +20,7 @@ last_next : (p bs : List ℕ) → last_of (p ∷ split 10 bs) ≡ last_of (split
 last_next p [] = refl
 last_next p (b ∷ bs) = let s = some_line (b == 10) b (split 10 bs) in rw s.2 refl
 
--- behind a line feed stands the same last line
+-- after a line feed stands the same last line
 pub last_kept : (p left rest : List ℕ) → split 10 left ≡ p ∷ split 10 rest → last_of (split 10 rest) ≡ last_of (split 10 left)
 last_kept p left rest e = sym (last_next p rest) ∙ ap last_of (sym e)
 
@@ -28,7 +28,7 @@ last_kept p left rest e = sym (last_next p rest) ∙ ap last_of (sym e)
 pub last_one : (left : List ℕ) → split 10 left ≡ left ∷ [] → last_of (split 10 left) ≡ left
 last_one left e = ap last_of e
 
--- behind the first line one line fewer is in front
+-- after the first line one line fewer is in front
 pub line_next : (n : ℕ) (l : List ℕ) (ls all : List (List ℕ)) → all ≡ l ∷ ls → (n ≡ 0 → ⊥) → line_behind (n - 1) ls ≡ line_behind n all
 line_next zero l ls all e more = absurd (more refl)
 line_next (suc n) l ls all e more = let one : suc n - 1 ≡ n = omega arith in rw (one, e) refl
@@ -37,7 +37,7 @@ line_next (suc n) l ls all e more = let one : suc n - 1 ≡ n = omega arith in r
 pub line_here : (n : ℕ) (l : List ℕ) (ls all : List (List ℕ)) → all ≡ l ∷ ls → n ≡ 0 → line_behind n all ≡ l
 line_here n l ls all e none = rw (e, none) refl
 
--- behind the last there is none
+-- after the last there is none
 pub line_none : (n : ℕ) (l : List ℕ) (all : List (List ℕ)) → all ≡ l ∷ [] → (n ≡ 0 → ⊥) → line_behind n all ≡ []
 line_none zero l all e more = absurd (more refl)
 line_none (suc n) l all e more = rw e refl

@@ -10,7 +10,7 @@ use Rattle.ppm_excess.specs.declared.passing.Excess.TheVariants as excess
 use Rattle.ppm_excess.specs.Excess.{bound_of, excess_of}
 use Rattle.ppm_answers.specs.declared.refusal.Refusal.{Refusal}
 
--- a count behind words, and the most that it may be
+-- a count after words, and the most that it may be
 abbrev pub past_text : List ℕ → ℕ → ℕ → List ℕ
 past_text words count limit = words ++ decimal count ++ codes ", at most " ++ decimal limit ++ codes "\n"
 

@@ -67,14 +67,14 @@ no_name w = four_text (codes "note: `") (keyword_text w) (codes "` is a word of 
 abbrev pub word_hint : List Terminal → Keyword → List ℕ
 word_hint kinds w = if comes Name kinds then no_name w else place_note kinds
 
--- of `(` where a statement begins, or behind an operand
+-- of `(` where a statement begins, or after an operand
 abbrev pub call_note : List Terminal → List ℕ
 call_note kinds =
     if is_behind_name kinds then codes "note: a call stands alone: `call f();`, `x = call f();`, or `fork f() and g();`\n"
     else if comes (Mark s.Plus) kinds then codes "note: a call stands alone: `call f();`, `x = call f();`, or `fork f() and g();`\n"
     else []
 
--- of `+`, `-`, `*` and `%` behind what is assigned
+-- of `+`, `-`, `*` and `%` after what is assigned
 abbrev pub change_note : List Terminal → List ℕ
 change_note kinds = if comes (Mark s.Assign) kinds then codes "note: a name is changed by `x = x + 1;`\n" else []
 

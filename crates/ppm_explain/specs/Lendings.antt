@@ -37,7 +37,7 @@ role_of s.GreaterEqual = role.Other
 role_of s.Both = role.Other
 role_of s.Either = role.Other
 
--- behind a sign
+-- after a sign
 abbrev pub lead_by : Role → Lead
 lead_by role.Opens = lead.Argument
 lead_by role.Parts = lead.Argument
@@ -45,7 +45,7 @@ lead_by role.Closes = lead.Other
 lead_by role.Breaks = lead.Other
 lead_by role.Other = lead.Other
 
--- behind a token
+-- after a token
 abbrev pub lead_after : Kind → Lead
 lead_after (kind.Sign sign) = lead_by (role_of sign)
 lead_after (kind.Keyword w) = lead.Other
@@ -73,7 +73,7 @@ is_break role.Closes = false
 is_break role.Opens = false
 is_break role.Other = false
 
--- the same of a token
+-- whether a token ends a statement, or the front of one with a block
 abbrev pub ends_kind : Kind → Bool
 ends_kind (kind.Sign sign) = is_end (role_of sign)
 ends_kind (kind.Keyword w) = false
@@ -100,7 +100,7 @@ abbrev pub or_place : Option ℕ → ℕ → Option ℕ
 or_place None place = Some place
 or_place (Some first) place = Some first
 
--- behind a token: the first place in the statement where the name is an argument
+-- after a token: the first place in the statement where the name is an argument
 abbrev pub lent_with : Option ℕ → Lead → List ℕ → Token → List Token → Option ℕ
 lent_with found b x t behind =
     if breaks_kind t.kind then None else if is_argument b x t behind then or_place found t.place else found

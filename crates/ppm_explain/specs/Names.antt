@@ -13,7 +13,7 @@ use Rattle.ppm_explain.specs.Words.{counted_text, located_text}
 use Rattle.ppm_explain.specs.declared.declaring.Before.{Before}
 use Rattle.ppm_explain.specs.declared.declaring.Before.TheVariants as before
 
--- whether the word declares the name behind it
+-- whether the word declares the name after it
 abbrev pub declares : Keyword → Bool
 declares k.Array = true
 declares k.Proc = true
@@ -36,17 +36,17 @@ declares k.Len = false
 declares k.In = false
 declares k.Give = false
 
--- what stands in front of the token behind a word
+-- what stands in front of the token after a word
 abbrev pub after_word : Keyword → Before
 after_word w = if declares w then before.Word w else before.Other
 
--- behind a name
+-- after a name
 abbrev pub after_name : Before → Before
 after_name before.Other = before.Other
 after_name (before.Word w) = before.Named w
 after_name (before.Named w) = before.Other
 
--- behind a comma: a name with a comma is followed by a second one of the same word, as with `into l, r` and `each i, x`
+-- after a comma: a name with a comma is followed by a second one of the same word, as with `into l, r` and `each i, x`
 abbrev pub after_comma : Before → Before
 after_comma before.Other = before.Other
 after_comma (before.Word w) = before.Other
@@ -77,7 +77,7 @@ is_comma s.GreaterEqual = false
 is_comma s.Both = false
 is_comma s.Either = false
 
--- behind a token
+-- after a token
 abbrev pub after_kind : Before → Kind → Before
 after_kind b (kind.Keyword w) = after_word w
 after_kind b (kind.Name bytes) = after_name b
@@ -142,11 +142,11 @@ abbrev pub stands_in : List ℕ → ℕ → List Token → Bool
 stands_in x line [] = false
 stands_in x line (t ∷ ts) = if stands_there x line t then true else stands_in x line ts
 
--- what is said of a name that does not stand in the line behind its token
+-- what is said of a name that does not stand in the line after its token
 abbrev pub last_text : List Token → ℕ → List ℕ → List Token → List ℕ
 last_text all line x behind = if stands_in x line behind then [] else name_text all line x
 
--- what is said of a token of the line, if it is a name that does not stand in the line behind it
+-- what is said of a token of the line, if it is a name that does not stand in the line after it
 abbrev pub mentioned : List Token → ℕ → Kind → List Token → List ℕ
 mentioned all line (kind.Name x) behind = last_text all line x behind
 mentioned all line (kind.Number value) behind = []
@@ -195,7 +195,7 @@ is_proc k.Each = false
 is_proc k.In = false
 is_proc k.Give = false
 
--- whether a procedure is declared by the token behind it
+-- whether a procedure is declared by the token after it
 abbrev pub heads : Before → Bool
 heads before.Other = false
 heads (before.Word w) = is_proc w
@@ -225,7 +225,7 @@ heading_before found b place (t ∷ ts) =
 abbrev pub is_here : Before → ℕ → Bool
 is_here b n = heads b && n == 0
 
--- how many stand in front of the wanted one behind this token
+-- how many stand in front of the wanted one after this token
 abbrev pub left_ahead : Before → ℕ → ℕ
 left_ahead b n = if heads b then n - 1 else n
 

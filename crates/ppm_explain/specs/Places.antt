@@ -35,7 +35,7 @@ place_text line column = codes "line " ++ decimal line ++ codes " column " ++ de
 abbrev pub line_text : ℕ → List ℕ
 line_text line = codes "line " ++ decimal line ++ codes "\n"
 
--- the bytes of a line, behind two blanks
+-- the bytes of a line, after two blanks
 abbrev pub shown_text : List ℕ → List ℕ
 shown_text bytes = codes "  " ++ bytes ++ codes "\n"
 
@@ -55,10 +55,10 @@ marked_text line bytes column = place_text line column ++ shown_text bytes ++ ma
 abbrev pub spot_text : List ℕ → ℕ → List ℕ
 spot_text text place = marked_text (line_of text place) (line_bytes text (line_of text place)) (column_of text place)
 
--- how many lines a text has, where what stands behind the last line feed is one
+-- how many lines a text has, where what stands after the last line feed is one
 abbrev pub line_count : List ℕ → ℕ
 line_count text = length (filter (λ b. b == 10) text) + 1
 
--- whether a line is the last one, behind which no line feed stands
+-- whether a line is the last one, after which no line feed stands
 abbrev pub is_last_line : List ℕ → ℕ → Bool
 is_last_line text line = line_count text == line

@@ -1,4 +1,4 @@
--- What is said of a source that is refused, behind the line of the refusal.
+-- What is said of a source that is refused, after the line of the refusal.
 use Rattle.std.specs.Prelude.{◌≡◌, ◌≤◌, ◌<◌, ◌==◌, ℕ, if◌then◌else◌, Bool, List, [], ◌∷◌, ◌++◌, Option, Some, None}
 use Rattle.std.specs.List.{AllPairs}
 use Rattle.ppm_grammar.specs.Faults.{IsFirstUnexpected, IsEnded}

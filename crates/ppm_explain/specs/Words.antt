@@ -10,15 +10,15 @@ use Rattle.ppm_printer.specs.Spelled.{keyword_text, sign_text, token_text}
 abbrev pub quoted : List ℕ → List ℕ
 quoted text = codes "`" ++ text ++ codes "`"
 
--- a number behind words
+-- a number after words
 abbrev pub counted_text : List ℕ → ℕ → List ℕ
 counted_text words number = words ++ decimal number
 
--- a token behind words, and its line behind others
+-- a token after words, and its line after others
 abbrev pub located_text : List ℕ → Kind → List ℕ → ℕ → List ℕ
 located_text words k others line = words ++ token_text k ++ others ++ decimal line ++ codes "\n"
 
--- four parts, one behind another
+-- four parts, one after another
 abbrev pub four_text : List ℕ → List ℕ → List ℕ → List ℕ → List ℕ
 four_text a b c d = a ++ b ++ c ++ d
 
@@ -54,11 +54,11 @@ terminal_text Number = codes "a number"
 terminal_text (Word keyword) = quoted (keyword_text keyword)
 terminal_text (Mark sign) = quoted (sign_text sign)
 
--- another one behind those in front
+-- another one after those in front
 abbrev pub further_text : Terminal → List ℕ
 further_text k = codes ", " ++ terminal_text k
 
--- some behind those in front
+-- some after those in front
 abbrev pub more_text : List Terminal → List ℕ
 more_text [] = []
 more_text (k ∷ ks) = further_text k ++ more_text ks
@@ -73,7 +73,7 @@ abbrev pub end_text : Bool → List ℕ
 end_text true = codes ", or the end of the text"
 end_text false = []
 
--- a line of kinds behind words, with the end of the text last
+-- a line of kinds after words, with the end of the text last
 abbrev pub listed_text : List ℕ → List Terminal → Bool → List ℕ
 listed_text words kinds end = words ++ kinds_text kinds ++ end_text end ++ codes "\n"
 

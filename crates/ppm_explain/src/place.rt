@@ -75,7 +75,7 @@ pub fn line_bytes(text: &[u8], line: usize) -> &[u8]
     if ahead == 0 { left } else { front(left, 0) }
 }
 
-/// Whether a line of a text is the last one, behind which no line feed stands.
+/// Whether a line of a text is the last one, after which no line feed stands.
 pub fn is_last_line(text: &[u8], line: usize) -> bool
     ensures { result ≡ is_last text.now line }
 {

@@ -323,7 +323,7 @@ module _ (words : ℕ) (is : List Instr) (o : Memory OwnWord) (none_hung : (at :
     set d v goes target = rec (at + 1) (slice_set g d.index v) (omega arith) (there is at i e) (slice_set h d.index v) w
         (set_same at i d v g h e target goes alike)
 
-    -- the same act
+    -- past any such act a capsule traps alike with either registers
     same_act : (m : May) (a : Act) → may i ≡ m → Follows m a → SetsBy (target_of i) a → doom o w (after a g) ≡ doom o w (after a h)
     same_act m (Stops z) is_m f s = refl
     same_act Work (Sets d v) is_m f s = set d v (rw is_m refl) s

@@ -424,7 +424,7 @@ module _ (words : ℕ) (is : List Instr) (o : Memory OwnWord) (free : HasNoConfl
     ]
   ]
 
-  -- so is one of the new block
+  -- a word of the new block that is stored now is kept in the end
   kept_block : (at : ℕ) (w : List OwnWord) (n : ℕ) (i : Instr) (rest : Racing OwnWord Exit) → slice_get is at ≡ Some i → may i ≡ Write (New n)
       → Facts at w → (last o (OfBlock n ∷ w) rest ≡ final) ⊎ Since at w → In (OfBlock n) final
   kept_block at w n i rest e m f phase = elim phase [

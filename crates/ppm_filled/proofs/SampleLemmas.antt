@@ -22,7 +22,7 @@ forward_only (Branch t) at to (inl e) = omega (arith, e)
 forward_only (Branch t) at to (inr e) = omega (arith, e)
 forward_only Stop at to e = absurd e
 
--- so nothing that comes of a find is there at the beginning
+-- nothing that comes of a find is there at the beginning
 none_at_start : {is : List Instr} (at : ℕ) (m : Mark) → Hangs is at m → at ≡ 0 → ⊥
 none_at_start at m (Finds k i d find e t) z = omega (arith, z)
 none_at_start at m (Takes k i a d h e j t) z = omega (arith, z)

@@ -35,7 +35,7 @@ module _ (m : Situation) (loads : List ℕ) (left : ℕ) (due : Due) (processor 
   abbrev now : Course
   now = record { state = m.state; loads = loads; left = left }
 
-  -- the run behind it
+  -- the run after it
   abbrev then_on : Course
   then_on = record { state = (turned m (steady_step processor)).state; loads = loads; left = left - 1 }
 

@@ -1,4 +1,4 @@
--- What two lists of turns make of a machine, one behind the other.
+-- What two lists of turns make of a machine, one after the other.
 use Rattle.std.proofs.Common.{arith, ◌≡◌, ℕ, List, ◌++◌, ap, ◌∙◌, sym, ◌+◌, length}
 use Rattle.std.proofs.lemmas.List.{length-append}
 use Rattle.ppm_cells.specs.declared.shape.Shape.{Shape}

@@ -22,7 +22,7 @@ nothing {m} = record { machine = run_none m; course_is = refl }
 pub shape_stays : {dues : List Due} {m m' : Situation} {way way' : Way} → Does dues m way m' way' → m'.shape ≡ m.shape
 shape_stays d = ap (λ k. k.shape) d.machine
 
--- the turns of what comes behind
+-- the turns of what comes after
 turns_behind : (m n : Situation) (way way' : Way) (first more : List Due)
     → n ≡ run_on m (turns_of m.shape m.code (course m way) first)
     → course n way' ≡ behind_all m.shape m.code (course m way) first
@@ -66,7 +66,7 @@ pub ends : (dues rest : List Due) {m n : Situation} {way v : Way}
     → LeadsTo dues rest m way n v → Idle n.shape n.code (course n v) rest → Does dues m way n v
 ends dues rest {n = n} {v = v} l idle = l n v (idles idle)
 
--- the same, where the first part is seen by an equation
+-- a step leads on, where the first part is seen by an equation
 pub goes_on_by : (dues whole first rest : List Due) {m n o : Situation} {way v u : Way}
     → whole ≡ first ++ rest → LeadsTo dues whole m way n v → Does first n v o u → LeadsTo dues rest m way o u
 goes_on_by dues whole first rest {m} {n} {o} {way} {v} {u} is l =

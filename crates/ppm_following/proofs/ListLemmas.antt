@@ -11,7 +11,7 @@ use Rattle.ppm_following.specs.Following.{Does, LeadsTo}
 use Rattle.ppm_choice.proofs.DueLemmas.{listed_front}
 use Rattle.ppm_following.proofs.DoesLemmas.{goes_on_by, ends_by}
 
--- what is behind the first of some items
+-- what is after the first of some items
 rest_is : (item : ScheduleItem) (items : List ScheduleItem) → take (length (item ∷ items) - 1) items ≡ items
 rest_is item items =
     let one : length (item ∷ items) - 1 ≡ length items = omega arith in

@@ -86,7 +86,7 @@ module _ (s : Shape) (code : CodeParts) (some : 0 < s.processors) where
           subst (AllByRecursion (IsTurnAmong s.processors)) (sym m.turns) (turn_among s.processors w (act_of due) some all.0, tt)
       go (inr k) = subst (AllByRecursion (IsTurnAmong s.processors)) (sym k.turns) tt
 
-  -- so do those of a schedule that is accepted for so many
+  -- the turns of a schedule that is accepted for so many processors name these
   pub scheduled_among : (schedule : List ℕ) (p : ℕ) (items : List ScheduleItem) → s.processors ≡ p
       → IsAccepted schedule_form schedule p items
       → (state : State) (turns : ℕ) → AllByRecursion (IsTurnAmong s.processors) (schedule_turns s code state items turns)

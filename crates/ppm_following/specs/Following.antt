@@ -24,6 +24,6 @@ pub record Does (dues : List Due) (m : Situation) (way : Way) (m' : Situation) (
   pub machine : m' ≡ run_on m (turns_of m.shape m.code (course m way) dues)
   pub course_is : course m' way' ≡ behind_all m.shape m.code (course m way) dues
 
--- whatever is done behind these, it is as all of it done before
+-- whatever is done after these, it is as all of it done before
 abbrev pub LeadsTo : (dues rest : List Due) → (m : Situation) (way : Way) (now : Situation) (way_now : Way) → Type 0
 LeadsTo dues rest m way now way_now = (m' : Situation) (way' : Way) → Does rest now way_now m' way' → Does dues m way m' way'

@@ -184,7 +184,7 @@ fn list(machine: &mut Machine, way: &mut Way, items: &[ScheduleItem])
     }
 }
 
-/// Makes the step of a processor behind the list, if it isn't done.
+/// Makes the step of a processor after the list, if it isn't done.
 #[inline(never)]
 fn step(machine: &mut Machine, way: &mut Way, processor: u32)
     requires among { processor < (seen machine.old).shape.processors }
@@ -275,7 +275,7 @@ pub fn follow_on(machine: &mut Machine, way: &mut Way, items: &[ScheduleItem], r
 }
 
 /// Makes the run of a schedule, of at most so many acts, 2^40 at most: the acts of its list, and
-/// behind these those of all processors in turn, until the finish word says how the run ended. An
+/// after these those of all processors in turn, until the finish word says how the run ended. An
 /// act of a processor that is done isn't made, and isn't counted.
 pub fn follow(machine: &mut Machine, schedule: &Schedule, turns: u64)
     requires processors { schedule.now.processors ≡ (seen machine.old).shape.processors }

@@ -96,7 +96,7 @@ module _ (code : CodeParts) (words : ℕ) (m : Cell → ℕ) (g l y f n : ℕ) (
               ∙ sym (valued_else slot value j (own_at m g l) ne)
         ]
 
-    -- the same outcome, and the same target
+    -- the outcome and the target are as before
     gives_still : result_at m' f (m' (BlockWord (f + 1))) ≡ Gave value
     gives_still = ap₂ (λ (v w : ℕ). result_by v (finish_of w)) (below value_at (omega arith)) (below 1 (omega arith)) ∙ gives whole
 

@@ -96,7 +96,7 @@ pub record ValuesPass (code : CodeParts) (words : ℕ) (m : Cell → ℕ) (g l y
   -- the install is a return
   pub returns : IsWhole m f → IsInSlot m f g l (target_at m f)
       → Step (code_of code_locations (table_of code words)) none (tree_at m h (Calling g l y (Leaf (InPlace 0) Over f n))) a (tree_at m h (Leaf (InPlace 0) (Begins y) g l)) a
-  -- so it is with a trap, which stands in both outcome words
+  -- a trap passes to the caller as well, where it stands in both outcome words
   pub traps : (trap : Trap) (line : ℕ)
       → finish_of (m (BlockWord (f + 1))) ≡ Some (TrappedBy trap line)
       → m (BlockWord (g + 1)) ≡ m (BlockWord (f + 1))

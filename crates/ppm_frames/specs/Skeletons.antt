@@ -114,7 +114,7 @@ count h (Leaf w st f n) x = hung h x + inside f (6 + n) x
 count h (Calling f n y t) x = hung h x + (inside f (6 + n) x + count (Called f y) t x)
 count h (Forking f n y r a b) x = hung h x + (inside f (6 + n) x + (inside r 1 x + (inside (r + 1) 1 x + (inside (r + 4) 1 x + (count (Branch Left r) a x + count (Branch Right r) b x)))))
 
--- the same but for the order words
+-- how often an address is a word of the tree, but for the order words
 abbrev pub plain : LinkKind → Skeleton → ℕ → ℕ
 plain h (Leaf w st f n) x = hung h x + inside f (6 + n) x
 plain h (Calling f n y t) x = hung h x + (inside f (6 + n) x + plain (Called f y) t x)
@@ -153,7 +153,7 @@ back p k (Leaf w st f n) = Leaf w st f n
 back p k (Calling f n y t) = cond (holds p t) (Leaf (InPlace p) (k y) f n) (Calling f n y (back p k t))
 back p k (Forking f n y r a b) = Forking f n y r (back p k a) (back p k b)
 
--- so does the frame of a fork whose last branch came at a place
+-- the frame of a fork whose last branch came at a place goes on there
 abbrev pub joined : ℕ → (ℕ → Stand) → Skeleton → Skeleton
 joined p k (Leaf w st f n) = Leaf w st f n
 joined p k (Calling f n y t) = Calling f n y (joined p k t)
@@ -229,7 +229,7 @@ rim h (AtCall f n y c) x = hung h x + (inside f (6 + n) x + rim (Called f y) c x
 rim h (AtLeft f n y r c b) x = hung h x + (inside f (6 + n) x + (inside r 1 x + (inside (r + 1) 1 x + (inside (r + 4) 1 x + (rim (Branch Left r) c x + count (Branch Right r) b x)))))
 rim h (AtRight f n y r a c) x = hung h x + (inside f (6 + n) x + (inside r 1 x + (inside (r + 1) 1 x + (inside (r + 4) 1 x + (count (Branch Left r) a x + rim (Branch Right r) c x)))))
 
--- the same but for the order words
+-- how often an address is a word of the tree around the part, but for the order words
 abbrev pub plain_rim : LinkKind → Around → ℕ → ℕ
 plain_rim h Top x = 0
 plain_rim h (AtCall f n y c) x = hung h x + (inside f (6 + n) x + plain_rim (Called f y) c x)

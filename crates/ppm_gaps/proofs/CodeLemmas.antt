@@ -94,7 +94,7 @@ module _ (code : CodeParts) (c : Capsule) (fine : IsCapsule code c) where
   stays_within _ (Here _) = omega (arith, size)
   stays_within to (Then _ at _ m p here allowed goes) = goes_within at to here.0 here.1 (subst (λ (n : May). GoesTo n at to) (sym here.2) goes)
 
--- so it is in a code
+-- in a capsule of a code an instruction that is no end is not the last one
 pub code_stays : (code : CodeParts) → IsCode code → (number : ℕ) → number < length code.capsules → StaysWithin (instrs_of code number)
 code_stays code is_code number less =
     let c = one_at code.capsules number less in

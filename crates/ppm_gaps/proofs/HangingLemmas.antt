@@ -95,7 +95,7 @@ pub put_past : (rows : List Hanging) (place : ℕ) (row : Hanging) (to : ℕ) (m
 put_past rows place row to m past less = (λ h. inl h, λ h. elim h [ inl old ↦ old | inr one ↦ absurd (omega (arith, past, less, one.0)) ])
 
 module _ (is : List Instr) where
-  -- the last instruction that is passed is below k, and this comes of a find behind it
+  -- the last instruction that is passed is below k, and this comes of a find after it
   pub record CameBy (k to : ℕ) (m : Mark) : Type 0 where
     pub at : ℕ
     pub below : at < k
@@ -266,7 +266,7 @@ pub joined : (a b : Hanging) (words : ℕ) (way : Bool) → ((r : ℕ) → (bit_
 joined a b words way bits ways (Word r) = bits r
 joined a b words way bits ways Way = ways
 
--- what comes of a find behind an instruction
+-- what comes of a find after an instruction
 pub is_behind : (row : Hanging) (finds : Bool) (i : Instr) (hung sets parted : Bool) (words : ℕ) (way : Bool) (to : Option Register) → to ≡ target_of i
     → IsTrue hung ↔ HasOperand row.words i → IsTrue sets ↔ (IsTrue finds ⊎ IsTrue hung) → IsTrue parted ↔ (IsTrue hung × IsBranch i)
     → ((r : ℕ) → r < 64 → (bit_at words r ≡ 1) ↔ IsWordBehind row.words sets to r) → IsTrue way ↔ (IsTrue row.way ⊎ IsTrue parted)
@@ -326,7 +326,7 @@ in_either a b r = (
   ],
 )
 
--- the words behind an instruction that sets a register by what comes of a find, by what does not, and behind one that sets none
+-- the words after an instruction that sets a register by what comes of a find, by what does not, and after one that sets none
 module _ (words new : ℕ) (hung : Bool) (d : Register) (r : ℕ) where
   pub set_word : hung ≡ true → bit_at new d.index ≡ 1 → ((r ≡ d.index → ⊥) → bit_at new r ≡ bit_at words r)
       → (bit_at new r ≡ 1) ↔ IsWordBehind words hung (Some d) r

@@ -45,7 +45,7 @@ module _ (is : List Instr) where
   past_find find (inl (p, reads)) = Then 0 find (find + 1) (Read Array) p reads tt refl
   past_find find (inr r) = Then 0 find (find + 1) (Read (Slot r.slot)) (find_path find (inr r)) r.loads tt refl
 
-  -- so a path from behind it is one from the beginning
+  -- what a path leads to from after a find, one leads to from the beginning
   pub behind_find : (q : May → Type 0) (find to : ℕ) → IsFind is find → Path is q (find + 1) to → Path is Any 0 to
   behind_find q find to finds p = append Any 0 (find + 1) to (past_find find finds) (any q (find + 1) to p)
 

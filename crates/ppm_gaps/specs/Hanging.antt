@@ -33,7 +33,7 @@ HasOperand words i = HasOperandIn words (operands_of i)
 abbrev pub HasTrapping : ℕ → Instr → Type 0
 HasTrapping words i = HasOperandIn words (traps_by i)
 
--- the word in register r comes of a find behind an instruction: it sets that one by what does, or leaves it as it is
+-- the word in register r comes of a find after an instruction: it sets that one by what does, or leaves it as it is
 abbrev pub IsWordBehind : ℕ → Bool → Option Register → ℕ → Type 0
 IsWordBehind words hung to r =
     ((d : Register) × (to ≡ Some d) × (d.index ≡ r) × IsTrue hung)
@@ -61,7 +61,7 @@ Has row Way = row.way ≡ true
 abbrev pub HasAt : List Hanging → ℕ → Mark → Type 0
 HasAt rows at m = Has (get_or rows at nothing) m
 
--- this comes of a find behind an instruction, by what does before it, and whether it is one: the word that it sets, a word that it leaves as it is,
+-- this comes of a find after an instruction, by what does before it, and whether it is one: the word that it sets, a word that it leaves as it is,
 -- or the way, by a branch or as before
 abbrev pub Behind : (Mark → Type 0) → (finds : Type 0) → Instr → Mark → Type 0
 Behind has finds i (Word r) =

@@ -83,7 +83,7 @@ fn without_word(words: u64, register: Register) -> u64
     words & !(1 << register.index)
 }
 
-/// The words that come of a find behind an instruction that sets this register, by words that do or
+/// The words that come of a find after an instruction that sets this register, by words that do or
 /// not.
 fn words_behind(words: u64, hung: bool, to: Option<Register>) -> u64
     ensures { (r : ℕ) → r < 64 → (bit_at result r ≡ 1) ↔ IsWordBehind words hung to r }
@@ -120,7 +120,7 @@ fn either(a: bool, b: bool) -> bool
     a || b
 }
 
-/// What comes of a find behind an instruction.
+/// What comes of a find after an instruction.
 fn behind(row: Hanging, finds: bool, instr: &Instr) -> Hanging
     ensures { (m : Mark) → IsInRange m
         → Has result m ↔ Behind (Has row) (IsTrue finds) instr.now m }

@@ -23,18 +23,18 @@ abbrev pub count_first : {C : Type 0} → List C → Trace C → Trace C
 count_first cs (On m r) = On (mark m.depth (cs ++ m.counts)) r
 count_first cs r = r
 
--- so it is with marks
+-- counts in front of a trace that begins with marks go to the first of these
 pub count_ons : {C : Type 0} (cs : List C) (m : Mark C) (ms : List (Mark C)) (r : Trace C) →
     count_first cs (ons (m ∷ ms) r) ≡ ons (counting cs (m ∷ ms)) r
 count_ons cs m ms r = refl
 
--- and behind a move
+-- and after a move
 pub count_goes_on : {K P C : Type 0} (cs : List C) (o : Option (Move K P C)) (next : List (Due K P) → Trace C) →
     goes_on (counted cs o) next ≡ count_first cs (goes_on o next)
 count_goes_on cs None next = refl
 count_goes_on cs (Some m) next = refl
 
--- marks behind others
+-- marks after others
 pub ons_append : {C : Type 0} (ms ns : List (Mark C)) (r : Trace C) → ons (ms ++ ns) r ≡ ons ms (ons ns r)
 ons_append [] ns r = refl
 ons_append (m ∷ ms) ns r = ap (On m) (ons_append ms ns r)

@@ -43,7 +43,7 @@ module _ {T K P V C : Type 0} (g : Grammar T K P V C) (l : Limits T C) where
       let shallow : nat_lt l.depth m.depth ≡ false = grind (arith, k.0) in
       rw (shallow, k.1) (no_fault_before front rest ms r _ (grind (arith, each)) k.2)
 
-  -- so what they have is the fault of the rest
+  -- tokens with such a front have the fault of the rest
   behind : {st later : List (Due K P)} (front rest : List T) (ms : List (Mark C)) (c : Tally) → Moves g st front ms later → Keeps l ms (front ++ rest) c →
       fault_at g l st c (front ++ rest) ≡ fault_at g l later (after_marks l ms (front ++ rest) c) rest
   behind front rest ms c a k =
@@ -85,7 +85,7 @@ module _ {T K P V C : Type 0} (g : Grammar T K P V C) (l : Limits T C) where
           },
         )
 
-    -- the tokens behind those that were read, and which fault they have
+    -- the tokens after those that were read, and which fault they have
     walk : (ground : (n : P) → HasGround g n) (ts front all : List T) (ms : List (Mark C)) (later : List (Due K P)) → all ≡ front ++ ts →
         Moves g (beginning g) front ms later → Keeps l ms all none_counted → Answer all
     walk ground [] front all ms later shape a k =
@@ -156,7 +156,7 @@ module _ {T K P V C : Type 0} (g : Grammar T K P V C) (l : Limits T C) where
                       },
                     )
 
-    -- so tokens have a tree within the limits or a fault
+    -- tokens have a tree within the limits or a fault
     pub answer : ((n : P) → HasGround g n) → (ts : List T) → Answer ts
     answer ground ts = walk ground ts [] ts [] (beginning g) refl here tt
 

@@ -30,7 +30,7 @@ module _ {T K P V C : Type 0} (g : Grammar T K P V C) (l : Limits T C) where
     pub leads : (d : ℕ) (c : Tally) → d + depth ≡ l.depth → Leaves l which room c → LeadsTo g l c (due d xs) ts values (adds which used c) (due d ys) rest
 
   module _ {depth which : ℕ} where
-    -- one chain behind another
+    -- one chain after another
     pub on : {room left last : ℕ} {xs ys zs : List (Item K P)} {ts mid rest : List T} {f h : List V → List V} →
         LeadsItems depth which room xs ts f left ys mid →
         LeadsItems depth which left ys mid h last zs rest → LeadsItems depth which room xs ts (λ vs. f (h vs)) last zs rest
@@ -189,9 +189,9 @@ module _ {T K P V C : Type 0} (g : Grammar T K P V C) (l : Limits T C) where
             stop.too_many g l follows p row i items is kind (rw at (omega (arith, deep))) (rw (counts c) some.full);
       }
 
-  -- a row that begins with a token and opens: behind the token, one opening fewer is left
+  -- a row that begins with a token and opens: after the token, one opening fewer is left
   module _ {depth inner which : ℕ} (less : depth ≡ suc inner) (follows : P → K → Bool) (p : IsPredictive g follows) where
-    -- the token leads on to the items behind it
+    -- the token leads on to the items after it
     opened : {room d : ℕ} (left : ℕ) {c : Tally} {n : P} {x : K} {t : T} {ys : List (Item K P)} {ts rest : List T} (row : Row K P V C) (amount : ℕ) →
         In row (g.rows n) → row.items ≡ Take x ∷ ys → row.opens ≡ true → ts ≡ t ∷ rest → g.kind t ≡ x →
         ((c : Tally) → after_token l row.counts t rest c ≡ adds which amount c) → amount + left ≡ room → d + depth ≡ l.depth → Leaves l which room c →

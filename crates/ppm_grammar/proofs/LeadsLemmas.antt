@@ -12,13 +12,13 @@ use Rattle.ppm_grammar.proofs.DerivationLemmas.{ons_append}
 use Rattle.ppm_grammar.proofs.TextLemmas.{Consumes, consumes}
 use Rattle.ppm_grammar.proofs.FaultLemmas.{no_fault_before}
 
--- as many values as there are items, and those behind them
+-- as many values as there are items, and those after them
 abbrev pub fronts : {K P V : Type 0} → List (Item K P) → List V → List V
 fronts [] vs = []
 fronts (x ∷ xs) [] = []
 fronts (x ∷ xs) (v ∷ vs) = v ∷ fronts xs vs
 
--- the values behind those
+-- the values after those
 abbrev pub backs : {K P V : Type 0} → List (Item K P) → List V → List V
 backs [] vs = vs
 backs (x ∷ xs) [] = []
@@ -36,7 +36,7 @@ module _ {T K P V C : Type 0} (g : Grammar T K P V C) (l : Limits T C) where
     pub reads : (end : List T) (vs : List V) (c'' : Tally) → Reads g l c' ys rest vs c'' end → Reads g l c xs ts (values vs) c'' end
     pub same : (st : List (Due K P)) → fault_at g l (xs ++ st) c ts ≡ fault_at g l (ys ++ st) c' rest
 
-  -- one chain behind another
+  -- one chain after another
   pub on : {c c' c'' : Tally} {xs ys zs : List (Due K P)} {ts mid rest : List T} {f h : List V → List V} → LeadsTo c xs ts f c' ys mid →
       LeadsTo c' ys mid h c'' zs rest → LeadsTo c xs ts (λ vs. f (h vs)) c'' zs rest
   on a b = record { reads = λ end vs e r. a.reads end _ e (b.reads end vs e r); same = λ st. a.same st ∙ b.same st }
@@ -59,7 +59,7 @@ module _ {T K P V C : Type 0} (g : Grammar T K P V C) (l : Limits T C) where
     same = λ st. let not_deep : nat_lt l.depth d ≡ false = grind (arith, shallow) in rw (is, kind, same_kind_is g x, not_deep, free) refl;
   }
 
-  -- two lists of items, one behind the other
+  -- two lists of items, one after the other
   join : {xs ys : List (Due K P)} {ts mid rest : List T} {vs ws : List V} {ms ns : List (Mark C)} → Derives g xs ts vs ms mid → Derives g ys mid ws ns rest →
       Derives g (xs ++ ys) ts (vs ++ ws) (ms ++ ns) rest
   join nothing r = r
@@ -69,7 +69,7 @@ module _ {T K P V C : Type 0} (g : Grammar T K P V C) (l : Limits T C) where
       subst (λ q. Derives g (Within d (Part n) ∷ xs ++ ys) ts (row.make us ∷ vs ++ ws) q rest) (sym (append_assoc (counting row.counts ls) ms ns))
       (part i inner (join d' r))
 
-  -- marks behind others
+  -- marks after others
   keeps_both : (front mid : List T) (ms ns : List (Mark C)) (c : Tally) → length ms ≡ length front → Keeps l ms (front ++ mid) c →
       Keeps l ns mid (after_marks l ms (front ++ mid) c) → Keeps l (ms ++ ns) (front ++ mid) c
   keeps_both [] mid [] ns c each a b = b

@@ -3,8 +3,8 @@
 -- What a parser's private clauses cite is in `specs/Stack` and `specs/Reading`; the chains over
 -- rows in `LeadsLemmas`, `RowsLemmas`, `StopsLemmas`, `StatesLemmas`; the theorem in `Theorem`.
 -- `WalkLemmas` has derivations with what was counted before and after each part.
--- `Fails` ranges over every stack behind, so it is false at the end of a part that may be empty
--- with nothing fixed behind it (the whole program): there `LeadsTo.same` with the empty stack.
+-- `Fails` ranges over every stack that may follow, so it is false at the end of a part that may be empty
+-- with nothing fixed after it (the whole program): there `LeadsTo.same` with the empty stack.
 
 pub mod ListLemmas
 pub mod PredictiveLemmas

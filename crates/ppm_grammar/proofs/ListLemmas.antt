@@ -79,7 +79,7 @@ module _ {A : Type 0} where
   in_some p first h = or_left _ _ h
   in_some p (later i) h = or_right _ _ (in_some p i h)
 
-  -- so one does at least
+  -- one element at least passes, where an element of the list does
   one_of_many : (p : A → Bool) {x : A} {xs : List A} → In x xs → p x ≡ true → zero < how_many p xs
   one_of_many p (first {xs = xs}) h = rw h (omega arith)
   one_of_many p (later {y = y} {xs = xs} i) h = go (p y) (one_of_many p i h)

@@ -40,7 +40,7 @@ module _ {T K P V C : Type 0} (g : Grammar T K P V C) where
   moves_on t m here is = there is here
   moves_on t m (there is' r) is = there is' (moves_on t m r is)
 
-  -- what was derived behind the tokens is derived with them
+  -- what was derived after the tokens is derived with them
   pub moves_sound : {st later : List (Due K P)} {front ts rest : List T} {ms ns : List (Mark C)} → Moves st front ms later → Derived g later ts ns rest →
       Derived g st (front ++ ts) (ms ++ ns) rest
   moves_sound here r = r

@@ -36,7 +36,7 @@ module _ {T K P V C : Type 0} (g : Grammar T K P V C) (l : Limits T C) where
   count_fault cs t ts Stuck c = refl
   count_fault cs t ts (On m r) c = rw (after_append cs m.counts t ts c) refl
 
-  -- so the limits are kept
+  -- the limits are kept with these counts of the first token
   count_keeps : (cs : List C) (m : Mark C) (ms : List (Mark C)) (t : T) (ts : List T) (c c' : Tally) → after_token l cs t ts c ≡ c' →
       Keeps l (m ∷ ms) (t ∷ ts) c' → Keeps l (counting cs (m ∷ ms)) (t ∷ ts) c
   count_keeps cs m ms t ts c c' tally k =
@@ -164,7 +164,7 @@ module _ {T K P V C : Type 0} (g : Grammar T K P V C) (l : Limits T C) where
                 rw same refl
             can false e = rw (stuck t ts refl e, items, next_none g follows p (inside row d) m (g.kind t) e, not_below) refl
 
-    -- so the tokens lead on to the items of the row
+    -- the tokens lead on to the items of the row
     leads_corner : {c : Tally} {d : ℕ} {n : P} {xs : List (Due K P)} {ts : List T} (row : Row K P V C) → In row (g.rows n) → row.counts ≡ [] →
         ((st : List (Due K P)) → trace g (Within d (Part n) ∷ xs ++ st) ts ≡ trace g (due (inside row d) row.items ++ (xs ++ st)) ts) →
         LeadsTo g l c (Within d (Part n) ∷ xs) ts (λ vs. row.make (fronts row.items vs) ∷ backs row.items vs) c (due (inside row d) row.items ++ xs) ts
@@ -215,7 +215,7 @@ module _ {T K P V C : Type 0} (g : Grammar T K P V C) (l : Limits T C) where
       pub ends : (st : List (Due K P)) → ts ≡ [] → can_end g (xs ++ st) ≡ false
       pub stuck : (st : List (Due K P)) (t : T) (rest : List T) → ts ≡ t ∷ rest → step g (xs ++ st) (g.kind t) ≡ None
 
-    -- so it leads on to the row
+    -- a part that is empty or a row leads on to the row
     pub leads_first : {c : Tally} {d : ℕ} {n m : P} {ys : List (Item K P)} {xs : List (Due K P)} {ts : List T} (none row : Row K P V C) →
         g.rows n ≡ none ∷ row ∷ [] → none.items ≡ [] → row.counts ≡ [] → row.items ≡ Part m ∷ ys → IsShut xs ts →
         LeadsTo g l c (Within d (Part n) ∷ xs) ts (λ vs. row.make (fronts row.items vs) ∷ backs row.items vs) c (due (inside row d) row.items ++ xs) ts
@@ -258,7 +258,7 @@ module _ {T K P V C : Type 0} (g : Grammar T K P V C) (l : Limits T C) where
             let b = begun y ys here in
             record { t = b.t; rest = b.behind; shape = b.shape; starts_it = begins_part g follows p n row (g.kind b.t) i (rw here (b.starts_so ys)) }
 
-    -- so it is the first part of a row
+    -- what was read as the first part of a row leads on to the row
     pub leads_read : {c c' : Tally} {d e : ℕ} {n m : P} {ys : List (Item K P)} {xs : List (Due K P)} {ts mid : List T} {vs : List V} (row : Row K P V C) →
         In row (g.rows n) → row.counts ≡ [] → row.items ≡ Part m ∷ ys → Reads g l c (Within e (Part m) ∷ []) ts vs c' mid →
         LeadsTo g l c (Within d (Part n) ∷ xs) ts (λ vs. row.make (fronts row.items vs) ∷ backs row.items vs) c (due (inside row d) row.items ++ xs) ts
@@ -273,7 +273,7 @@ module _ {T K P V C : Type 0} (g : Grammar T K P V C) (l : Limits T C) where
     past_trace d n [] st e none = rw e refl
     past_trace d n (t ∷ ts) st e none = rw (passed_over g follows p d n (g.kind t) st e (none t ts refl)) refl
 
-    -- so the tokens lead on to what follows
+    -- a part that is empty leads on to what follows it
     pub leads_past : {c : Tally} {d : ℕ} {n : P} {xs : List (Due K P)} {ts : List T} (row : Row K P V C) → In row (g.rows n) → row.items ≡ [] →
         ((t : T) (rest : List T) → ts ≡ t ∷ rest → starts g n (g.kind t) ≡ false) → LeadsTo g l c (Within d (Part n) ∷ xs) ts (λ vs. row.make [] ∷ vs) c xs ts
     leads_past {c = c} {d = d} {n = n} {xs = xs} {ts = ts} row i items none = record {

@@ -114,7 +114,7 @@ module _ {T K P V C : Type 0} (g : Grammar T K P V C) where
     pub next_none : (d : ℕ) (n : P) (k : K) → starts g n k ≡ false → next g d n k ≡ None
     next_none d n k h = none_there _ (next_there d n k ∙ h)
 
-    -- so it is with items
+    -- items have a move for a token exactly where they can start with it
     move_there : (e : ℕ) (xs : List (Item K P)) (k : K) → is_some (move_in g (next g) e xs k) ≡ can_start g (starts g) xs k
     move_there e [] k = refl
     move_there e (Take x ∷ xs) k = go (same_kind g x k)

@@ -45,7 +45,7 @@ module _ {T K P V C S : Type 0} (g : Grammar T K P V C) (l : Limits T C) (Has : 
     pub moves : (d : ℕ) → next g d n (g.kind t) ≡ Some (move (mark (raised above d) counts) (still d))
 
   module _ {depth : ℕ} where
-    -- one chain behind another
+    -- one chain after another
     pub on : {s s' s'' : S} {xs ys zs : List (Item K P)} {ts mid rest : List T} {f h : List V → List V} → LeadsState depth s xs ts f s' ys mid →
         LeadsState depth s' ys mid h s'' zs rest → LeadsState depth s xs ts (λ vs. f (h vs)) s'' zs rest
     on a b = record {
@@ -233,9 +233,9 @@ module _ {T K P V C S : Type 0} (g : Grammar T K P V C) (l : Limits T C) (Has : 
             stop.too_many g l follows p row i items is kind (rw at (omega (arith, deep))) (many c has);
       }
 
-  -- a row that begins with a token and opens: behind the token, one opening fewer is left
+  -- a row that begins with a token and opens: after the token, one opening fewer is left
   module _ {depth inner : ℕ} (less : depth ≡ suc inner) (follows : P → K → Bool) (p : IsPredictive g follows) where
-    -- the token leads on to the items behind it
+    -- the token leads on to the items after it
     opened : {s' : S} {d : ℕ} {c : Tally} {n : P} {x : K} {t : T} {ys : List (Item K P)} {ts rest : List T} (row : Row K P V C) → In row (g.rows n) →
         row.items ≡ Take x ∷ ys → row.opens ≡ true → ts ≡ t ∷ rest → g.kind t ≡ x → Has s' (after_token l row.counts t rest c) → d + depth ≡ l.depth →
         LeadsTo g l c (Within d (Part n) ∷ []) ts (λ vs. row.make (g.value t ∷ fronts ys vs) ∷ backs ys vs) (after_token l row.counts t rest c)

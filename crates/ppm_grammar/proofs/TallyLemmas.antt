@@ -152,7 +152,7 @@ remains_of w m (l ∷ ls) left c h r = go (l.which == w) refl h (λ h'. remains_
         let most : l.most ≡ m = let equal = and_left (l.most == m) _ h in grind (arith, equal) in rw (← here, ← most) r.0
     go false e h below = below h
 
--- so it leaves that much
+-- what may still come of such a number is what it leaves
 pub remains_leaves : {T C : Type 0} (l : Limits T C) (w m : ℕ) (left c : Tally) → sole w m l.most ≡ true → Remains l.most left c → Leaves l w (left w) c
 remains_leaves l w m left c one r = leaves_by l one (remains_free l.most left c r) (remains_of w m l.most left c one r)
 

@@ -26,7 +26,7 @@ module _ {T K P V C : Type 0} (g : Grammar T K P V C) where
     pub values : List V
     pub derived : Derives g xs ts values ms rest
 
-  -- what two lists of items derive, one behind the other
+  -- what two lists of items derive, one after the other
   pub record Splits (xs ys : List (Due K P)) (ts : List T) (vs : List V) (ms : List (Mark C)) (rest : List T) : Type 0 where
     pub mid : List T
     pub before : List V
@@ -78,7 +78,7 @@ module _ {T K P V C : Type 0} (g : Grammar T K P V C) where
     derived : Derives g (due (inside row d) row.items) ts values marks rest
     counted_so : counting row.counts marks ≡ ms
 
-  -- so the part is derived, and others behind it
+  -- a part is derived by one of its rows, and others after it
   given : {d : ℕ} {n : P} {xs : List (Due K P)} {ts mid rest : List T} {vs : List V} {ms ns : List (Mark C)} → Gives d n ts ms mid →
       Derives g xs mid vs ns rest → Derived (Within d (Part n) ∷ xs) ts (ms ++ ns) rest
   given {d = d} {n = n} {xs = xs} {ts = ts} {rest = rest} {vs = vs} {ns = ns} a r =
@@ -166,7 +166,7 @@ module _ {T K P V C : Type 0} (g : Grammar T K P V C) where
       go [] h = refl
       go (x ∷ xs) h = cc
 
-  -- so it derives nothing in front of others
+  -- a part that may be empty derives nothing in front of others
   pub over_empty : {d : ℕ} {n : P} {st : List (Due K P)} {ts rest : List T} {ms : List (Mark C)} → may_be_empty g n ≡ true → Derived st ts ms rest →
       Derived (Within d (Part n) ∷ st) ts ms rest
   over_empty {d = d} {n = n} {st = st} {ts = ts} h r =

@@ -15,7 +15,7 @@ pub record HasOneAnswer {T K P V C : Type 0} (g : Grammar T K P V C) (l : Limits
   pub either : (v : V) (e : Fault) → HasTree g l ts v → HasFault g l ts e → ⊥
   pub one : ((v : V) × HasTree g l ts v) ⊎ ((e : Fault) × HasFault g l ts e)
 
--- so it is with all tokens, whatever the limits, where one token tells the row
+-- all tokens have one answer, whatever the limits, where one token tells the row
 abbrev pub HaveOneAnswer : {T K P V C : Type 0} → Grammar T K P V C → Type 0
 HaveOneAnswer {T} {K} {P} {V} {C} g =
     (follows : P → K → Bool) → is_predictive g follows ≡ true → (l : Limits T C) (ts : List T) → HasOneAnswer g l ts
@@ -29,7 +29,7 @@ pub record ParserAnswers {T K P V C : Type 0} (g : Grammar T K P V C) (l : Limit
   pub tree : (v : V) (c : Tally) → Reads g l none_counted (beginning g) ts (v ∷ []) c [] → HasTree g l ts v
   pub fault : (f : Fault) → fault_at g l (beginning g) none_counted ts ≡ Some f → HasFault g l ts f
 
--- so it is with all tokens, whatever the limits, where one token tells the row
+-- a parser tells the answer of all tokens, whatever the limits, where one token tells the row
 abbrev pub ParsersAnswer : {T K P V C : Type 0} → Grammar T K P V C → Type 0
 ParsersAnswer {T} {K} {P} {V} {C} g =
     (follows : P → K → Bool) → is_predictive g follows ≡ true → (l : Limits T C) (ts : List T) → ParserAnswers g l ts

@@ -18,7 +18,7 @@ pub record HasTree {T K P V C : Type 0} (g : Grammar T K P V C) (l : Limits T C)
   pub text : IsText g ts v marks
   pub keeps : Keeps l marks ts none_counted
 
--- the token stands at the place behind others that have these marks, and none of these passes a limit
+-- the token stands at the place after others that have these marks, and none of these passes a limit
 pub record StandsAt {T K P V C : Type 0} (g : Grammar T K P V C) (l : Limits T C) (ts : List T) (place : ℕ) (front : List T) (t : T)
     (marks : List (Mark C)) : Type 0 where
   pub more : List T

@@ -34,7 +34,7 @@ pub record Limit : Type 0 where
   pub which : ℕ
   pub most : ℕ
 
--- how many openings may be open, the limits on numbers, and what a token counts by what it counts as and by the tokens behind it
+-- how many openings may be open, the limits on numbers, and what a token counts by what it counts as and by the tokens after it
 pub record Limits (T C : Type 0) : Type 0 where
   pub depth : ℕ
   pub most : List Limit
@@ -45,7 +45,7 @@ abbrev pub passed : List Limit → Tally → Option ℕ
 passed [] c = None
 passed (l ∷ ls) c = if nat_lt l.most (c l.which) then Some l.which else passed ls c
 
--- what was counted after a token that counts as all this, with these behind it
+-- what was counted after a token that counts as all this, with these after it
 abbrev pub after_token : {T C : Type 0} → Limits T C → List C → T → List T → Tally → Tally
 after_token l [] t ts c = c
 after_token l (x ∷ xs) t ts c = after_token l xs t ts (with_counts (l.counts x t ts) c)

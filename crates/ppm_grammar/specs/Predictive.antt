@@ -50,13 +50,13 @@ module _ {T K P V C : Type 0} (g : Grammar T K P V C) where
   abbrev pub starts : P → K → Bool
   starts n k = starts_within (length g.parts.all) n k
 
-  -- a token of the kind can stand in front where the items are to come, behind which such tokens may come
+  -- a token of the kind can stand in front where the items are to come, after which such tokens may come
   abbrev pub may_begin : List (Item K P) → (K → Bool) → K → Bool
   may_begin [] behind k = behind k
   may_begin (Take x ∷ xs) behind k = same_kind x k
   may_begin (Part m ∷ xs) behind k = starts m k || (may_be_empty m && may_begin xs behind k)
 
-  -- behind each part in the items, only what may follow the part can come
+  -- after each part in the items, only what may follow the part can come
   abbrev pub is_closed : (P → K → Bool) → List (Item K P) → (K → Bool) → K → Bool
   is_closed follows [] behind k = true
   is_closed follows (Take x ∷ xs) behind k = is_closed follows xs behind k
@@ -93,7 +93,7 @@ module _ {T K P V C : Type 0} (g : Grammar T K P V C) where
   abbrev pub is_predictive : (P → K → Bool) → Bool
   is_predictive follows = every (λ n. is_sound follows n) g.parts.all
 
-  -- behind each part in the items, only what may follow the part can come
+  -- after each part in the items, only what may follow the part can come
   abbrev pub Closed : (P → K → Bool) → List (Item K P) → (K → Bool) → Type 0
   Closed follows [] behind = Unit {0}
   Closed follows (Take x ∷ xs) behind = Closed follows xs behind

@@ -6,7 +6,7 @@ use Rattle.ppm_grammar.specs.Limits.{Limits, Tally, passed, after_token}
 use Rattle.ppm_grammar.specs.Faults.{Fault, Expected, Ended, TooDeep, TooMany}
 use Rattle.ppm_grammar.specs.Predictive.{same_kind, may_be_empty}
 
--- one token: its mark, and what is still to come behind it
+-- one token: its mark, and what is still to come after it
 pub record Move (K P C : Type 0) : Type 0 where
   pub marked : Mark C
   pub still : List (Due K P)
@@ -53,7 +53,7 @@ abbrev pub at_end : {C : Type 0} → Bool → Trace C
 at_end true = Whole
 at_end false = Cut
 
--- goes on behind a move
+-- goes on after a move
 abbrev pub goes_on : {K P C : Type 0} → Option (Move K P C) → (List (Due K P) → Trace C) → Trace C
 goes_on None next = Stuck
 goes_on (Some m) next = On m.marked (next m.still)

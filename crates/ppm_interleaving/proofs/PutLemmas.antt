@@ -94,7 +94,7 @@ finishes_more old new i f t none over same finishes = record { told = λ j g is.
     alone j result (inl is) = (f, ap new (sym (ap doer is)) ∙ over, sym (ap (outcome_or result) is))
     alone j result (inr past) = before j result past (compare i j)
 
--- a number is one of those so far, or comes behind them
+-- a number is one of those so far, or comes after them
 data Position (n j : ℕ) : Type 0 where
   Front : j < n → Position n j
   Behind : (k : ℕ) → n + k ≡ j → Position n j
@@ -174,7 +174,7 @@ module _ (code : RacyParts) (array_words : ℕ) (root : FrameWord → ℕ) (arra
       (finishes_more (finish_in old.strands.items) (finish_in new.strands.items) i f (deeds h) not_over (ap finish_of back.there)
       (λ j other. ap finish_of (back.elsewhere j other)) shows.finishes)
 
-  -- it has forked branches, which come behind all others
+  -- it has forked branches, which come after all others
   pub forks_back : (w : Waiting) (rs : List Running) (fs : List (Frame OwnWord Place)) → BeginAll rs fs
       → new.strands.items ≡ with_one (IsWaiting w) ++ map IsRunning rs → new.words.items ≡ old.words.items
       → ShowsStrand code array_words root arrays (Some (IsWaiting w)) i (moment (Step i) (Some (HasForked i fs)) ∷ h)

@@ -50,7 +50,7 @@ pub record IsBegun (number : ℕ) (words : Own) (r : Running) : Type 0 where
   pub settled : r.settled.items ≡ []
   pub since : r.since.items ≡ []
 
--- so a frame of the model begins
+-- a strand that begins a capsule begins a frame of the model
 pub record BeginsFrame (r : Running) (f : Frame OwnWord Place) : Type 0 where
   pub begun : IsBegun r.capsule r.own r
   pub point : f.point ≡ At (at_capsule r.capsule)
@@ -96,7 +96,7 @@ Opens code count (opened.Forks l r w) to = (e : Frame OwnWord Place) × (f : Fra
     × (to ≡ Forks (e ∷ f ∷ []) g) × BeginsFrame l e × BeginsFrame r f × WaitsAs w g (e ∷ f ∷ []) × (w.first ≡ count)
 Opens code count (opened.Closes fin) to = to ≡ Closes (result_of fin)
 
--- the same strand, but for what it has asked for: a change more, which leaves its word as it is, or which is settled then
+-- a strand as it was, but for what it has asked for: a change more, which leaves its word as it is, or which is settled then
 pub record IsSameBut (old new : Running) : Type 0 where
   pub capsule : new.capsule ≡ old.capsule
   pub at : new.at ≡ old.at

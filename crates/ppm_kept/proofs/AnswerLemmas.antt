@@ -72,7 +72,7 @@ module _ (i : Setting) (root : Tree (Frame FrameWord Point) Result) (input : Wor
 pub ends_as_meant : EndsAsMeant
 ends_as_meant i root input state t law v said out = ends_so i root input state [] t law v said out
 
--- so it is with those places left out that were followed
+-- an outcome says what the root came to, with those places left out that were followed
 pub left_ends_as_meant : (i : Setting) (root : Tree (Frame FrameWord Point) Result) (input : Words) (state : Machine) (l : List Followed) (t : Skeleton) → IsKept i root input (left i l (places_of i.shape state)) t
     → (v : Finish) → finish_of (read i.shape state.words FinishWord) ≡ Some v → IsOutcome v → AnswersSo i root input state t v
 left_ends_as_meant i root input state l t law v said out = ends_so i root input state l t law v said out

@@ -207,7 +207,7 @@ module _ (i : Setting) (fair : IsFair i.code) (root : Tree (Frame FrameWord Poin
     pub mine : owner i q ≡ p
     mine = let h = births.homes p q ke in owned i p q h.0 h.1
 
-    -- so it is longer than nothing
+    -- the block is longer than nothing
     pub long : q < q + (link_at (m (BlockWord q))).size
     long = subst (λ (k : RestartKind). q < ceiling i m p k) ke (subst (λ (a : ℕ). q < ceiling i m a (s.kind a)) mine (law.below q (in_tree (hook_at Root g.around) refl g.at_)).1)
 

@@ -212,7 +212,7 @@ module _ (s : Shape) (code : CodeParts) (fair : IsFair code) (m : Cell → ℕ) 
   builds_below o (Fork l q c lt rt) h (inl b) = let z = ap room_or h.5 in let less = b.1 in omega (arith, z, less)
   builds_below o (Fork l q c lt rt) h (inr b) = let z = ap room_or h.5 in let less = b.1 in omega (arith, z, less)
 
-  -- words behind the block are 0
+  -- words after the block are 0
   pub blank_above : (o : ℕ) → a ≤ o → r + o < limit s code p → m (BlockWord (r + o)) ≡ 0
   blank_above o le lt = blank_word o lt (λ b. let less = builds_below o e end_fits b in omega (arith, less, le)) (elsewhere_above o le)
 

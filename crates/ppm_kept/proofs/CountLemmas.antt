@@ -332,11 +332,11 @@ module _ (i : Setting) (fair : IsFair i.code) (root : Tree (Frame FrameWord Poin
   abbrev other : Setting
   other = asked i root input S t law
 
-  -- the same with the other question
+  -- what is kept stays so with another question to the counts
   other_law : IsKept other root input (left other l (places_of i.shape state)) t
   other_law = subst (λ (z : State). IsKept other root input z t) (sym (left_same i (exactly k) l (places_of i.shape state))) (as_asked i root input S t law)
 
-  -- behind an act
+  -- after an act
   abbrev Then : (c : ℕ) (act : Act) → Standing → Type 0
   Then c act x = Counted i root input (left i l (places_of i.shape (happens i.shape i.code state (record { processor = c; act = act })))) (act_with i S.words state.words act x t)
       (k.capsules + by_step ended_by act x) (k.forks + by_step (opened_by S.words) act x)

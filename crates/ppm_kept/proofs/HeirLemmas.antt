@@ -249,7 +249,7 @@ module _ (i : Setting) (fair : IsFair i.code) (root : Tree (Frame FrameWord Poin
       | inr e ↦ inl (cond-false {A = ℕ} (m (BlockWord (r + 1)) == side_code d) 0 1 e)
     ]
 
-    -- behind an install that the closed place might have made
+    -- after an install that the closed place might have made
     installed : (w : State) (k : RestartKind) → w.kind ≡ put s.kind v k → w.doing ≡ put s.doing v Resting → (put w.kind v Seek ≡ put s.kind v Seek) × (put w.doing p Resting ≡ put s.doing p Resting) × (w.kind v ≡ k) × (w.doing v ≡ Resting) × IsIdle (w.kind p)
     installed w k a b = (
       ap (λ (g : ℕ → RestartKind). put g v Seek) a ∙ put_twice s.kind v k Seek,

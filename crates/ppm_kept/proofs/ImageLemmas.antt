@@ -117,7 +117,7 @@ module _ (code : CodeParts) (input : List NamedArray) (s : Shape) (keeper : ℕ)
     | inr ne ↦ let c = counter_other q ne in omega (arith, c)
   ]
 
-  -- behind the root's frame all is 0
+  -- after the root's frame all is 0
   past : (x : ℕ) → f + (6 + n) ≤ x ⊎ (x < f) → first_block s keeper (root_frame code input) x ≡ 0
   past x (inl le) = if_true (nat_le f x) _ _ (le-leb f x (omega (arith, le))) ∙ get_or_past (root_frame code input) (x - f) 0 (
       let slots = o.code_is.root_slots in let len = length-map code.arrays (λ (number : ℕ). region_word (whole_array input number)) in omega (arith, le, slots, len))

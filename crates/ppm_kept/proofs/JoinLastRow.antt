@@ -203,7 +203,7 @@ module _ (i : Setting) (fair : IsFair i.code) (root : Tree (Frame FrameWord Poin
       left_load : RowLaw left_point
       left_load own bottom victim = goes_on own bottom bottom (left_row (finish_of oa)) (3, to_left m same_words bottom 1 _ refl)
 
-      -- behind the left outcome
+      -- after the left outcome
       module _ (left : Finish) (left_goes : left_row (Some left) ≡ Now (Load (JoinRight r g y left))) (left_of : finish_of oa ≡ Some left) where
         abbrev right_point : Row
         right_point = Now (Load (JoinRight r g y left))
@@ -360,7 +360,7 @@ module _ (i : Setting) (fair : IsFair i.code) (root : Tree (Frame FrameWord Poin
         run_install : HasTaken m g (r + 5) (target_at m (r + 5)) ⊎ (target_at m (r + 5) ≡ target_at m f) → HasTaken m g f (target_at m f) → (b : ℕ) → RowLaw (Now (Install (on_then b)))
         run_install left right b ends = last.values_installed i fair root input s t law p there keeps r d ke late beyond left_ended right_ended left right
 
-        -- behind the left value
+        -- after the left value
         module _ (near : AreNear (named aim)) (taken : HasTaken m g (r + 5) (named aim)) where
           second_at : (b a : ℕ) (rest : Row) → Reach i m (seat b) a second_row rest → At m b rest
           second_at b a rest q = to_second m same_words aim refl near taken b a rest q
@@ -537,7 +537,7 @@ module _ (i : Setting) (fair : IsFair i.code) (root : Tree (Frame FrameWord Poin
   row_law b (suc a) rest q = last_rows (is_last o d) refl b a rest
       (subst₂ (λ (x k : Bool). Reach i m (seat b) a (joins (seat b) r x k (is_last o d)) rest) (ap (λ (x : ℕ). o == x) (first_is d) ∙ late) beyond q)
 
-  -- behind both stores
+  -- after both stores
   collected_law : (rest : Row) → Collected m r d rest → RowLaw rest
   collected_law rest q =
       let frame_is : q.frame ≡ g = ap waiting_of (sym q.hook ∙ hook_is) in

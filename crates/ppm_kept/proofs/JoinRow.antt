@@ -295,7 +295,7 @@ module _ (i : Setting) (fair : IsFair i.code) (root : Tree (Frame FrameWord Poin
     row_law b zero rest q = subst RowLaw q order_load
     row_law b (suc a) rest q = elim early [ inl e ↦ first_rows e b a rest q | inr e ↦ inline_rows e b a rest q ]
 
-    -- what is behind both values is of a branch that came last
+    -- what is after both values is of a branch that came last
     under_law : (rest : Row) → Under i m p (Join r d) rest → RowLaw rest
     under_law rest (inl a) = row_law a.0 a.1 rest a.2
     under_law rest (inr a) = absurd (elim early [ inl e ↦ (let z : true ≡ false = sym e ∙ a.late in cc) | inr e ↦ (let z : true ≡ false = sym e ∙ a.beyond in cc) ])

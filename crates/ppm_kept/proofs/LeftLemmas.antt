@@ -224,7 +224,7 @@ module _ (i : Setting) (root : Tree (Frame FrameWord Point) Result) (input : Wor
   pub installs_left : (p : ℕ) (k : RestartKind) → IsAway l p → left i l (installs s p k) ≡ installs S p k
   installs_left p k away = λ j. record { words = S.words; kind = kinds_install l s.kind p k away j; doing = (installs s p k).doing }
 
-  -- a store behind which the words are kept: into free words of a followed place it can only be of 0
+  -- a store after which the words are kept: into free words of a followed place it can only be of 0
   module _ (p : ℕ) (away : IsAway l p) (cell : Cell) (w : ℕ) (x : Standing) (t : Skeleton) (kept : IsKept i root input (stores S p cell w x) t) (spot : IsNoCounter cell ⊎ (cell ≡ RoomCounter p)) where
     other_counter : (v : Followed) → IsIn v l → RoomCounter v.place ≢ cell
     other_counter v h e = elim spot [

@@ -64,7 +64,7 @@ module _ (i : Setting) (fair : IsFair i.code) (root : Tree (Frame FrameWord Poin
   linked h (Forking f n y q a b) good w r (inr (inl e)) = linked (Branch Left q) a good.1 w r e
   linked h (Forking f n y q a b) good w r (inr (inr e)) = linked (Branch Right q) b good.2 w r e
 
-  -- so does one whose right branch no place has run
+  -- a block whose right branch no place has run says that it is forked
   pub unrun_linked : (w : Who) (r : ℕ) → HasUnrun w r t → IsForked r
   unrun_linked w r a = linked Root t law.good w r a
 
@@ -127,7 +127,7 @@ module _ (i : Setting) (fair : IsFair i.code) (root : Tree (Frame FrameWord Poin
     same_at u o at (Branch Right b) he at_ = absurd at_
     same_at u o at (Forked x y) he at_ = absurd at_
 
-    -- none that begins the frame there, and none behind whose job that frame is
+    -- none that begins the frame there, and none after whose job that frame is
     pub runs_none : (u y : ℕ) → s.kind u ≡ Run r y → ⊥
     runs_none u y ku =
         let o = leaf i fair root input s t law u (ap (carried m) ku) in

@@ -70,7 +70,7 @@ LookThen B how k (Fork block) = Follows how k
 LookThen B how k (Begin block frame bottom) = B
 LookThen B how k _ = Unit {0}
 
--- no branch begins behind a store or an exchange
+-- no branch begins after a store or an exchange
 abbrev pub NoBegin : Then → Type 0
 NoBegin (Begin block frame bottom) = ⊥
 NoBegin _ = Unit {0}

@@ -82,7 +82,7 @@ abbrev SaysRow : LinkKind → Row → Type 0
 SaysRow k (Now (Install re)) = Says k re.kind
 SaysRow k _ = Unit {0}
 
--- so it is after so many steps, whatever these find
+-- what an install says of the link of its frame, after so many steps, whatever these find
 abbrev Up : Shape → Seat → LinkKind → ℕ → Row → Type 0
 Up s seat k zero row = SaysRow k row
 Up s seat k (suc n) (Now (Load point)) = (v : ℕ) (w : Content) → Up s seat k n (found_at s seat v point w)

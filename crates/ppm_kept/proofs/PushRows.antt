@@ -152,7 +152,7 @@ waiting_nobody p (Leaf Inlined st f n) e = e
 waiting_nobody p (Calling f n y t) e = e
 waiting_nobody p (Forking f n y r a b) e = e
 
--- what a row comes to behind a change of an entry
+-- what a row comes to after a change of an entry
 tried_rows : (s : Shape) (seat : Seat) (P : Row → Type 0) (cell : Cell) (old : Entry) (re : Restart) → P (Now Broken) → P (Now (Install re)) → ((new : Entry) → P (Exchange cell (AnEntry old) (AnEntry new) (Install re)))
     → (a : Option Entry) (n : ℕ) (rest : Row) → Comes s seat n (tried cell old a (Install re)) rest → P rest
 tried_rows s seat P cell old re broken ins exch None zero rest q = subst P q ins

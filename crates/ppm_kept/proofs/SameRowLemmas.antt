@@ -146,7 +146,7 @@ module _ (i : Setting) (m n : Cell → ℕ) (seat : Seat) where
         (load_row (JoinLeft r g y) words.left (outcome_row (λ left. Now (Load (JoinRight r g y left))) (finish_of (m (BlockWord (r + 2))))
         (right_row Ended) (λ trap line. right_row (Trapped trap line))))))
 
-    -- behind both values
+    -- after both values
     taken_same : (f : ℕ) → n (BlockWord (f + 4)) ≡ m (BlockWord (f + 4)) → (x : ℕ) → x ≤ l → HasTaken m g f (named x) → HasTaken n g f (named x)
     taken_same f value zero le taken = tt
     taken_same f value (suc j) le taken = words.slots j (omega (arith, le)) ∙ taken ∙ sym value

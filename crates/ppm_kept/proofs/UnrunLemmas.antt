@@ -203,7 +203,7 @@ module _ (w : Who) (r f n y : ℕ) (a b : Skeleton) where
   fork_count : (h : LinkKind) (c : Around) → 1 ≤ count h (plug c fork) r
   fork_count h c = let sum = count_plug h c fork r in let one = head_in r r refl in omega (arith, sum, one)
 
-  -- so its right branch is what is seen of it
+  -- the right branch of a block that is in the tree once is what is seen of the block
   here_only : (h : LinkKind) (c : Around) → count h (plug c fork) r ≤ 1 → HasUnrun w r (plug c fork) → IsLeafOf w b
   here_only h Top most (inl x) = x.1
   here_only h Top most (inr (inl x)) = absurd (let one = has_count w r (Branch Left r) a x in let two = head_in r r refl in omega (arith, most, one, two))
@@ -300,7 +300,7 @@ readied_same u (Leaf Inlined st f n) none = refl
 readied_same u (Calling f n y t) none = refl
 readied_same u (Forking f n y q a b) none = refl
 
--- the loads of the row of a last branch, behind which none begins
+-- the loads of the row of a last branch, after which none begins
 abbrev LastPoint : RowPoint → Type 0
 LastPoint (JoinLink r) = Unit {0}
 LastPoint (JoinLeft r g y) = Unit {0}

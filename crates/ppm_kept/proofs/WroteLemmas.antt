@@ -178,6 +178,6 @@ module _ (i : Setting) (fair : IsFair i.code) (root : Tree (Frame FrameWord Poin
           | inr other ↦ inl (write_else m cell w (BlockWord x) (λ z. other (ap address (z ∙ g.is))))
         ]
 
-    -- so an order word that is set stays
+    -- an order word that is set stays
     pub set_stays : (x : ℕ) → Head i s t x → (m (BlockWord x) ≡ 0 → ⊥) → n (BlockWord x) ≡ m (BlockWord x)
     set_stays x head set = elim (head_view x head) [ inl e ↦ e | inr k ↦ elim k.0.was [ inl z ↦ absurd (set z) | inr z ↦ k.1 ∙ sym z ] ]

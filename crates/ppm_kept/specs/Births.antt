@@ -106,7 +106,7 @@ SteadyRow F (Now next) = SteadyThen F next
 SteadyRow F (Store cell content next) = IsNoCounter cell × SteadyThen F next
 SteadyRow F (Exchange cell old new next) = IsNoCounter cell × SteadyThen F next
 
--- so it is in the row of each kind that opens none, whatever its loads find
+-- the row of each kind that opens no block is steady, whatever its loads find
 abbrev pub RowsAreSteady : Type 0
 RowsAreSteady = (s : Shape) (seat : Seat) (n : ℕ) (k : RestartKind) (rest : Row) → IsSteady k
     → Comes s seat n (row_of s seat k) rest → SteadyRow (IsCheck k) rest

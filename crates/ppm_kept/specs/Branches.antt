@@ -12,7 +12,7 @@ IsUntaken IsFresh = Unit {0}
 IsUntaken IsHeld = Unit {0}
 IsUntaken _ = ⊥
 
--- so it is beside a place's strand, in each fork of block r
+-- beside a place's strand the right branch is untaken, in each fork of block r
 abbrev pub Untaken : (p r : ℕ) → Skeleton → Type 0
 Untaken p r (Leaf w st f n) = Unit {0}
 Untaken p r (Calling f n y t) = Untaken p r t

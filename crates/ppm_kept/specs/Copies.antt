@@ -27,7 +27,7 @@ IsKnown (Arrive r d) = Unit {0}
 IsKnown (Join r d) = Unit {0}
 IsKnown _ = ⊥
 
--- so it is after a step of place p: where it goes on, stores, fills its pool or installs
+-- frames that run stand at one of their two headers after a step of place p: where it goes on, stores, fills its pool or installs
 pub record CopiesStay (i : Setting) (s : State) (p : ℕ) : Type 0 where
   pub goes_on : (standing : Standing) → HasCopies (goes s p standing)
   pub stored : (cell : Cell) (w : ℕ) (standing : Standing) → HasCopies (stores s p cell w standing)

@@ -44,7 +44,7 @@ abbrev pub opened_by : (Cell → ℕ) → Standing → ℕ
 opened_by m (IsRunning seat (Installs kind)) = forks_with m kind
 opened_by m standing = 0
 
--- With either takeover, of the state with the followed places left out: behind a turn by which no place goes
+-- With either takeover, of the state with the followed places left out: after a turn by which no place goes
 -- on with what it inherited as many capsules and forks are counted as before, and those of the capsule that
 -- ends by it.
 abbrev pub CountsAreExact : Type 0

@@ -66,7 +66,7 @@ CreditStays = (i : Setting) → IsFair i.code → (root : Tree (Frame FrameWord 
     → owed Root (tree_after i state turn t) + by_step paid_by turn.act (stand_of state turn.processor)
     ≤ owed Root t + 36 * by_step ended_by turn.act (stand_of state turn.processor)
 
--- With takeover by places, behind a turn no fewer capsules are counted than before, and one more where a capsule ends
+-- With takeover by places, after a turn no fewer capsules are counted than before, and one more where a capsule ends
 abbrev pub CapsulesAreCounted : Type 0
 CapsulesAreCounted = (i : Setting) → IsFair i.code → i.shape.takeover ≡ ByPlaces
     → (root : Tree (Frame FrameWord Point) Result) (input : Words) (state : Machine) (t : Skeleton)

@@ -33,7 +33,7 @@ pub record Agrees (t : Skeleton) (fate : ℕ → Fate) : Type 0 where
   pub offered : (r : ℕ) → fate r ≡ Offered → HasUnrun Waiting r t
   pub inline : (r : ℕ) → fate r ≡ Inline → HasUnrun Held r t
 
--- so it does after each step that changes the right branch of block r, or what is said of it
+-- the skeleton still agrees with the fates after each step that changes the right branch of block r, or what is said of it
 pub record FatesStay (t u : Skeleton) (fate : ℕ → Fate) (r : ℕ) : Type 0 where
   pub same : SameUnruns t u → Agrees u fate
   -- a block is opened, its fork is made, and pushed

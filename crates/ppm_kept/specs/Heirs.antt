@@ -48,7 +48,7 @@ GoesOnAs s t v (Arrive r d) k = k ≡ Arrive r d
 GoesOnAs s t v (Join r d) k = k ≡ Join r d
 GoesOnAs s t v _ k = ⊥
 
--- the state behind that: place p is at the kind, and place v at nothing
+-- the state after that: place p is at the kind, and place v at nothing
 abbrev pub inherits : Setting → State → (v p : ℕ) → RestartKind → State
 inherits i s v p k = record {
   words = settled i s.words v (ceiling i s.words v (s.kind v));
@@ -57,7 +57,7 @@ inherits i s v p k = record {
 }
 
 -- From words that are kept, where nobody is in the closed place v, and p has no strand: they are kept
--- behind it, with the strand as p's.
+-- after it, with the strand as p's.
 abbrev pub HeirsKeep : Type 0
 HeirsKeep = (i : Setting) → IsFair i.code
     → (root : Tree (Frame FrameWord Point) Result) (input : Words) (s : State) (t : Skeleton)

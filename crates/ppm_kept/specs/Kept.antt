@@ -128,7 +128,7 @@ abbrev pub HasTaken : (Cell → ℕ) → (g f : ℕ) → Option ℕ → Type 0
 HasTaken m g f None = Unit {0}
 HasTaken m g f (Some slot) = m (BlockWord (g + slot_at slot)) ≡ m (BlockWord (f + value_at))
 
--- The last branch at the install of Join, behind the stores of both values: the right one is in its
+-- The last branch at the install of Join, after the stores of both values: the right one is in its
 -- slot, and so is the left one, unless both have one target.
 pub record Collected (m : Cell → ℕ) (r : ℕ) (d : Side) (row : Row) : Type 0 where
   pub frame : ℕ

@@ -122,7 +122,7 @@ module _ (s : Shape) (code : CodeParts) (state : Machine) (c : ℕ) where
     pub moves : (victim place : ℕ) → stand_of state c ≡ IsWithin seat (Now (Move place))
         → seat.own < s.processors → acted (Step victim) ≡ goes before seat.place IsLost
 
-  -- so is each step in a capsule
+  -- each step of the processor in a capsule is that step of its place
   pub record RestShows (seat : Seat) : Type 0 where
     pub loads : (victim : ℕ) (cell : Cell) (next : ℕ → Rest)
         → stand_of state c ≡ IsRunning seat (Loads cell next)

@@ -53,7 +53,7 @@ pub record UntakenStays (p r : ℕ) : Type 0 where
   pub holds : (t : Skeleton) → Untaken p r t → MayHold t p r
   pub swaps : (c : Around) (u v : Skeleton) → at p v ≡ at p u → mark v ≡ mark u → Untaken p r v
       → Untaken p r (plug c u) → Untaken p r (plug c v)
-  -- so it is where a block is opened, since no other fork of the tree has it
+  -- `Untaken` stays where a block is opened, since no other fork of the tree has it
   pub opens : (h : LinkKind) (c : Around) (v : Skeleton) → count h (plug c v) r ≤ 1
       → 1 ≤ count (hook_at h c) v r → Untaken p r v → Untaken p r (plug c v)
 
@@ -82,7 +82,7 @@ pub record Push1Keeps (i : Setting) (root : Tree (Frame FrameWord Point) Result)
       → IsKept i root input (installs s p (kind_then next)) t
   pub faults : IsKept i root input (goes s p IsLost) t
 
--- likewise of kind Push2: with the entry at the bottom the right branch becomes one that may be
+-- a row of kind Push2 keeps all: with the entry at the bottom the right branch becomes one that may be
 -- taken
 pub record Push2Keeps (i : Setting) (root : Tree (Frame FrameWord Point) Result) (input : Words) (s : State) (t : Skeleton) (p r : ℕ) : Type 0 where
   pub loads : (own bottom : ℕ) (rest : Row)

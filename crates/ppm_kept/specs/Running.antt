@@ -61,7 +61,7 @@ pub record IsFair (code : CodeParts) : Type 0 where
   pub free : IsFree code
 
 module _ (s : Shape) (code : CodeParts) where
-  -- the end of a capsule behind the stores into its block: one store into the own words, if any,
+  -- the end of a capsule after the stores into its block: one store into the own words, if any,
   -- and the install
   abbrev pub last_of : Home → End → Rest
   last_of home e = storing 0 (own_stores code home e) (Installs (installed home e))
@@ -112,14 +112,14 @@ module _ (s : Shape) (code : CodeParts) where
   IsRoomy m p f y (Asks words go) = Unit {0}
   IsRoomy m p f y _ = HasRoom m p f y
 
-  -- under way, or behind the last store
+  -- under way, or after the last store
   pub record IsUnder (m : Cell → ℕ) (p f y : ℕ) (rest : Rest) : Type 0 where
     pub left : Capsule Where End
     pub is_of : IsOf p (home_at m p f y) left rest
     pub stands : Stands code_locations (all_of m p f y) left (now m p f y)
     pub roomy : IsRoomy m p f y left
 
-  -- behind the last store: the capsule has come to this end, whose store into the own words stands
+  -- after the last store: the capsule has come to this end, whose store into the own words stands
   pub record IsDone (m : Cell → ℕ) (p f y : ℕ) (rest : Rest) : Type 0 where
     pub end : End
     pub is : rest ≡ Installs (installed (home_at m p f y) end)

@@ -15,7 +15,7 @@ use Rattle.ppm_kept.specs.Kept.{Setting, Resting, State, NoOutcome, IsKept}
 use Rattle.ppm_kept.specs.Places.{places_of}
 use Rattle.ppm_kept.specs.Steps.{ActsSo, tree_after}
 
--- With takeover by places: as `TurnsKeep`, also where the turn stops the run, and behind it
+-- With takeover by places: as `TurnsKeep`, also where the turn stops the run, and after it
 abbrev pub TurnsKeepOn : Type 0
 TurnsKeepOn = (i : Setting) → IsFair i.code → i.shape.takeover ≡ ByPlaces
     → (root : Tree (Frame FrameWord Point) Result) (input : Words) (state : Machine) (t : Skeleton)

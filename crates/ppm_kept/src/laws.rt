@@ -160,7 +160,7 @@ pub fn loads_show()
 /// the turn stops the run with a finish that is no outcome. What it takes from the deque's half is
 /// `ActsSo`: the processor is alone in its place, how its row was come to, and of takes that the branch
 /// waits and that no other place is about to begin it.
-/// As the finish word then says no outcome, all is kept there too, and behind it (`all`); so it is where
+/// As the finish word then says no outcome, all is kept there too, and after it (`all`); so it is where
 /// words come back that were saved, with all processors lost.
 pub fn turns_keep()
     ensures law { TurnsKeep }

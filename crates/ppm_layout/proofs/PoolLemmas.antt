@@ -52,7 +52,7 @@ entries_are (suc (suc n)) h =
         let not_1 : eqb k 1 ≡ false = ne_eqb k 1 (λ e. omega (arith, low, e)) in
         rw (not_0, not_1) empty_is_zero
 
--- its words, pushed behind others
+-- its words, pushed after others
 pub entries_pushed : (old one two new : List ℕ) (first second slots : ℕ) → one ≡ old ++ first ∷ [] → two ≡ one ++ second ∷ []
     → new ≡ two ++ replicate (slots - 2) 0 → first ≡ entry_word (Taken 0 0) → second ≡ entry_word (Local 0 0) → 2 ≤ slots
     → new ≡ old ++ entry_words slots
@@ -62,7 +62,7 @@ entries_pushed old one two new first second slots a b c p q h =
     ∙ append_assoc (old ++ first ∷ []) (second ∷ []) rest ∙ append_assoc old (first ∷ []) (second ∷ rest)
     ∙ ap₂ (λ x y. old ++ x ∷ y ∷ rest) p q ∙ ap (λ ws. old ++ ws) (sym (entries_are slots h))
 
--- the root's frame and the zeros behind it, pushed behind others
+-- the root's frame and the zeros after it, pushed after others
 pub frame_pushed : (old one new frame pool : List ℕ) (left : ℕ) → one ≡ old ++ frame → new ≡ one ++ replicate left 0
     → pool ≡ frame ++ replicate left 0 → new ≡ old ++ pool
 frame_pushed old one new frame pool left a b is =

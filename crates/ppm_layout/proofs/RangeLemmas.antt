@@ -16,7 +16,7 @@ range_more n =
     let one : n + 1 ≡ suc n = omega arith in
     ap (range_with_len 0) one ∙ range_from 0 n ∙ ap (λ k. range_with_len 0 n ++ k ∷ []) is
 
--- a word is pushed behind others, and these are then one more
+-- a word is pushed after others, and these are then one more
 pub pushed : (old some longer words new : List ℕ) (w x : ℕ) → new ≡ words ++ w ∷ [] → words ≡ old ++ some → w ≡ x → longer ≡ some ++ x ∷ []
     → new ≡ old ++ longer
 pushed old some longer words new w x push here value more =

@@ -41,7 +41,7 @@ abbrev pub root_link : ℕ → Link
 root_link size = record { kind = Root; size = size }
 
 -- the root's frame: link, outcome, the capsule with which it begins, the other header, value, target, and the regions of its
--- arrays in its first slots; the slots behind these are 0, as all that is not in use
+-- arrays in its first slots; the slots after these are 0, as all that is not in use
 abbrev pub root_frame : CodeParts → List NamedArray → List ℕ
 root_frame code input =
     link_word (root_link (frame_size code code.root)) ∷ finish_word Ended ∷ entry_of code code.root ∷ 0 ∷ 0 ∷ 0

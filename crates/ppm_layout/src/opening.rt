@@ -14,7 +14,7 @@ use ppm_code::{Code, push_arrays};
 use ppm_words::{Input, Items, NamedArray, NoMemory};
 use std::alloc::Global;
 
-/// How many words more the words of an image have room for: a table moves them behind a few.
+/// How many words more the words of an image have room for: a table moves them after a few.
 const SPARE: usize = 8;
 
 /// The lengths of arrays.

@@ -11,7 +11,7 @@ use ppm_code::{Code, frame_size};
 use ppm_words::{NamedArray, NoMemory};
 use std::alloc::Global;
 
-/// The root's frame: how many words it has, from 6 to 31, and the first of them, behind which all
+/// The root's frame: how many words it has, from 6 to 31, and the first of them, after which all
 /// are 0.
 #[derive(Drop)]
 pub struct Root {

@@ -53,7 +53,7 @@ pub plain_leg : (z : SavedState) (items : List ScheduleItem) (acts : ℕ) (m : S
     → IsLegOf z items acts m
 plain_leg z items acts m counts leg = record { start = leg.start; goes_on = leg.goes_on; ends = leg.ends }
 
--- so its machine has the arrays of the state
+-- the machine of a counted leg has the arrays of the state
 pub counted_lengths : (z : SavedState) (items : List ScheduleItem) (acts : ℕ) (m : Situation) (counts : RunCounts)
     → IsCountedLegOf z items acts m counts → (names : List NamedLength) → names ≡ z.arrays
     → m.array_lengths ≡ lengths_of names
@@ -126,7 +126,7 @@ module _ (options : ReplaySavedOptions) where
         ∙ sym l.counted in
         ap (λ (x : Came). answers.ReplayedWith x n) same ∙ ap (λ (x : RunCounts). answers.ReplayedWith d x) counts
 
-    -- so a state has one answer
+    -- a state has one answer
     counted_one : (a b : Answer) → StateCounts options items z a → StateCounts options items z b → a ≡ b
     counted_one a b h l =
         let p = as_counted items z a h in

@@ -129,7 +129,7 @@ module _ (Has : List ScheduleItem → SavedState → Answer → Type 0) where
       pub leg_wants : LegMay Has schedule source answers.NoMemory
       leg_wants = let s = read.state in ((s.0, s.1.whole.most, s.1.whole.front), s.1.holds)
 
-    -- what stands behind the limit of a saved text changes none
+    -- what stands after the limit of a saved text changes none
     pub fronts : FrontsDecide saved_limit (TextHas Has schedule)
     fronts text rest (answers.SavedRefused r) long h = fronts_decide any [] [] [] text rest (answers.SavedRefused r) long h
       where
@@ -148,7 +148,7 @@ goes_on saved keeper r begun is loads =
       loads = loads ∙ (λ i. loaded (is.shape_is i) (is.code_is i) (lengths i) r.image.words);
     }
 
--- so it is after the acts of a schedule
+-- what a machine has come to after the acts of a schedule is a leg of the state
 pub leg_is : (saved : Saved) (keeper : ℕ) (r : Renewed) (begun m : Situation) (items : List ScheduleItem) (acts : ℕ) → IsRenewalOf saved keeper r
     → begun ≡ loaded r.image.shape r.code r.image.lengths r.image.words → m ≡ followed begun items acts → IsLegOf (state_of saved) items acts m
 leg_is saved keeper r begun m items acts is loads ends = record { start = begun; goes_on = goes_on saved keeper r begun is loads; ends = ends }

@@ -29,7 +29,7 @@ leaves (Begin block frame bottom) = true
 leaves (Move place) = true
 leaves _ = false
 
--- so does a step after which the place goes on with the restart word that it has
+-- a step after which the place goes on with the restart word that it has ends a row
 abbrev pub goes_back : Then → Bool
 goes_back Again = true
 goes_back _ = false
@@ -59,7 +59,7 @@ module _ (s : Shape) (code : CodeParts) (words : List ℕ) where
   step_ends (IsBroken place) = true
   step_ends _ = false
 
-  -- so is it after a fault or a quit, wherever it stood
+  -- an act that ends a row: such a step, or a fault or a quit, wherever the processor stood
   abbrev pub act_ends : Act → Standing → Bool
   act_ends (Step victim) standing = step_ends standing
   act_ends act standing = true

@@ -49,7 +49,7 @@ fn found_in(scene: &Scene, want: Want) -> u64
     }
 }
 
-/// The same processor.
+/// A copy of the processor.
 fn copied(local: &Local) -> Local
     ensures { result ≡ local.now }
 {

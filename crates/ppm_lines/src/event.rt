@@ -172,7 +172,7 @@ fn push_mark_event(text: &mut Vec<u8>, moment: Moment, mark: Mark) -> Result<(),
     }
 }
 
-/// The same, if there is a mark.
+/// Appends a mark that is a point in time, if there is one.
 fn push_marked_one(text: &mut Vec<u8>, moment: Moment, mark: Option<Mark>) -> Result<(), NoMemory>
     ensures { OnOk result (text.new.items
         ≡ text.old.items ++ flat_map (mark_event moment) (listed_one mark)) }
@@ -207,7 +207,7 @@ fn push_opened(
     }
 }
 
-/// The same, where a row begins.
+/// Appends the beginning of a row, where one begins.
 fn push_opened_by(
     text: &mut Vec<u8>,
     scene: &Scene,

@@ -119,7 +119,7 @@ begins_instr (l ∷ ls) = is_other l.keyword
     is_other keyword.Capsule = false
     is_other _ = true
 
--- so it is where an instruction stands first
+-- the line of an instruction is one, whichever lines follow
 pub begins_instr-instr_line : (i : Instr) (ls : List Line) → begins_instr (instr_line i ∷ ls) ≡ true
 begins_instr-instr_line (Const d n) ls = refl
 begins_instr-instr_line (Move d a) ls = refl

@@ -48,7 +48,7 @@ cut (b ∷ w) (c ∷ v) rest more p q r s e =
     let (same, left) = cut w v rest more (rest_of_word b w p) (rest_of_word c v q) r s (same_tail e) in
     (cons_path (same_head e) same, left)
 
--- what stands behind a token: other tokens, and a line feed with what follows
+-- what stands after a token: other tokens, and a line feed with what follows
 abbrev behind : List Token → List ℕ → List ℕ
 behind ts rest = flat_map operand_text ts ++ 10 ∷ rest
 

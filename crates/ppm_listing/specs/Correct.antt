@@ -15,7 +15,7 @@ Fits (Name k) = Unit {0}
 Fits (Register r) = Unit {0}
 Fits Absent = Unit {0}
 
--- all numbers behind a keyword do
+-- all numbers after a keyword do
 abbrev pub LineFits : Line → Type 0
 LineFits l = AllByRecursion Fits l.operands
 

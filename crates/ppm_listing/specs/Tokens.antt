@@ -53,7 +53,7 @@ token_text (Register r) = 114 ∷ decimal r.index
 token_text (Number z) = signed_decimal z
 token_text Absent = 45 ∷ []
 
--- a line: a keyword, and the tokens behind it
+-- a line: a keyword, and the tokens after it
 pub record Line : Type 0 where
   pub keyword : Keyword
   pub operands : List Token

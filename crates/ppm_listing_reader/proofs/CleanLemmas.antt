@@ -55,7 +55,7 @@ module _ (code : CodeParts) where
   AllClean place [] = ends_early fault.NotThere place ≡ false
   AllClean place (x ∷ xs) = IsClean place x × AllClean (next place (Some x)) xs
 
-  -- so are all lines where no rule is broken
+  -- all lines are parts that stand at their places and break no rule there
   pub record AreClean (place : Place) (ls standing : List (Option Part)) : Type 0 where
     pub parts : List Part
     pub lines : ls ≡ map Some parts
@@ -203,7 +203,7 @@ module _ (code : CodeParts) where
     instr_fits (StoreNew o a) clean = within_room room o whole r clean.room
     instr_fits (Ends e) clean = end_fits e clean
 
-  -- the room behind an instruction is that of the capsule too
+  -- the room after an instruction is that of the capsule too
   pub room_kept : (front : List Instr) (i : Instr) (rest whole : List Instr) (room : Option ℕ) → whole ≡ front ++ i ∷ rest → RoomIs room whole
       → RoomIs (room_behind (length front) (Some i) room) whole
   room_kept (x ∷ front) i rest whole room e r words h = r words h

@@ -53,7 +53,7 @@ all_cons P x xs is all (suc k) d h = all k d (omega (arith, h))
 all_none : {X : Type 0} (P : X → Type 0) → All P []
 all_none P k d h = absurd (omega (arith, h))
 
--- an element behind others
+-- an element after others
 got_behind : {X : Type 0} (front : List X) (x : X) (rest : List X) → slice_get (front ++ x ∷ rest) (length front) ≡ Some x
 got_behind [] x rest = refl
 got_behind (y ∷ front) x rest = got_behind front x rest
@@ -65,7 +65,7 @@ length_more : {X : Type 0} (front : List X) (x : X) → length front + 1 ≡ len
 length_more front x = omega (arith, length-append front (x ∷ []))
 
 module _ (code : CodeParts) where
-  -- the capsules behind some lines of a capsule
+  -- the capsules after some lines of a capsule
   pub record Behind (capsule : ℕ) (whole : List Instr) (front : List Instr) (procedure : ℕ) (xs : List Part) : Type 0 where
     pub each : (k : ℕ) (i : Instr) → slice_get (instrs_from xs) k ≡ Some i → Fits code procedure whole (length front + k) i
     pub most : length whole ≤ instr_limit
@@ -74,7 +74,7 @@ module _ (code : CodeParts) where
     pub capsules : All (IsCapsule code) (capsules_from xs)
     pub count : capsule + 1 + length (capsules_from xs) ≤ capsule_limit
 
-  -- a capsule with its line, by what stands behind it
+  -- a capsule with its line, by what stands after it
   capsule_whole : (capsule procedure : ℕ) (xs : List Part) → is_procedure code procedure ≡ true → 0 < length (instrs_from xs)
       → Behind capsule (instrs_from xs) [] procedure xs → IsCapsule code (record { procedure = procedure; instrs = instrs_from xs })
   capsule_whole capsule procedure xs there some b = record {
@@ -207,7 +207,7 @@ module _ (code : CodeParts) where
   walk capsule procedure room whole front pre (part.Procedure i s k ∷ xs) clean is e r few cs n most = no clean.0.stands
   walk capsule procedure room whole front pre (part.Instr None ∷ xs) clean is e r few cs n most = yes clean.0.range
 
-  -- behind a capsule no procedure stands
+  -- after a capsule no procedure stands
   no_procedures : (capsule procedure at : ℕ) (room : Option ℕ) (xs : List Part) → AllClean code (Within capsule procedure at room) xs → procedures_from xs ≡ []
   no_procedures capsule procedure at room [] clean = refl
   no_procedures capsule procedure at room (part.Instr i ∷ xs) clean = no_procedures capsule procedure (at + 1) (room_behind at i room) xs clean.1
@@ -216,7 +216,7 @@ module _ (code : CodeParts) where
   no_procedures capsule procedure at room (part.Root q xs' ∷ xs) clean = no clean.0.stands
   no_procedures capsule procedure at room (part.Procedure i s k ∷ xs) clean = no clean.0.stands
 
-  -- the procedures from one on, and the capsules behind them
+  -- the procedures from one on, and the capsules after them
   pub record FromProcedure (first : ℕ) (xs : List Part) : Type 0 where
     pub most : first + length (procedures_from xs) ≤ procedure_limit
     pub slots : All (λ p. p.slots ≤ slot_limit) (procedures_from xs)

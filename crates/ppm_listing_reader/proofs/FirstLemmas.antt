@@ -41,7 +41,7 @@ counted-next (Within c p at room) (Some (part.Capsule d q)) = omega arith
 counted-next (Within c p at room) (Some (part.Instr i)) = omega arith
 
 module _ (code : CodeParts) where
-  -- the first lines break no rule, and the others stand at a place: what is broken is broken behind them
+  -- the first lines break no rule, and the others stand at a place: what is broken is broken after them
   pub record IsPassed (place : Place) (ls : List (Option Part)) (here : Place) (left : List (Option Part)) (number : ℕ) : Type 0 where
     pub behind : (fault : Fault) (later : ℕ) → BreaksAt code fault place ls later → (n : ℕ) × (later ≡ number + n) × BreaksAt code fault here left n
     pub ahead : (fault : Fault) (n : ℕ) → BreaksAt code fault here left n → BreaksAt code fault place ls (number + n)
@@ -103,7 +103,7 @@ module _ (code : CodeParts) where
       go other later (zero, e, h) = inr (omega (arith, e), omega (arith, ap fault_number (only other h)))
       go other later (suc n, e, h) = absurd h
 
-  -- a loop over lines, by the first and those behind it
+  -- a loop over lines, by the first and those after it
   pub passed_step : (place here : Place) (ls left : List (Option Part)) (number : ℕ) (l d : Option Part) → 1 ≤ length left → l ≡ get_or left 0 d
       → IsPassed place ls here left number → ((fault : Fault) → IsTrue (breaks code fault here l) → ⊥)
       → IsPassed place ls (next here l) (take (length left - 1) (drop 1 left)) (number + 1)

@@ -138,7 +138,7 @@ negative n some h = go (nat_le n (2 ^ 63)) refl h
         record { whole = omega (arith, low); word = ap (λ m. 45 ∷ decimal m) same; fits = record { sfits = omega (arith, some, low) } }
     go false e h = absurd (both_ways false refl h)
 
--- a number behind a minus is not 0
+-- a number after a minus is not 0
 abbrev pub IsProper : Token → Type 0
 IsProper (Negative n) = 0 < n
 IsProper _ = Unit {0}
@@ -195,7 +195,7 @@ one_token sort.Proc t p h g r = proc t h
     proc (Name keyword.Proc) h = record { whole = tt; word = refl; fits = tt }
     proc _ h = no h
 
--- the tokens behind a keyword
+-- the tokens after a keyword
 pub data AreTokens : List Token → List Written → Type 0 where
   None_left : AreTokens [] []
   One_more : (t : Token) (w : Written) (ts : List Token) (ws : List Written) → IsToken t w → AreTokens ts ws → AreTokens (t ∷ ts) (w ∷ ws)

@@ -44,7 +44,7 @@ broken_alone (AtProcedure n) (Some (part.Instr i)) h code = absurd (both_ways fa
 broken_alone (Within c q at room) (Some (part.Instr None)) h code = (NotThere, h)
 broken_alone (Within c q at room) (Some (part.Instr (Some i))) h code = (NotThere, or_left (nat_le instr_limit at) _ h)
 
--- a place behind lines, and a line that stands there
+-- a place after lines, and a line that stands there
 after_more : (place : Place) (ls : List (Option Part)) (l : Option Part) → after place (ls ++ l ∷ []) ≡ next (after place ls) l
 after_more place [] l = refl
 after_more place (k ∷ ls) l = after_more (next place k) ls l
@@ -94,7 +94,7 @@ counted-after : (place : Place) (ls : List (Option Part)) → counted (after pla
 counted-after place [] = omega arith
 counted-after place (l ∷ ls) = omega (arith, counted-after (next place l) ls, counted-next place l)
 
--- some lines were read, and the rest stands behind them
+-- some lines were read, and the rest stands after them
 pub record Goes (text : List ℕ) (r : Reader) (left : List ℕ) : Type 0 where
   pub so_far : List (Option Part)
   pub read : HasRead r so_far

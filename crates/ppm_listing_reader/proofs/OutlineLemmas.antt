@@ -48,7 +48,7 @@ longer_last [] c = refl
 longer_last (d ∷ []) c = refl
 longer_last (d ∷ e ∷ cs) c = ap (λ l. d ∷ l) (longer_last (e ∷ cs) c)
 
--- the capsules behind others
+-- the capsules after others
 capsules_out : (o : CodeParts) (ls : List (Option Part))
     → (outlined o ls).capsules ≡ lengthened o.capsules (length (instrs_in ls)) ++ map blanked (capsules_in ls)
 capsules_out o [] = sym (append-nil (lengthened o.capsules 0) ∙ lengthened_none o.capsules)
@@ -114,7 +114,7 @@ outlined_code ls = λ i. record {
   capsules = capsules_out no_outline ls i;
 }
 
--- a line more, behind others
+-- a line more, after others
 pub outlined_more : (o : CodeParts) (ls : List (Option Part)) (l : Option Part) → outlined o (ls ++ l ∷ []) ≡ added (outlined o ls) l
 outlined_more o [] l = refl
 outlined_more o (k ∷ ls) l = outlined_more (added o k) ls l

@@ -362,7 +362,7 @@ module _ (code : CodeParts) where
   first_room (Ends e) is words h = cc
   first_room (Room n) is words h = let same : n ≡ words = cc in ap Room same
 
-  -- behind the first instruction of a capsule its room is known
+  -- after the first instruction of a capsule its room is known
   abbrev RoomSo : List Instr → Option ℕ → List Instr → Type 0
   RoomSo [] room whole = Unit {0}
   RoomSo (x ∷ front) room whole = (words : ℕ) → room_of whole ≡ Some words → room ≡ Some words

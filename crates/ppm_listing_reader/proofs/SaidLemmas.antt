@@ -19,7 +19,7 @@ use Rattle.ppm_listing_reader.proofs.FormLemmas.{IsProper, IsSmall, IsSmallLine,
 use Rattle.ppm_listing_reader.proofs.FormLemmas.{small_number, part_line, IsWholePart, Tells, told}
 use Rattle.ppm_listing_reader.proofs.LineLemmas.{HasText, line_written}
 
--- a number behind a minus is not 0
+-- a number after a minus is not 0
 proper_minus : (bs : List ℕ) → IsProper (minus bs)
 proper_minus [] = tt
 proper_minus (d ∷ ds) = go (is_numeral (d ∷ ds) && not (d == 48)) refl
@@ -56,7 +56,7 @@ proper_tokens : (ws : List (List ℕ)) → AllByRecursion IsProper (map token_of
 proper_tokens [] = tt
 proper_tokens (w ∷ ws) = (proper_token w, proper_tokens ws)
 
--- the line of a part, by the tokens behind its keyword
+-- the line of a part, by the tokens after its keyword
 pub record Said (k : Keyword) (ts : List Token) (x : Part) : Type 0 where
   pub operands : List Written
   pub line : part_line x ≡ line k operands

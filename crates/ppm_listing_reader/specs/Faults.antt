@@ -89,7 +89,7 @@ module _ (code : CodeParts) where
       is_no_slot (slots_of code procedure) left_to || is_no_slot (slots_of code procedure) right_to
   end_out_of_range procedure _ = false
 
-  -- likewise of an instruction
+  -- whether a number of an instruction is out of range
   abbrev pub instr_out_of_range : (procedure : ℕ) → Instr → Bool
   instr_out_of_range procedure (Add to left right line) = is_no_line line
   instr_out_of_range procedure (Sub to left right line) = is_no_line line
@@ -116,7 +116,7 @@ module _ (code : CodeParts) where
   instr_out_of_range procedure (BranchNonZero tested target) = false
   instr_out_of_range procedure (StoreNew word from) = false
 
-  -- likewise of a line; more arrays than slots are so where the root's procedure is there
+  -- whether a number of a line is out of range; more arrays than slots are so where the root's procedure is there
   abbrev pub is_out_of_range : Place → Part → Bool
   is_out_of_range place (part.Root procedure arrays) =
       list_any (λ array. nat_le array_limit array) arrays || (is_procedure procedure && nat_lt (slots_of code procedure) (length arrays))
@@ -129,7 +129,7 @@ module _ (code : CodeParts) where
   abbrev pub instr_not_forward : (capsule at : ℕ) → Instr → Bool
   instr_not_forward capsule at i = target_badly at (length (instrs_of code capsule)) (target_of i)
 
-  -- likewise of a line
+  -- whether an instruction's line at a place is a branch that does not lead forward
   abbrev pub is_not_forward : Place → Part → Bool
   is_not_forward (Within capsule procedure at room) (part.Instr (Some i)) = instr_not_forward capsule at i
   is_not_forward _ _ = false
@@ -140,7 +140,7 @@ module _ (code : CodeParts) where
   is_no_end (Within capsule procedure at room) (part.Instr (Some i)) = (at + 1 == length (instrs_of code capsule)) && not (is_end i)
   is_no_end _ _ = false
 
-  -- 5: whether an instruction asks for room behind the first place, or takes room that there is not
+  -- 5: whether an instruction asks for room after the first place, or takes room that there is not
   abbrev pub instr_has_wrong_room : (at : ℕ) → (room : Option ℕ) → Instr → Bool
   instr_has_wrong_room at room (Room words) = not (at == 0)
   instr_has_wrong_room at room (StoreNew offset from) = is_past_room room offset
@@ -149,7 +149,7 @@ module _ (code : CodeParts) where
       is_no_room_of room (is_procedure left && is_procedure right) (fork_size code left right)
   instr_has_wrong_room at room _ = false
 
-  -- likewise of a line
+  -- whether an instruction's line at a place asks for room after the first place, or takes room that there is not
   abbrev pub has_wrong_room : Place → Part → Bool
   has_wrong_room (Within capsule procedure at room) (part.Instr (Some i)) = instr_has_wrong_room at room i
   has_wrong_room _ _ = false

@@ -1,4 +1,4 @@
--- The forms of lines: what stands behind each keyword, and what it says.
+-- The forms of lines: what stands after each keyword, and what it says.
 use Rattle.std.specs.Prelude.{ℕ, ◌-◌, ◌^◌, ◌==◌, min, ℤ, pos, negsuc, Bool, true, false, not, ◌&&◌, nat_lt, nat_le, if◌then◌else◌, List, [], ◌∷◌}
 use Rattle.std.specs.Prelude.{map, get_or, drop, Option, Some, None}
 use Rattle.std.specs.List.{list_all}
@@ -41,7 +41,7 @@ are_of [] [] = true
 are_of (s ∷ ss) (t ∷ ts) = is_of s t && are_of ss ts
 are_of _ _ = false
 
--- what stands behind a keyword: three registers and a line of the source, three registers, two, and so on
+-- what stands after a keyword: three registers and a line of the source, three registers, two, and so on
 abbrev pub three_at : List Sort
 three_at = sort.Register ∷ sort.Register ∷ sort.Register ∷ sort.Number ∷ []
 
@@ -98,7 +98,7 @@ abbrev pub is_number : Token → Bool
 is_number (Number n) = true
 is_number _ = false
 
--- whether tokens may stand behind a keyword at the front of a line; the arrays of the root are any number of numbers, and a `forkto` names one slot at least
+-- whether tokens may stand after a keyword at the front of a line; the arrays of the root are any number of numbers, and a `forkto` names one slot at least
 abbrev pub has_form : Keyword → List Token → Bool
 has_form keyword.Root ts = not (is_empty ts) && list_all is_number ts
 has_form keyword.Slots ts = false
@@ -202,7 +202,7 @@ abbrev pub part_in : List Token → Option Part
 part_in (Name k ∷ ts) = if has_form k ts then Some (part_of k ts) else None
 part_in _ = None
 
--- whether a token may stand behind eight others: only the root's line is so long, and has numbers
+-- whether a token may stand after eight others: only the root's line is so long, and has numbers
 abbrev pub may_go_on : List Token → Token → Bool
 may_go_on (Name keyword.Root ∷ ts) t = is_number t
 may_go_on _ t = false

@@ -20,7 +20,7 @@ breaks_alone place (Some (part.Capsule c procedure)) = nat_le capsule_limit c
 breaks_alone (Within capsule procedure at room) (Some (part.Instr i)) = nat_le instr_limit at
 breaks_alone place _ = false
 
--- the place behind lines
+-- the place after lines
 abbrev pub after : Place → List (Option Part) → Place
 after place [] = place
 after place (l ∷ ls) = after (next place l) ls

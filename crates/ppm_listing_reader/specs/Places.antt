@@ -31,12 +31,12 @@ abbrev pub asked : Option Instr → Option ℕ
 asked (Some (Room words)) = Some words
 asked _ = None
 
--- the words that a capsule asks for, behind the instruction at a place of it: what its first one does
+-- the words that a capsule asks for, after the instruction at a place of it: what its first one does
 abbrev pub room_behind : (at : ℕ) → Option Instr → Option ℕ → Option ℕ
 room_behind zero i room = asked i
 room_behind (suc at) i room = room
 
--- the place behind what stands; in a capsule a line of no form counts as an instruction
+-- the place after what stands; in a capsule a line of no form counts as an instruction
 abbrev pub next : Place → Option Part → Place
 next AtVersion (Some part.Version) = AtRoot
 next AtRoot (Some (part.Root procedure arrays)) = AtProcedure 0
@@ -82,7 +82,7 @@ instrs_in (Some (part.Capsule c procedure) ∷ ls) = []
 instrs_in (Some (part.Instr i) ∷ ls) = instr_or_end i ∷ instrs_in ls
 instrs_in (l ∷ ls) = Ends Finish ∷ instrs_in ls
 
--- the capsules, each with the instructions behind it
+-- the capsules, each with the instructions after it
 abbrev pub capsules_in : List (Option Part) → List Capsule
 capsules_in [] = []
 capsules_in (Some (part.Capsule c procedure) ∷ ls) = record { procedure = procedure; instrs = instrs_in ls } ∷ capsules_in ls

@@ -34,7 +34,7 @@ abbrev pub named : Option Keyword → Token
 named None = Other
 named (Some k) = Name k
 
--- the token behind a minus: a number that is not 0, or none at all
+-- the token after a minus: a number that is not 0, or none at all
 abbrev pub minus : List ℕ → Token
 minus [] = Absent
 minus (d ∷ ds) = if is_numeral (d ∷ ds) && not (d == 48) then Negative (value (d ∷ ds)) else Other

@@ -83,7 +83,7 @@ fn instrs(alloc: Global, lines: &[Option<Part>]) -> Result<Vec<Instr>, NoMemory>
     Ok(instrs)
 }
 
-/// The capsules, each with the instructions behind it.
+/// The capsules, each with the instructions after it.
 fn capsules(alloc: Global, lines: &[Option<Part>]) -> Result<Vec<Capsule>, NoMemory>
     ensures { IfOk result (λ capsules. capsules.items ≡ capsules_in lines.now) }
 {

@@ -10,7 +10,7 @@ ghost use Rattle.ppm_listing_reader.specs.Forms.{sorts as sorts_of};
 use crate::token::Token;
 use ppm_listing::Keyword;
 
-/// What a token behind a keyword has to be.
+/// What a token after a keyword has to be.
 #[derive(Clone, Copy, Debug)]
 pub enum Sort {
     /// A register.
@@ -108,7 +108,7 @@ fn are_numbers(tokens: &[Token]) -> bool
     true
 }
 
-/// What stands behind a keyword at the front of a line, a sort for each token. The line of the root
+/// What stands after a keyword at the front of a line, a sort for each token. The line of the root
 /// has more numbers, and that of `forkto` names one slot at least.
 pub fn sorts(keyword: Keyword) -> &'static [Sort]
     ensures { result.now ≡ sorts_of keyword }
@@ -159,7 +159,7 @@ pub fn sorts(keyword: Keyword) -> &'static [Sort]
     }
 }
 
-/// Whether tokens may stand behind a keyword at the front of a line.
+/// Whether tokens may stand after a keyword at the front of a line.
 pub(crate) fn has_form(keyword: Keyword, tokens: &[Token]) -> bool
     ensures { result ≡ is_form keyword tokens.now }
 {
@@ -202,7 +202,7 @@ pub(crate) fn has_form(keyword: Keyword, tokens: &[Token]) -> bool
     }
 }
 
-/// Whether tokens may stand behind `forkto`.
+/// Whether tokens may stand after `forkto`.
 fn is_forkto(tokens: &[Token]) -> bool
     ensures { result ≡ is_form keyword.ForkTo tokens.now }
 {

@@ -43,7 +43,7 @@ fn numbers(alloc: Global, tokens: &[Token]) -> Result<Vec<u32>, NoMemory>
     Ok(numbers)
 }
 
-/// The root's line behind its keyword.
+/// The root's line after its keyword.
 fn root(alloc: Global, tokens: &[Token]) -> Result<Part, NoMemory>
     ensures { IfOk result (λ p. p ≡ of_keyword keyword.Root tokens.now) }
 {

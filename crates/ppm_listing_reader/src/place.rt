@@ -47,7 +47,7 @@ fn asked(instr: Option<Instr>) -> Option<u32>
     }
 }
 
-/// The words that a capsule asks for, behind the instruction at a place of it.
+/// The words that a capsule asks for, after the instruction at a place of it.
 fn room_behind(at: u32, instr: Option<Instr>, room: Option<u32>) -> Option<u32>
     ensures { result ≡ behind at instr room }
 {
@@ -91,7 +91,7 @@ impl Place {
         }
     }
 
-    /// The place behind what stands here.
+    /// The place after what stands here.
     pub(crate) fn next(self, line: &Option<Part>) -> Place
         requires { counted self + 1 < 2 ^ 32 }
         ensures { result ≡ place_behind self line.now }

@@ -242,7 +242,7 @@ fn are_procedures(code: &Outline, left: u32, right: u32) -> bool
     code.is_procedure(left) && code.is_procedure(right)
 }
 
-/// Whether an instruction asks for room behind the first place, or takes room that there is not.
+/// Whether an instruction asks for room after the first place, or takes room that there is not.
 fn instr_has_wrong_room(code: &Outline, at: u32, room: Option<u32>, instr: Instr) -> bool
     ensures { result ≡ rule.instr_has_wrong_room code.now at room instr }
 {

@@ -99,7 +99,7 @@ fn named(keyword: Option<Keyword>) -> Token
     }
 }
 
-/// The token behind a minus.
+/// The token after a minus.
 fn minus(bytes: &[u8]) -> Token
     ensures { result ≡ minus_token bytes.now }
 {
@@ -139,7 +139,7 @@ pub fn token_in(word: &[u8]) -> Token
     }
 }
 
-/// Whether a token may stand behind eight others.
+/// Whether a token may stand after eight others.
 fn may_go_on(tokens: &[Token], token: Token) -> bool
     ensures { result ≡ goes_on tokens.now token }
 {

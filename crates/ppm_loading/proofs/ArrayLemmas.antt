@@ -50,7 +50,7 @@ front_of front rest = take-append-le (length front) front rest (omega arith) ∙
 
 module _ (s : Shape) (lengths words : List ℕ) (fit : AreWordsOf s words) (w : Words)
     (same : (x : ℕ) → x < s.arrays → read s words (ArrayWord x) ≡ w x) where
-  -- the arrays behind some, whose lengths stand in front
+  -- the arrays after some, whose lengths stand in front
   arrays_behind : (front : List ℕ) (arrays : List NamedArray) → lengths ≡ front ++ lengths_of arrays
       → sum front + sum (lengths_of arrays) ≤ s.arrays
       → arrays_from s lengths words (length front) arrays ≡ arrays_at w (sum front) arrays

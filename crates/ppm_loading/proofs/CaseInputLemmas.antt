@@ -53,7 +53,7 @@ values_few room (w ∷ ws) e =
     let rest = values_few (room - times_of (run_in w)) ws parts.1 in
     omega (arith, length-append (run_values (run_in w)) (values_in ws), few, within, rest)
 
--- so an array has as many values as its length says
+-- an array has as many values as its length says
 filled_length : (len : ℕ) (zs : List ℤ) → length zs ≤ len → length (filled len zs) ≡ len
 filled_length len zs few = omega (arith, length-append zs (replicate (len - length zs) (pos 0)), length-replicate (len - length zs) (pos 0), few)
 

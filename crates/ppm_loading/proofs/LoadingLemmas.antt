@@ -76,7 +76,7 @@ module _ (sizes : Sizes) where
 
   module _ (code : CodeParts) (arrays : List NamedArray) (keeper : ℕ) where
     -- its arrays are as long as those that the text gives, and it has as many processors and as much room as the sizes say, and
-    -- no turn behind it
+    -- no turn after it
     pub opens_lengths : (m : Situation) → OpensRun sizes code arrays keeper m
         → m.array_lengths ≡ map (λ (a : NamedArray). length a.values) arrays
     opens_lengths m b = ap (λ (x : Situation). x.array_lengths) b.loads ∙ b.opens.lengths_are

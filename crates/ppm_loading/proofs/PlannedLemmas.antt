@@ -98,7 +98,7 @@ module _ {A : Type 0} (form : Form A) (plan : List ℕ) (processors : ℕ) (Has 
           record { error = h.error; of_text = h.of_text; refused = h.refused; number_is = refl },
         )
 
-  -- what stands behind the limit changes none
+  -- what stands after the limit changes none
   pub planned_front : IsSteady → ((items : List A) → FrontsDecide limit (Has items)) → FrontsDecide limit PH
   planned_front plain fronts text rest a long h = go (of_plan text a h)
     where
@@ -157,7 +157,7 @@ module _ {A : Type 0} (form : Form A) (plan : List ℕ) (processors : ℕ) (Has 
   planned_delivered Tells law o a status told wanting h (inr d) =
       record { answer = answers.NoMemory; cause = memory_may law o.source a h d.0; delivered = d.1; told = wanting }
 
-  -- the same of a command without watchers
+  -- what was delivered of an answer of a command without watchers is the answer, or out of memory in its place
   pub planned_done : PlansHaveOneAnswer form → (o : Ports) (a : Answer) (status : Status) → May o.source a
       → Delivers o.out o.err a status ⊎ ((¬ IsFixed a) × Delivers o.out o.err answers.NoMemory status) → DeliversAnswer (May o.source) o status
   planned_done law o a status h (inl d) = record { answer = a; cause = h; delivered = d }
@@ -208,7 +208,7 @@ module _ {A : Type 0} (form : Form A) (plan : List ℕ) (processors : ℕ) (Has 
         go (inr w) (inr (inr (inl p))) = inl (w.own ∙ ap status_of p.3)
         go (inr w) (inr (inr (inr h))) = absurd (apart law h.2.items h.2.accepted number r)
 
-    -- the rows of the command, where what stands behind the limit changes no answer, by what each answer's own status says
+    -- the rows of the command, where what stands after the limit changes no answer, by what each answer's own status says
     pub planned_rows : PlansHaveOneAnswer form → FrontsDecide limit PH → (Says : Status → Type 0)
         → SaysOfPorts o Says
         → ((answer : Answer) → ReadOrRefused Refused (HasByItems form plan processors Has) limit o.source answer

@@ -34,7 +34,7 @@ pub is_some : (word : ℕ) (finish : Finish) → finish_of word ≡ Some finish 
 is_some word finish stands other none =
     other (same_finish finish finishes.Unset (sym stands ∙ ap finish_of none ∙ unset_stands))
 
--- so the word says it
+-- a word that stands for an ending says it
 pub ending_is : (word : ℕ) (finish : Finish) → finish_of word ≡ Some finish → finish ≢ finishes.Unset → ending_of word ≡ With finish
 ending_is zero finish stands other = absurd (is_some 0 finish stands other refl)
 ending_is (suc word) finish stands other = ap ending_by stands

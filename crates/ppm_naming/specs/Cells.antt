@@ -29,7 +29,7 @@ procedure_name_text (Named name) = name
 procedure_name_text (EachOf line) = codes "each:" ++ decimal line
 procedure_name_text (Numbered number) = codes "proc:" ++ decimal number
 
--- the same, and `?` for none
+-- how a procedure is called, and `?` for none
 abbrev pub called : Option ProcedureName → List ℕ
 called None = codes "?"
 called (Some name) = procedure_name_text name

@@ -18,7 +18,7 @@ region_word-is : (start size : ℕ) → region_word (record { start = start; len
 unfolding number_of
 region_word-is start size = let is : 0 + start ≡ start = omega arith in ap (λ n. n * 2 ^ 32 + size) is
 
--- the region of an array behind others
+-- the region of an array after others
 region_at : (start : ℕ) (input : List NamedArray) (number : ℕ) → number < length input
     → get_or (regions_from start input) number 0
     ≡ (start + value_count (take number input)) * 2 ^ 32 + length (values_in (slice_get input number))

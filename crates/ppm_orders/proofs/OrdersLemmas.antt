@@ -60,7 +60,7 @@ module _ {A : Type 0} (form : Form A) (orders : List ℕ) (processors : ℕ) whe
       pub task_wants : May source answers.NoMemory
       task_wants = by_program answers.NoMemory tt
 
-  -- likewise of a command that runs a case
+  -- what a command that runs a case may answer
   module _ (Has : List A → CodeParts → List NamedArray → Answer → Type 0) where
     abbrev CaseMay : Port → Answer → Type 0
     CaseMay source a = PlannedMay form orders processors (λ items text answer. cases.TextHas (Has items) text answer) case_limit source a

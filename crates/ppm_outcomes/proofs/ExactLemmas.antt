@@ -1,4 +1,4 @@
--- What the finish word says behind a schedule's run of a program's machine.
+-- What the finish word says after a schedule's run of a program's machine.
 use Rattle.std.proofs.Common.{◌≡◌, ◌≢◌, ◌<◌, ℕ, List, sym, ap, ◌∙◌, subst, arith}
 use Rattle.ppm_cells.specs.declared.cell.Cell.TheVariants.{FinishWord}
 use Rattle.ppm_code.specs.Code.{IsCode}

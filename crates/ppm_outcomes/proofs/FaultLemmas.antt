@@ -42,7 +42,7 @@ strike_faults (Quit why) x c = omega arith
 strike_faults Soft x c = one_or_none (is_strike Soft x) c
 strike_faults Hard x c = one_or_none (is_strike Hard x) c
 
--- so is one that undoes work
+-- an act that undoes work is a fault
 pub undone_faults : (how : Takeover) (act : Act) (x : Standing) (r : Option Restart) (c : ℕ)
     → length (if undoes how act x r then c ∷ [] else []) ≤ one_if (is_fault act)
 undone_faults ByPlaces act x r c = strike_faults act x c
@@ -75,7 +75,7 @@ module _ (s : Shape) (code : CodeParts) where
   legs_struck_few words (leg ∷ legs) =
       let rest = legs_struck_few words legs in let last = struck_few leg.turns (state_then s code words legs) in omega (arith, rest, last)
 
--- Of a schedule: each turn is an act of its list, or a step behind it.
+-- Of a schedule: each turn is an act of its list, or a step after it.
 module _ (s : Shape) (code : CodeParts) where
   abbrev faults_due : List Due → ℕ
   faults_due [] = 0

@@ -140,7 +140,7 @@ module _ (options : ReplayOptions) (items : List ScheduleItem) where
     abbrev ending : Situation
     ending = followed start items options.turns
 
-    -- what is said of the machine behind the run of the schedule is the code's answer
+    -- what is said of the machine after the run of the schedule is the code's answer
     pub has_said : (a : Answer) → IsSaid options.turns ending input a → CodeHas options items code input a
     has_said a h = record {
       keeper = keeper;
@@ -165,7 +165,7 @@ module _ (options : ReplayOptions) (items : List ScheduleItem) where
     some_end = some_said options.processors options.turns ending input
         (says_proposed (sizes_of options) code input keeper items options.turns start opens is)
 
-    -- so there is one
+    -- a replay of the code has an answer
     pub some_has : (a : Answer) × CodeHas options items code input a
     some_has = (some_end.0, has_said some_end.0 some_end.1)
 
@@ -194,6 +194,6 @@ module _ (options : ReplayOptions) (items : List ScheduleItem) where
   filled_has code input place h =
       h.filled place (room_said options.processors options.turns (followed h.start items options.turns) input h.proposed place h.says)
 
-  -- so is that of a program
+  -- an answer of a program's replay is of no other kind
   pub of_program : (t : ProgramTree) (a : Answer) → ProgramHas options items t a → IsOfProgram options.processors options.turns a
   of_program t = of_code (code_of t) (initial_arrays t)

@@ -1,4 +1,4 @@
--- The answers that a saved text has where it is resumed: what its words say behind a run from them.
+-- The answers that a saved text has where it is resumed: what its words say after a run from them.
 use Rattle.std.proofs.Common.{◌≡◌, ◌≢◌, ◌⊎◌, ◌≤◌, ◌<◌, ◌∙◌, inl, inr, ℕ, List, ◌++◌, length, map, Option, Some, None, arith, refl, sym, ap, subst, length-append}
 use Rattle.ppm_words.specs.declared.event.Event.{Event}
 use Rattle.ppm_words.specs.declared.named_array.NamedArray.{NamedArray}
@@ -164,7 +164,7 @@ module _ (z : SavedState) (words : List ℕ) (renewed : AreRenewed z.shape z.wor
     abbrev pub start : Situation
     start = loaded z.shape z.code (lengths_of z.arrays) words
 
-    -- what is said behind turns of the machine, whose finish word has a cause in them
+    -- what is said after turns of the machine, whose finish word has a cause in them
     module _ (limits : Limits) (turns : List Turn) (arrays : List NamedArray)
         (has_end : Finishes z.shape z.code limits start.state turns (finish_behind start turns)) where
       abbrev Said : Answer → Type 0
@@ -444,7 +444,7 @@ module _ (options : ResumeOptions) (plan : List ℕ) (before now : ToldLists) wh
   pub no_fault : (text : List ℕ) → ¬ TextHas options plan before now text answers.ReadFault
   no_fault text h = has_kind options before now h.has.items h.state answers.ReadFault h.has.has
 
--- what stands behind the limit changes no answer: a text that is longer is refused
+-- what stands after the limit changes no answer: a text that is longer is refused
 module _ (text rest : List ℕ) (long : saved_limit < length text) where
   longer : saved_limit < length (text ++ rest)
   longer = let e = length-append text rest in omega (arith, long, e)
@@ -477,7 +477,7 @@ fronts_decide options plan before now text rest a long h = let short = h.is.shor
 pub same_plan : (z : SavedState) (plan : Planned) → plan.processors ≡ z.shape.processors → plan ≡ plan_of z plan.items
 same_plan z plan same = λ i. record { processors = same i; items = plan.items }
 
--- some answer is that of a state, and it is what is said of the words behind its run
+-- some answer is that of a state, and it is what is said of the words after its run
 module _ (options : ResumeOptions) (z : SavedState) (items : List PlanItem) (before now : ToldLists) where
   some_run : (stands : finish_of (saved_finish z) ≢ None) (keeper : ℕ) (words : List ℕ) (turns : List Turn) → AreRenewed z.shape z.words words → IsCode z.code
       → IsKeeper plan_form items keeper → keeper < z.shape.processors
@@ -501,7 +501,7 @@ module _ (options : ResumeOptions) (z : SavedState) (items : List PlanItem) (bef
         },
       )
 
--- what is said behind the run of a table over the words that fresh processors find, and told of it
+-- what is said after the run of a table over the words that fresh processors find, and told of it
 module _ {W : Type 0} (told : W → Option (List Event)) (options : ResumeOptions) (z : SavedState) (plan : Planned) where
   abbrev k : (words : List ℕ) → Opening
   k words = record { shape = z.shape; code = z.code; words = words }

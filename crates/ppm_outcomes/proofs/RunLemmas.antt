@@ -143,7 +143,7 @@ module _ (s : Shape) (lengths words : List ℕ) (arrays : List NamedArray) where
       → IsSaid s lengths arrays words a → a ≡ answers.OutOfTurns processor
   spent_answer processor stands a = subst (λ (e : Ending). At e a) (spent_ending processor stands)
 
--- what is said behind turns of a machine whose finish word was 0, and has a cause in them
+-- what is said after turns of a machine whose finish word was 0, and has a cause in them
 module _ (limits : Limits) (start : Situation) (unset : finish_in start ≡ 0) (turns : List Turn) (arrays : List NamedArray) where
   abbrev Said : Answer → Type 0
   Said a = IsSaid start.shape start.array_lengths arrays (words_behind start turns) a
@@ -250,12 +250,12 @@ module _ (options : RunOptions) (watching : ℕ) (before now : ToldLists) (items
     };
   }
 
--- so is that of a program
+-- an answer of a program's run is of no other kind
 pub of_program : (options : RunOptions) (watching : ℕ) (before now : ToldLists) (items : List PlanItem) (t : ProgramTree) (a : Answer)
     → ProgramHas options watching before now items t a → IsOfProgram options.processors a
 of_program options watching before now items t = of_code options watching before now items (code_of t) (initial_arrays t)
 
--- so are those of texts, and those with a plan
+-- an answer of a text is one whatever watchers were told, with a plan too
 pub text_forgets : (options : RunOptions) (watching : ℕ) (before now : ToldLists) (items : List PlanItem) (text : List ℕ) (a : Answer)
     → TextHas options watching before now items text a → TextHas options 0 [] [] items text a
 text_forgets options watching before now items text (answers.SourceRefused r) h = h
@@ -274,7 +274,7 @@ run_forgets options watching before now plan text a h = record {
 pub same_plan : (options : RunOptions) (plan : Planned) → plan.processors ≡ options.processors → plan ≡ plan_of options plan.items
 same_plan options plan same = λ i. record { processors = same i; items = plan.items }
 
--- some answer is that of a code, and it is what is said of the words behind its run
+-- some answer is that of a code, and it is what is said of the words after its run
 module _ (options : RunOptions) (items : List PlanItem) (code : CodeParts) (input : List NamedArray) (before now : ToldLists) where
   some_run : (keeper : ℕ) (start : Situation) (turns : List Turn) → IsKeeper plan_form items keeper
       → OpensRun (sizes_of options) code input keeper start → IsCode code
@@ -305,7 +305,7 @@ table_processors options code input sizes keeper shared are opens =
     ap (λ (s : Shape). s.processors) (sym shared.told.0)
     ∙ opens_processors sizes code input keeper (opened_by shared) opens ∙ ap (λ (z : Sizes). z.processors) are
 
--- what is said behind the run of a table, and told of it
+-- what is said after the run of a table, and told of it
 module _ {W : Type 0} (told : W → Option (List Event)) (options : RunOptions) (plan : Planned) (code : CodeParts) (input : List NamedArray) where
   abbrev ListsTold : Planned → Limits → Situation → List Turn → List W → List W → Type 0
   ListsTold p l m turns old new = AreTold options.processors p l (map told old) (map told new) m turns

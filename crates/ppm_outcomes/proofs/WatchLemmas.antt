@@ -1,4 +1,4 @@
--- What watchers were told, as lists: behind a drive, and where there was none.
+-- What watchers were told, as lists: after a drive, and where there was none.
 use Rattle.std.specs.Prelude.{⊤}
 use Rattle.std.proofs.Common.{◌≡◌, ◌<◌, ◌≤◌, ℕ, zero, suc, nat_lt, Bool, true, false, List, [], ◌∷◌, ◌++◌, length, map, get_or, slice_index_or, Option, Some, None, refl, sym, ap, ◌∙◌, subst, arith, append-nil}
 use Rattle.std.proofs.lemmas.Bool.{ltb-true, ltb-false}
@@ -138,7 +138,7 @@ module _ {W : Type 0} (told : W → Option (List Event)) where
         (subst (λ (l : Option (List Event)). AppendsList (told (slice_index_or old c w)) l
         (told_in plan limits c k.shape k.code (start k) d.turns)) (sym (list_at new c w below)) (d.told_are c w there))
 
-    -- so the watchers were told what belongs to these turns
+    -- the watchers were told what belongs to these turns
     pub are_told : (old new : List W) (w : W) → length new ≡ length old → k.shape.processors ≤ length old → watching ≡ k.shape.processors
         → OthersStay k.shape.processors old new → (d : Driven told plan limits k words old new)
         → AreTold watching plan limits (map told old) (map told new) (loaded k.shape k.code lengths k.words) d.turns

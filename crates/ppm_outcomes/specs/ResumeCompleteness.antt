@@ -12,12 +12,12 @@ use Rattle.ppm_outcomes.specs.Legs.{lost_in_all}
 use Rattle.ppm_outcomes.specs.Resumes.{SavedState, IsTextOf, TextHas, IsLeftBy}
 use Rattle.ppm_outcomes.specs.Strikes.{fault_count}
 
--- How many rows of work a run may lose that goes on by the items of a plan behind so many that were lost: one of each place, whose processor is a
+-- How many rows of work a run may lose that goes on by the items of a plan after so many that were lost: one of each place, whose processor is a
 -- fresh one, and one by each fault of the plan.
 abbrev pub lost_with : (lost processors : ℕ) → List PlanItem → ℕ
 lost_with lost processors items = lost + processors + fault_count items
 
--- the same number for a program's run, after all legs that left its state
+-- how many rows of work a program's run may lose, after all legs that left its state
 abbrev pub faults_with : {source : List ℕ} {z : SavedState} → IsLeftBy source z → List PlanItem → ℕ
 faults_with left items = lost_with (lost_in_all left.start left.legs left.turns) left.start.shape.processors items
 

@@ -137,7 +137,7 @@ RunWants options watching plan before now source =
 abbrev pub TellsOfTurns : Answer → ToldLists → ToldLists → Type 0
 TellsOfTurns answer before now = TellsOfRun (λ answer before now. ⊤) answer before now
 
--- the same, and this where memory is wanting; the watchers after the first so many were told nothing
+-- what watchers were told with an answer of a run, and this where memory is wanting; the watchers after the first so many were told nothing
 abbrev pub RunTold : (watching : ℕ) → (Wanting : Type 0) → Answer → ToldLists → ToldLists → Type 0
 RunTold watching Wanting answer before now = TellsOfTurns answer before now × OthersKeep watching before now × IfWanting Wanting answer
 

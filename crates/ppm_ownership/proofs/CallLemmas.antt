@@ -197,7 +197,7 @@ module _ (f : Frame) (a : Arrays) where
         beside = λ none z v d e is is' r s other. absurd (none_and_some refl is);
       }
 
-      -- so it is with all arguments of a call that is admitted
+      -- all arguments of a call that is admitted are lent
       pub are_lent : (ps : List Parameter) (args : List Argument) (g g' : Frame) (front : Scope) → AreNew t front (map of_parameter ps)
           → length ps ≡ length args → AreMade t scope (uses_of_arguments ps args) → with_arguments f a ps args g ≡ Ok g' → AreLent ps args g g'
       are_lent [] args g g' front new count made h = none_are_lent args g g' h

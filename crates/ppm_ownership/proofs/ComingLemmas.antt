@@ -62,7 +62,7 @@ module _ (t : ProgramTree) (rules : KeepsRules t) (admitted : IsAdmitted t) wher
     pub apart : OwnsApart scope f.regions
     pub within : LieInArrays t.arrays scope f.regions
 
-  -- behind a statement
+  -- after a statement
   behind : (scope : Scope) (s : Statement) (b : Block) (f f' : Frame) → f'.regions ≡ f.regions → Stands scope (Then s b) f → Stands (scope ++ lets_of s) b f'
   behind scope s b f f' same h = record {
     sites = sites_behind t scope s b h.sites;

@@ -92,7 +92,7 @@ module _ (t : ProgramTree) (scope : Scope) (f : Frame) (a : Arrays) where
 abbrev first_whole : ℕ → Array → List Array → Bool → List ℕ → Region
 first_whole k b arrays c x = cond c (record { array = k; start = 0; length = b.words }) (whole_from (suc k) arrays x)
 
--- the whole of an array stands behind those in front of it
+-- the whole of an array stands after those in front of it
 whole_behind : (k : ℕ) (arrays : List Array) (x : List ℕ) (a i : ℕ) → HasWord (whole_from k arrays x) a i → k ≤ a
 whole_behind k [] x a i h = absurd (omega (arith, h.below))
 whole_behind k (b ∷ arrays) x a i h = go (bytes_eq b.name.name x) (whole_behind (suc k) arrays x a i) h
@@ -102,7 +102,7 @@ whole_behind k (b ∷ arrays) x a i h = go (bytes_eq b.name.name x) (whole_behin
     go true rest h = omega (arith, h.array)
     go false rest h = let l = rest h in omega (arith, l)
 
--- so those of two names share no word
+-- the whole arrays of two names share no word
 wholes_apart : (k : ℕ) (arrays : List Array) (x y : List ℕ) → x ≢ y → (a i : ℕ) → HasWord (whole_from k arrays x) a i → HasWord (whole_from k arrays y) a i → ⊥
 wholes_apart k [] x y other a i p q = omega (arith, p.below)
 wholes_apart k (b ∷ arrays) x y other a i p q =

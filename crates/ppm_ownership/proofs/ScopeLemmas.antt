@@ -1,4 +1,4 @@
--- What may be used behind a statement might be so in front of it.
+-- What may be used after a statement might be so before it.
 use Rattle.std.proofs.Common.{◌≡◌, ◌≢◌, ◌⊎◌, inl, inr, cond, Bool, true, false, ℕ, List, [], ◌∷◌, ◌++◌, Option, Some, None, map, refl, sym, ap, ◌∙◌}
 use Rattle.std.specs.Str.{bytes_eq}
 use Rattle.std.proofs.lemmas.Slice.Eq.{bytes_eq-Decides}
@@ -28,7 +28,7 @@ lets_no_region (tree.Fork s t) x d h region = none_and_some refl h
 lets_no_region (Split l r e y z s) x d h region = none_and_some refl h
 lets_no_region (Each i y r s) x d h region = none_and_some refl h
 
--- so a region in force behind a statement was so in front of it
+-- a region in force after a statement was in force before it
 found_before : (scope : Scope) (s : Statement) (x : List ℕ) (d : Declaration) → declared (scope ++ lets_of s) x ≡ Some d → is_region d.mode ≡ true
     → declared scope x ≡ Some d
 found_before scope s x d h region = elim (found_cases (declared scope x)) [

@@ -106,7 +106,7 @@ module _ (scope : Scope) (r : Named) (whole : IsSeen scope r.name) where
         go false true p q h = let same = same_names y.name z q in Second same (some_same {o = Some (part scope r y)} refl h) (at_second z same)
         go false false p q h = absurd (none_and_some refl h)
 
-    -- so it comes from the frame around
+    -- a region of a split comes from the frame around
     abbrev split_origin : (z : List ℕ) (e : Declaration) → is_region e.mode ≡ true → e.hidden ≡ false → OfSplit z e → Origin scope f.regions e (halves z)
     split_origin z e region shown (Outside d found same other at) = record {
       name = z;
@@ -158,7 +158,7 @@ module _ (scope : Scope) (r : Named) (whole : IsSeen scope r.name) where
       apart = λ z v m k other. split_apart_at h z v m k other (of_split z m.declaration m.found m.shown) (of_split v k.declaration k.found k.shown);
     }
 
-  -- the same for the block of an `each`, with any part of the region in the place of an element
+  -- the regions of the block of an `each`, with any part of the region in the place of an element
   module _ (i x : Named) (f : Frame) (q : Region) (short : IsPart q (f.regions r.name))
       (x_new : declared (in_each scope r ++ index_of i ∷ []) x.name ≡ None) where
     -- the regions of the block

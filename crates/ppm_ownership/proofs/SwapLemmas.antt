@@ -44,7 +44,7 @@ module _ {A B : Type 0} (first : Arrays → Counts → End A → Type 0) (second
     changed' : ChangesOnly (MayWrite other g.regions) (arrays_of x) (arrays_of y)
     changed' = q.changes (arrays_of x) k y run'
 
-    -- the second runs in front as it does behind
+    -- the second, run before the first, does as it does after it
     in_front : (c : Arrays) × second a k (over y c) × KeepsSameness (arrays_of x) a (arrays_of y) c
     in_front = q.local (arrays_of x) a k y run' (record {
       shape = shape_back changed.shape;
@@ -57,7 +57,7 @@ module _ {A B : Type 0} (first : Arrays → Counts → End A → Type 0) (second
     changed_in_front : ChangesOnly (MayWrite other g.regions) a between
     changed_in_front = subst (λ (c : Arrays). ChangesOnly (MayWrite other g.regions) a c) (over_has y between) (q.changes a k (over y between) in_front.1)
 
-    -- and the first behind it
+    -- and the first after it
     behind : (d : Arrays) × first between j (over x d) × KeepsSameness a between (arrays_of x) d
     behind = p.local a between j x run (record {
       shape = changed_in_front.shape;
@@ -99,7 +99,7 @@ module _ {A B : Type 0} (first : Arrays → Counts → End A → Type 0) (second
         let same = same_arrays last (arrays_of y) (shape_on (shape_back behind.2.shape) changed'.shape) same_words in
         (between, in_front.1, subst (λ (d : Arrays). first between j (over x d)) same behind.1)
 
-  -- from the same arrays, the second ends behind the first as in front of it
+  -- from the same arrays, the second ends after the first as before it
   from_there : (a : Arrays) (j k : Counts) (x : End A) (y : End B) → first a j x → second a k y → (c : Arrays) × second (arrays_of x) k (over y c)
   from_there a j k x y run run' =
       let only = p.changes a j x run in

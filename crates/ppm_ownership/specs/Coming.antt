@@ -35,7 +35,7 @@ module _ (t : ProgramTree) where
     -- it begins in `main`
     Main : ComesTo (main_of t) (main_frame t.arrays (main_of t).parameters) (scope_of (main_of t)) (main_of t).body
         (main_frame t.arrays (main_of t).parameters)
-    -- it goes on behind a statement
+    -- it goes on after a statement
     Behind : (p : Procedure) (g : Frame) (scope : Scope) (s : Statement) (b : Block) (f : Frame) (l : Locals)
         → ComesTo p g scope (Then s b) f → ComesTo p g (scope ++ lets_of s) b (with_locals f l)
     -- it goes into the blocks of a statement

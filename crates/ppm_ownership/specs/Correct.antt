@@ -22,7 +22,7 @@ pub record HasSites (t : ProgramTree) (p : Procedure) (scope : Scope) (b : Block
   pub block : (s : Site) → Contains (sites_of_block t scope b) s → Contains (sites_of t) s
   pub procedure : (s : Site) → Contains (sites_of_procedure t p) s → Contains (sites_of t) s
 
--- so it is wherever a run comes to
+-- the sites of each block that a run of an admitted program comes to are the program's
 abbrev pub ComeToSites : Type 0
 ComeToSites =
     (t : ProgramTree) (p : Procedure) (g : Frame) (scope : Scope) (b : Block) (f : Frame) → IsAdmitted t → ComesTo t p g scope b f → HasSites t p scope b
@@ -70,12 +70,12 @@ pub record FramesOwnApart (t : ProgramTree) : Type 0 where
       → ComesTo t p g scope (Then (tree.Fork s u) b) f → both_entered t.procedures f a s u ≡ Ok (left, right)
       → ForkIsApart t scope s u f left right
 
--- so it is in all admitted programs
+-- wherever a run of an admitted program comes to, frames own apart
 abbrev pub OwnApart : Type 0
 OwnApart = (t : ProgramTree) → IsAdmitted t → FramesOwnApart t
 
 -- A run changes no words but those that its frame may write. From arrays with the same words where the frame owns it ends the same,
--- with the same counts; and each word that was the same in front, owned or not, is the same behind.
+-- with the same counts; and each word that was the same before, owned or not, is the same after.
 pub record IsWithin {A : Type 0} (scope : Scope) (f : Frame) (run : Arrays → Counts → End A → Type 0) : Type 0 where
   pub changes : (a : Arrays) (k : Counts) (z : End A) → run a k z → ChangesOnly (MayWrite scope f.regions) a (arrays_of z)
   pub local : (a b : Arrays) (k : Counts) (z : End A) → run a k z → AreSameAt (Owns scope f.regions) a b
@@ -92,12 +92,12 @@ pub record StaysWithin (form : Form) (t : ProgramTree) : Type 0 where
   pub procedure : (x : List ℕ) (f : Frame)
       → IsWithin (scope_of (procedure_named t.procedures x)) f (Enters form t.procedures (procedure_named t.procedures x) f)
 
--- so it is in all admitted programs
+-- in all admitted programs runs stay within the frame's words
 abbrev pub StayWithin : Type 0
 StayWithin = (form : Form) (t : ProgramTree) → IsAdmitted t → StaysWithin form t
 
--- Of two runs: where the second comes behind the first, it may as well come in front of it; each ends as it did, and the same words
--- are left. Where both may begin from the same arrays, the second ends behind the first as it does from these.
+-- Of two runs: where the second comes after the first, it may as well come before it; each ends as it did, and the same words
+-- are left. Where both may begin from the same arrays, the second ends after the first as it does from these.
 pub record MaySwap {A B : Type 0} (first : Arrays → Counts → End A → Type 0) (second : Arrays → Counts → End B → Type 0) : Type 0 where
   pub swap : (a : Arrays) (j k : Counts) (x : End A) (y : End B) → first a j x → second (arrays_of x) k y
       → (c : Arrays) × second a k (over y c) × first c j (over x (arrays_of y))
@@ -122,6 +122,6 @@ pub record RunsInEitherOrder (form : Form) (t : ProgramTree) : Type 0 where
       → ShareNoWord (stretch n m (f.regions r.name)) (stretch k l (f.regions r.name))
       → AreUnordered (Sweeps form t.procedures i x s (f.regions r.name) f n m) (Sweeps form t.procedures i x s (f.regions r.name) f k l)
 
--- so it is in all admitted programs
+-- in all admitted programs branches and blocks run in either order
 abbrev pub RunInEitherOrder : Type 0
 RunInEitherOrder = (form : Form) (t : ProgramTree) → IsAdmitted t → RunsInEitherOrder form t

@@ -12,7 +12,7 @@ use Rattle.ppm_tree.specs.Begun.{Behind, AtLoop, InTurn, BehindTurn, AtEntry as 
 use Rattle.ppm_regions.specs.Scope.{Scope, scope_of}
 use Rattle.ppm_ownership.specs.Coming.{ComesTo}
 
--- a position: at the rest of a block, at the test of a loop, at the entry of a procedure, in front of a block of an `each` or behind the last
+-- a position: at the rest of a block, at the test of a loop, at the entry of a procedure, before a block of an `each` or after the last
 pub data Position : Type 0 where
   AtBlock : (rest : Block) (f : Frame) → Position
   AtTest : (test : Expression) (block : Block) (f : Frame) → Position
@@ -41,7 +41,7 @@ module _ {form : Form} {procedures : List Procedure} where
     position (InEach i x r s b f a inside) = position_in_sweep inside
     position (BehindEach i x r s b f a run rest) = position_behind rest
 
-    -- behind a statement, in a loop, in a procedure, in the blocks of an `each`
+    -- after a statement, in a loop, in a procedure, in the blocks of an `each`
     pub position_behind : {n : ℕ} {b : Block} {f : Frame} {u : End Locals} → BeginsBehind form procedures n b f u → Position
     position_behind (Behind b f l a rest) = position rest
 

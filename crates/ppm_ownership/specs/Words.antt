@@ -38,12 +38,12 @@ pub record ChangesOnly (P : ℕ → ℕ → Type 0) (old new : Arrays) : Type 0 
   pub shape : HaveOneShape old new
   pub kept : (k i : ℕ) → ¬ P k i → word new k i ≡ word old k i
 
--- a run from a to c and one from b to d: each word that was the same in front is the same behind
+-- a run from a to c and one from b to d: each word that was the same before is the same after
 pub record KeepsSameness (a b c d : Arrays) : Type 0 where
   pub shape : HaveOneShape c d
   pub words : (k i : ℕ) → word a k i ≡ word b k i → word c k i ≡ word d k i
 
--- the same end, over other arrays
+-- an end, over other arrays
 abbrev pub over : {A : Type 0} → End A → Arrays → End A
 over (Ended x arrays) others = Ended x others
 over (Trapped stop arrays) others = Trapped stop others

@@ -32,7 +32,7 @@ pub fn stay_within()
 /// The two branches of a fork, two blocks of an `each`, and two stretches of its indices may run in
 /// either order: each ends as it does in the other, at a trap or without one, and the same words
 /// are left. From the words that the one leaves, at a trap too, the other ends as from those at the
-/// fork: so the whole form of the meaning may run what is behind a trap from the arrays that the
+/// fork: so the whole form of the meaning may run what is after a trap from the arrays that the
 /// trap leaves. No proof stands on it.
 pub fn run_in_either_order()
     ensures law { RunInEitherOrder }

@@ -70,7 +70,7 @@ module _ (s : Shape) (seat : Seat) where
   by_if n true x y fx fy = fx
   by_if n false x y fx fy = fy
 
-  -- what stands behind a store or an exchange
+  -- what stands after a store or an exchange
   behind : (n : ℕ) (k : RestartKind) → due k ≡ 0 → F n (Now (with_kind seat k))
   behind zero k e = e
   behind (suc n) k e = tt

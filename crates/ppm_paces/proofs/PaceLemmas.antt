@@ -451,7 +451,7 @@ module _ (s : Shape) (code : CodeParts) (is : IsCode code) (c : ℕ) where
   }
   step_keeps v found made IsDone none = keeps_look made (Step v) IsDone _ refl refl none (λ b. omega arith)
 
-  -- what has been made of a row under way, or behind broken words
+  -- what has been made of a row under way, or after broken words
   abbrev Struck : ℕ → Standing → Type 0
   Struck made x = made ≤ 171 * one (is_work_next (next_of x) || is_broken_at x)
 

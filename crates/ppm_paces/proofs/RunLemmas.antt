@@ -78,7 +78,7 @@ module _ (s : Shape) (code : CodeParts) (is : IsCode code) where
   pub turn_else : (state : State) (turn : Turn) (d : ℕ) → d ≢ turn.processor → stand_of (happens s code state turn) d ≡ stand_of state d
   turn_else state turn d ne = acts_else state turn.processor d turn.act (stand_of state turn.processor) ne
 
-  -- the pace of any processor behind a turn
+  -- the pace of any processor after a turn
   pub paces_behind : (state : State) (turn : Turn) (d made : ℕ) → Paces s made (stand_of state d) → Paces s (made_behind s code d made state turn) (stand_of (happens s code state turn) d)
   paces_behind state turn d made p = by (turn.processor == d) refl
     where

@@ -76,7 +76,7 @@ Finishes (Exchange cell old new next) = (cell ≡ FinishWord) × (old ≡ ANumbe
 Finishes _ = ⊥
 
 -- a row of kind k that has made so many word steps makes at most `left` more, whatever it finds, and what it installs is paid; it begins
--- again behind the finish word alone
+-- again after the finish word alone
 abbrev pub Leads : Shape → Seat → RestartKind → (left made : ℕ) → Row → Type 0
 Leads s seat k zero made (Now next) = IsStop next
 Leads s seat k zero made (Store cell content next) = ⊥
@@ -137,7 +137,7 @@ IsFree (Now (Install restart)) = due restart.kind ≡ 0
 IsFree (Now (Fork block)) = ⊥
 IsFree _ = Unit {0}
 
--- so it is after so many steps of the row, whatever these find
+-- nothing has to be set aside after so many steps of the row, whatever these find
 abbrev pub AreFree : Shape → Seat → (steps : ℕ) → Row → Type 0
 AreFree s seat zero row = IsFree row
 AreFree s seat (suc n) (Now (Load point)) = (victim : ℕ) (w : Content) → AreFree s seat n (found_at s seat victim point w)

@@ -25,7 +25,7 @@ pub data RowPaces (s : Shape) (seat : Seat) (made : ℕ) (row : Row) : Type 0 wh
       → Leads s seat seat.restart.kind left made row → RowPaces s seat made row
   OfLook : is_work seat.restart.kind ≡ false → made ≡ 0 → RowPaces s seat made row
 
--- so of what is left of a capsule
+-- what is left of a capsule with so many word steps made, which with these are the most
 pub record CapsulePaces (s : Shape) (seat : Seat) (made : ℕ) (rest : Rest) : Type 0 where
   pub frame : ℕ
   pub copy : ℕ
@@ -56,7 +56,7 @@ is_broken_at _ = false
 abbrev pub keeps_row : Standing → Bool
 keeps_row standing = is_in_row standing || is_broken_at standing
 
--- what it has made of its row behind an act: a word step of work is one more, if the row goes on or has met broken words
+-- what it has made of its row after an act: a word step of work is one more, if the row goes on or has met broken words
 abbrev pub made_then : (made : ℕ) → Act → (before behind : Standing) → ℕ
 made_then made act before behind = if is_work_turn act before then (if keeps_row behind then made + 1 else 0) else 0
 
@@ -72,7 +72,7 @@ abbrev pub strikes_of : State → Turn → List ℕ
 strikes_of state turn = if is_strike turn.act (stand_of state turn.processor) then turn.processor ∷ [] else []
 
 module _ (s : Shape) (code : CodeParts) where
-  -- of a processor, behind a turn and behind turns
+  -- of a processor, after a turn and after turns
   abbrev pub made_behind : (processor : ℕ) → (made : ℕ) → State → Turn → ℕ
   made_behind processor made state turn =
       if turn.processor == processor

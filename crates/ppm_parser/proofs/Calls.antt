@@ -51,7 +51,7 @@ pub record CountsElement (room room' : Room) : Type 0 where
 pub element_of : {room room' : Room} → (room.elements ≡ suc room'.elements) × (room' ≡ with_elements room'.elements room) → CountsElement room room'
 element_of h = record { less = h.0; same = h.1 }
 
--- so it is behind it
+-- the room after an element is that of a tally with one element more
 pub after_counted : {room room' : Room} → CountsElement room room' → (c : Tally) → Has room c → Has room' (adds elements 1 c)
 after_counted {room = room} {room' = room'} h c has = after_element room room' h.less h.same c has
 
@@ -76,7 +76,7 @@ module _ {depth place line : ℕ} {room : Room} {ts : List Token} (h : HasExpres
   pub argument_fails : {between : Room} {e : Stop} → CountsElement room between → Stops depth between (expr ∷ []) ts e → Stops depth room (Part p.Argument ∷ []) ts e
   argument_fails counts r = corner_fails _ first refl h.shape (begins_it h.token.kind h.begins) (after_counted counts) r
 
--- what is still to come behind a token
+-- what is still to come after a token
 abbrev pub still_of : Option (Move Terminal Phrase Counted) → List (Due Terminal Phrase)
 still_of None = []
 still_of (Some m) = m.still

@@ -1,4 +1,4 @@
--- Items that are read one list behind the other, and parts that are read by one of their rows.
+-- Items that are read one list after the other, and parts that are read by one of their rows.
 use Rattle.std.proofs.Common.{◌≡◌, ℕ, suc, Bool, true, false, List, [], ◌∷◌, ◌++◌, length, refl, sym, ◌∙◌, ap, subst, arith, append_assoc}
 use Rattle.std.proofs.lemmas.List.{append-nil as append_nil}
 use Rattle.std.specs.Prelude.{Option, None}
@@ -25,7 +25,7 @@ module _ {T K P V C S : Type 0} (g : Grammar T K P V C) (l : Limits T C) (Has : 
   each_value d (Part n ∷ ys) (part {row = row} {us = us} i inner r) = let h = each_value d ys r in (ap (λ q. row.make us ∷ q) h.0, h.1)
 
   module _ {depth : ℕ} where
-    -- items that are read lead on to those behind them
+    -- items that are read lead on to those after them
     leads : {s s' : S} {xs : List (Item K P)} (ys : List (Item K P)) {ts mid : List T} {us : List V} → ReadsState g l Has depth s xs ts us s' mid →
         LeadsState g l Has free depth s (xs ++ ys) ts (λ vs. us ++ vs) s' ys mid
     leads {xs = xs} ys {ts = ts} {mid = mid} {us = us} a = record {
@@ -39,7 +39,7 @@ module _ {T K P V C S : Type 0} (g : Grammar T K P V C) (l : Limits T C) (Has : 
           };
     }
 
-    -- one list behind another
+    -- one list after another
     pub then_reads : {s s' s'' : S} {xs ys : List (Item K P)} {ts mid rest : List T} {us vs : List V} → ReadsState g l Has depth s xs ts us s' mid →
         ReadsState g l Has depth s' ys mid vs s'' rest → ReadsState g l Has depth s (xs ++ ys) ts (us ++ vs) s'' rest
     then_reads {ys = ys} a b = states.reads g l Has free (leads ys a) b
@@ -153,7 +153,7 @@ module _ {T K P V C S : Type 0} (g : Grammar T K P V C) (l : Limits T C) (Has : 
           ((t : T) (rest : List T) → ts ≡ t ∷ rest → starts g n (g.kind t) ≡ false) → ReadsState g l Has depth s (Part n ∷ []) ts (row.make [] ∷ []) s ts
       past_reads row i items none = states.reads g l Has free (states.a_past g l Has free follows p row i items none) (states.read g l Has free)
 
-  -- a row that begins with a token and opens: behind the token, one opening fewer is left
+  -- a row that begins with a token and opens: after the token, one opening fewer is left
   module _ {depth inner : ℕ} (less : depth ≡ suc inner) (follows : P → K → Bool) (p : IsPredictive g follows) where
     pub open_reads : {s s' s'' : S} {n : P} {x : K} {t : T} {ys : List (Item K P)} {ts behind rest : List T} {vs : List V} (row : Row K P V C) →
         In row (g.rows n) → row.items ≡ Take x ∷ ys → row.opens ≡ true → ts ≡ t ∷ behind → g.kind t ≡ x →

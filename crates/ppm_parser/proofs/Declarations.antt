@@ -165,7 +165,7 @@ pub negative_fails : {ts behind : List Token} {place : ℕ} {e : Stop} → HasAt
 negative_fails {behind = behind} g h depth room =
     row_fails _ (later first) refl refl g.front.shape g.front.is (λ c has. has) (take_fails Number behind h)
 
--- the values of an input behind the first
+-- the values of an input after the first
 abbrev pub IntegersGo : ℕ → Room → List Token → List ℤ → Room → List Token → Type 0
 IntegersGo depth room ts all room' rest = Goes p.MoreIntegers p.MoreIntegers s.Semicolon v.Integers depth room ts all room' rest
 
@@ -227,7 +227,7 @@ module _ {ts behind : List Token} {x : Named} (g : HasName ts x behind) where
         is = λ w i. v.Declares (v.AnInput (record { name = named_is g i; values = sym q.shape i }));
       }
 
--- the rooms behind an array and a procedure
+-- the rooms after an array and a procedure
 after_array : (r r' : Room) → (r.arrays ≡ suc r'.arrays) × (r' ≡ with_arrays r'.arrays r) → (c : Tally) → Has r c → Has r' (adds arrays 1 c)
 after_array r r' h c (a, (w, (q, (e, (n, u))))) =
     let less = h.0 in subst (λ z. Has z (adds arrays 1 c)) (sym h.1) (omega (arith, a, less), (w, (q, (e, (n, tt)))))
@@ -237,7 +237,7 @@ after_procedure : (r r' : Room) → (r.procedures ≡ suc r'.procedures) × (r' 
 after_procedure r r' h c (a, (w, (q, (e, (n, u))))) =
     let less = h.0 in subst (λ z. Has z (adds procedures 1 c)) (sym h.1) (a, (w, (omega (arith, q, less), (e, (n, tt)))))
 
--- what is behind the keyword of a declaration makes it
+-- what is after the keyword of a declaration makes it
 module _ {room : Room} {ts behind : List Token} {t : Token} (shape : ts ≡ t ∷ behind) where
   made : {between room' : Room} {ys : Items} {rest : List Token} {x : Terminal} {d : Value} (row : Form) → In row (rows p.Declaration) →
       row.items ≡ Take x ∷ ys → row.opens ≡ false → terminal t.kind ≡ x →

@@ -51,7 +51,7 @@ pub record Counts (room room' : Room) : Type 0 where
 pub counts_of : {room room' : Room} → (room.nodes ≡ suc room'.nodes) × (room' ≡ with_nodes room'.nodes room) → Counts room room'
 counts_of h = record { less = h.0; same = h.1 }
 
--- so it is behind it
+-- the room after a node is that of a tally with one node more
 after : {room room' : Room} → Counts room room' → (c : _) → Has room c → Has room' (adds nodes 1 c)
 after {room = room} {room' = room'} h c has = after_node room room' h.less h.same c has
 
@@ -307,7 +307,7 @@ pub literal_value : (n : ℕ) (z : ℤ) → z ≡ pos n → n < value_bound → 
 literal_value n z is small = rw is (to_z-of_z w64 (pos n) (omega (arith, ints, small)))
 
 module _ {depth : ℕ} {room : Room} {ts : List Token} where
-  -- an operand behind which no operator stands is the operation of each level in turn
+  -- an operand after which no operator stands is the operation of each level in turn
   module _ {room' : Room} {rest : List Token} {e : Expression} (a : ParsesExpression depth room p.Operand ts e room' rest) where
     product_read : NoneWithin level.Product rest → ParsesExpression depth room (p.Operation level.Product) ts e room' rest
     product_read none = operation_read level.Product a (stay_read level.Product none)

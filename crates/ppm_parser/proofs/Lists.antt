@@ -35,7 +35,7 @@ pub record Goes {A : Type 0} (n more : Phrase) (close : Sign) (wrap : List A →
       Parses depth room (Part n ∷ Take (Mark close) ∷ []) ts (wrap (all ++ xs) ∷ Lexed end ∷ []) room'' rest'
   pub fails : (e : Stop) → Stops depth room' (Part more ∷ Take (Mark close) ∷ []) rest e → Stops depth room (Part n ∷ Take (Mark close) ∷ []) ts e
 
--- so they fail where those fail
+-- what leads on to a rest that stops, stops there too
 leads_fails : {depth : ℕ} {room room' : Room} {xs ys : Items} {ts rest : List Token} {f : List Value → List Value} {e : Stop} →
     LeadsState language limits Has free depth room xs ts f room' ys rest → Stops depth room' ys rest e → Stops depth room xs ts e
 leads_fails a b = record { fails = states.fails language limits Has free a b.fails }

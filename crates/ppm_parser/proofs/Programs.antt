@@ -1,4 +1,4 @@
--- Declarations one behind the other make the program.
+-- Declarations one after the other make the program.
 use Rattle.std.proofs.Common.{◌≡◌, ℕ, suc, ◌+◌, ◌<◌, ◌≤◌, Bool, true, false, List, [], ◌∷◌, ◌++◌, length, refl, sym, ◌∙◌, ap, subst, arith, append_assoc}
 use Rattle.std.proofs.lemmas.List.{append-nil as append_nil, length-append}
 use Rattle.std.specs.Prelude.{◌==◌, Some}
@@ -45,7 +45,7 @@ use Rattle.ppm_parser.proofs.Reading.{free}
 abbrev pub joined : ProgramTree → ProgramTree → ProgramTree
 joined d t = record { arrays = d.arrays ++ t.arrays; procedures = d.procedures ++ t.procedures; inputs = d.inputs ++ t.inputs }
 
--- the row of a declaration with others behind it
+-- the row of a declaration with others after it
 abbrev further : Form
 further = form (Part p.Declaration ∷ Part p.Source ∷ []) make.program
 
@@ -67,7 +67,7 @@ goes_first ts = record {
   makes = λ t. refl;
 }
 
--- one thing more in front of others, or behind some
+-- one thing more in front of others, or after some
 one_more : (d : ProgramTree) (x : Declaration) (t : ProgramTree) → joined d (declaring x t) ≡ joined (with_declaration d x) t
 one_more d (AnArray a) t = λ i. record { arrays = sym (append_assoc d.arrays (a ∷ []) t.arrays) i; procedures = d.procedures ++ t.procedures; inputs = d.inputs ++ t.inputs }
 one_more d (AProcedure q) t =
@@ -99,7 +99,7 @@ goes_on {rest = rest} {after = after} {d = d} {x = x} {room = room} h a =
       makes = λ t. h.makes (declaring x t) ∙ ap (λ q. Program q ∷ []) (one_more d x t);
     }
 
--- the tokens end behind them
+-- the tokens end after them
 pub goes_last : {ts : List Token} {d : ProgramTree} {room : Room} → Goes ts d room [] → HasTree ts d
 goes_last {ts = ts} {d = d} h =
     let end : Reads language limits h.tally (beginning language) [] (Program no_program ∷ []) h.tally [] =

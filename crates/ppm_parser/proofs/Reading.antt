@@ -37,7 +37,7 @@ NoOther n m ts =
     (t : Token) (rest : List Token) → ts ≡ t ∷ rest → starts language m (terminal t.kind) ≡ false → starts language n (terminal t.kind) ≡ false
 
 module _ {depth : ℕ} where
-  -- one list of items behind another
+  -- one list of items after another
   pub then_reads : {room between room' : Room} {xs ys : Items} {ts mid rest : List Token} {us vs : List Value} →
       Parses depth room xs ts us between mid → Parses depth between ys mid vs room' rest → Parses depth room (xs ++ ys) ts (us ++ vs) room' rest
   then_reads a b = chains.then_reads language limits Has free a b
@@ -57,7 +57,7 @@ module _ {depth : ℕ} where
   pub refused : {room : Room} {xs : Items} {ts : List Token} {e : Stop} → e ≡ stop.NoMemory → Stops depth room xs ts e
   refused {room = room} {xs = xs} {ts = ts} h = subst (λ q. Stops depth room xs ts q) (sym h) (record { fails = chains.none_fails language limits Has free })
 
-  -- the same values
+  -- what is read as some values is read as equal ones
   pub of_same : {room room' : Room} {xs : Items} {ts rest : List Token} {vs ws : List Value} → vs ≡ ws → Parses depth room xs ts vs room' rest →
       Parses depth room xs ts ws room' rest
   of_same {room = room} {room' = room'} {xs = xs} {ts = ts} {rest = rest} h a = subst (λ q. Parses depth room xs ts q room' rest) h a
@@ -173,7 +173,7 @@ module _ {depth : ℕ} where
   part_unexpected {room = room} {n = n} {ts = ts} full is none h = subst (λ q. Stops depth room (Part n ∷ []) ts q) (sym h)
       (record { fails = states.unexpected language limits Has free may_follow is_predictive_language full is none })
 
--- a row that begins with a token and opens: behind the token, one opening fewer is left
+-- a row that begins with a token and opens: after the token, one opening fewer is left
 module _ {depth inner : ℕ} (less : depth ≡ suc inner) where
   pub open_reads : {room between room' : Room} {n : Phrase} {x : Terminal} {t : Token} {ys : Items} {ts behind rest : List Token} {vs : List Value} (row : Form) →
       In row (rows n) → row.items ≡ Take x ∷ ys → row.opens ≡ true → ts ≡ t ∷ behind → terminal t.kind ≡ x →
@@ -204,7 +204,7 @@ too_deep {room = room} {n = n} {ts = ts} {e = e} row none i items opens is kind 
 pub named_is : {ts rest : List Token} {x : Named} (h : HasName ts x rest) → named h.token ≡ x
 named_is h = λ i. record { name = ap name_of h.is i; line = h.line i }
 
--- the rooms behind what was counted
+-- the rooms after what was counted
 pub after_node : (r r' : Room) → r.nodes ≡ suc r'.nodes → r' ≡ with_nodes r'.nodes r → (c : Tally) → Has r c → Has r' (adds nodes 1 c)
 after_node r r' less is c (a, (w, (p, (e, (n, u))))) =
     subst (λ q. Has q (adds nodes 1 c)) (sym is) (a, (w, (p, (e, (omega (arith, n, less), tt)))))

@@ -55,7 +55,7 @@ module _ {depth : ℕ} {room : Room} {ts behind after : List Token} {x : Named} 
   pub local_fails : {e : Stop} → Stops depth room (expr ∷ sign s.Semicolon ∷ []) after e → Stops depth room local_items ts e
   local_fails r = then_fails (then_reads (name_reads g) (take_reads h)) r
 
--- no other part than an element is behind a name where no `=` is in front
+-- no other part than an element is after a name where no `=` is in front
 no_assign : (ts : List Token) → IsNotFront (Mark s.Assign) ts → NoOther p.AfterName p.Element ts
 no_assign ts none t rest shape never =
     is_predictive_language.starts_is p.AfterName (terminal t.kind)
@@ -136,7 +136,7 @@ module _ {depth : ℕ} {room : Room} {ts : List Token} where
         makes = refl;
       }
 
-  -- behind the name
+  -- after the name
   module _ {place : ℕ} {behind : List Token} (h : HasAt (Mark s.Assign) ts place behind) where
     pub after_assign : {x : Named} {y : Statement} {room' : Room} {rest : List Token} → ParsesAfterName p.Assigned depth room x behind y room' rest →
         ParsesAfterName p.AfterName depth room x ts y room' rest
@@ -332,13 +332,13 @@ pub each_of : {depth : ℕ} {room room' : Room} {ts rest : List Token} (i x regi
 each_of {depth = depth} {room = room} {room' = room'} {ts = ts} {rest = rest} i x region a r =
     subst (λ q. ParsesEach depth room ts q room' rest) (sym (rows_of.each_is i x region a)) r
 
--- behind the first token of a statement stand fewer
+-- after the first token of a statement stand fewer
 smaller : {depth inner : ℕ} {room inside room' : Room} {ys : Items} {ts behind rest : List Token} {t : Token} {vs : List Value} {y : Statement} →
     ts ≡ t ∷ behind → Parses inner inside ys behind vs room' rest → Parses depth room (Part p.Statement ∷ []) ts (v.OneStatement y ∷ []) room' rest →
     ParsesStatement depth room ts y room' rest
 smaller shape r q = record { parses = q; smaller = let a = ap length shape in let b = r.shorter in omega (arith, a, b) }
 
--- what is behind the first token of a statement makes it
+-- what is after the first token of a statement makes it
 module _ {depth : ℕ} {room inside : Room} {ts behind : List Token} {t : Token} (shape : ts ≡ t ∷ behind) where
   -- of one that counts as a statement alone
   module _ (anew : inside ≡ with_nodes node_limit room) where

@@ -32,13 +32,13 @@ declaration_of (declared.Input i) = v.AnInput i
 abbrev pub declared_tree : Declared → ProgramTree
 declared_tree d = record { arrays = d.arrays.items; procedures = map procedure_of d.procedures.items; inputs = d.inputs.items }
 
--- with one thing more behind it
+-- with one thing more after it
 abbrev pub with_declaration : ProgramTree → v.Declaration → ProgramTree
 with_declaration t (v.AnArray a) = record { arrays = t.arrays ++ a ∷ []; procedures = t.procedures; inputs = t.inputs }
 with_declaration t (v.AProcedure p) = record { arrays = t.arrays; procedures = t.procedures ++ p ∷ []; inputs = t.inputs }
 with_declaration t (v.AnInput i) = record { arrays = t.arrays; procedures = t.procedures; inputs = t.inputs ++ i ∷ [] }
 
--- what stands behind the keyword of each declaration
+-- what stands after the keyword of each declaration
 abbrev pub array_items : Items
 array_items = name ∷ Part p.Length ∷ sign s.Semicolon ∷ []
 
@@ -72,7 +72,7 @@ pub record ParsesInteger (ts : List Token) (z : ℤ) (rest : List Token) : Type 
 abbrev pub StopsInteger : List Token → Stop → Type 0
 StopsInteger ts e = (depth : ℕ) (room : Room) → Stops depth room (Part p.Integer ∷ []) ts e
 
--- further ones behind some, up to the semicolon
+-- further ones after some, up to the semicolon
 pub record ParsesIntegers (some : List ℤ) (ts : List Token) (all : List ℤ) (rest : List Token) : Type 0 where
   pub others : List ℤ
   pub end : Token

@@ -1,4 +1,4 @@
--- What the parser's functions answer: what the items in front stand for and what may come behind them, or the fault at which they end.
+-- What the parser's functions answer: what the items in front stand for and what may come after them, or the fault at which they end.
 use Rattle.std.specs.Prelude.{◌≡◌, ℕ, List, [], ◌∷◌}
 use Rattle.ppm_grammar.specs.Rows.{Item, Take, Part}
 use Rattle.ppm_grammar.specs.Reading.{ReadsState, FailsState}
@@ -40,11 +40,11 @@ pub record ParsesTo (depth : ℕ) (room : Room) (xs : Items) (ts : List Token) (
   pub parses : Parses depth room xs ts values room' rest
   pub is : Is values
 
--- behind whatever stands first, the values make this
+-- after whatever stands first, the values make this
 abbrev pub MakesBehind : Make → Value → List Value → Type 0
 MakesBehind make made vs = (w : Value) → make (w ∷ vs) ≡ made
 
--- behind a token in the line, the values make this
+-- after a token in the line, the values make this
 abbrev pub MakesInLine : Make → ℕ → Value → List Value → Type 0
 MakesInLine make line made vs = (t : Token) → t.line ≡ line → make (v.Lexed t ∷ vs) ≡ made
 
@@ -52,7 +52,7 @@ MakesInLine make line made vs = (t : Token) → t.line ≡ line → make (v.Lexe
 abbrev pub ParsesExpression : ℕ → Room → Phrase → List Token → Expression → Room → List Token → Type 0
 ParsesExpression depth room n ts e room' rest = Parses depth room (Part n ∷ []) ts (v.Expr (line_of ts) e ∷ []) room' rest
 
--- behind a first operand, what goes on from it makes the expression
+-- after a first operand, what goes on from it makes the expression
 pub record ParsesFrom (depth : ℕ) (room : Room) (level : Level) (first : Expression) (ts : List Token) (e : Expression) (room' : Room) (rest : List Token)
     : Type 0 where
   pub function : Expression → Expression
@@ -79,7 +79,7 @@ ParsesNamed depth room x place ts e room' rest =
 abbrev pub StopsNamed : ℕ → Room → Named → ℕ → List Token → Stop → Type 0
 StopsNamed depth room x place ts e = (t : Token) → IsNameAt t x place → Stops depth room (Part p.Operand ∷ []) (t ∷ ts) e
 
--- the part is in front, and the sign behind it
+-- the part is in front, and the sign after it
 pub record ParsesClosed (depth : ℕ) (room : Room) (n : Phrase) (sign : Sign) (ts : List Token) (made : Value) (room' : Room) (rest : List Token) : Type 0 where
   pub end : Token
   pub parses : Parses depth room (Part n ∷ Take (Mark sign) ∷ []) ts (made ∷ v.Lexed end ∷ []) room' rest

@@ -1,4 +1,4 @@
--- What the parser's functions answer of statements: the items behind the first token of each.
+-- What the parser's functions answer of statements: the items after the first token of each.
 use Rattle.std.specs.Prelude.{◌≡◌, ◌<◌, ℕ, List, [], ◌∷◌, length}
 use Rattle.ppm_grammar.specs.Rows.{Part}
 use Rattle.ppm_text.specs.declared.token.Keyword.TheVariants as k
@@ -20,7 +20,7 @@ use Rattle.ppm_parser.specs.Parsing.{Items, Parses, ParsesTo, MakesBehind, Makes
 abbrev pub argument_of : Argument → tree.Argument
 argument_of a = record { line = a.line; value = expression_of a.value }
 
--- what stands behind the first token of each statement
+-- what stands after the first token of each statement
 abbrev pub local_items : Items
 local_items = name ∷ sign s.Assign ∷ expr ∷ sign s.Semicolon ∷ []
 

@@ -46,7 +46,7 @@ fn expression_front(depth: u32, at: Cursor<'_>) -> Result<(u32, u32), Stop>
     }
 }
 
-/// The argument in front, and the cursor behind it.
+/// The argument in front, and the cursor after it.
 fn argument(alloc: Global, depth: u32, at: Cursor<'_>) -> Result<(Argument, Cursor<'_>), Stop>
     ensures { MatchResult result
         (λ r. Parses depth at.entry.room (Part phrase.Argument ∷ []) at.entry.tokens.now
@@ -59,7 +59,7 @@ fn argument(alloc: Global, depth: u32, at: Cursor<'_>) -> Result<(Argument, Curs
     Ok((Argument { line, value }, at))
 }
 
-/// The arguments in front up to the parenthesis that closes them, and the cursor behind it.
+/// The arguments in front up to the parenthesis that closes them, and the cursor after it.
 fn closed_arguments(
     alloc: Global,
     depth: u32,
@@ -87,7 +87,7 @@ fn closed_arguments(
     Ok((all, end))
 }
 
-/// The list of arguments in front, and the cursor behind it.
+/// The list of arguments in front, and the cursor after it.
 fn arguments(
     alloc: Global,
     depth: u32,
@@ -105,7 +105,7 @@ fn arguments(
     Ok((Items::from_vec(all), at))
 }
 
-/// The call in front, which has no target, and the cursor behind it.
+/// The call in front, which has no target, and the cursor after it.
 pub fn call(alloc: Global, depth: u32, at: Cursor<'_>) -> Result<(Side, Cursor<'_>), Stop>
     ensures { MatchResult result
         (λ r. Parses depth at.entry.room (Part phrase.Call ∷ []) at.entry.tokens.now
@@ -133,7 +133,7 @@ pub fn with_target(side: Side, target: Named) -> Side
     }
 }
 
-/// The side of a fork in front, and the cursor behind it.
+/// The side of a fork in front, and the cursor after it.
 pub fn side(alloc: Global, depth: u32, at: Cursor<'_>) -> Result<(Side, Cursor<'_>), Stop>
     ensures { MatchResult result
         (λ r. Parses depth at.entry.room (Part phrase.Side ∷ []) at.entry.tokens.now

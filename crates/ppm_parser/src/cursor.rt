@@ -13,7 +13,7 @@ use ppm_text::{Keyword, Kind, Sign, Token};
 use ppm_tree::{Mode, Named, Operator};
 use std::alloc::Global;
 
-/// Where the parser stands. Its functions take a cursor and give back the one behind what they
+/// Where the parser stands. Its functions take a cursor and give back the one after what they
 /// read.
 #[derive(Clone, Copy)]
 pub struct Cursor<'a> {
@@ -24,7 +24,7 @@ pub struct Cursor<'a> {
 }
 
 impl<'a> Cursor<'a> {
-    /// The place of the sign in front, and the cursor behind it.
+    /// The place of the sign in front, and the cursor after it.
     pub fn take(self, sign: Sign) -> Result<(u32, Cursor<'a>), Stop>
         ensures { MatchResult result
             (λ r. HasAt (Mark sign) self.entry.tokens.now r.0 r.1.tokens.now
@@ -45,7 +45,7 @@ impl<'a> Cursor<'a> {
         }
     }
 
-    /// The cursor behind the keyword in front.
+    /// The cursor after the keyword in front.
     pub fn take_word(self, word: Keyword) -> Result<Cursor<'a>, Stop>
         ensures { MatchResult result
             (λ r. HasFront (Word word) self.entry.tokens.now r.tokens.now
@@ -65,7 +65,7 @@ impl<'a> Cursor<'a> {
         }
     }
 
-    /// The name in front, and the cursor behind it.
+    /// The name in front, and the cursor after it.
     pub fn name(self, alloc: Global) -> Result<(Named, Cursor<'a>), Stop>
         ensures { MatchResult result
             (λ r. HasName self.entry.tokens.now r.0 r.1.tokens.now × (r.1.room ≡ self.entry.room))
@@ -88,7 +88,7 @@ impl<'a> Cursor<'a> {
         }
     }
 
-    /// The number in front with its place, and the cursor behind it.
+    /// The number in front with its place, and the cursor after it.
     pub fn number(self) -> Result<(u64, u32, Cursor<'a>), Stop>
         ensures { MatchResult result
             (λ r. HasNumber self.entry.tokens.now r.0 r.1 r.2.tokens.now
@@ -109,7 +109,7 @@ impl<'a> Cursor<'a> {
         }
     }
 
-    /// The number in front, and the cursor behind it.
+    /// The number in front, and the cursor after it.
     pub fn literal(self) -> Result<(i64, Cursor<'a>), Stop>
         ensures { MatchResult result
             (λ r. HasLiteral self.entry.tokens.now r.0 r.1.tokens.now
@@ -129,7 +129,7 @@ impl<'a> Cursor<'a> {
         }
     }
 
-    /// How a parameter is taken, by the keyword in front with its place, and the cursor behind it.
+    /// How a parameter is taken, by the keyword in front with its place, and the cursor after it.
     pub fn mode(self) -> Result<(Mode, u32, Cursor<'a>), Stop>
         ensures { MatchResult result
             (λ r. HasMode self.entry.tokens.now r.0 r.1 r.2.tokens.now
@@ -166,7 +166,7 @@ impl<'a> Cursor<'a> {
         }
     }
 
-    /// The operator of the level in front with its place and its line, and the cursor behind it.
+    /// The operator of the level in front with its place and its line, and the cursor after it.
     pub fn operator_in(self, level: Level) -> Option<(Operator, u32, u32, Cursor<'a>)>
         ensures { MatchOption result
             (NoOperator level self.entry.tokens.now)

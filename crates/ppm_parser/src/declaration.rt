@@ -27,7 +27,7 @@ pub enum Declaration {
     Input(ArrayInput),
 }
 
-/// The array behind its keyword, and the cursor behind it.
+/// The array after its keyword, and the cursor after it.
 fn array(alloc: Global, at: Cursor<'_>) -> Result<(Array, Cursor<'_>), Stop>
     ensures { MatchResult result
         (λ r. ParsesArray at.entry.room at.entry.tokens.now r.0 r.1.room r.1.tokens.now)
@@ -43,7 +43,7 @@ fn array(alloc: Global, at: Cursor<'_>) -> Result<(Array, Cursor<'_>), Stop>
     Ok((Array { name, words }, at))
 }
 
-/// The procedure behind its keyword, and the cursor behind it.
+/// The procedure after its keyword, and the cursor after it.
 fn procedure(alloc: Global, at: Cursor<'_>) -> Result<(Proc, Cursor<'_>), Stop>
     ensures { MatchResult result
         (λ r. ParsesProcedure at.entry.room at.entry.tokens.now r.0 r.1.room r.1.tokens.now)
@@ -61,7 +61,7 @@ fn procedure(alloc: Global, at: Cursor<'_>) -> Result<(Proc, Cursor<'_>), Stop>
     Ok((procedure, at))
 }
 
-/// The value of an input in front, and the cursor behind it.
+/// The value of an input in front, and the cursor after it.
 fn integer(at: Cursor<'_>) -> Result<(i64, Cursor<'_>), Stop>
     ensures { MatchResult result
         (λ r. ParsesInteger at.entry.tokens.now r.0 r.1.tokens.now × (r.1.room ≡ at.entry.room))
@@ -74,8 +74,8 @@ fn integer(at: Cursor<'_>) -> Result<(i64, Cursor<'_>), Stop>
     at.literal()
 }
 
-/// The values of an input behind these, from their commas in front up to the semicolon, and the
-/// cursor behind it.
+/// The values of an input after these, from their commas in front up to the semicolon, and the
+/// cursor after it.
 fn closed_integers(mut all: Vec<i64>, at: Cursor<'_>) -> Result<(Vec<i64>, Cursor<'_>), Stop>
     ensures { MatchResult result
         (λ r. ParsesIntegers all.items at.entry.tokens.now r.0.items r.1.tokens.now
@@ -92,7 +92,7 @@ fn closed_integers(mut all: Vec<i64>, at: Cursor<'_>) -> Result<(Vec<i64>, Curso
     Ok((all, end))
 }
 
-/// The input behind its keyword, and the cursor behind it.
+/// The input after its keyword, and the cursor after it.
 fn input(alloc: Global, at: Cursor<'_>) -> Result<(ArrayInput, Cursor<'_>), Stop>
     ensures { MatchResult result
         (λ r. ParsesInput at.entry.tokens.now r.0 r.1.tokens.now × (r.1.room ≡ at.entry.room))
@@ -108,7 +108,7 @@ fn input(alloc: Global, at: Cursor<'_>) -> Result<(ArrayInput, Cursor<'_>), Stop
     Ok((ArrayInput { name, values }, at))
 }
 
-/// The declaration in front, and the cursor behind it.
+/// The declaration in front, and the cursor after it.
 pub fn read_declaration(alloc: Global, at: Cursor<'_>) -> Result<(Declaration, Cursor<'_>), Stop>
     ensures { MatchResult result
         (λ r. Parses depth_limit at.entry.room (Part phrase.Declaration ∷ []) at.entry.tokens.now

@@ -47,7 +47,7 @@ fn is_once(level: Level) -> bool
     }
 }
 
-/// The operand in front, and the cursor behind it.
+/// The operand in front, and the cursor after it.
 #[cycle(expression)]
 fn operand(alloc: Global, depth: u32, at: Cursor<'_>) -> Result<(Expr, Cursor<'_>), Stop>
     ensures { MatchResult result
@@ -97,7 +97,7 @@ fn operand(alloc: Global, depth: u32, at: Cursor<'_>) -> Result<(Expr, Cursor<'_
 }
 
 /// The operand that begins with the name at the place, alone or with the index in front of the
-/// tokens, and the cursor behind it.
+/// tokens, and the cursor after it.
 #[cycle(expression)]
 fn named(
     alloc: Global,
@@ -122,7 +122,7 @@ fn named(
     Ok((Expr::Element(name, index), at))
 }
 
-/// The whole expression in front up to the sign, and the cursor behind the sign.
+/// The whole expression in front up to the sign, and the cursor after the sign.
 #[cycle(expression)]
 pub fn up_to(
     alloc: Global,
@@ -140,7 +140,7 @@ pub fn up_to(
     Ok((whole, at))
 }
 
-/// Whether an operand of one token is in front, and behind it no operator of the level or of one
+/// Whether an operand of one token is in front, and after it no operator of the level or of one
 /// that binds more. Such an operand is read at once, and not by way of all levels.
 fn is_plain(level: Level, at: Cursor<'_>) -> bool
     ensures { IsTrue result → NoneWithin level (drop 1 at.entry.tokens.now) }
@@ -158,7 +158,7 @@ fn is_plain(level: Level, at: Cursor<'_>) -> bool
     }
 }
 
-/// The operation of the level in front, and the cursor behind it.
+/// The operation of the level in front, and the cursor after it.
 #[cycle(expression)]
 pub fn operation(
     alloc: Global,
@@ -181,7 +181,7 @@ pub fn operation(
     further(alloc, depth, at, level, first)
 }
 
-/// The operand of the level in front, and the cursor behind it.
+/// The operand of the level in front, and the cursor after it.
 #[cycle(expression)]
 fn operand_of(
     alloc: Global,
@@ -203,7 +203,7 @@ fn operand_of(
     }
 }
 
-/// The operation of the level that goes on from its first operand, and the cursor behind it.
+/// The operation of the level that goes on from its first operand, and the cursor after it.
 #[cycle(expression)]
 fn further(
     alloc: Global,

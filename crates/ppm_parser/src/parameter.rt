@@ -15,7 +15,7 @@ use ppm_tree::Parameter;
 use ppm_words::Items;
 use std::alloc::Global;
 
-/// The parameter in front, and the cursor behind it.
+/// The parameter in front, and the cursor after it.
 fn parameter(alloc: Global, depth: u32, at: Cursor<'_>) -> Result<(Parameter, Cursor<'_>), Stop>
     ensures { MatchResult result
         (λ r. Parses depth at.entry.room (Part phrase.Parameter ∷ []) at.entry.tokens.now
@@ -28,7 +28,7 @@ fn parameter(alloc: Global, depth: u32, at: Cursor<'_>) -> Result<(Parameter, Cu
     Ok((Parameter { mode, name }, at))
 }
 
-/// The parameters in front up to the parenthesis that closes them, and the cursor behind it.
+/// The parameters in front up to the parenthesis that closes them, and the cursor after it.
 fn closed_parameters(
     alloc: Global,
     depth: u32,
@@ -55,7 +55,7 @@ fn closed_parameters(
     Ok((all, end))
 }
 
-/// The list of parameters in front, and the cursor behind it.
+/// The list of parameters in front, and the cursor after it.
 pub fn parameters(
     alloc: Global,
     depth: u32,

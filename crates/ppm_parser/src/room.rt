@@ -71,7 +71,7 @@ impl Room {
         }
     }
 
-    /// The room behind the array at the place.
+    /// The room after the array at the place.
     pub fn behind_array(self, place: u32) -> Result<Room, Stop>
         ensures { MatchResult result
             (λ r. (self.arrays ≡ suc r.arrays) × (r ≡ with_arrays r.arrays self))
@@ -86,7 +86,7 @@ impl Room {
         })
     }
 
-    /// The room behind an array of so many words, whose length stands at the place.
+    /// The room after an array of so many words, whose length stands at the place.
     pub fn behind_words(self, words: u64, place: u32) -> Result<Room, Stop>
         ensures { MatchResult result
             (λ r. (self.words ≡ words + r.words) × (r ≡ with_words r.words self))
@@ -101,7 +101,7 @@ impl Room {
         })
     }
 
-    /// The room behind the procedure at the place.
+    /// The room after the procedure at the place.
     pub fn behind_procedure(self, place: u32) -> Result<Room, Stop>
         ensures { MatchResult result
             (λ r. (self.procedures ≡ suc r.procedures) × (r ≡ with_procedures r.procedures self))
@@ -116,7 +116,7 @@ impl Room {
         })
     }
 
-    /// The room behind the element at the place.
+    /// The room after the element at the place.
     pub fn behind_element(self, place: u32) -> Result<Room, Stop>
         ensures { MatchResult result
             (λ r. (self.elements ≡ suc r.elements) × (r ≡ with_elements r.elements self))
@@ -131,7 +131,7 @@ impl Room {
         })
     }
 
-    /// The room behind the node at the place.
+    /// The room after the node at the place.
     pub fn behind_node(self, place: u32) -> Result<Room, Stop>
         ensures { MatchResult result
             (λ r. (self.nodes ≡ suc r.nodes) × (r ≡ with_nodes r.nodes self))

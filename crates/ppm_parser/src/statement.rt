@@ -24,14 +24,14 @@ use ppm_text::{Keyword, Kind, Sign};
 use ppm_tree::{Give, Named, Stmt};
 use std::alloc::Global;
 
-/// The statements of a body, and what it gives behind them, if anything.
+/// The statements of a body, and what it gives after them, if anything.
 #[derive(Drop)]
 pub struct Body {
     pub statements: Vec<Stmt>,
     pub give: Option<Give>,
 }
 
-/// The declaration of a local behind its keyword, and the cursor behind it.
+/// The declaration of a local after its keyword, and the cursor after it.
 fn local(alloc: Global, depth: u32, at: Cursor<'_>) -> Result<(Stmt, Cursor<'_>), Stop>
     ensures { MatchResult result
         (λ r. ParsesLocal depth at.entry.room at.entry.tokens.now
@@ -44,7 +44,7 @@ fn local(alloc: Global, depth: u32, at: Cursor<'_>) -> Result<(Stmt, Cursor<'_>)
     Ok((Stmt::Let(name, value), at))
 }
 
-/// The assignment to the target whose index is in front, and the cursor behind it.
+/// The assignment to the target whose index is in front, and the cursor after it.
 fn put(alloc: Global, depth: u32, at: Cursor<'_>, target: Named) -> Result<(Stmt, Cursor<'_>), Stop>
     requires { IsNotFront (Mark sign.Assign) at.tokens.now }
     ensures { MatchResult result
@@ -60,7 +60,7 @@ fn put(alloc: Global, depth: u32, at: Cursor<'_>, target: Named) -> Result<(Stmt
     Ok((Stmt::Put(target, index, value), at))
 }
 
-/// The assignment of what stands in front to the target, and the cursor behind it.
+/// The assignment of what stands in front to the target, and the cursor after it.
 fn assigned(
     alloc: Global,
     depth: u32,
@@ -81,7 +81,7 @@ fn assigned(
     Ok((Stmt::Assign(target, value), at))
 }
 
-/// The statement that goes on from the name of its target, and the cursor behind it.
+/// The statement that goes on from the name of its target, and the cursor after it.
 fn after_name(
     alloc: Global,
     depth: u32,
@@ -99,7 +99,7 @@ fn after_name(
     put(alloc, depth, at, target)
 }
 
-/// The call behind its keyword, and the cursor behind it.
+/// The call after its keyword, and the cursor after it.
 fn called(alloc: Global, depth: u32, at: Cursor<'_>) -> Result<(Stmt, Cursor<'_>), Stop>
     ensures { MatchResult result
         (λ r. ParsesCall depth at.entry.room at.entry.tokens.now
@@ -111,7 +111,7 @@ fn called(alloc: Global, depth: u32, at: Cursor<'_>) -> Result<(Stmt, Cursor<'_>
     Ok((Stmt::Call(side), at))
 }
 
-/// The fork behind its keyword, and the cursor behind it.
+/// The fork after its keyword, and the cursor after it.
 fn fork(alloc: Global, depth: u32, at: Cursor<'_>) -> Result<(Stmt, Cursor<'_>), Stop>
     ensures { MatchResult result
         (λ r. ParsesFork depth at.entry.room at.entry.tokens.now
@@ -125,7 +125,7 @@ fn fork(alloc: Global, depth: u32, at: Cursor<'_>) -> Result<(Stmt, Cursor<'_>),
     Ok((Stmt::Fork(left, right), at))
 }
 
-/// The test and the blocks behind the keyword `if`, and the cursor behind them.
+/// The test and the blocks after the keyword `if`, and the cursor after them.
 #[cycle(statement)]
 fn choice(alloc: Global, depth: u32, at: Cursor<'_>) -> Result<(Stmt, Cursor<'_>), Stop>
     ensures { MatchResult result
@@ -142,7 +142,7 @@ fn choice(alloc: Global, depth: u32, at: Cursor<'_>) -> Result<(Stmt, Cursor<'_>
     Ok((Stmt::If(test, holds, otherwise), at))
 }
 
-/// The test and the block behind the keyword `while`, and the cursor behind them.
+/// The test and the block after the keyword `while`, and the cursor after them.
 #[cycle(statement)]
 fn repeated(alloc: Global, depth: u32, at: Cursor<'_>) -> Result<(Stmt, Cursor<'_>), Stop>
     ensures { MatchResult result
@@ -155,7 +155,7 @@ fn repeated(alloc: Global, depth: u32, at: Cursor<'_>) -> Result<(Stmt, Cursor<'
     Ok((Stmt::While(test, body), at))
 }
 
-/// The split behind its keyword, which stands in the line, and the cursor behind it.
+/// The split after its keyword, which stands in the line, and the cursor after it.
 #[cycle(statement)]
 fn split(alloc: Global, depth: u32, at: Cursor<'_>, line: u32) -> Result<(Stmt, Cursor<'_>), Stop>
     ensures { MatchResult result
@@ -175,7 +175,7 @@ fn split(alloc: Global, depth: u32, at: Cursor<'_>, line: u32) -> Result<(Stmt, 
     Ok((split, at))
 }
 
-/// The `each` behind its keyword, and the cursor behind it.
+/// The `each` after its keyword, and the cursor after it.
 #[cycle(statement)]
 fn each(alloc: Global, depth: u32, at: Cursor<'_>) -> Result<(Stmt, Cursor<'_>), Stop>
     ensures { MatchResult result
@@ -192,7 +192,7 @@ fn each(alloc: Global, depth: u32, at: Cursor<'_>) -> Result<(Stmt, Cursor<'_>),
     Ok((Stmt::Each(index, part, region, body), at))
 }
 
-/// The statement in front, and the cursor behind it.
+/// The statement in front, and the cursor after it.
 #[cycle(statement)]
 fn statement(alloc: Global, depth: u32, at: Cursor<'_>) -> Result<(Stmt, Cursor<'_>), Stop>
     ensures { MatchResult result
@@ -252,7 +252,7 @@ fn begins_statement(kind: &Kind) -> bool
     }
 }
 
-/// The statements in front, and the cursor behind them.
+/// The statements in front, and the cursor after them.
 #[cycle(statement)]
 fn statements(alloc: Global, depth: u32, at: Cursor<'_>) -> Result<(Vec<Stmt>, Cursor<'_>), Stop>
     ensures { MatchResult result
@@ -270,7 +270,7 @@ fn statements(alloc: Global, depth: u32, at: Cursor<'_>) -> Result<(Vec<Stmt>, C
     Ok((all, behind))
 }
 
-/// The statements of the block in front, and the cursor behind it.
+/// The statements of the block in front, and the cursor after it.
 #[cycle(statement)]
 fn block(alloc: Global, depth: u32, at: Cursor<'_>) -> Result<(Vec<Stmt>, Cursor<'_>), Stop>
     ensures { MatchResult result
@@ -285,7 +285,7 @@ fn block(alloc: Global, depth: u32, at: Cursor<'_>) -> Result<(Vec<Stmt>, Cursor
     Ok((all, at))
 }
 
-/// The line of the keyword `give` in front, and the cursor behind it.
+/// The line of the keyword `give` in front, and the cursor after it.
 fn give_word(at: Cursor<'_>) -> Option<(u32, Cursor<'_>)>
     ensures { MatchOption result
         (NoGive at.entry.tokens.now)
@@ -298,7 +298,7 @@ fn give_word(at: Cursor<'_>) -> Option<(u32, Cursor<'_>)>
     }
 }
 
-/// What a body gives in front, if anything, and the cursor behind it.
+/// What a body gives in front, if anything, and the cursor after it.
 fn give(alloc: Global, depth: u32, at: Cursor<'_>) -> Result<(Option<Give>, Cursor<'_>), Stop>
     ensures { MatchResult result
         (λ r. Parses depth at.entry.room (Part phrase.Give ∷ []) at.entry.tokens.now
@@ -313,7 +313,7 @@ fn give(alloc: Global, depth: u32, at: Cursor<'_>) -> Result<(Option<Give>, Curs
     Ok((Some(Give { line, value }), at))
 }
 
-/// The statements of the body in front and what it gives, and the cursor behind it.
+/// The statements of the body in front and what it gives, and the cursor after it.
 pub fn read_body(alloc: Global, depth: u32, at: Cursor<'_>) -> Result<(Body, Cursor<'_>), Stop>
     ensures { MatchResult result
         (λ r. Parses depth at.entry.room (Part phrase.Body ∷ []) at.entry.tokens.now

@@ -24,7 +24,7 @@ module _ (canvas : Canvas) where
   abbrev pub across : (act : ℕ) → ℕ
   across act = left_edge + act * 84000 / canvas.acts
 
-  -- so wide is an act of a processor that acts in turn with all others
+  -- how wide an act is of a processor that acts in turn with all others
   abbrev pub stride : ℕ
   stride = max (canvas.processors * 84000 / canvas.acts) 1
 

@@ -34,7 +34,7 @@ cut_off_before n d ds = go (nat_le (n * 10 + (d - 48)) value_limit) refl
         let large = leb-false (n * 10 + (d - 48)) value_limit e in
         cut_off (min (min (n * 10) value_limit + (d - 48)) value_limit) (n * 10 + (d - 48)) ds (inr (omega (arith, large), omega (arith, large)))
 
--- a loop over digits, by the first and those behind it
+-- a loop over digits, by the first and those after it
 pub value_step : (n : ℕ) (ds : List ℕ) → 1 ≤ length ds
     → min (value_from (min (min (n * 10) value_limit + (get_or ds 0 0 - 48)) value_limit) (take (length ds - 1) (drop 1 ds))) value_limit
     ≡ min (value_from n ds) value_limit

@@ -27,7 +27,7 @@ split_whole separator (b ∷ bs) h = go (b == separator) refl (split_whole separ
     go true e f h = absurd (omega (arith, h))
     go false e f h = ap (in_front b) (f (omega (arith, h)))
 
--- else the first piece is in front of it, and the others are those behind it
+-- else the first piece is in front of it, and the others are those after it
 pub split_first : (separator : ℕ) (bs : List ℕ) → front separator bs < length bs
     → split separator bs ≡ take (front separator bs) bs ∷ split separator (drop (front separator bs + 1) bs)
 split_first separator [] h = absurd (omega (arith, h))
@@ -55,7 +55,7 @@ halves_none separator (b ∷ bs) h = go (b == separator) refl (halves_none separ
     go true e f h = absurd (omega (arith, h))
     go false e f h = ap (more_in_front b) (f (omega (arith, h)))
 
--- else they are in front of the first one and behind it
+-- else they are in front of the first one and after it
 pub halves_some : (separator : ℕ) (bs : List ℕ) → front separator bs < length bs
     → halves_of separator bs ≡ Some (take (front separator bs) bs, drop (front separator bs + 1) bs)
 halves_some separator [] h = absurd (omega (arith, h))

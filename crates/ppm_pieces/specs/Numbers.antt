@@ -15,7 +15,7 @@ abbrev pub is_numeral : List ℕ → Bool
 is_numeral [] = false
 is_numeral (d ∷ ds) = if d == 48 then is_empty ds else list_all is_digit (d ∷ ds)
 
--- the number that digits stand for, behind one that came before
+-- the number that digits stand for, after one that came before
 abbrev pub value_from : ℕ → List ℕ → ℕ
 value_from before [] = before
 value_from before (d ∷ ds) = value_from (before * 10 + (d - 48)) ds

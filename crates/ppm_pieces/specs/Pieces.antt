@@ -16,7 +16,7 @@ abbrev pub more_in_front : ℕ → Option (List ℕ × List ℕ) → Option (Lis
 more_in_front b None = None
 more_in_front b (Some halves) = Some (b ∷ halves.0, halves.1)
 
--- what stands in front of the first separator, and behind it
+-- what stands in front of the first separator, and after it
 abbrev pub halves_of : (separator : ℕ) → List ℕ → Option (List ℕ × List ℕ)
 halves_of separator [] = None
 halves_of separator (b ∷ bs) = if b == separator then Some ([], bs) else more_in_front b (halves_of separator bs)

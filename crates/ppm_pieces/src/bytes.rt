@@ -9,7 +9,7 @@ pub fn same_bytes(a: &[u8], b: &[u8]) -> bool
     a == b
 }
 
-/// What stands behind the first n.
+/// What stands after the first n.
 #[tactic(auto, using(std::proofs::lemmas::List::take_rest))]
 pub fn behind<T>(items: &[T], n: usize) -> &[T]
     requires { n ≤ length items.now }

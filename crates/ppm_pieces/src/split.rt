@@ -15,7 +15,7 @@ fn front_len(bytes: &[u8], separator: u8) -> usize
     bytes.iter().take_while(|b| !(**b == separator)).count()
 }
 
-/// The bytes in front of the first separator, and those behind it.
+/// The bytes in front of the first separator, and those after it.
 pub fn split_once(bytes: &[u8], separator: u8) -> Option<(&[u8], &[u8])>
     ensures halves { MatchOption result
         (halves_of separator bytes.now ≡ None)

@@ -5,12 +5,12 @@ use Rattle.std.proofs.lemmas.List.{length-append, length-replicate}
 use Rattle.ppm_plan.specs.declared.schedule_item.ScheduleItem.{ScheduleItem}
 use Rattle.ppm_plan.specs.Faults.{acts_of}
 
--- an item and those behind it
+-- an item and those after it
 acts_more : (i : ScheduleItem) (items : List ScheduleItem) → length (acts_of (i ∷ items)) ≡ i.times + length (acts_of items)
 acts_more i items =
     length-append (replicate i.times i.act) (acts_of items) ∙ ap (λ n. n + length (acts_of items)) (length-replicate i.times i.act)
 
--- a loop over items, by the first and those behind it
+-- a loop over items, by the first and those after it
 pub acts_step : (count n all : ℕ) (left : List ScheduleItem) (d : ScheduleItem) → 1 ≤ length left → n ≡ (get_or left 0 d).times
     → count + length (acts_of left) ≡ all → count + n + length (acts_of (take (length left - 1) (drop 1 left))) ≡ all
 acts_step count n all [] d h e whole = absurd (omega (arith, h))

@@ -64,7 +64,7 @@ done piece i (Once (Step c victim) fits) = (omega arith, omega arith)
 done piece i (Once (Fails c fault) fits) = refl
 done piece i (Times c victim n fits low high) = (low, high)
 
--- so it is with all items
+-- all items of a schedule that is read are of so many processors, and are done as often as they may be
 pub all_among : (text : List ℕ) (p : ℕ) (items : List ScheduleItem) → HasItems schedule_form text items
     → first_at (schedule_form.is_outside p) 1 items ≡ None → All (IsItemAmong p) items
 all_among text p items h k =

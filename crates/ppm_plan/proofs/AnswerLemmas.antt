@@ -166,6 +166,6 @@ one_refusal form text p AllKilled AllKilled o q r s = refl
 one_refusal form text p AllKilled NoMemory o q r s = absurd (both_ways false refl q)
 one_refusal form text p NoMemory f o q r s = absurd (both_ways false refl o)
 
--- so there is one answer
+-- each form has one answer
 pub has_one_answer : {A : Type 0} (form : Form A) → HasOneAnswer form
 has_one_answer form = record { some = some_answer form; items = same_items form; apart = apart form; refusals = one_refusal form }

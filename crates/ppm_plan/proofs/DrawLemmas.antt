@@ -9,7 +9,7 @@ use Rattle.ppm_plan.specs.Forms.{plan_form, is_hard}
 use Rattle.ppm_plan.specs.Refusals.{is_killed}
 use Rattle.ppm_plan.specs.Draws.{word_of, after_word, item_drawn, items_drawn, fault_drawn}
 
--- the first victim, and those behind it
+-- the first victim, and those after it
 pub first_victim : (s s' : List ℕ) (u p k : ℕ) → (u, s') ≡ plus_plus s
     → map (λ w. w % p) (first_words plus_plus (suc k) s) ≡ u % p ∷ map (λ w. w % p) (first_words plus_plus k s')
 unfolding first_words

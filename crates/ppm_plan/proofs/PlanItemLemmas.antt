@@ -53,7 +53,7 @@ timed_back c bs i = go (ended_by 115 bs) refl (ended_by 104 bs) refl
     go None e (Some t) f h = found Hard t f h
     go None e None f h = absurd (none-some i h)
 
--- an item's text, by what stands in front of its sign and behind it
+-- an item's text, by what stands in front of its sign and after it
 grouped : (i : PlanItem) → plan_item_text i ≡ decimal i.processor ++ 64 ∷ (decimal i.turn ++ letter_of i.fault ∷ [])
 grouped i = append_assoc (decimal i.processor) (64 ∷ decimal i.turn) (letter_of i.fault ∷ [])
 

@@ -21,7 +21,7 @@ pub last_item : {A : Type 0} (form : Form A) (all : List (Option A)) (items more
     → all ≡ map Some more
 last_item form all items more pieces piece h e k = h ∙ ap (λ l. map Some items ++ map form.reading l) e ∙ sym k
 
--- the first that is missing stands behind some that are not
+-- the first that is missing stands after some that are not
 first_missing : {A : Type 0} (n : ℕ) (items : List A) (rest : List (Option A))
     → first_at is_missing n (map Some items ++ None ∷ rest) ≡ Some (n + length items)
 first_missing n [] rest = ap Some (omega arith)

@@ -53,7 +53,7 @@ pub decimal_lacks : (separator n : ℕ) → is_digit separator ≡ false → n <
 decimal_lacks separator n h small =
     digits_lack separator (decimal n) h (numeral_parts (decimal n) (numeral-decimal n (omega (arith, small)))).0
 
--- nor have two texts, one behind the other
+-- nor have two texts, one after the other
 pub both_lack : (separator : ℕ) (xs ys : List ℕ) → lacks separator xs ≡ true → lacks separator ys ≡ true → lacks separator (xs ++ ys) ≡ true
 both_lack separator xs ys h k = list_all-append (λ b. not (b == separator)) xs ys ∙ both_true h k
 

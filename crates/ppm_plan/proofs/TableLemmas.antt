@@ -19,7 +19,7 @@ pub none_left : (met : Option Fault) → with_rest met None ≡ met
 none_left None = refl
 none_left (Some met) = refl
 
--- one item more, by what it says of a turn, and what those behind it say
+-- one item more, by what it says of a turn, and what those after it say
 pub item_met : (met : Option Fault) (i : PlanItem) (items : List PlanItem) (c t : ℕ)
     → with_rest (with_item met i c t) (fault_at items c t) ≡ with_rest met (fault_at (i ∷ items) c t)
 item_met met i items c t =
@@ -66,7 +66,7 @@ item_put new old i h c t =
     go true false e f = refl
     go true true e f = ap (λ k. Some (graver (old k) i.fault)) (pair_path (eqb-true i.processor c e) (eqb-true i.turn t f))
 
--- the loop over the items: one more, by the first and those behind it
+-- the loop over the items: one more, by the first and those after it
 pub one_put : (all met new : Option Fault) (left : List PlanItem) (d : PlanItem) (c t : ℕ) → 1 ≤ length left
     → new ≡ with_item met (get_or left 0 d) c t → with_rest met (fault_at left c t) ≡ all
     → with_rest new (fault_at (take (length left - 1) (drop 1 left)) c t) ≡ all

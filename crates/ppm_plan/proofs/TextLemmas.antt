@@ -12,7 +12,7 @@ use Rattle.ppm_plan.specs.Spellings.{WritesInTurn, Last, More, WritesAll}
 use Rattle.ppm_pieces.proofs.NumberLemmas.{both_parts}
 use Rattle.ppm_plan.proofs.SpellingLemmas.{lacks}
 
--- the first of a list, if there is one, and those behind it
+-- the first of a list, if there is one, and those after it
 abbrev first_of : {A : Type 0} → List (Option A) → Option A
 first_of [] = None
 first_of (x ∷ xs) = x

@@ -34,7 +34,7 @@ pub record HasOneAnswer {A : Type 0} (form : Form A) : Type 0 where
   pub refusals : (text : List ℕ) (p : ℕ) (e f : PlanError) → is_of_text e ≡ true → is_of_text f ≡ true
       → IsRefused form text p e → IsRefused form text p f → e ≡ f
 
--- so it is of plans, of schedules, and of schedules of strands
+-- plans, schedules, and schedules of strands have one answer each
 pub record HaveOneAnswer : Type 0 where
   pub plans : HasOneAnswer plan_form
   pub schedules : HasOneAnswer schedule_form

@@ -4,7 +4,7 @@ use Rattle.ppm_plan.specs.declared.plan_error.PlanError.{PlanError}
 use Rattle.ppm_plan.specs.declared.plan_error.PlanError.TheVariants.{BadItem, NoSuchProcessor, TooManyFaults, AllKilled, NoMemory}
 use Rattle.ppm_plan.specs.Forms.{Form}
 
--- the piece behind some items reads as none, or memory was refused
+-- the piece after some items reads as none, or memory was refused
 abbrev pub StopsAt : {A : Type 0} → Form A → List A → List ℕ → PlanError → Type 0
 StopsAt form items piece (BadItem n) = (n ≡ length items + 1) × (form.reading piece ≡ None)
 StopsAt form items piece (NoSuchProcessor n) = ⊥

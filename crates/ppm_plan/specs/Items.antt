@@ -27,7 +27,7 @@ pub record FitsPlanItem (i : PlanItem) : Type 0 where
 abbrev pub most_times : ℕ
 most_times = 268435456
 
--- a victim behind its sign, where one is stated
+-- a victim after its sign, where one is stated
 abbrev pub victim_text : Option ℕ → List ℕ
 victim_text None = []
 victim_text (Some v) = 62 ∷ decimal v
@@ -53,7 +53,7 @@ pub data WritesScheduleItem : List ℕ → ScheduleItem → Type 0 where
   Times : (c : ℕ) (victim : Option ℕ) (n : ℕ) → FitsAct (Step c victim) → 1 ≤ n → n ≤ most_times
       → WritesScheduleItem (act_text (Step c victim) ++ 42 ∷ decimal n) (record { act = Step c victim; times = n })
 
--- the fault of a letter, with nothing behind it
+-- the fault of a letter, with nothing after it
 abbrev pub fault_of : List ℕ → Option Fault
 fault_of [] = None
 fault_of (b ∷ []) = if nat_le b 115 && nat_le 115 b then Some Soft else (if nat_le b 104 && nat_le 104 b then Some Hard else None)

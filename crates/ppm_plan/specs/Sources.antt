@@ -5,7 +5,7 @@ use Rattle.std.specs.Prelude.{ℕ, zero, suc, ◌+◌, ◌-◌, ◌*◌, ◌%◌
 abbrev pub value_at : (x i : ℕ) → ℕ
 value_at x i = (x + 31 * i) % 1000
 
--- so many values from element i on, each behind a comma and a space
+-- so many values from element i on, each after a comma and a space
 abbrev pub values_from : (x i count : ℕ) → List ℕ
 values_from x i zero = []
 values_from x i (suc count) = codes ", " ++ decimal (value_at x i) ++ values_from x (i + 1) count

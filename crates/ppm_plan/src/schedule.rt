@@ -119,7 +119,7 @@ impl Schedule {
 
 /// The schedule that a text says for `processors` processors, from 1 to 64: `none`, or items with
 /// commas between them. An item is a step `c` or `c>v` (of processor c, with victim v), perhaps
-/// with `*n` behind it (n from 1 to 268,435,456), or a fault `c!s` or `c!h`. `Err` with the one
+/// with `*n` after it (n from 1 to 268,435,456), or a fault `c!s` or `c!h`. `Err` with the one
 /// reason why it is none.
 pub fn read_schedule(alloc: Global, text: &[u8], processors: u32) -> Result<Schedule, PlanError>
     requires { IsInRange 1 64 processors }

@@ -106,7 +106,7 @@ fn repeated(piece: &[u8]) -> Option<ScheduleItem>
     }
 }
 
-/// The fault of a letter, with nothing behind it.
+/// The fault of a letter, with nothing after it.
 fn fault_of(letter: &[u8]) -> Option<Fault>
     ensures { result ≡ fault_written letter.now }
 {

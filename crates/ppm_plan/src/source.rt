@@ -14,7 +14,7 @@ fn value_at(seed: u32, index: u32) -> u64
     (u64::from(seed) + 31 * u64::from(index)) % 1000
 }
 
-/// Appends so many values from an element on, each behind a comma.
+/// Appends so many values from an element on, each after a comma.
 fn push_values(text: &mut Vec<u8>, seed: u32, first: u32, count: u32) -> Result<(), NoMemory>
     requires { first + count < 2 ^ 32 }
     ensures { OnOk result (text.new.items ≡ text.old.items ++ values_from seed first count) }

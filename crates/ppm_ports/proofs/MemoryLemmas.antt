@@ -8,6 +8,6 @@ pub given_and_left : (bytes buf : List ℕ) (at n : ℕ) → take n buf ≡ take
 given_and_left bytes buf at n front =
     sym (take-append-drop n (drop at bytes)) ∙ ap₂ (λ (x : List ℕ) (y : List ℕ). x ++ y) (sym front) (drop-drop n at bytes)
 
--- behind the last byte nothing is left
+-- after the last byte nothing is left
 pub none_left : (bytes : List ℕ) (at n : ℕ) → length (drop at bytes) ≤ 0 → drop (at + n) bytes ≡ []
 none_left bytes at n short = drop_of_length-le bytes (omega (arith, length-drop at bytes))

@@ -14,12 +14,12 @@ KeepsFront None now = ⊤
 KeepsFront (Some before) None = ⊥
 KeepsFront (Some before) (Some now) = (events : List Event) × (now ≡ before ++ events)
 
--- a known list has these events behind it
+-- a known list has these events after it
 abbrev pub AppendsList : Option (List Event) → Option (List Event) → List Event → Type 0
 AppendsList None now events = ⊤
 AppendsList (Some before) None events = ⊥
 AppendsList (Some before) (Some now) events = now ≡ before ++ events
 
--- the event stands behind the list at `Ok`, and the list stays at `Err`
+-- the event stands after the list at `Ok`, and the list stays at `Err`
 abbrev pub TellsOne : {E : Type 0} → Option (List Event) → Option (List Event) → Event → Result Unit E → Type 0
 TellsOne before now event r = MatchResult r (λ _. AppendsList before now (event ∷ [])) (λ _. KeepsList before now)

@@ -10,7 +10,7 @@ pub trait Watch: Send {
     /// The events that it was told, the oldest first, where the watcher shows them.
     ghost told: { Self → Option (List Event) };
 
-    /// Puts an event behind the list at `Ok`, and leaves the list as it is at `Err`.
+    /// Puts an event after the list at `Ok`, and leaves the list as it is at `Err`.
     fn turn(&mut self, event: Event) -> Result<(), NoMemory>
         ensures { TellsOne (told self.old) (told self.new) event result };
 }

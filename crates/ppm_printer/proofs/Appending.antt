@@ -21,7 +21,7 @@ use Rattle.ppm_printer.specs.Canonical.{name, word, sign, expression_tokens, lis
 use Rattle.ppm_printer.specs.Canonical.{statement_tokens, block_tokens, else_tokens, parameter_tokens, array_tokens, procedure_tokens}
 use Rattle.ppm_printer.specs.Canonical.{input_tokens, program_tokens}
 
--- one piece behind another
+-- one piece after another
 pub then : (xs ys : List Kind) (a b c : List ℕ) → Appends xs a b → Appends ys b c → Appends (xs ++ ys) a c
 then xs ys a b c h g =
     g ∙ ap (λ w. w ++ text_of ys) h ∙ append_assoc a (text_of xs) (text_of ys) ∙ sym (ap (λ w. a ++ w) (flat_map-append spaced xs ys))
@@ -102,7 +102,7 @@ tree_text t xs ps is a b c d e1 e2 e3 f g h =
     (subst (λ xs. Appends (flat_map array_tokens xs) a b) e1 f) (subst (λ ks. Appends ks b c) procedures g))
     (subst (λ xs. Appends (flat_map input_tokens xs) c d) e3 h)
 
--- a block behind `else` that is not empty
+-- a block after `else` that is not empty
 pub else_text : (block : List Stmt) (a b c : List ℕ) → 0 < length block → Appends (word k.Else ∷ []) a b
     → Appends (braced (block_tokens (block_of block))) b c → Appends (else_tokens (block_of block)) a c
 else_text [] a b c some f g = absurd (omega (arith, some))

@@ -54,7 +54,7 @@ lift lv d e ts more h = record {
 }
 
 module _ (d : ℕ) (e : Expression) (ts : List Token) (more : List Kind) where
-  -- so an operand without an operator is an operand of each level
+  -- an operand without an operator is an operand of each level
   of_sum : HasExpression d g.Operand e ts more → HasExpression d (operand level.Sum) e ts more
   of_sum h = lift level.Product d e ts more h
 

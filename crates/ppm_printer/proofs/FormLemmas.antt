@@ -41,7 +41,7 @@ name_formed : (x : Named) → IsNamed x → HasForm (name x)
 unfolding keyword_of
 name_formed x h = (h.form, not_spelled x.name spellings (recursion_from_All (λ w. w ≢ x.name) keywords h.no_keyword))
 
--- tokens behind others
+-- tokens after others
 both : (xs ys : List Kind) → Formed xs → Formed ys → Formed (xs ++ ys)
 both [] ys h g = g
 both (x ∷ xs) ys h g = (h.0, both xs ys h.1 g)

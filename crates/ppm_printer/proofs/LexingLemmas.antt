@@ -16,7 +16,7 @@ use Rattle.ppm_text.specs.Tokens.{HasForm}
 use Rattle.ppm_printer.specs.Spelled.{token_text, blank_behind_sign, blank_behind, spaced, text_of}
 use Rattle.ppm_printer.proofs.SpellingLemmas.{longest_before_blank, text_spells}
 
--- how many lines end behind a token
+-- how many lines end after a token
 abbrev sign_ends : Sign → ℕ
 sign_ends s.Semicolon = 1
 sign_ends s.OpenBrace = 1
@@ -27,7 +27,7 @@ abbrev pub ends : Kind → ℕ
 ends (kind.Sign sign) = sign_ends sign
 ends _ = 0
 
--- the place behind a token and its blank
+-- the place after a token and its blank
 abbrev pub past : Kind → ℕ → ℕ
 past k p = p + length (token_text k) + 1
 
@@ -36,7 +36,7 @@ abbrev pub located_from : ℕ → ℕ → List Kind → List Token
 located_from p l [] = []
 located_from p l (k ∷ ks) = located k p l ∷ located_from (past k p) (l + ends k) ks
 
--- the blank behind a token is one
+-- the blank after a token is one
 sign_skips : (sign : Sign) (bs : List ℕ) → Skips (blank_behind_sign sign ∷ bs) 1 (sign_ends sign)
 sign_skips s.Semicolon bs = line_feed refl
 sign_skips s.OpenBrace bs = line_feed refl
@@ -108,6 +108,6 @@ lexed_from (k ∷ ks) p l q forms is =
     let (m, rest) = lexed_from ks (p + length (token_text k) + 1) (l + ends k) q forms.1 (omega (arith, is, long)) in
     (m, subst (λ bs. Lexes p l bs (located_from p l (k ∷ ks)) q m []) (sym split) (one k (text_of ks) p l q m _ forms.0 rest))
 
--- so it is with a whole text
+-- a whole text is lexed into its tokens
 pub lexed : (ks : List Kind) → AllByRecursion HasForm ks → IsTextOf (text_of ks) (located_from 0 1 ks)
 lexed ks forms = lexed_from ks 0 1 (length (text_of ks)) forms (omega arith)

@@ -40,7 +40,7 @@ pub record Stands {A : Type 0} (value : A → Value) (Same : A → Type 0) (d : 
   pub reads : (xs : List (Due Terminal Phrase)) (vs : List Value) (rest : List Token) → Reads xs (located_from place line more) vs rest →
       Reads (Within d (Part n) ∷ xs) ts (value again ∷ vs) rest
 
--- the same tokens, grouped otherwise
+-- tokens that stand for a value, grouped otherwise
 pub regroup : {A : Type 0} (value : A → Value) (Same : A → Type 0) (d : ℕ) (n : Phrase) (p l : ℕ) (more : List Kind) {ks js : List Kind} → ks ≡ js →
     Stands value Same d n (located_from p l js) more → Stands value Same d n (located_from p l ks) more
 regroup value Same d n p l more e h = rw e h

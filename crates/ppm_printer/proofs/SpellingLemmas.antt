@@ -1,4 +1,4 @@
--- The text of a token spells it, and no longer token begins where a blank stands behind it.
+-- The text of a token spells it, and no longer token begins where a blank stands after it.
 use Rattle.std.proofs.Common.{◌≡◌, ℕ, zero, suc, ◌<◌, ◌≤◌, ◌^◌, Bool, true, false, cond, nat_lt, ◌&&◌, ◌||◌, List, [], ◌∷◌, ◌++◌, length, take}
 use Rattle.std.proofs.Common.{Some, arith, rules, refl, subst}
 use Rattle.std.specs.Prelude.{decimal}
@@ -37,7 +37,7 @@ abbrev pub Solid : List ℕ → Type 0
 Solid [] = Unit {0}
 Solid (b ∷ bs) = (32 < b) × Solid bs
 
--- the same as a test
+-- a test that no byte is a blank
 abbrev is_solid : List ℕ → Bool
 is_solid [] = true
 is_solid (b ∷ bs) = nat_lt 32 b && is_solid bs
@@ -114,7 +114,7 @@ spells_solid {bytes} (a_name w is) = identifier_solid bytes w
 spells_solid {bytes} (a_number d) = number_solid bytes d
 spells_solid {bytes} (a_sign {found = found} is) = sign_solid bytes found is
 
--- so none reaches beyond a blank
+-- no token reaches beyond a blank
 up_to_blank : (front : List ℕ) (b : ℕ) (bs : List ℕ) (m : ℕ) → b ≤ 32 → Solid (take m (front ++ b ∷ bs)) → m ≤ length front
 up_to_blank [] b bs zero low h = omega arith
 up_to_blank [] b bs (suc m) low h = absurd (omega (arith, h.0))

@@ -43,7 +43,7 @@ braced_again b d p l more h =
       reads = λ xs vs rest next. row d g.Block first (take refl (h.reads _ _ _ (take refl done))) next refl;
     })
 
--- what stands behind the first block of an `if`
+-- what stands after the first block of an `if`
 else_again : (b : Block) (d p l : ℕ) (more : List Kind)
     → ((q m : ℕ) → Stands v.Statements (SameBlock b) d g.Block (located_from q m (braced (block_tokens b) ++ more)) more)
     → Stands v.Statements (SameBlock b) d g.Else (located_from p l (else_tokens b ++ more)) more

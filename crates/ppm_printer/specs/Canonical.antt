@@ -1,7 +1,7 @@
 -- The canonical text of a tree. Its tokens are those of the grammar's rows, and what a tree does not tell is settled here:
 -- arrays come first, then procedures, then inputs, since a tree keeps no order between these kinds; each operation with two operands
 -- stands in parentheses, wherever it stands; an `if` whose second block is empty has no `else`; a negative value is a minus and a number.
--- The text of a program ends with the line feed behind its last token, and a program that declares nothing has the empty text.
+-- The text of a program ends with the line feed after its last token, and a program that declares nothing has the empty text.
 use Rattle.std.specs.Prelude.{ℕ, suc, ℤ, pos, negsuc, List, [], ◌∷◌, ◌++◌, Option, Some, None}
 use Rattle.std.specs.List.{flat_map}
 use Rattle.ppm_text.specs.declared.token.Keyword.{Keyword}
@@ -121,7 +121,7 @@ abbrev mutual
   block_tokens Nil = []
   block_tokens (Then statement rest) = statement_tokens statement ++ block_tokens rest
 
-  -- what stands behind the first block of an `if`
+  -- what stands after the first block of an `if`
   pub else_tokens : Block → List Kind
   else_tokens Nil = []
   else_tokens (Then statement rest) = word k.Else ∷ braced (statement_tokens statement ++ block_tokens rest)

@@ -19,7 +19,7 @@ pub record IsTextOfTree (text : List ℕ) (t : ProgramTree) : Type 0 where
   pub derived : IsText language tokens (Program again) marks
   pub same : without_lines again ≡ without_lines t
 
--- so it is with the canonical text of each tree within the limits; it may itself pass those on its length and on openings
+-- the canonical text of each tree within the limits has that tree; it may itself pass those on its length and on openings
 abbrev pub PrintedTextsHaveTheirTree : Type 0
 PrintedTextsHaveTheirTree = (t : ProgramTree) → IsWithin t → IsTextOfTree (canonical_text t) t
 

@@ -1,4 +1,4 @@
--- How the canonical text spells tokens: each with one blank behind it, which is a line feed behind `;`, `{` and `}`, else a space.
+-- How the canonical text spells tokens: each with one blank after it, which is a line feed after `;`, `{` and `}`, else a space.
 use Rattle.std.specs.Prelude.{◌≡◌, ℕ, List, [], ◌∷◌, ◌++◌, codes, decimal}
 use Rattle.std.specs.List.{flat_map}
 use Rattle.ppm_text.specs.declared.token.Keyword.{Keyword}
@@ -63,19 +63,19 @@ token_text (kind.Number value) = decimal value
 token_text (kind.Keyword word) = keyword_text word
 token_text (kind.Sign sign) = sign_text sign
 
--- the blank behind a sign
+-- the blank after a sign
 abbrev pub blank_behind_sign : Sign → ℕ
 blank_behind_sign s.Semicolon = 10
 blank_behind_sign s.OpenBrace = 10
 blank_behind_sign s.CloseBrace = 10
 blank_behind_sign _ = 32
 
--- the blank behind a token
+-- the blank after a token
 abbrev pub blank_behind : Kind → ℕ
 blank_behind (kind.Sign sign) = blank_behind_sign sign
 blank_behind _ = 32
 
--- a token with the blank behind it
+-- a token with the blank after it
 abbrev pub spaced : Kind → List ℕ
 spaced token = token_text token ++ blank_behind token ∷ []
 

@@ -1,5 +1,5 @@
 //! The canonical text of a program.
-//! Model: the tokens of a tree (`specs/Canonical`), each spelled with one blank behind it
+//! Model: the tokens of a tree (`specs/Canonical`), each spelled with one blank after it
 //! (`specs/Spelled`).
 //! Contract: `print` gives the canonical text, and by the grammar that text has the tree again,
 //! lines apart (`specs/Correct`).

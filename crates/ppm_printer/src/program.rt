@@ -197,7 +197,7 @@ fn push_tree(alloc: Global, text: &mut Vec<u8>, tree: &Tree) -> Result<(), NoMem
     Ok(())
 }
 
-/// The canonical text of a program: one space between tokens, a line feed in its place behind each
+/// The canonical text of a program: one space between tokens, a line feed in its place after each
 /// `;`, `{` and `}`, and parentheses round each operation with two operands; arrays first, then
 /// procedures, then inputs. `Err` only where memory is refused.
 pub fn print(alloc: Global, program: &Program) -> Result<Vec<u8>, NoMemory>

@@ -1,4 +1,4 @@
-//! How keywords and signs are spelled, and the blanks behind them.
+//! How keywords and signs are spelled, and the blanks after them.
 ghost use Rattle.std.specs.Prelude.{◌≡◌};
 ghost use Rattle.ppm_printer.specs.Spelled.{keyword_text, sign_text, blank_behind_sign};
 
@@ -62,7 +62,7 @@ pub fn sign_spelling(sign: Sign) -> &'static str
     }
 }
 
-/// The blank behind a sign: a line feed behind those that end a line, else a space.
+/// The blank after a sign: a line feed after those that end a line, else a space.
 pub(crate) fn blank_behind(sign: Sign) -> u8
     ensures { result ≡ blank_behind_sign sign }
 {

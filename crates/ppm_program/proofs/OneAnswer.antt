@@ -135,7 +135,7 @@ module _ (laws : Laws) (text : List ℕ) where
   refused_no_program _ (by_region {e = e} h) t has = admitted_unfaulted laws text t e has.admitted h
   refused_no_program _ (by_bound {e = e} h) t has = bounded_unfaulted laws text t e has h
 
--- what stands behind more bytes than a text may have changes no refusal
+-- what stands after more bytes than a text may have changes no refusal
 front : (text rest : List ℕ) (r : Refusal) → text_limit < length text → IsRefusal text r → IsRefusal (text ++ rest) r
 front text rest _ long (by_text {e = e} h) = go e h.fault h.given where
   go : (e : TextError) → IsRefused text e → e ≢ text_error.NoMemory → IsRefusal (text ++ rest) (text_refusal e)

@@ -11,7 +11,7 @@ abbrev pub HasNoProgram : List ℕ → Type 0
 HasNoProgram text = (t : ProgramTree) → ¬ HasProgram text t
 
 -- two programs of a text are one, and so are two refusals; a text that is refused has no program, and one that is not has one; and what
--- stands behind more bytes than a text may have changes no refusal
+-- stands after more bytes than a text may have changes no refusal
 pub record HasOneAnswer (text : List ℕ) : Type 0 where
   pub program : (t u : ProgramTree) → HasProgram text t → HasProgram text u → t ≡ u
   pub refusal : (r s : Refusal) → IsRefusal text r → IsRefusal text s → r ≡ s
@@ -19,6 +19,6 @@ pub record HasOneAnswer (text : List ℕ) : Type 0 where
   pub none : ((r : Refusal) → ¬ IsRefusal text r) → (t : ProgramTree) × HasProgram text t
   pub front : (rest : List ℕ) (r : Refusal) → text_limit < length text → IsRefusal text r → IsRefusal (text ++ rest) r
 
--- so it is with every text
+-- every text has one answer: a program or a refusal
 abbrev pub HaveOneAnswer : Type 0
 HaveOneAnswer = (text : List ℕ) → HasOneAnswer text

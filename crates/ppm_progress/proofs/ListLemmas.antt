@@ -37,7 +37,7 @@ of_both c (turn ∷ first) more =
     let part : turns_of c (turn ∷ first) ≡ here + turns_of c first = refl in
     omega (arith, rest, whole, part)
 
--- so is the work of two lists
+-- the work of two lists is that of the one and then of the other
 pub work_both : (s : Shape) (code : CodeParts) (state : State) (first more : List Turn)
     → work_in s code state (first ++ more) ≡ work_in s code state first + work_in s code (after s code state first) more
 work_both s code state first more =

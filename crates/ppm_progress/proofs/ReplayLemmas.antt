@@ -74,7 +74,7 @@ turn_spares processors w (scheduled.Step c stated) spares = tt
 turn_spares processors w (scheduled.Fails c faults.Soft) spares = tt
 turn_spares processors w (scheduled.Fails c faults.Hard) spares = absurd spares
 
--- so is the step of a round
+-- the step of a round names what is there, and is no hard fault
 step_spares : (processors : ℕ) (due : Due) → IsStepDue processors due → Sparing processors due
 step_spares processors (InRound c) is = ((is, tt), tt)
 step_spares processors _ is = absurd is

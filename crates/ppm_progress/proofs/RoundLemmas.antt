@@ -194,7 +194,7 @@ module _ (code : CodeParts) (input : List NamedArray) (s : Shape) (keeper : ℕ)
         ]
   ]
 
-  -- so in n rounds each has n
+  -- in n rounds each processor has n turns
   pub each_rounds : (n : ℕ) (w : Course) (first : List Turn) → Leads first w → AllByRecursion HurtsNone first → n * s.processors ≤ w.left
       → HaveTurns 0 s.processors n (turns_due s code w (rounds s.processors n)) ⊎ Over (first ++ turns_due s code w (rounds s.processors n))
   each_rounds zero w first at none left = inl (λ c le lt. omega arith)

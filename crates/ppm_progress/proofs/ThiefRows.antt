@@ -177,7 +177,7 @@ module _ (s : Shape) (seat : Seat) (u : ℕ) where
   checks_on (Offset x b) is _ = tt
   checks_on point is w = absurd is
 
-  -- so what was seen before its loads was seen
+  -- what was seen before the loads of such a row was seen
   before_checks : (m : Spot → Word) (before : Type 0) (row : Row) (ws : List Word) → Checks row → Saw s seat u m before row ws → before
   before_checks m before row [] is saw = saw
   before_checks m before (Now (Load point)) (w ∷ ws) is saw =

@@ -124,7 +124,7 @@ not_done (IsWithin seat row) live done = step_not_done seat.restart.kind done
 not_done (IsRunning seat rest) live done = absurd (let e : Work ≡ Done = done in cc)
 not_done (IsBroken p) live done = absurd (let e : Look ≡ Done = done in cc)
 
--- so who works doesn't
+-- who works does not seek
 pub workers_seek_not : (code : CodeParts) (input : List NamedArray) (s : Shape) (keeper : ℕ) (im : Image) → IsFair code → Opens code input s keeper im
     → Calm (strands s code) (root_strand code input) (arrays_at (view s im.words))
     → (turns : List Turn) → AllByRecursion (IsTurnAmong s.processors) turns

@@ -60,7 +60,7 @@ IsAmong n (Frame own) = Unit {0}
 IsAmong n (New offset) = Unit {0}
 IsAmong n (Array word) = word < n
 
--- so is that of a step
+-- the location of a step is one of so many
 abbrev StepsAmong : ℕ → Step → Type 0
 StepsAmong n (Loads l d) = IsAmong n l
 StepsAmong n (Stores l v) = IsAmong n l

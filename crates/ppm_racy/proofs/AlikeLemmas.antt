@@ -99,7 +99,7 @@ module _ (block : List OwnWord) where
     exchanged next old (Steps (Stores (Array x) v)) g = ChangeAlike x _ _ (same next g)
     exchanged next old (Ending e) g = acted next (Ending e) g
 
-    -- so an instruction
+    -- an instruction with a put in place of an exchange does alike
     instructed : (words next : ℕ) (i : RacyInstr) (g : List ℕ)
         → Alike (racing block (plain_act going next (plainly words (plain_of i) g) g)) (at_act block go next (does words i g) g)
     instructed words next (Plain i) g = acted next (plainly words i g) g

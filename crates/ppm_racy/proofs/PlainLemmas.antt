@@ -89,7 +89,7 @@ same_at code words (At point) =
     ap (capsule_of words) (same_numbered code point.capsule) ∙ same_whole words (plain_instrs code point.capsule)
 same_at code words (HasTrapped result) = refl
 
--- so the systems are one, part by part
+-- the systems of a code without exchanges are one, part by part
 pub plain_codes : PlainCodesRaceAsBefore
 plain_codes = record {
   plain = same_code;

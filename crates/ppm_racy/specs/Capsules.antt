@@ -38,7 +38,7 @@ at_step go next (Stores l v) g = storing l v (go next g)
 at_step go next (Asks n) g = go next g
 
 module _ (block : List OwnWord) where
-  -- likewise an act; a branch that does not lead forward goes on at the next instruction
+  -- an act, where `next` is the instruction after this one; a branch that does not lead forward goes on at the next instruction
   abbrev pub at_act : Going → (next : ℕ) → RacyAct → List ℕ → Racing OwnWord Exit
   at_act go next (Plain (Sets d v)) g = go next (slice_set g d.index v)
   at_act go next (Plain Passes) g = go next g

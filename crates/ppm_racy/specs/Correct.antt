@@ -24,7 +24,7 @@ abbrev pub RacyPathsAreFilled : Type 0
 RacyPathsAreFilled = (code : RacyParts) → HasFilledPaths (plain_code code) → (array_words : ℕ) (place : Place)
     → IsOrdered ((racy_code code array_words).capsule place) × IsFilled ((racy_code code array_words).builds place) ((racy_code code array_words).capsule place)
 
--- so faults of such a code are invisible, if what its capsules do stands in each run without faults
+-- faults of a code whose paths are filled are invisible, if what its capsules do stands in each run without faults
 abbrev pub FaultsOfRacyPathsAreInvisible : Type 0
 FaultsOfRacyPathsAreInvisible = (code : RacyParts) → HasFilledPaths (plain_code code) → (array_words : ℕ) (root : FrameWord → ℕ) (arrays : Words)
     → Stands (racy_system code array_words root arrays) → FaultsAreInvisible (racy_system code array_words root arrays)

@@ -314,7 +314,7 @@ code_back c =
     ends : (a b c d : List ℕ) → a ++ (b ++ (c ++ d)) ≡ (a ++ (b ++ c)) ++ d
     ends a b c d = ap (λ l. a ++ l) (sym (append_assoc b c d)) ∙ sym (append_assoc a (b ++ c) d)
 
--- so it is a listing with puts, and its old registers are these
+-- what was read is a listing with puts, and its old registers are these
 pub racy_read : (text : List ℕ) (c : RacyParts) → IsRacyListing text c
     → (plain_of_text text ≡ listing_of (plain_code c)) × (olds_of text ≡ racy_olds c ++ None ∷ [])
 racy_read text c is =

@@ -62,7 +62,7 @@ text_told (p ∷ q ∷ ps) (l ∷ ls) e fits small =
     let (rest, olds) = text_told (q ∷ ps) ls (ap (drop 1) e) fits.1 small.1 in
     (sym (append_assoc p (10 ∷ []) (joined (q ∷ ps))) ∙ (λ i. text i ++ rest i), (old, olds))
 
--- the line at a place, and those behind it
+-- the line at a place, and those after it
 step : (n : ℕ) (os : List (Option ℕ)) (l : Line) (ls : List Line)
     → text_by (drop n os) (l ∷ ls) ≡ line_with l (get_or os n None) ++ text_by (drop (n + 1) os) ls
 step zero [] l ls = refl

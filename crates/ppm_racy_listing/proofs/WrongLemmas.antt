@@ -95,7 +95,7 @@ below_or m n = go (nat_lt m n) refl
     go true e = inl (ltb-true m n e)
     go false e = inr (omega (arith, ltb-false m n e))
 
--- so all old registers are there
+-- all old registers are there
 pub all_registers : (os : List (Option ℕ)) → ((at old : ℕ) → slice_get os at ≡ Some (Some old) → 64 ≤ old → ⊥) → AllByRecursion IsRegister os
 all_registers [] h = tt
 all_registers (None ∷ os) h = (tt, all_registers os (λ at. h (suc at)))

@@ -91,7 +91,7 @@ register_read r =
     cond-true (is_numeral (decimal r.index)) (Some (register_with (value (decimal r.index)))) None (numeral-decimal r.index small)
     ∙ ap (λ (n : ℕ). Some (register_with n)) (value-decimal r.index small) ∙ ap (λ o. Some o) (sym (register_small r.index r.in_range))
 
--- so it is with the number of an instruction
+-- a word that says the number of an instruction is that number
 pub target_spelled : (w : List ℕ) (t : ℕ) → Says (target_in w) t → t < 2 ^ 32 - 1 → w ≡ decimal t
 target_spelled w t e low = by (is_numeral w) refl e
   where

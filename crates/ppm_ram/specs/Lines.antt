@@ -94,7 +94,7 @@ standing count number i =
     else if nat_le instruction_limit number then Err fault.TooMany
     else Ok i
 
--- likewise of what a line says
+-- what a line says, by its number among so many, or the rule of the least number that it breaks there
 abbrev pub judged : (count number : ℕ) → Option (Option Instruction) → Result Instruction RamFault
 judged count number None = Err fault.NoSuchForm
 judged count number (Some None) = Err fault.OutOfRange

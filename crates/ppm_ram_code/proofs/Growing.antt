@@ -1,4 +1,4 @@
--- Instructions behind instructions.
+-- Instructions after instructions.
 use Rattle.std.proofs.Common.{◌≡◌, ap, ◌∙◌, sym, List, [], ◌∷◌, ◌++◌, append_assoc, append-nil, subst}
 use Rattle.ppm_code.specs.declared.instr.Instr.{Instr}
 use Rattle.ppm_ram_code.specs.Growth.{Grows}
@@ -7,7 +7,7 @@ use Rattle.ppm_ram_code.specs.Growth.{Grows}
 pub one : (i : Instr) (a b : List Instr) → b ≡ a ++ i ∷ [] → Grows (λ rest. i ∷ rest) a b
 one i a b e = record { whole = λ rest. sym (append_assoc a (i ∷ []) rest) ∙ ap (λ l. l ++ rest) (sym e) }
 
--- some behind others
+-- some after others
 pub then : {f g : List Instr → List Instr} {a b c : List Instr} → Grows f a b → Grows g b c → Grows (λ rest. f (g rest)) a c
 then {g = g} h k = record { whole = λ rest. h.whole (g rest) ∙ k.whole rest }
 

@@ -37,7 +37,7 @@ pub record KeepsRules (r : RamParts) : Type 0 where
   pub input : IsInput (input_of (memory_of r))
   pub names : NamesArrays (code_of r) (input_of (memory_of r))
 
--- so it is of every RAM
+-- the code of every RAM keeps all rules of a code, and none of its capsules asks for room
 abbrev pub CodeKeepsRules : Type 0
 CodeKeepsRules = (r : RamParts) → IsRam r → KeepsRules r
 

@@ -20,7 +20,7 @@ use Rattle.ppm_regions.specs.Uses.{lending_of, lendings_of, lent_together, lent_
 use Rattle.ppm_regions.specs.Deciding.{argument_of, IsLeastOf, earlier_of}
 use Rattle.ppm_regions.proofs.Least.{least_uses}
 
--- what is left behind the first of a list, as the code cuts it
+-- what is left after the first of a list, as the code cuts it
 pub tail_is : {A : Type 0} (xs : List A) → take (length xs - 1) (drop 1 xs) ≡ drop 1 xs
 tail_is xs = take_all (length xs - 1) (drop 1 xs) (let e = length-drop 1 xs in omega (arith, e))
 
@@ -42,7 +42,7 @@ lent_other a line (expr.Minus' l p e) h = refl
 lent_other a line (expr.Binary' o l p e q f) h = refl
 
 module _ (t : ProgramTree) (s : Scope) where
-  -- an argument past the last parameter, and those behind it
+  -- an argument past the last parameter, and those after it
   pub arguments_spare : (ps : List Parameter) (xs : List declared_argument.Argument) (x : declared_argument.Argument) (a b : Option RegionError)
       → length ps < 1 → 0 < length xs → x ≡ get_or xs 0 x → IsLeastOf t s (uses_of_spare (expression_of x.value)) a
       → IsLeastOf t s (uses_of_arguments ps (map argument_of (drop 1 xs))) b → IsLeastOf t s (uses_of_arguments ps (map argument_of xs)) (earlier_of a b)
@@ -52,7 +52,7 @@ module _ (t : ProgramTree) (s : Scope) where
       least_uses t s (uses_of_spare (expression_of y.value)) (uses_of_arguments [] (map argument_of xs)) a b
       (subst (λ (z : declared_argument.Argument). IsLeastOf t s (uses_of_spare (expression_of z.value)) a) at here) behind
 
-  -- an argument for a parameter, and those behind it
+  -- an argument for a parameter, and those after it
   pub arguments_paired : (ps : List Parameter) (p : Parameter) (xs : List declared_argument.Argument) (x : declared_argument.Argument) (a b : Option RegionError)
       → 0 < length ps → p ≡ get_or ps 0 p → 0 < length xs → x ≡ get_or xs 0 x → IsLeastOf t s (uses_of_argument p.mode (argument_of x)) a
       → IsLeastOf t s (uses_of_arguments (drop 1 ps) (map argument_of (drop 1 xs))) b

@@ -21,7 +21,7 @@ under_none : (g : Declaration → Declaration) (items : Scope) → under g zero 
 under_none g [] = refl
 under_none g (d ∷ items) = refl
 
--- those behind them are seen as they are
+-- those after them are seen as they are
 under_more : (g : Declaration → Declaration) (n : ℕ) (items more : Scope) → n ≤ length items → under g n (items ++ more) ≡ under g n items ++ more
 under_more g zero items more h = under_none g (items ++ more) ∙ ap (λ l. l ++ more) (sym (under_none g items))
 under_more g (suc n) [] more h = absurd (omega (arith, h))
@@ -35,7 +35,7 @@ seen_length : (veils : List Veil) (items : Scope) → length (seen_in veils item
 seen_length [] items = refl
 seen_length (v ∷ veils) items = seen_length veils (under (through v) v.count items) ∙ under_length (through v) v.count items
 
--- declarations behind the blocks' starts are seen as they are
+-- declarations after the blocks' starts are seen as they are
 seen_more : (veils : List Veil) (items more : Scope) → AreWithin (length items) veils → seen_in veils (items ++ more) ≡ seen_in veils items ++ more
 seen_more [] items more h = refl
 seen_more (v ∷ veils) items more h =
@@ -275,7 +275,7 @@ pub becomes_next : (f g all : Scope → Scope) (old mid new : Kept) → Becomes 
 becomes_next f g all old mid new h k e =
     record { items = k.items ∙ ap g h.items ∙ e old.items; veils = k.veils ∙ h.veils; scope = k.scope ∙ ap g h.scope ∙ e (seen old) }
 
--- what is in force behind a block begins with what was in force in front of it
+-- what is in force after a block begins with what was in force before it
 pub behind_more_of : (s : Scope) (block : Block) → (more : Scope) × (scope_behind s block ≡ s ++ more)
 behind_more_of s Nil = ([], sym (append-nil s))
 behind_more_of s (Then x block) =

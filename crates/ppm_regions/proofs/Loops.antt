@@ -78,14 +78,14 @@ pub declared_more_of : {A : Type 0} (f : A → Declaration) (s : Scope) (xs : Li
     → declaration_sites s (map f (xs ++ x ∷ [])) ≡ declaration_sites s (map f xs) ++ declaration_sites (s ++ map f xs) (f x ∷ [])
 declared_more_of f s xs x = ap (declaration_sites s) (map-append f xs (x ∷ [])) ∙ declared_more s (map f xs) (f x)
 
--- the scope behind one more of them
+-- the scope after one more of them
 pub declared_scope_of : {A : Type 0} (f : A → Declaration) (s : Scope) (xs : List A) (i : ℕ) (x : A) (before after : Scope) (d : Declaration)
     → i < length xs → x ≡ get_or xs i x → before ≡ s ++ map f (take i xs) → d ≡ f x → after ≡ before ++ d ∷ [] → after ≡ s ++ map f (take (i + 1) xs)
 declared_scope_of f s xs i x before after d in' at p q r =
     let next = take_more xs i x in' ∙ ap (λ y. take i xs ++ (y ∷ [])) (sym at) in
     rw (r, p, q, next, map-append f (take i xs) (x ∷ [])) (append_assoc s (map f (take i xs)) (f x ∷ []))
 
--- what is in force behind one more statement
+-- what is in force after one more statement
 pub behind_next : (s : Scope) (xs : List Stmt) (i : ℕ) (x : Stmt) (before after : Scope) → i < length xs → x ≡ get_or xs i x
     → before ≡ scope_behind s (block_of (take i xs)) → after ≡ before ++ lets_of (statement_of x) → after ≡ scope_behind s (block_of (take (i + 1) xs))
 behind_next s xs i x before after in' at p q =
@@ -99,7 +99,7 @@ names_more f xs x =
     ap sites_of_names (map-append f xs (x ∷ [])) ∙ ap (declaration_sites []) (map-append (plain mode.Int) (map f xs) (f x ∷ []))
     ∙ declared_more [] (map (plain mode.Int) (map f xs)) (plain mode.Int (f x))
 
--- the names behind one more of them
+-- the names after one more of them
 pub names_next : {A : Type 0} (f : A → Named) (xs : List A) (i : ℕ) (x : A) (before after : Scope) (d : Declaration) → i < length xs → x ≡ get_or xs i x
     → before ≡ map (plain mode.Int) (map f (take i xs)) → d ≡ plain mode.Int (f x) → after ≡ before ++ d ∷ []
     → after ≡ map (plain mode.Int) (map f (take (i + 1) xs))

@@ -44,7 +44,7 @@ module _ {A : Type 0} (name_of : A → List ℕ) (x : List ℕ) where
       → first_named name_of (drop (k + 1) xs) x ≡ first_named name_of (drop k xs) x
   not_here xs k i in' at h = sym (rw (ahead xs k i in' at) (found_later i (drop (k + 1) xs) h))
 
--- the same in the images of a list
+-- the first element with a name, in the images of a list
 module _ {A B : Type 0} (f : A → B) (name_of : B → List ℕ) (x : List ℕ) where
   pub image_here : (xs : List A) (k : ℕ) (i : A) → k < length xs → i ≡ get_or xs k i → name_of (f i) ≡ x
       → first_named name_of (map f (drop k xs)) x ≡ Some (f i)

@@ -78,7 +78,7 @@ module _ (t : ProgramTree) (free : (e : RegionError) → ¬ IsFirst (IsFault t) 
         | inr ge ↦ by_line n (by_number n) (suc (line_of e)) e (omega (arith, ge, below)) (omega arith) h
       ]
 
-  -- so there is none
+  -- there is no fault
   faultless : IsAdmitted t
   faultless = record { faultless = λ e h. by_number (suc (number_of e)) e (omega arith) h }
 

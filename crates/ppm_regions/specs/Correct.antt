@@ -68,7 +68,7 @@ pub record KeepsRules (t : ProgramTree) : Type 0 where
   pub gives_nothing : (scope : Scope) (g : Give) → ¬ Makes t scope (MainGives g)
   pub inputs : (scope : Scope) (i : ArrayInput) → Makes t scope (Fills i) → HasRoom t i
 
--- so it is with all admitted programs
+-- each use of an admitted program is as it may be
 abbrev pub KeepRules : Type 0
 KeepRules = (t : ProgramTree) → IsAdmitted t → KeepsRules t
 
@@ -78,6 +78,6 @@ pub record HasOneFault (t : ProgramTree) : Type 0 where
   pub either : (e : RegionError) → IsFirst (IsFault t) e → ¬ IsAdmitted t
   pub none : ((e : RegionError) → ¬ IsFirst (IsFault t) e) → IsAdmitted t
 
--- so it is with all programs
+-- every program has one fault, or is admitted
 abbrev pub HaveOneFault : Type 0
 HaveOneFault = (t : ProgramTree) → HasOneFault t

@@ -17,7 +17,7 @@ pub record Veil : Type 0 where
 abbrev pub through : Veil → Declaration → Declaration
 through v d = if v.outer then seen_in_each v.region d else seen_in_split v.region d
 
--- so many declarations as they are seen, and those behind them
+-- so many declarations as they are seen, and those after them
 abbrev pub under : (Declaration → Declaration) → ℕ → Scope → Scope
 under seen n [] = []
 under seen zero (d ∷ items) = d ∷ items
@@ -55,7 +55,7 @@ pub record Becomes (f : Scope → Scope) (old new : Kept) : Type 0 where
 abbrev pub entered : Kept → Named → Bool → Kept
 entered k region outer = record { items = k.items; veils = k.veils ++ record { region = region; count = length k.items; outer = outer } ∷ [] }
 
--- the same declarations, seen through one block more
+-- the declarations in force, seen through one block more
 pub record Enters (front inner : Kept) : Type 0 where
   pub items : inner.items ≡ front.items
   pub veil : Veil

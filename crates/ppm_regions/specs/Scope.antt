@@ -102,7 +102,7 @@ lets_of (tree.Fork s t) = []
 lets_of (tree.Split line r e x y block) = []
 lets_of (tree.Each i x r block) = []
 
--- what is in force behind the statements of a block
+-- what is in force after the statements of a block
 abbrev pub scope_behind : Scope → Block → Scope
 scope_behind scope Nil = scope
 scope_behind scope (Then s rest) = scope_behind (scope ++ lets_of s) rest

@@ -171,7 +171,7 @@ module _ (t : ProgramTree) where
         declaration_sites (in_each scope r) (element_of scope r i x) ++ sites_of_block (in_each scope r ++ element_of scope r i x) block
     sites_within scope s = []
 
-    -- the sites of a block; what a `let` declares is in force behind it
+    -- the sites of a block; what a `let` declares is in force after it
     pub sites_of_block : Scope → Block → List Site
     sites_of_block scope Nil = []
     sites_of_block scope (Then s rest) =

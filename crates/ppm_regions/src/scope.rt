@@ -291,7 +291,7 @@ impl<'a> Scope<'a> {
         Ok(())
     }
 
-    /// Behind that block: what is in force is seen as in front of it.
+    /// After that block: what is in force is seen as before it.
     pub fn leave(&mut self)
         ensures { (front : Kept) → Enters front self.old → self.new ≡ front }
     {

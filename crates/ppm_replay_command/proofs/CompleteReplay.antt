@@ -91,7 +91,7 @@ module _ (shows : ImagesShowTheRun) (law : ReplaysEnd) (places : ReplaysEndByPla
             options.turns acts
       ])
 
--- so one that is unfinished had too few acts
+-- a replay that is unfinished had too few acts
 pub unfinished_need_more : ImagesShowTheRun → ReplaysEnd → ReplaysEndByPlaces → UnfinishedNeedMore
 unfinished_need_more shows law places options are schedule items accepted code input may acts h end comes enough =
     set shows law places options schedule items accepted code input may end comes enough h.keeper h.start h.opens

@@ -22,7 +22,8 @@ pub record AreAsTraced (counts : ActCounts) (traced : RunCounts) : Type 0 where
   pub hard : counts.hard ≡ kept traced.hard
   pub gone_on : together counts.stolen counts.takeovers ≡ kept (traced.stolen + traced.takeovers)
 
--- so it is of all runs from words in which each turn is one of a processor that isn't done, and names a victim where one is due alone
+-- the counts of processors are a trace's in all runs from words in which each turn is one of a processor that isn't done, and names a victim where
+-- one is due alone
 abbrev pub CountsAreAsTraced : Type 0
 CountsAreAsTraced = (ordered : ℕ) (s : Shape) (code : CodeParts) (array_lengths words : List ℕ) (turns : List Turn)
     → AllTold s code (opening words s.processors) turns

@@ -20,8 +20,7 @@ use Rattle.ppm_replay_command.specs.CaseReplays.{ReplayCaseHas}
 use Rattle.ppm_outcomes.specs.Replays.{CodeHas, ProgramHas, ReplayHas}
 use Rattle.ppm_replay_command.specs.CompleteReplays.{NeedsMoreActs, ReplayIsEnough}
 
--- with options in their ranges, and a schedule that is accepted: the replay of a sound code that is unfinished needs more acts; of a text's program
--- likewise
+-- with options in their ranges, and a schedule that is accepted: a replay that is unfinished, of a sound code or of a text's program, needs more acts
 abbrev pub UnfinishedNeedMore : Type 0
 UnfinishedNeedMore = (options : ReplayOptions) → AreReplayed options
     → (schedule : List ℕ) (items : List ScheduleItem) → IsAccepted schedule_form schedule options.processors items
@@ -47,7 +46,7 @@ ReplaysOfCodeComplete = (options : ReplayOptions) → AreReplayed options
     → (code : CodeParts) (input : List NamedArray) → MayRun code input → ReplayIsEnough options items code input
     → (answer : Answer) → CodeHas options items code input answer → IsReplayEnd answer
 
--- so where it is enough for a text's program, each answer of the text is that its replay ended
+-- where a schedule is enough for a text's program, each answer of the text is that its replay ended
 abbrev pub ReplaysComplete : Type 0
 ReplaysComplete = (options : ReplayOptions) → AreReplayed options
     → (schedule : List ℕ) (items : List ScheduleItem) → IsAccepted schedule_form schedule options.processors items

@@ -14,7 +14,7 @@ use Rattle.ppm_tickets.specs.Renewal.{Renewed}
 use Rattle.ppm_tickets.specs.View.{word_as}
 use Rattle.ppm_resumed.specs.Resumed.{RenewedWordsComeBack}
 
--- the tag behind one that is not the last
+-- the tag after one that is not the last
 next_tag : (holder : Holder) → holder.tag + 1 < 2 ^ 58 → tag_behind (Some holder) ≡ holder.tag + 1
 next_tag holder h = ap (λ b. cond b 0 (holder.tag + 1)) (ne_eqb holder.tag last_tag (λ e. omega (arith, e, h)))
 

@@ -67,7 +67,7 @@ then_within d s rest h r = record {
     deeper : (m n : ℕ) → m + d ≤ suc depth_limit → n + d ≤ suc depth_limit → max m n + d ≤ suc depth_limit
     deeper m n h k = omega (arith, h, k)
 
--- a block of an `if`, or none behind its `else`
+-- a block of an `if`, or none after its `else`
 pub record IsElse (d : ℕ) (c c' : Tally) (b : Block) : Type 0 where
   pub arrays : c' 1 ≡ c 1
   pub words : c' 2 ≡ c 2
@@ -173,7 +173,7 @@ each_within d i x r s arrays words procedures n m o q =
     (All-cons IsNamed i (x ∷ r ∷ []) n (All-cons IsNamed x (r ∷ []) m (All-cons IsNamed r [] o (All-nil IsNamed))))
     (All-nil IsLine) (All-nil IsSmallSide)) q.small q.deep q.free
 
--- the same from where the nodes are counted anew
+-- a statement within the limits, where the nodes are counted anew
 anew_within : (d : ℕ) {a b c : Tally} (s : Statement) → b 1 ≡ a 1 → b 2 ≡ a 2 → b 3 ≡ a 3 → IsStatement d b c s → IsStatement d a c s
 anew_within d s arrays words procedures h = record {
   arrays = h.arrays ∙ arrays;
@@ -191,7 +191,7 @@ module _ {size : ℕ} (short : size ≤ text_limit) where
       (w : Walk language limits (StandsIn size) may_follow (due (inside row d) row.items) (counts_first language limits row.counts ts c) ts us c' mid) →
       height language limits w ≤ n → IsBlock d c c' (block_in (row.make us))
 
-  -- and what stands behind them
+  -- and what stands after them
   abbrev Elses : (n d : ℕ) → Type 0
   Elses n d = (row : Form) (c c' : Tally) (ts mid : List Token) (us : List Value) → suc d ≤ depth_limit → In row (rows p.Else) →
       (w : Walk language limits (StandsIn size) may_follow (due (inside row d) row.items) (counts_first language limits row.counts ts c) ts us c' mid) →
@@ -234,7 +234,7 @@ module _ {size : ℕ} (short : size ≤ text_limit) where
   fork_row d (took is s deep free (parted i b ok w (took is' s' deep' free' (parted j b' ok' w' (took is₂ s₂ deep₂ free₂ done))))) =
       anew_within d _ refl refl refl (plain_statement d _ deep refl (fork_plain _ _ free₂ (side_walk short _ i w) (side_walk short _ j w')))
 
-  -- a split, behind its expression
+  -- a split, after its expression
   split_block : (n d : ℕ) → Blocks n d → (t r y z x : Token) {a b c : Tally} {u : Value} {ts mid : List Token} {us : List Value} → a 5 ≡ 0 → StandsIn size t →
       IsNamed (named r) → IsNamed (named x) → IsExpr a b u →
       (w : Walk language limits (StandsIn size) may_follow (due d (sign s.Comma ∷ name ∷ Part p.Block ∷ [])) b ts us c mid) → height language limits w ≤ n →
@@ -254,7 +254,7 @@ module _ {size : ℕ} (short : size ≤ text_limit) where
   split_row n d blocks (took {t = t} is s deep free (took {t = r} is₁ s₁ deep₁ free₁ (took {t = y} is₂ s₂ deep₂ free₂ w))) small =
       anew_within d _ refl refl refl (split_rest n d blocks t r y refl s (name_fine short is₁ s₁) w (omega (arith, small)))
 
-  -- an `each`, behind its part
+  -- an `each`, after its part
   each_rest : (n d : ℕ) → Blocks n d → (t i y x : Token) {a b c : Tally} {ts mid : List Token} {us : List Value} → b 1 ≡ a 1 → b 2 ≡ a 2 → b 3 ≡ a 3 + 1 →
       IsNamed (named i) → IsNamed (named x) → (w : Walk language limits (StandsIn size) may_follow (due d (word k.In ∷ name ∷ Part p.Block ∷ [])) b ts us c mid) → height language limits w ≤ n →
       IsStatement d a c (statement_in (make.each (Lexed t ∷ Lexed i ∷ Lexed y ∷ Lexed x ∷ us)))
@@ -313,7 +313,7 @@ module _ {size : ℕ} (short : size ≤ text_limit) where
         }
     block_walk (suc n) d (later i) w small = elim i [ ]
 
-    -- the block behind an `else`, or none
+    -- the block after an `else`, or none
     else_walk : (n : ℕ) (d : ℕ) {row : Form} {c c' : Tally} {ts mid : List Token} {us : List Value} → suc d ≤ depth_limit → In row (rows p.Else) →
         (w : Walk language limits (StandsIn size) may_follow (due (inside row d) row.items) (counts_first language limits row.counts ts c) ts us c' mid) →
         height language limits w ≤ n → IsElse d c c' (block_in (row.make us))

@@ -31,7 +31,7 @@ row_makes row first us = refl
 row_makes row (later first) us = refl
 row_makes row (later (later i)) us = elim i [ ]
 
--- so does a text
+-- a text makes a program
 text_makes : (ts : List Token) (v : Value) (ms : List (Mark Counted)) → IsText language ts v ms → v ≡ Program (program_in v)
 text_makes ts v ms (part {row = row} {us = us} i inner nothing) = row_makes row i us
 

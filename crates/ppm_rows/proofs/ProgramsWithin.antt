@@ -278,7 +278,7 @@ module _ {size : ℕ} (short : size ≤ text_limit) where
     free = λ f. r.free free;
   }
 
-  -- an input, behind its name
+  -- an input, after its name
   input_rest : (d : ℕ) (k x : Token) {c c' e : Tally} {ts mid : List Token} {us : List Value} → terminal x.kind ≡ Name → StandsIn size x →
       (w : Walk language limits (StandsIn size) may_follow (due d (sign s.Assign ∷ Part p.Integer ∷ Part p.MoreIntegers ∷ sign s.Semicolon ∷ [])) c ts us c' mid) →
       (t : ProgramTree) → IsDeclared c' e t → IsDeclared c e (declaring (declaration_in (make.input (Lexed k ∷ Lexed x ∷ us))) t)

@@ -99,7 +99,7 @@ kept_first false which o h = (refl, h)
 kept : (most : ℕ) (n which : ℕ) (o : Option ℕ) → (if nat_lt most n then Some which else o) ≡ None → (n ≤ most) × (o ≡ None)
 kept most n which o h = let k = kept_first (nat_lt most n) which o h in let under = k.0 in (grind (arith, under), k.1)
 
--- so each number keeps its limit
+-- each number of a tally keeps its limit
 pub record KeepsAll (c : Tally) : Type 0 where
   pub arrays : c 1 ≤ array_limit
   pub words : c 2 ≤ word_limit

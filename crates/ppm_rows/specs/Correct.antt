@@ -27,7 +27,7 @@ pub record HasOneAnswer (ts : List Token) : Type 0 where
   pub either : (t : ProgramTree) (e : Fault) → HasTree ts t → HasFault ts e → ⊥
   pub one : ((t : ProgramTree) × HasTree ts t) ⊎ ((e : Fault) × HasFault ts e)
 
--- so it is with all tokens
+-- all tokens have one answer: a tree or a fault
 abbrev pub TokensHaveOneAnswer : Type 0
 TokensHaveOneAnswer = (ts : List Token) → HasOneAnswer ts
 

@@ -69,7 +69,7 @@ abbrev pub goes_on : Level → List (Item Terminal Phrase)
 goes_on level.Comparison = []
 goes_on level = Part (p.FromOperand level) ∷ []
 
--- an operation behind its first operand
+-- an operation after its first operand
 abbrev pub operation_form : Level → Operation → Form
 operation_form level x =
     counting (ANode ∷ []) (form (sign x.sign ∷ Part (operand level) ∷ goes_on level) (make.further x.operator))

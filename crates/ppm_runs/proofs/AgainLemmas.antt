@@ -1,4 +1,4 @@
--- By entries, what is set aside beside for a place that was closed at Push2; and who is done behind a step.
+-- By entries, what is set aside beside for a place that was closed at Push2; and who is done after a step.
 use Rattle.std.proofs.Common.{◌≡◌, ◌≢◌, ◌⊎◌, ◌≤◌, ◌<◌, ℕ, zero, suc, Bool, true, false, if◌then◌else◌, List, Option, Some, None, [], ◌∷◌, length, inl, inr, refl, sym, ap, ◌∙◌, arith}
 use Rattle.std.specs.Prelude.{slice_get, slice_index, nat_lt}
 use Rattle.std.proofs.lemmas.Bool.{cases_eq}

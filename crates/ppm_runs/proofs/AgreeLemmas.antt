@@ -1022,7 +1022,7 @@ module _ (s : Shape) (code : CodeParts) (fair : IsFair code) (root : Tree (Frame
   row_agree own p b (Take v x) c row e w alone = plain_row own p b (Take v x) c row w (looked s code fair root input state h forked taken l t run joint.agrees calm c (kind_seat own p (Take v x) b) row (Take v x) tt refl (places_row s.takeover s.takeover calm _ tt) w) refl (λ y. refl) (λ n. refl) (λ re. refl)
   row_agree own p b (Take2 v) c row e w alone = plain_row own p b (Take2 v) c row w (looked s code fair root input state h forked taken l t run joint.agrees calm c (kind_seat own p (Take2 v) b) row (Take2 v) tt refl (places_row s.takeover s.takeover calm _ tt) w) refl (λ y. refl) (λ n. refl) (λ re. refl)
 
-  -- a turn, and what is kept behind it
+  -- a turn, and what is kept after it
   module _ (c : ℕ) (act : Act) (apart : (x : ℕ) → count Root (act_with i z.words state.words act (stand_of state c) t) x ≤ 1)
       (born : Births i (left i l (places_of s (happens s code state (record { processor = c; act = act })))) (has (step_by (row_by fork_row) act (stand_of state c) ++ forked))) where
     abbrev turn : Turn

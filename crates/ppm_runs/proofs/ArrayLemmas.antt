@@ -35,7 +35,7 @@ Low words (Shared x) = x < words
 Low words (Own w) = Unit {0}
 Low words (New o) = Unit {0}
 
--- so are all of a capsule
+-- all locations of a capsule are within so many array words
 abbrev pub InArrays : ℕ → Capsule Where End → Type 0
 InArrays words (Reads l go) = Low words l × ((v : ℕ) → InArrays words (go v))
 InArrays words (Writes l v go) = Low words l × InArrays words go

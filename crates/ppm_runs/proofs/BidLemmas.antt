@@ -134,7 +134,7 @@ module _ (s : Shape) (code : CodeParts) (m : Spot → Word) (k : ℕ → Restart
         let few = s.within.processors_most in
         omega (arith, lt, few)
 
-    -- the bid, and what is left behind it
+    -- the bid, and what is left after it
     bids_so : (t c : ℕ) → IsHolder (record { tag = t; processor = c }) → c ≡ seat.own → Held t c ≡ m (Bid seat.place) → Goal (lowered t seat v d (record { tag = t; processor = c }))
     bids_so zero c fit own noted = tt
     bids_so (suc t) c fit own noted = (omega arith, own, (d_low, (let f = fit.1.0 in omega (arith, f), tt)), fit, kind, sym noted)
@@ -171,7 +171,7 @@ module _ (s : Shape) (code : CodeParts) (m : Spot → Word) (k : ℕ → Restart
   take_or (Take v d) = inl (v, d, refl)
   take_or _ = inr tt
 
-  -- so it is with each row
+  -- a row that has seen words makes lawful bids, and stores no holder word
   pub row_bids : (row : Row) → HasSeen s M seat row → Goal row
   row_bids row (Strand is quiet) = row_quiet s code m seat row quiet
   row_bids row (Looks u ws fit is saw) = subst Goal is (elim (take_or seat.restart.kind) [

@@ -99,7 +99,7 @@ some_words s words are = by s.processors (s.processors * place_size s) s.arrays 
     by p x m n e = omega (arith, e)
 
 module _ (s : Shape) (code : CodeParts) (state : RunState) (c : ℕ) (act : Act) where
-  -- the words behind an act of a processor that isn't done
+  -- the words after an act of a processor that isn't done
   live_words : (x : Standing) → is_done_at x ≡ false → (acts s code state c act x).words ≡ words_after state.words (want_of s code c act x)
   live_words IsLost e = refl
   live_words (IsPlaced p) e = refl
@@ -259,7 +259,7 @@ module _ (s : Shape) (code : CodeParts) (fair : IsFair code) (root : Tree (Frame
       let few = few_capsules s code fair root input state h forked taken l t run agrees end ends in
       omega (arith, paid, rows, few)
 
-  -- behind all turns
+  -- after all turns
   pub work_of_stage : (lost : ℕ) (state : RunState) (h : ℕ → Home) (forked taken : List ℕ) (l : List Followed) (t : Skeleton) (run : IsHalves s code root input state h forked taken l t) (agrees : Agrees t (λ r. fate_of (h r))) (work strikes : ℕ) (made : ℕ → ℕ)
       → Stage lost state h forked taken l t run agrees work strikes made → work ≤ 218 * end.counts.capsules + 171 * strikes + lost + 6
   work_of_stage lost state h forked taken l t run agrees work strikes made stage =
@@ -468,7 +468,7 @@ module _ (s : Shape) (code : CodeParts) (fair : IsFair code) (root : Tree (Frame
     again_sum ih = sum_at N (λ p. again s.takeover (stand_of state p) (L p)) (λ p. again s.takeover (stand_of n p) (left_kinds l K' p)) c among.processor
         (λ q ne. ap (λ (z : Standing). again s.takeover z (left_kinds l K' q)) (stand_else q ne) ∙ ap (again s.takeover (stand_of state q)) (left_at l K K' q (others_stay ih q ne)))
 
-    -- who is not done is not behind a step, where the finish word is 0
+    -- who is not done is not after a step, where the finish word is 0
     live_then : finish_at s n ≡ 0 → (v : ℕ) → act ≡ Step v → is_done_at x ≡ false → is_done_at y ≡ false
     live_then then_ v is live = ap is_done_at (live_stands s code state c act x refl live ∙ ap (λ (a : Act). stand_after s code c a (found_in state.words (want_of s code c a x)) x) is)
         ∙ step_live s code state c v x (some_words s state.words run.lawful.0) (was_unset then_) (ap (λ (a : Act). finish_at s (acts s code state c a x)) (sym is) ∙ then_) live
@@ -492,7 +492,7 @@ module _ (s : Shape) (code : CodeParts) (fair : IsFair code) (root : Tree (Frame
     again_done : is_done_at x ≡ true → agains l n ≡ agains l state
     again_done e = ap (agains l) (done_stays e)
 
-    -- so it is by a step
+    -- a step leaves `agains` as it is, or smaller
     again_step : s.takeover ≡ ByEntries → finish_at s n ≡ 0 → (v : ℕ) → act ≡ Step v → agains l n ≤ agains l state
     again_step ih then_ v is = elim (cases_Bool (is_done_at x)) [
       | inl e ↦ let same = again_done e in omega (arith, same)
@@ -765,7 +765,7 @@ module _ (s : Shape) (code : CodeParts) (fair : IsFair code) (root : Tree (Frame
       pub alone_goes : Stage lost n h' forked' taken' l t' run' agrees' work' strikes' made'
       alone_goes = goes_on l t' run' agrees' alone_pays
 
-  -- what was made behind turns
+  -- what was made after turns
   abbrev pub made_all : (ℕ → ℕ) → RunState → List Turn → ℕ → ℕ
   made_all made state [] = made
   made_all made state (turn ∷ more) = made_all (λ d. made_behind s code d (made d) state turn) (happens s code state turn) more
@@ -791,7 +791,7 @@ module _ (s : Shape) (code : CodeParts) (fair : IsFair code) (root : Tree (Frame
           counted.1,
         )
 
-    -- what holds behind turns
+    -- what holds after turns
     abbrev pub StageBehind : (told : RunState → Turn → List ℕ) (lost : ℕ) (state : RunState) (h : ℕ → Home) (forked taken : List ℕ) (work strikes : ℕ) (made : ℕ → ℕ) → List Turn → Type 0
     StageBehind told lost state h forked taken work strikes made more =
         (t : Skeleton) × (run : IsRun s code root input (after s code state more) (homes s code state h more) (forked_in s code state forked more) (taken_in s code state taken more) t)

@@ -366,7 +366,7 @@ module _ (code : CodeParts) (input : List NamedArray) (s : Shape) (keeper : ℕ)
         };
       }
 
-  -- so at each moment
+  -- forks are counted at each moment of a run from this state
   pub runs_fork : (turns : List Turn) → AllByRecursion (IsTurnAmong s.processors) turns
       → (l : List Followed) × (t : Skeleton) × IsForked s code root (arrays_at (view s im.words)) (after s code first turns) (homes s code first (λ r. Unborn) turns) (forked_in s code first [] turns) (taken_in s code first [] turns) l t
   runs_fork turns all = elim (how_or s.takeover) [

@@ -1,4 +1,4 @@
--- What joins the halves does so behind the turn by which a place goes on with what it inherited.
+-- What joins the halves does so after the turn by which a place goes on with what it inherited.
 use Rattle.std.proofs.Common.{◌≡◌, ◌≢◌, ◌-◌, ◌+◌, ℕ, true, List, ◌++◌, Some, inl, inr, refl, sym, ap, ◌∙◌, subst}
 use Rattle.std.proofs.lemmas.Bool.{cases_eq}
 use Rattle.ppm_strands.specs.Tree.{Words, Tree}

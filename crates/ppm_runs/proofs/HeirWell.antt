@@ -43,7 +43,7 @@ use Rattle.ppm_runs.proofs.WellTurns.{well_stays_left, heir_well}
 
 module _ (s : Shape) (code : CodeParts) (ih : s.takeover ≡ ByEntries) (fair : IsFair code) (root : Tree (Frame FrameWord Point) Result) (input : Words) (state : RunState) (h : ℕ → Home) (forked taken : List ℕ) (l : List Followed) (t : Skeleton)
     (run : IsHeired s code root input state h forked taken l t) (well : IsWell code (view s state.words) Root t) where
-  -- behind an act, by where its processor stood
+  -- after an act, by where its processor stood
   pub record Leads (c : ℕ) (act : Act) (x : Standing) : Type 0 where
     pub left_out : List Followed
     pub tree : Skeleton

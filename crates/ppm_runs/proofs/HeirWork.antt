@@ -163,7 +163,7 @@ module _ (s : Shape) (code : CodeParts) (ih : s.takeover ≡ ByEntries) (fair : 
       abbrev L : ℕ → RestartKind
       L = left_kinds l K
 
-      -- what holds behind a turn
+      -- what holds after a turn
       abbrev Then_ : (c : ℕ) → Act → Type 0
       Then_ c act = Moment (happens s code state (record { processor = c; act = act })) (by_act s state.words act (stand_of state c) h)
           (forks_of state (record { processor = c; act = act }) ++ forked) (takes_of state (record { processor = c; act = act }) ++ taken)

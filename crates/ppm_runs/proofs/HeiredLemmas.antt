@@ -164,7 +164,7 @@ module _ (s : Shape) (code : CodeParts) (ih : s.takeover ≡ ByEntries) (fair : 
   pub inlined : (c : ℕ) (seat : Seat) (re : Restart) → stand_of state c ≡ IsWithin seat (Now (Install re)) → IsInlined s.takeover s state.words seat seat.restart.kind re.kind
   inlined c seat re e = inlined_so s code ih fair root input state h forked taken l t run.halves run.joint c seat re e
 
-  -- behind an act, by where its processor stood
+  -- after an act, by where its processor stood
   abbrev Leads : (c : ℕ) (act : Act) → Standing → Type 0
   Leads c act x = (m : List Followed) × (u : Skeleton)
       × IsHeired s code root input (happens s code state (record { processor = c; act = act })) (by_act s state.words act x h) (step_by (row_by fork_row) act x ++ forked) (step_by (row_by take_row) act x ++ taken) m u

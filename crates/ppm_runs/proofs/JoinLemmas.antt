@@ -1,4 +1,4 @@
--- What joins the halves of a run's state does so again behind a turn by which no place goes on with what it
+-- What joins the halves of a run's state does so again after a turn by which no place goes on with what it
 -- inherited.
 use Rattle.std.proofs.Common.{◌≡◌, ◌≢◌, ◌⊎◌, ◌<◌, ◌≤◌, ℕ, zero, suc, ◌+◌, ◌==◌, Bool, true, false, if◌then◌else◌, List, [], ◌++◌, Option, Some, None, inl, inr, refl, sym, ap, ◌∙◌, subst, subst₂, arith}
 use Rattle.std.specs.Prelude.{slice_index, slice_get, nat_lt, ◌^◌}
@@ -221,7 +221,7 @@ begins_no_push s seat r row entries e on = by (seat.restart.bottom + 1 == s.slot
     by false ByPlaces k on = cc
     by false ByEntries k on = on
 
--- at the last slot none pushes on, nor behind a store or an exchange
+-- at the last slot none pushes on, nor after a store or an exchange
 last_no_push : (row : Row) → LastSo row → PushesOn row → ⊥
 last_no_push (Now (Load x)) a on = a
 last_no_push (Exchange cell old new next) a on = a
@@ -303,7 +303,7 @@ fills_begun s seat (Check v x) = inr (λ r. tt, inr (λ r. tt))
 fills_begun s seat (Take v x) = inr (places_row s.takeover s.takeover no_fills _ tt)
 fills_begun s seat (Take2 v) = inr (places_row s.takeover s.takeover no_fills _ tt)
 
--- so of a row that has seen words
+-- Push1 alone fills an empty entry, in a row that has seen words
 filler : (s : Shape) (m : Spot → Word) (seat : Seat) (cell : Cell) (old new : Content) (next : Then) → HasSeen s m seat (Exchange cell old new next)
     → ((r : ℕ) × (seat.restart.kind ≡ Push1 r)) ⊎ (IsQuietCell cell ⊎ TameOld s.takeover no_fills old)
 filler s m seat cell old new next (Strand is quiet) = inr (inl quiet.0)
@@ -624,7 +624,7 @@ module _ (s : Shape) (code : CodeParts) (fair : IsFair code) (root : Tree (Frame
       | inr held ↦ sym order_read ∙ held.1
     ]
 
-  -- a step, and what is kept behind it
+  -- a step, and what is kept after it
   module _ (c v : ℕ) (apart : (x : ℕ) → count Root (act_with (setting s code) z.words state.words (Step v) (stand_of state c) t) x ≤ 1)
       (born : Births (setting s code) (left (setting s code) l (places_of s (happens s code state (record { processor = c; act = Step v })))) (has (step_by (row_by fork_row) (Step v) (stand_of state c) ++ forked)))
       (none : InheritsNone s.takeover (stand_of state c)) where
@@ -673,7 +673,7 @@ module _ (s : Shape) (code : CodeParts) (fair : IsFair code) (root : Tree (Frame
     step_agree (IsBroken p) e alone = still_here
     step_agree IsDone e alone = still_here
 
-  -- behind any act
+  -- after any act
   module _ (c : ℕ) (act : Act) (among : IsTurnAmong s.processors (record { processor = c; act = act })) (none : StepsAlone s.takeover act (stand_of state c))
       (after : IsHalves s code root input (happens s code state (record { processor = c; act = act })) (by_act s state.words act (stand_of state c) h) (forks_of state (record { processor = c; act = act }) ++ forked) (takes_of state (record { processor = c; act = act }) ++ taken) l
       (act_with (setting s code) z.words state.words act (stand_of state c) t)) where
@@ -1015,7 +1015,7 @@ module _ (s : Shape) (code : CodeParts) (fair : IsFair code) (root : Tree (Frame
     went_loads ih (IsBroken p) e to = absurd (gone_out _ tt to)
     went_loads ih IsDone e to = absurd (gone_out _ tt to)
 
-    -- so it opens a block by its link
+    -- the act opens a block by its link
     own_opens : (x : Standing) → stand_of state c ≡ x → Comes x → (w r : ℕ) → Closed s.takeover (spots.view s (acts s code state c (Step v) x).words) w → IsAway l w → kinds_of s (acts s code state c (Step v) x).words w ≡ Bump r → OpensBlock r next
         → OpensAs r (link_at (left_words (setting s code) l (view s (acts s code state c (Step v) x).words) (BlockWord r))).kind (kind_then next)
     own_opens x e to w r shut aw kw by =
@@ -1034,7 +1034,7 @@ module _ (s : Shape) (code : CodeParts) (fair : IsFair code) (root : Tree (Frame
           | inr y ↦ absurd (let k : Seek ≡ Bump r = sym (ap (λ (b : Bool). if b then kind_or (restart_of (read s state.words (RestartWord w))) else Seek) y) ∙ e in cc)
         ]
 
-  -- nobody is in a row behind a fault
+  -- nobody is in a row after a fault
   fault_out : (c : ℕ) (act : Act) → ((found : ℕ) (x : Standing) → NotWithin (stand_after s code c act found x)) → (seat : Seat) (row : Row) (x : Standing) → stand_of state c ≡ x → stand_of (acts s code state c act x) c ≡ IsWithin seat row → ⊥
   fault_out c act none seat row IsDone e to = let z = sym e ∙ to in cc
   fault_out c act none seat row IsLost e to = subst NotWithin (sym (stand_own state.stand c _ (λ k. let z = sym e ∙ k in cc)) ∙ to) (none _ IsLost)

@@ -36,7 +36,7 @@ module _ (code : CodeParts) (input : List NamedArray) (s : Shape) (keeper : ℕ)
   abbrev arrays : Words
   arrays = arrays_at (view s im.words)
 
-  -- the state with which a run goes on, and the one behind turns
+  -- the state with which a run goes on, and the one after turns
   abbrev IsForkedAt : List Leg → Skeleton → Type 0
   IsForkedAt legs t = IsForked s code root arrays (state_then s code im.words legs) (homes_then s code im.words legs) (forked_then s code im.words legs) (taken_then s code im.words legs) [] t
 

@@ -154,7 +154,7 @@ module _ (s : Shape) (code : CodeParts) (places : s.takeover ≡ ByPlaces) (fair
   abbrev N : ℕ
   N = s.processors
 
-  -- a moment behind so many work turns, of which at most half raised an entry's tag
+  -- a moment after so many work turns, of which at most half raised an entry's tag
   record Moment (state : RunState) (h : ℕ → Home) (forked taken : List ℕ) (work : ℕ) : Type 0 where
     tree : Skeleton
     made : ℕ
@@ -205,7 +205,7 @@ between : (P : Turn → Type 0) (first : List Turn) (turn : Turn) (more : List T
 between P [] turn more all = all.0
 between P (other ∷ first) turn more all = between P first turn more all.1
 
--- a finish word that stands for something does so behind turns
+-- a finish word that stands for something does so after turns
 module _ (s : Shape) (code : CodeParts) (is : IsCode code) where
   abbrev Says : ℕ → Type 0
   Says word = (finish : Finish) × (finish_of word ≡ Some finish)

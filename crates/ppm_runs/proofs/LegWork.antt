@@ -98,7 +98,7 @@ module _ (code : CodeParts) (input : List NamedArray) (s : Shape) (keeper : ℕ)
   abbrev arrays : Words
   arrays = arrays_at (view s im.words)
 
-  -- the moment with which a run goes on behind legs
+  -- the moment with which a run goes on after legs
   record Begins (legs : List Leg) : Type 0 where
     tree : Skeleton
     made : ℕ → ℕ
@@ -106,7 +106,7 @@ module _ (code : CodeParts) (input : List NamedArray) (s : Shape) (keeper : ℕ)
     stage : Stage s code fair root arrays end ends (lost_in s.processors legs) (state_then s code im.words legs) (homes_then s code im.words legs) (forked_then s code im.words legs) (taken_then s code im.words legs) [] tree (halves run) run.agrees
         (work_then s code im.words legs) (strikes_then s code im.words legs) made
 
-  -- and the one behind its turns
+  -- and the one after its turns
   record Behind (legs : List Leg) (turns : List Turn) : Type 0 where
     tree : Skeleton
     made : ℕ → ℕ

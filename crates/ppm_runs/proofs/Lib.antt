@@ -13,8 +13,8 @@
 -- capsules of strands meet no broken words (`WellRows`, `ArrayLemmas`, `WellRuns`, `WellStands`), and that stays
 -- (`WellCapsules`, `WellTurns`, `HeirWell`). Half of the work turns at most raise a tag (`RaisedLemmas`), and
 -- `UnbrokenLemmas` has all of it in whole runs. Who holds a place changes by bids alone (`BidLemmas`), so tags
--- of holders stay low over legs (`TagLemmas`), and what is sound is so again behind each (`LegSound`).
--- So each run is one of orderly turns (`EveryRunLemmas`; over legs too, `LegTickets`), the words show a tree (`LeftLemmas`) that is ahead of the
+-- of holders stay low over legs (`TagLemmas`), and what is sound is so again after each (`LegSound`).
+-- Each run is one of orderly turns (`EveryRunLemmas`; over legs too, `LegTickets`), the words show a tree (`LeftLemmas`) that is ahead of the
 -- root (`TreeLemmas`), who runs a right branch was counted (`RunnerLemmas`), and who seeks work has no strand
 -- (`SeekLemmas`).
 

@@ -167,7 +167,7 @@ module _ (s : Shape) (code : CodeParts) (fair : IsFair code) (root : Tree (Frame
     closed_at : (p : ℕ) (it : Heir p) → it.place ≡ w → Closed s.takeover m w
     closed_at p it e = subst (Closed s.takeover m) e (claims_shut run.lawful.1.board it.place it.way.0.slot (subst IsClaim (sym it.way.0.taken) (omega arith)))
 
-    -- so w is closed
+    -- w is closed, where an heir opens its block
     pub closed_before : (c : ℕ) (seat : Seat) (next : Then) (v slot : ℕ) → stand_of state c ≡ IsWithin seat (Now next) → seat.restart.kind ≡ Check v slot → CarriesOn next → OpensBlock r next → Closed s.takeover m w
     closed_before c seat (Install re) v slot e ke on by = elim (heirs_see s code ih state h forked taken run.lawful c seat (Now (Install re)) v slot e ke) [
       | inl seeks ↦ absurd (on seeks)
@@ -185,7 +185,7 @@ module _ (s : Shape) (code : CodeParts) (fair : IsFair code) (root : Tree (Frame
         ]
     closed_before c seat _ v slot e ke on by = absurd on
 
-    -- a load behind which a place is to open the block is that of its link
+    -- a load after which a place is to open the block is that of its link
     module _ (there : w < s.processors) (aw : IsAway l w) (c v : ℕ) (seat : Seat) (next : Then) (on : CarriesOn next) (by : OpensBlock r next) where
       abbrev Right : Type 0
       Right = OpensAs r (link_at (z.words (BlockWord r))).kind (kind_then next)

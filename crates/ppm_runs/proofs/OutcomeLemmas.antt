@@ -43,7 +43,7 @@ none_true : (b : Bool) → (b ≡ true → ⊥) → b ≡ false
 none_true true never = absurd (never refl)
 none_true false never = refl
 
--- so such a branch was forked where it was taken
+-- a branch of which nothing has come, or that was begun, was forked where it was taken
 pub same_lists : (h : ℕ → Home) (forked taken : List ℕ) → Counts h forked taken → (r : ℕ) → (h r ≡ Unborn) ⊎ (h r ≡ Begun) → has forked r ≡ has taken r
 same_lists h forked taken counts r (inl e) =
     none_true (has forked r) (λ f. counts.born r f e)

@@ -283,7 +283,7 @@ module _ (s : Shape) (code : CodeParts) (fair : IsFair code) (root : Tree (Frame
   act_stays c there Hard = live_stays c Hard (stand_of state c) (elsewhere (DeadWord c) 1 there tt)
   act_stays c there (Quit why) = live_stays c (Quit why) (stand_of state c) (if_else (slice_index state.words 0 == 0) FinishWord _ tt tt)
 
--- so none passes what the depth-first run takes of all
+-- no pool takes more than the depth-first run takes of all
 module _ (s : Shape) (code : CodeParts) (fair : IsFair code) (root : Tree (Frame FrameWord Point) Result) (input : Words) (end : End Result) (ends : Ends (strands s code) root input end) where
   abbrev pub IsBounded : List ℕ → Type 0
   IsBounded words = (q : ℕ) → q < s.processors → read s words (RoomCounter q) ≤ pool_at s q + (frame_size code code.root + end.counts.block_words)

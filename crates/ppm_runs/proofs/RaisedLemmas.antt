@@ -55,7 +55,7 @@ pays_load false false work = omega arith
 pays_load false true work = absurd (let z = work refl in cc)
 
 module _ (s : Shape) (code : CodeParts) where
-  -- what is left behind a row's end, or a step of a capsule, is no exchange
+  -- what is left after a row's end, or a step of a capsule, is no exchange
   module _ (seat : Seat) where
     running_free : (rest : Rest) (b : Bool) → raises (running_if seat rest b) ≡ false
     running_free rest true = refl

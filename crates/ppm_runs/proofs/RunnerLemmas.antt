@@ -91,7 +91,7 @@ module _ (s : Shape) (code : CodeParts) (fair : IsFair code) (root : Tree (Frame
       | inr b ↦ subst (HasUnrun (InPlace a.place) r) (sym (at_leaf.is ∙ b.is own)) (here_has (InPlace a.place) r b.frame b.slots b.copy b.beside own b.around refl)
     ]
 
-    -- so it is none that is still to be run
+    -- no other place is to run the right branch of the block
     none_to_run : (w : Who) → (w ≡ InPlace a.place → ⊥) → HasUnrun w r t → ⊥
     none_to_run w ne is = ne ((fates_show i fair root input z t run.kept (λ x. fate_of (h x)) agrees).once r w (InPlace a.place) is has_place)
 

@@ -30,7 +30,7 @@ use Rattle.ppm_runs.proofs.StandLemmas.{kinds_same}
 use Rattle.ppm_runs.proofs.HeiredLemmas.{halves_stay}
 use Rattle.ppm_runs.proofs.LegForks.{stays}
 
--- work is sought behind the load of a restart word that says so
+-- work is sought after the load of a restart word that says so
 kind_seeks : (kind : RestartKind) → before_kind kind ≡ Seeks → kind ≡ Seek
 kind_seeks Seek e = refl
 kind_seeks (Run frame copy) e = absurd (cc)

@@ -174,7 +174,7 @@ module _ (s : Shape) (code : CodeParts) (root : Tree (Frame FrameWord Point) Res
         holds = holds c seat.place sees.0.carried (subst (IsOf seat.place) (sym e) refl);
       }
 
-  -- so of a capsule under way
+  -- what the processor of a capsule under way has, and what its place is at
   pub record Runs (c : ℕ) (seat : Seat) (rest : Rest) : Type 0 where
     pub here : rest_is_there s seat rest ≡ true
     pub place : seat.place < s.processors

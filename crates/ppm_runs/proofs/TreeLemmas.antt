@@ -20,7 +20,7 @@ use Rattle.ppm_runs.proofs.ForkLemmas.{IsForked, runs_fork}
 use Rattle.ppm_runs.proofs.LegForks.{stays}
 use Rattle.ppm_runs.proofs.LeftLemmas.{shows, ahead}
 
--- so of a run's state whose forks are counted
+-- what is left by a run's state whose forks are counted
 pub left_of : (s : Shape) (code : CodeParts) (root : Tree (Frame FrameWord Point) Result) (input : Words) (state : RunState) (h : ℕ → Home) (forked taken : List ℕ) (l : List Followed) (t : Skeleton)
     → IsForked s code root input state h forked taken l t → IsLeft s code root input state.words h forked
 left_of s code root input state h forked taken l t now = record {

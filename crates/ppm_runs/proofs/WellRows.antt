@@ -167,7 +167,7 @@ module _ (i : Setting) (t : Skeleton) (At : RowPoint → Type 0) (seat : Seat) w
   StrandRow (Store c x next) = StrandStore c × StrandThen next
   StrandRow (Exchange c old new next) = StrandTry c new × StrandThen next
 
-  -- so it is wherever a row has come
+  -- a row of a strand installs, stores and exchanges what is there, wherever it has come
   pub strand_walk : (m : Cell → ℕ) → ((point : RowPoint) → At point → StrandRow (found_at i.shape seat 0 point (content_of (reading_at point) (m (cell_at seat 0 point)))))
       → (n : ℕ) (row rest : Row) → StrandRow row → Reach i m seat n row rest → StrandRow rest
   strand_walk m found zero row rest a e = subst StrandRow e a

@@ -106,7 +106,7 @@ module _ (i : Setting) (fair : IsFair i.code) (root : Tree (Frame FrameWord Poin
   abbrev Clear : Skeleton → Type 0
   Clear v = (x : ℕ) → 1 ≤ crit Root v x → m (BlockWord x) ≡ seen (BlockWord x)
 
-  -- so a state by places is well
+  -- the tree of a state by places is well, where its words are clear
   abbrev Well : State → Skeleton → Type 0
   Well z v = Clear v → IsWell i.code z.words Root v
 
@@ -589,7 +589,7 @@ module _ (i : Setting) (fair : IsFair i.code) (root : Tree (Frame FrameWord Poin
   act_step (Quit why) IsDone e so away = as_seen t well
   act_step (Quit why) _ e so away = proposed_well so.0.words (finish_word (quit_with c why)) (slice_index words 0 == 0)
 
--- by which no place goes on with what it inherited, and behind which words are kept
+-- by which no place goes on with what it inherited, and after which words are kept
 pub well_stays_left : (s : Shape) (code : CodeParts) → IsFair code
     → (root : Tree (Frame FrameWord Point) Result) (input : Words) (state : Machine) (l : List Followed) → AreApart l → (t : Skeleton)
     → IsKept (setting s code) root input (left (setting s code) l (places_of s state)) t → IsWell code (view s state.words) Root t → (turn : Turn)
@@ -612,7 +612,7 @@ well_stays s code places fair root input state h forked taken t run well turn am
     well_stays_left s code fair root input state [] tt t run.kept well turn (acts_so s code places fair root input state h forked taken t run turn.processor turn.act among.processor)
     (act_away (setting s code) places turn.act (stand_of state turn.processor)) (turns_lead_on s code places fair root input state h forked taken t run turn among).kept
 
--- so does one by which a place goes on with what it inherited, and stores its restart word alone
+-- the tree stays well after an act by which a place goes on with what it inherited, and stores its restart word alone
 pub heir_well : (s : Shape) (code : CodeParts) (state after : Machine) (w p : ℕ) (t : Skeleton)
     → ((x : ℕ) → view s after.words (BlockWord x) ≡ view s state.words (BlockWord x)) → IsWell code (view s state.words) Root t → IsWell code (view s after.words) Root (handed w p t)
 heir_well s code state after w p t same well = well_same code (view s state.words) (view s after.words) Root (handed w p t) (λ x one. same x) (well_owned code (view s state.words) w (InPlace p) Root t well)

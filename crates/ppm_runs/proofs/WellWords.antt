@@ -89,7 +89,7 @@ crit_none t c u x is most one none =
     let same : crit Root t x ≡ crit Root (plug c u) x = ap (λ (v : Skeleton). crit Root v x) is in
     omega (arith, sum, part, same, most, one, none)
 
--- a word that is the same before a store is so behind it
+-- a word that is the same before a store is so after it
 pub written_as : (m n : Cell → ℕ) (c : Cell) (w : ℕ) (d : Cell) → m d ≡ n d → written m c w d ≡ written n c w d
 unfolding written
 written_as m n c w d e = ap (λ (y : ℕ). cond (same_cell d c) w y) e

@@ -443,7 +443,7 @@ module _ (s : Shape) (code : CodeParts) (fair : IsFair code) (root : Tree (Frame
   runs_sum = subst (λ (f : ℕ → RestartKind). sum s.processors (λ p. runs_at (f p)) ≤ sum s.processors (λ p. begin_in p t)) kinds_left
       (sum_le s.processors (λ p. runs_at (z.kind p)) (λ p. begin_in p t) (λ p lt. runs_begin (setting s code) fair root input z t run.kept p (z.kind p) refl))
 
-  -- so, with the capsules that are counted, it is within those of the depth-first run
+  -- the work of rows, with the capsules that are counted, is within that of the depth-first run
   pub rows_within : (made : ℕ → ℕ) → ((c : ℕ) → Claim c (made c) (stand_of state c)) → (end : End Result) → EndsSo (strands s code) root input end
       → sum s.processors (λ c. most (made c) (stand_of state c)) + 172 * run.kept.ahead.0.capsules ≤ sum s.processors (λ p. due (L p)) + 172 * end.counts.capsules
   rows_within made claims end ends =

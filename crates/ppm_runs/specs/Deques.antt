@@ -82,7 +82,7 @@ DequesAreSound = (s : Shape) (code : CodeParts) → s.takeover ≡ ByPlaces → 
     → (turn : Turn) → IsTurnAmong s.processors turn
     → IsSound s code (raised_by made state turn) (happens s code state turn)
 
--- so it is with either takeover, where both halves hold, with those places left out that were followed
+-- with either takeover a turn leads from a sound state to a sound one, where both halves hold, with those places left out that were followed
 abbrev pub DequesStaySound : Type 0
 DequesStaySound = (s : Shape) (code : CodeParts) → IsFair code
     → (root : Tree (Frame FrameWord StrandPoint) Result) (input : Words) (state : RunState) (h : ℕ → Home) (forked taken : List ℕ) (l : List Followed) (t : Skeleton)

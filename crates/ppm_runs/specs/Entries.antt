@@ -65,7 +65,7 @@ RunsStayHeired = (code : CodeParts) (input : List NamedArray) (s : Shape) (keepe
     (homes s code (opening image.words s.processors) (λ r. Unborn) turns)
     (forked_in s code (opening image.words s.processors) [] turns) (taken_in s code (opening image.words s.processors) [] turns) l t
 
--- so at each moment no right branch was forked twice, none was taken twice, and each taken was forked
+-- at each moment no right branch was forked twice, none was taken twice, and each taken was forked
 abbrev pub OnceByEntries : Type 0
 OnceByEntries = (code : CodeParts) (input : List NamedArray) (s : Shape) (keeper : ℕ) (image : Image)
     → s.takeover ≡ ByEntries → IsFair code → Opens code input s keeper image
@@ -82,7 +82,7 @@ pub record EndsAsRun (s : Shape) (code : CodeParts) (root : Tree (Frame FrameWor
   pub forked_once : Once forked
   pub taken_once : Once taken
 
--- so it is where the finish word says an outcome
+-- with takeover by entries an outcome in the finish word is that of the root's depth-first run
 abbrev pub RunsEndByEntries : Type 0
 RunsEndByEntries = (code : CodeParts) (input : List NamedArray) (s : Shape) (keeper : ℕ) (image : Image)
     → s.takeover ≡ ByEntries → IsFair code → Opens code input s keeper image
@@ -105,7 +105,7 @@ HalvesStay = (code : CodeParts) (input : List NamedArray) (s : Shape) (keeper : 
     (homes s code (opening image.words s.processors) (λ r. Unborn) turns)
     (forked_in s code (opening image.words s.processors) [] turns) (taken_in s code (opening image.words s.processors) [] turns) l t
 
--- so at each moment of a run, whatever the takeover
+-- no right branch was forked or taken twice, at each moment of a run, whatever the takeover
 abbrev pub OnceInEachRun : Type 0
 OnceInEachRun = (code : CodeParts) (input : List NamedArray) (s : Shape) (keeper : ℕ) (image : Image)
     → IsFair code → Opens code input s keeper image

@@ -36,7 +36,7 @@ RunsAreOrderly = (code : CodeParts) (input : List NamedArray) (s : Shape) (keepe
     → (turns : List Turn) → AllByRecursion (IsTurnAmong s.processors) turns
     → AreOrderly s code (opening image.words s.processors) (λ r. Unborn) [] turns
 
--- so with takeover by places are the turns behind legs, and those of each leg, which are turns behind the earlier ones
+-- with takeover by places the turns after legs are orderly, and those of each leg, which are turns after the earlier ones
 abbrev pub LegsAreOrderly : Type 0
 LegsAreOrderly = (code : CodeParts) (input : List NamedArray) (s : Shape) (keeper : ℕ) (image : Image)
     → s.takeover ≡ ByPlaces → IsFair code → Opens code input s keeper image
@@ -50,7 +50,7 @@ EntriesGoOn s code state = (turn : Turn) → IsTurnAmong s.processors turn → (
     → (spots.view s (happens s code state turn).words (Slot v i) ≡ spots.view s state.words (Slot v i))
     ⊎ Changes s.takeover (spots.view s state.words (Slot v i)) (spots.view s (happens s code state turn).words (Slot v i))
 
--- so with takeover by places each branch is at one place and is taken at most once, at each moment of each run
+-- with takeover by places each branch is at one place and is taken at most once, at each moment of each run
 abbrev pub TicketsByPlaces : Type 0
 TicketsByPlaces = (code : CodeParts) (input : List NamedArray) (s : Shape) (keeper : ℕ) (image : Image)
     → s.takeover ≡ ByPlaces → IsFair code → Opens code input s keeper image

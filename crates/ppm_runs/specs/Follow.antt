@@ -1,4 +1,4 @@
--- A turn by which a place goes on with what it inherited, with takeover by entries: both halves hold behind
+-- A turn by which a place goes on with what it inherited, with takeover by entries: both halves hold after
 -- it, with the closed place left out of the frames' half.
 use Rattle.std.specs.Prelude.{◌≡◌, ◌≢◌, ◌⊎◌, ◌≤◌, ◌<◌, ℕ, Bool, true, List, [], ◌∷◌, ◌++◌}
 use Rattle.ppm_strands.specs.Tree.{Words, Tree}

@@ -64,7 +64,7 @@ abbrev pub StepsAlone : Takeover → Act → Standing → Type 0
 StepsAlone how (Step victim) standing = InheritsNone how standing
 StepsAlone how act standing = Unit {0}
 
--- so they are joined after each such turn that keeps both halves
+-- the halves of a run's state are joined after each turn that keeps both, and by which no place goes on with what it inherited
 abbrev pub JointsStay : Type 0
 JointsStay = (s : Shape) (code : CodeParts) → IsFair code
     → (root : Tree (Frame FrameWord Point) Result) (input : Words) (state : RunState) (h : ℕ → Home) (forked taken : List ℕ) (l : List Followed) (t : Skeleton)

@@ -43,7 +43,7 @@ module _ (s : Shape) (code : CodeParts) (root : Tree (Frame FrameWord Point) Res
     pub joins : (c : ℕ) (seat : Seat) (block frame bottom : ℕ)
         → stand_of state c ≡ IsWithin seat (Now (Begin block frame bottom))
         → IsJoined seat.restart.kind (h block)
-    -- so the next turn is orderly, whosever it is
+    -- the next turn is orderly, whosever it is
     pub orderly : (turn : Turn) → IsTurnAmong s.processors turn
         → IsOrderly s state.words turn.act (stand_of state turn.processor) h forked
 

@@ -1,4 +1,4 @@
--- Runs in legs, with takeover by places: turns; then the words behind them come back, and fresh processors go on from these; and so on.
+-- Runs in legs, with takeover by places: turns; then the words after them come back, and fresh processors go on from these; and so on.
 use Rattle.std.specs.Prelude.{◌≡◌, ◌⊎◌, ◌≤◌, ◌<◌, ℕ, ◌+◌, ◌*◌, List, [], ◌∷◌, Some, length}
 use Rattle.std.specs.List.{AllByRecursion}
 use Rattle.ppm_strands.specs.Calm.{Calm}
@@ -33,7 +33,7 @@ use Rattle.ppm_runs.specs.Moments.{AreOnce}
 use Rattle.ppm_runs.specs.Work.{work_in, strikes_in}
 use Rattle.ppm_runs.specs.Outcomes.{EndsWell}
 
--- turns, and the words with which fresh processors go on behind them
+-- turns, and the words with which fresh processors go on after them
 pub record Leg : Type 0 where
   pub turns : List Turn
   pub back : List ℕ
@@ -45,7 +45,7 @@ pub record GoOn (s : Shape) (words back : List ℕ) : Type 0 where
 
 -- the legs of a run from these words, the latest first
 module _ (s : Shape) (code : CodeParts) (words : List ℕ) where
-  -- the words from which the run goes on behind legs, and the state with which it does
+  -- the words from which the run goes on after legs, and the state with which it does
   abbrev pub words_then : List Leg → List ℕ
   words_then [] = words
   words_then (leg ∷ legs) = leg.back
@@ -53,7 +53,7 @@ module _ (s : Shape) (code : CodeParts) (words : List ℕ) where
   abbrev pub state_then : List Leg → RunState
   state_then legs = opening (words_then legs) s.processors
 
-  -- the turns of each leg are made by processors of the shape, and its words come of those behind them
+  -- the turns of each leg are made by processors of the shape, and its words come of those after them
   abbrev pub AreLegs : List Leg → Type 0
   AreLegs [] = Unit {0}
   AreLegs (leg ∷ legs) = AreLegs legs × AllByRecursion (IsTurnAmong s.processors) leg.turns
@@ -82,7 +82,7 @@ module _ (s : Shape) (code : CodeParts) (words : List ℕ) where
   strikes_then (leg ∷ legs) = strikes_then legs + strikes_in s code (state_then legs) leg.turns
 
   module _ (legs : List Leg) (turns : List Turn) where
-    -- so behind turns that follow
+    -- the state after legs and the turns that follow
     abbrev pub last_state : RunState
     last_state = after s code (state_then legs) turns
 
@@ -101,7 +101,7 @@ module _ (s : Shape) (code : CodeParts) (words : List ℕ) where
     abbrev pub all_strikes : ℕ
     all_strikes = strikes_then legs + strikes_in s code (state_then legs) turns
 
--- From an image of a sound code, whatever the legs and the turns behind them: a run's state is come to
+-- From an image of a sound code, whatever the legs and the turns after them: a run's state is come to
 abbrev pub LegsStay : Type 0
 LegsStay = (code : CodeParts) (input : List NamedArray) (s : Shape) (keeper : ℕ) (image : Image)
     → s.takeover ≡ ByPlaces → IsFair code → Opens code input s keeper image
@@ -171,7 +171,7 @@ WorkOverLegs = (code : CodeParts) (input : List NamedArray) (s : Shape) (keeper 
     → all_work s code image.words legs turns
     ≤ 218 * end.counts.capsules + 171 * all_strikes s code image.words legs turns + 172 * (s.processors * length legs) + 6
 
--- so they are fewer than 256 for each capsule, each such fault, and each fresh processor
+-- all work turns over legs are fewer than 256 for each capsule, each fault that strikes a row, and each fresh processor
 abbrev pub WorkOverLegsIsWithin256 : Type 0
 WorkOverLegsIsWithin256 = (code : CodeParts) (input : List NamedArray) (s : Shape) (keeper : ℕ) (image : Image)
     → s.takeover ≡ ByPlaces → IsFair code → Opens code input s keeper image

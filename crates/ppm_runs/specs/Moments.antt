@@ -1,5 +1,5 @@
 -- Each moment of a run, whatever the turns: no turn leads out of a run's states, also where it stops the
--- run, and behind such a turn; so at each moment no branch was forked twice, and none was taken twice.
+-- run, and after such a turn; so at each moment no branch was forked twice, and none was taken twice.
 use Rattle.std.specs.Prelude.{◌≡◌, ℕ, true, List, [], ◌++◌}
 use Rattle.std.specs.List.{AllByRecursion}
 use Rattle.ppm_strands.specs.Tree.{Words, Tree}
@@ -54,7 +54,7 @@ pub record AreOnce (forked taken : List ℕ) : Type 0 where
   pub taken_once : Once taken
   pub forked_first : (r : ℕ) → has taken r ≡ true → has forked r ≡ true
 
--- so it is at each moment of a run from an image of a sound code, whatever the turns, also where the
+-- no right branch was forked or taken twice, at each moment of a run from an image of a sound code, whatever the turns, also where the
 -- run was stopped
 abbrev pub OnceAtEachMoment : Type 0
 OnceAtEachMoment = (code : CodeParts) (input : List NamedArray) (s : Shape) (keeper : ℕ) (image : Image)

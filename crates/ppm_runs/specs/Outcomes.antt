@@ -35,7 +35,7 @@ pub record EndsWell (s : Shape) (code : CodeParts) (root : Tree (Frame FrameWord
   pub room : (p : ℕ) → ceiling (setting s code) (view s state.words) p (kinds_of s state.words p)
       ≤ start (setting s code) p + (frame_size code code.root + answer.end.counts.block_words)
 
--- so it is in each state of a run in which the finish word says an outcome of the root
+-- in each state of a run an outcome in the finish word is that of the root's depth-first run
 abbrev pub RunsEnd : Type 0
 RunsEnd = (s : Shape) (code : CodeParts)
     (root : Tree (Frame FrameWord Point) Result) (input : Words) (state : RunState) (h : ℕ → Home) (forked taken : List ℕ) (t : Skeleton)

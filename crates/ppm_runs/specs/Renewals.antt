@@ -40,7 +40,7 @@ RunsComeBack = (s : Shape) (code : CodeParts) → s.takeover ≡ ByPlaces → Is
     → (back : List ℕ) → IsRenewal s state.words back → NoOutcome (read s back FinishWord)
     → IsRun s code root input (opening back s.processors) h forked taken t
 
--- What holds behind a run in parts: turns among the processors, whatever they are, and words that come
+-- What holds after a run in parts: turns among the processors, whatever they are, and words that come
 -- back, which are a renewal of those before, with a finish word that says no outcome. Homes and lists
 -- go on from part to part. Legs (`specs/Legs`) are such parts in which words come back as `renew` gives
 -- them, where the finish word stays or becomes 0; here it may be any that says no outcome.
@@ -60,7 +60,7 @@ pub record EndsInParts (s : Shape) (code : CodeParts) (root : Tree (Frame FrameW
   pub ends : (finish : Finish) → finish_of (read s state.words FinishWord) ≡ Some finish → IsOutcome finish
       → (t : Skeleton) × EndsWell s code root input state forked taken t finish
 
--- so it is from an image of a sound code, whatever the parts
+-- over all parts of a run no branch is forked or taken twice, and an outcome in the finish word is that of the root's depth-first run
 abbrev pub PartsComeTo : Type 0
 PartsComeTo = (code : CodeParts) (input : List NamedArray) (s : Shape) (keeper : ℕ) (image : Image)
     → s.takeover ≡ ByPlaces → IsFair code → Opens code input s keeper image

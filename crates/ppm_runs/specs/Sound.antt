@@ -55,7 +55,7 @@ IsRising s (words.Job t x) = (t + 1 < 2 ^ 34) × (x + 4 < word_count s)
 IsRising s (words.Local t x) = LocalRises s.takeover t
 IsRising s _ = ⊥
 
--- so is the entry
+-- what may be taken, as an entry: a job whose tag can rise, of a block that lies within the words, or what is local
 abbrev pub IsRisingEntry : Shape → Entry → Type 0
 IsRisingEntry s (Job t x) = (t + 1 < 2 ^ 34) × (x + 4 < word_count s)
 IsRisingEntry s (Local t x) = LocalRises s.takeover t
@@ -80,7 +80,7 @@ Noted s m p (Take v d) = TakesPlaces s.takeover
 Noted s m p (Take2 v) = TakesPlaces s.takeover × IsHeld (m (Bid p))
 Noted s m p kind = Unit {0}
 
--- so it is behind the store of this content
+-- what a place has noted after the store of this content, by what it is at
 abbrev pub NotedBy : Shape → Content → RestartKind → Type 0
 NotedBy s (AnEntry entry) (Steal v i) = IsRisingEntry s entry × IsEntry entry
 NotedBy s content (Steal v i) = ⊥
@@ -269,7 +269,7 @@ abbrev pub IsHolderWithin : Shape → (raised : ℕ) → (Spot → Word) → Wor
 IsHolderWithin s raised m (Held t c) = (c < s.processors) × (t + one_dead (m (Dead c)) ≤ raised + deads m s.processors)
 IsHolderWithin s raised m _ = ⊥
 
--- so its tag can rise
+-- a holder word names a processor, and its tag can rise
 abbrev pub IsHolderSound : Shape → (Spot → Word) → Word → Type 0
 IsHolderSound s m word = IsHolderWithin s (2 ^ 57) m word
 

@@ -36,7 +36,7 @@ RoomIsSpent = (code : CodeParts) (input : List NamedArray) (s : Shape) (keeper :
     → (end : End Result) → Ends (strands s code) (root_strand code input) (arrays_at (view s image.words)) end
     → s.room < frame_size code code.root + end.counts.block_words
 
--- At each moment, also behind a stop, and whatever the takeover: no place has given out more of its pool than
+-- At each moment, also after a stop, and whatever the takeover: no place has given out more of its pool than
 -- the root's frame and the block words that the depth-first run counts to its end.
 abbrev pub RoomIsWithin : Type 0
 RoomIsWithin = (code : CodeParts) (input : List NamedArray) (s : Shape) (keeper : ℕ) (image : Image)

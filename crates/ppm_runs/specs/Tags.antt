@@ -20,7 +20,7 @@ use Rattle.ppm_frames.specs.Seen.{arrays_at}
 use Rattle.ppm_kept.specs.Running.{IsFair, strands}
 use Rattle.ppm_runs.specs.Legs.{Leg, AreLegs, last_state}
 
--- From an image of a sound code, whatever the legs and the turns behind them: each place has a holder. Its tag is at most the number of
+-- From an image of a sound code, whatever the legs and the turns after them: each place has a holder. Its tag is at most the number of
 -- processors, and one more than that whenever words came back.
 abbrev pub TagsStayLow : Type 0
 TagsStayLow = (code : CodeParts) (input : List NamedArray) (s : Shape) (keeper : ℕ) (image : Image)

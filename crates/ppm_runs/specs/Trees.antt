@@ -71,7 +71,7 @@ WhatIsLeftEndsSo = (code : CodeParts) (input : List NamedArray) (s : Shape) (kee
     → IsLeft s code (root_strand code input) (arrays_at (view s image.words)) (reached s code image.words turns).words
     (homes_by s code image.words turns) (forked_in s code (opening image.words s.processors) [] turns)
 
--- so with takeover by places, whatever the legs and the turns behind them
+-- with takeover by places the words show what is left of the root's run, whatever the legs and the turns after them
 abbrev pub WhatIsLeftOverLegs : Type 0
 WhatIsLeftOverLegs = (code : CodeParts) (input : List NamedArray) (s : Shape) (keeper : ℕ) (image : Image)
     → s.takeover ≡ ByPlaces → IsFair code → Opens code input s keeper image
@@ -89,7 +89,7 @@ pub record IsInRight (s : Shape) (words : List ℕ) (r : ℕ) : Type 0 where
   pub runs : kinds_of s words place ≡ Run frame copy
   pub hangs : (link_at (view s words (BlockWord frame))).kind ≡ Branch Right r
 
--- so the right branch of a block that was forked, if a place is to run it, was taken
+-- the right branch of a block that was forked, if a place is to run it, was taken
 abbrev pub RunnersAreCounted : Type 0
 RunnersAreCounted = (code : CodeParts) (input : List NamedArray) (s : Shape) (keeper : ℕ) (image : Image)
     → IsFair code → Opens code input s keeper image
@@ -99,7 +99,7 @@ RunnersAreCounted = (code : CodeParts) (input : List NamedArray) (s : Shape) (ke
     → IsInRight s (reached s code image.words turns).words r
     → has (taken_in s code (opening image.words s.processors) [] turns) r ≡ true
 
--- so with takeover by places, over legs
+-- with takeover by places, over legs, a right branch that was forked was taken, if a place is to run it
 abbrev pub RunnersAreCountedOverLegs : Type 0
 RunnersAreCountedOverLegs = (code : CodeParts) (input : List NamedArray) (s : Shape) (keeper : ℕ) (image : Image)
     → s.takeover ≡ ByPlaces → IsFair code → Opens code input s keeper image
@@ -128,7 +128,7 @@ pub record IsIdle (s : Shape) (code : CodeParts) (words : List ℕ) (processor :
   pub seeks : kinds_of s words place ≡ Seek
   pub none : (t : Skeleton) → Shows s code words t → at place t ≡ 0
 
--- so does each processor that would seek work next, at each moment, whatever the takeover. Who parks or leaves does so there alone.
+-- at each moment, whatever the takeover, who would seek work next carries a place without a strand. Who parks or leaves does so there alone.
 abbrev pub SeekersAreIdle : Type 0
 SeekersAreIdle = (code : CodeParts) (input : List NamedArray) (s : Shape) (keeper : ℕ) (image : Image)
     → IsFair code → Opens code input s keeper image
@@ -137,7 +137,7 @@ SeekersAreIdle = (code : CodeParts) (input : List NamedArray) (s : Shape) (keepe
     → (processor : ℕ) → next_of (stand_of (reached s code image.words turns) processor) ≡ Seeks
     → IsIdle s code (reached s code image.words turns).words processor
 
--- so with takeover by places, over legs
+-- with takeover by places, over legs, each processor that would seek work next carries a place without a strand
 abbrev pub SeekersAreIdleOverLegs : Type 0
 SeekersAreIdleOverLegs = (code : CodeParts) (input : List NamedArray) (s : Shape) (keeper : ℕ) (image : Image)
     → s.takeover ≡ ByPlaces → IsFair code → Opens code input s keeper image

@@ -21,7 +21,7 @@ use Rattle.ppm_kept.specs.Running.{IsFair, strands}
 use Rattle.ppm_runs.specs.Legs.{Leg, AreLegs, last_state, all_work}
 use Rattle.ppm_runs.specs.Unbroken.{HasNoBreak}
 
--- From an image of a sound code, whatever the legs and the turns behind them, as long as at most 2^34 + 2^28 of all turns are work, and
+-- From an image of a sound code, whatever the legs and the turns after them, as long as at most 2^34 + 2^28 of all turns are work, and
 -- words came back at most 2^50 times.
 abbrev pub NothingBreaksOverLegs : Type 0
 NothingBreaksOverLegs = (code : CodeParts) (input : List NamedArray) (s : Shape) (keeper : ℕ) (image : Image)

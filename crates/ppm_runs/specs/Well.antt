@@ -21,7 +21,7 @@ IsWellLeaf code m h (Begins y) f = m (BlockWord (header f y)) < length code.caps
 IsWellLeaf code m h Over f = SaysOutcome (m (BlockWord (f + 1)))
 IsWellLeaf code m h Arrives f = SaysOutcome (arrival m h)
 
--- so it is in the whole tree; frames that wait have their headers too
+-- each strand of the whole tree is well, and frames that wait have their headers
 abbrev pub IsWell : CodeParts → (Cell → ℕ) → LinkKind → Skeleton → Type 0
 IsWell code m h (Leaf w st f n) = IsWellLeaf code m h st f
 IsWell code m h (Calling f n y t) = (m (BlockWord (header f y)) < length code.capsules) × IsWell code m (Called f y) t

@@ -1,4 +1,4 @@
--- Whole runs: what joins the halves of a run's state stays behind each turn, and what all turns come to.
+-- Whole runs: what joins the halves of a run's state stays after each turn, and what all turns come to.
 use Rattle.std.specs.Prelude.{◌≡◌, ℕ, List, [], Some}
 use Rattle.std.specs.List.{AllByRecursion}
 use Rattle.ppm_strands.specs.Tree.{Words, Tree}
@@ -45,7 +45,7 @@ pub record AreJoined (s : Shape) (state : RunState) (h : ℕ → Home) (t : Skel
   pub ready : (p r f y b : ℕ) → (places_of s state).kind p ≡ Push1 r
       → (places_of s state).doing p ≡ InRow (Now (Install (record { kind = RunFrame f y; bottom = b }))) → HasUnrun Held r t
 
--- so it is after each turn of a run's state that keeps the words
+-- what joins the two halves of a run's state does so after each turn that keeps the words
 abbrev pub JoinsStay : Type 0
 JoinsStay = (s : Shape) (code : CodeParts) → s.takeover ≡ ByPlaces → IsFair code
     → (root : Tree (Frame FrameWord Point) Result) (input : Words) (state : RunState) (h : ℕ → Home) (forked taken : List ℕ) (t : Skeleton)

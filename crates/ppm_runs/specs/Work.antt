@@ -77,7 +77,7 @@ WorkIsBounded = (code : CodeParts) (input : List NamedArray) (s : Shape) (keeper
     → (end : End Result) → Ends (strands s code) (root_strand code input) (arrays_at (view s image.words)) end
     → work_in s code (opening image.words s.processors) turns ≤ 218 * end.counts.capsules + 171 * undone_in s code (opening image.words s.processors) turns + 6
 
--- so fewer than 256 for each capsule and each such fault
+-- all work turns together are fewer than 256 for each capsule and each fault that undoes work
 abbrev pub WorkIsWithin256 : Type 0
 WorkIsWithin256 = (code : CodeParts) (input : List NamedArray) (s : Shape) (keeper : ℕ) (image : Image)
     → IsFair code → Opens code input s keeper image

@@ -54,14 +54,14 @@ pub fn runs_end()
 
 /// With takeover by places, from an image of a sound code, whatever the turns: where the finish word
 /// says an outcome the depth-first run of the root ends so, and each branch that was forked was taken
-/// once. What joins the two halves of a run's state stays so behind each turn that keeps the words.
+/// once. What joins the two halves of a run's state stays so after each turn that keeps the words.
 pub fn runs_come_to()
     ensures law { RunsComeTo }
     ensures joins { JoinsStay }
 {}
 
 /// With takeover by places, from an image of a sound code, whatever the turns, a run's state is come to,
-/// also where a turn stops the run, and behind it; so at each moment no right branch was forked twice,
+/// also where a turn stops the run, and after it; so at each moment no right branch was forked twice,
 /// and none was taken twice.
 pub fn runs_stay()
     ensures leads { TurnsLeadOn }
@@ -71,7 +71,7 @@ pub fn runs_stay()
 
 /// From an image of a sound code, whatever the takeover, and whatever the turns: where the finish word says
 /// that a pool is full, and the depth-first run of the root comes to an end, that run takes more words
-/// than a pool has. At each moment, also behind a stop, no place has given out more of its pool than that
+/// than a pool has. At each moment, also after a stop, no place has given out more of its pool than that
 /// run takes of all.
 pub fn room_is_spent()
     ensures law { RoomIsSpent }
@@ -113,7 +113,7 @@ pub fn heirs_lead()
     ensures owe { HalvesOwe }
 {}
 
-/// With either takeover what joins the halves of a run's state does so again behind each turn by which
+/// With either takeover what joins the halves of a run's state does so again after each turn by which
 /// no place goes on with what it inherited.
 pub fn joints_stay()
     ensures law { JointsStay }

@@ -5,7 +5,7 @@ ghost use Rattle.ppm_runs.specs.Tags.{TagsStayLow};
 ghost use Rattle.ppm_runs.specs.UnbrokenLegs.{FinishStandsOverLegs, NothingBreaksOverLegs};
 
 /// With takeover by places, from an image of a sound code, whatever the legs, which are turns and
-/// the words that then came back, and whatever the turns behind them: a run's state is come to. No
+/// the words that then came back, and whatever the turns after them: a run's state is come to. No
 /// right branch is forked or taken twice over all of it, and an outcome is the depth-first run's, which
 /// forks as many.
 pub fn legs_come_to()
@@ -31,7 +31,7 @@ pub fn work_over_legs()
     ensures within { WorkOverLegsIsWithin256 }
 {}
 
-/// With takeover by places, from an image of a sound code, whatever the legs and the turns behind them:
+/// With takeover by places, from an image of a sound code, whatever the legs and the turns after them:
 /// the tag of each place's holder is at most the number of processors, and one more than that whenever
 /// words came back. So words that are saved then may come back, unless they did so 2^50 times.
 pub fn tags_stay_low()
@@ -39,7 +39,7 @@ pub fn tags_stay_low()
 {}
 
 /// With takeover by places, from an image of a sound code, whatever the legs, at most 2^50, and whatever
-/// the turns behind them, as long as at most 2^34 + 2^28 turns of them all are work: no processor meets
+/// the turns after them, as long as at most 2^34 + 2^28 turns of them all are work: no processor meets
 /// broken words, and the finish word says of none that one has. Whatever they are, it stands for a
 /// finish.
 pub fn nothing_breaks_over_legs()

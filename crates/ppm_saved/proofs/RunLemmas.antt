@@ -19,7 +19,7 @@ prefix_le p (x ∷ xs) = go (p x) (prefix_le p xs)
 abbrev pub more : ℕ → List ℕ → ℕ
 more w ws = prefix_len (λ v. v == w) ws
 
--- the first of the longest runs, and those of the words behind it
+-- the first of the longest runs, and those of the words after it
 pub first_run : (w : ℕ) (ws : List ℕ) → runs_of (w ∷ ws) ≡ run w (1 + more w ws) ∷ runs_of (drop (more w ws) ws)
 first_run w [] = refl
 first_run w (v ∷ vs) = ap (in_front w) (first_run v vs) ∙ by (v == w) (eqb_tells v w) (first_run v vs)
@@ -36,7 +36,7 @@ first_run w (v ∷ vs) = ap (in_front w) (first_run v vs) ∙ by (v == w) (eqb_t
     by false (inl t) first = absurd (both_ways false refl t.0)
     by false (inr t) first = ap (λ rs. run w 1 ∷ rs) (sym first)
 
--- the same of words by the first and those behind it
+-- the longest runs of words, by the first word and those after it
 pub first_of : (ws : List ℕ) → 1 ≤ length ws
     → runs_of ws ≡ run (get_or ws 0 0) (1 + more (get_or ws 0 0) (take (length ws - 1) (drop 1 ws)))
     ∷ runs_of (drop (more (get_or ws 0 0) (take (length ws - 1) (drop 1 ws))) (take (length ws - 1) (drop 1 ws)))
@@ -92,7 +92,7 @@ abbrev pub BeginOther : ℕ → List Run → Type 0
 BeginOther w [] = Unit {0}
 BeginOther w (r ∷ rs) = w ≢ r.word
 
--- what the longest runs say of the first one and of those behind it
+-- what the longest runs say of the first one and of those after it
 parts : (r : Run) (rs : List Run) → AreLongest (r ∷ rs) → (1 ≤ r.times) × BeginOther r.word rs × AreLongest rs
 parts r [] h = (h, tt, tt)
 parts r (q ∷ rs) h = h

@@ -86,7 +86,7 @@ numbers_one (n ∷ ns) (m ∷ ms) x y g h e =
 only : (n m : ℕ) → n ∷ [] ≡ m ∷ [] → n ≡ m
 only n m e = same_head e
 
--- a line of one number behind a word
+-- a line of one number after a word
 line_one : (word : List ℕ) (n m : ℕ) (x y : List ℕ) → IsWord n → IsWord m
     → (word ++ numbers_text (n ∷ [])) ++ x ≡ (word ++ numbers_text (m ∷ [])) ++ y → (n ≡ m) × (x ≡ y)
 line_one word n m x y g h e =

@@ -18,7 +18,7 @@ use Rattle.ppm_saved.specs.declared.saved.Saved.{Saved}
 abbrev pub last_tag : ℕ
 last_tag = 288230376151711743
 
--- the tag behind a holder's; behind the last one comes 0
+-- the tag after a holder's; after the last one comes 0
 abbrev pub tag_behind : Option Holder → ℕ
 tag_behind None = 0
 tag_behind (Some holder) = if holder.tag == last_tag then 0 else holder.tag + 1

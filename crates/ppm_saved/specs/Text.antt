@@ -8,11 +8,11 @@ use Rattle.ppm_saved.specs.Runs.{runs_of}
 use Rattle.ppm_saved.specs.declared.names.NamedLength.{NamedLength}
 use Rattle.ppm_saved.specs.declared.run.Run.{Run}
 
--- a number behind a space
+-- a number after a space
 abbrev pub spaced : ℕ → List ℕ
 spaced n = 32 ∷ decimal n
 
--- the rest of a line: its numbers, each behind a space, and a line feed
+-- the rest of a line: its numbers, each after a space, and a line feed
 abbrev pub numbers_text : List ℕ → List ℕ
 numbers_text ns = flat_map spaced ns ++ 10 ∷ []
 
@@ -48,11 +48,11 @@ run_line r = decimal r.word ++ times_text r.times ++ 10 ∷ []
 abbrev pub head_text : Shape → List NamedLength → List ℕ
 head_text s arrays = version_line ++ shape_line s.processors s.room s.slots ++ flat_map array_line arrays
 
--- a listing behind its line
+-- a listing after its line
 abbrev pub code_text : (listing : List ℕ) → List ℕ
 code_text listing = code_line (length listing) ++ listing
 
--- words behind their line, in their longest runs
+-- words after their line, in their longest runs
 abbrev pub words_text : List ℕ → List ℕ
 words_text ws = words_line (length ws) ++ flat_map run_line (runs_of ws)
 

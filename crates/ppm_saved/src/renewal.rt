@@ -23,7 +23,7 @@ pub struct Renewed {
     pub names: Names,
 }
 
-/// The tag behind that of a holder; behind the last one comes 0.
+/// The tag after that of a holder; after the last one comes 0.
 fn next_tag(holder: Option<Holder>) -> u64
     requires { IfSome holder IsHolder }
     ensures value { result ≡ tag_behind holder }

@@ -21,7 +21,7 @@ fn front_len(words: &[u64], word: u64) -> usize
     words.iter().take_while(|w| **w == word).count()
 }
 
-/// The first of the longest runs of words, and the words behind it; `None` where there are none.
+/// The first of the longest runs of words, and the words after it; `None` where there are none.
 pub(crate) fn first_run(words: &[u64]) -> Option<(Run, &[u64])>
     ensures runs { MatchOption result
         (words.now ≡ [])

@@ -75,7 +75,7 @@ pub(crate) fn head(alloc: Global, shape: Shape, arrays: &[NamedLength]) -> Resul
     Ok(text)
 }
 
-/// Appends a listing behind its line.
+/// Appends a listing after its line.
 pub(crate) fn push_code(text: &mut Vec<u8>, listing: &[u8]) -> Result<(), NoMemory>
     ensures text { OnOk result (text.new.items ≡ text.old.items ++ code_text listing.now) }
     ensures fits { IsWord (length listing.now) }
@@ -123,7 +123,7 @@ fn push_runs(text: &mut Vec<u8>, words: &[u64]) -> Result<(), NoMemory>
     Ok(())
 }
 
-/// Appends words behind their line.
+/// Appends words after their line.
 pub(crate) fn push_words(text: &mut Vec<u8>, words: &[u64]) -> Result<(), NoMemory>
     ensures text { OnOk result (text.new.items ≡ text.old.items ++ words_text words.now) }
     ensures fits { OnOk result (AllByRecursion RunFits (runs_of words.now)) }

@@ -38,7 +38,7 @@ same_lt a b c d f g = by (nat_lt a b) refl (nat_lt c d) refl
     by true e false k = absurd (omega (arith, f (ltb-true a b e), ltb-false c d k))
     by false e true k = absurd (omega (arith, g (ltb-true c d k), ltb-false a b e))
 
--- behind a run the others are to have the rest
+-- after a run the others are to have the rest
 pub count_line : (c : ℕ) (t l r : List ℕ) (w : Option ℕ) (n : ℕ) → split 10 t ≡ l ∷ split 10 r → run_in l ≡ Some (w, n) → n ≤ c
     → is_other_count c t ≡ is_other_count (c - n) r
 count_line c t l r w n e f h =
@@ -70,7 +70,7 @@ pub count_end : (c : ℕ) (t : List ℕ) → split 10 t ≡ t ∷ [] → is_othe
 count_end c t e =
     ap (λ (ps : List (List ℕ)). decide c (runs_in ps) (are_runs ps)) e ∙ ap (λ b. b || nat_lt 0 c) (le-ltb c 0 (omega arith))
 
--- a run of words that are counted right is no longer than they are, and those behind it are counted right
+-- a run of words that are counted right is no longer than they are, and those after it are counted right
 pub record IsCounted (c n : ℕ) (r : List ℕ) : Type 0 where
   pub within : n ≤ c
   pub others : is_other_count (c - n) r ≡ false

@@ -34,7 +34,7 @@ use Rattle.ppm_saved_reader.proofs.WrittenLemmas.{text_right}
 use Rattle.ppm_saved_reader.proofs.LengthLemmas.{text_short}
 use Rattle.ppm_saved_reader.proofs.StableLemmas.{stable}
 
--- a text behind its first line is shorter
+-- a text after its first line is shorter
 behind_line : {A : Type 0} (form : List ℕ → Option A) (t r : List ℕ) (a : A) → first_line form t ≡ Some (a, r) → length r < length t
 behind_line form t r a e = let (l, f, cut) = first_line_back form t r a e in shorter t l r cut
 
@@ -138,7 +138,7 @@ module _ (listings : FaultsTellListings) (text : List ℕ) (none : (f : Fault) (
         by None e = absurd (right k (NoCount e))
         by (Some (count, rest)) e = counted count rest e (cases_eq count (words_for z arrays)) (is_other_count count rest) refl
 
-  -- the code behind its line
+  -- the code after its line
   module _ (z : Sizes) (arrays : List NamedLength) (line : ℕ) (t : List ℕ) (k : IsRead text (AtArrays z arrays) line t) (no : first_line array_in t ≡ None)
       (bytes : ℕ) (rest : List ℕ) (e : first_line (count_in (codes "code")) t ≡ Some (bytes, rest)) (within : bytes ≤ length rest) where
     -- the bytes are a listing
@@ -203,7 +203,7 @@ module _ (listings : FaultsTellListings) (text : List ℕ) (none : (f : Fault) (
       by None e = absurd (right (reads_all text short) (NoVersion e))
       by (Some (line, rest)) e = sizes 2 rest (reads_on (reads_all text short) (Version e)) (first_line sizes_in rest) refl
 
-  -- so it is that of a state
+  -- a text in which nothing is wrong is that of a state
   pub covers : HasState text
   covers =
       let h = text_out in

@@ -39,7 +39,7 @@ version_back line x e = by (bytes_eq line (codes "saved 1")) refl e
     by true k e = (bytes_eq-Decides line (codes "saved 1")).0 k
     by false k e = absurd (not_both refl e)
 
--- what stands behind a word
+-- what stands after a word
 pub behind_back : (word line rest : List ℕ) → behind_word word line ≡ Some rest → line ≡ word ++ 32 ∷ rest
 behind_back word line rest e = by (halves_of 32 line) refl e
   where

@@ -40,7 +40,7 @@ pub record IsFront (text : List ℕ) (word : ℕ) (left : List ℕ) : Type 0 whe
 pub no_front : (text : List ℕ) → IsFront text 0 text
 no_front text = record { front = []; whole = refl; digits = refl; value = refl; lead = inl refl }
 
--- what is left, by its first byte and those behind it
+-- what is left, by its first byte and those after it
 by_first : (left : List ℕ) → 1 ≤ length left → left ≡ get_or left 0 0 ∷ take (length left - 1) (drop 1 left)
 by_first [] h = absurd (omega (arith, h))
 by_first (b ∷ bs) h =
@@ -72,7 +72,7 @@ module _ {text : List ℕ} {word : ℕ} {left : List ℕ} (f : IsFront text word
       by (inl e) = inr (alone f.front e f.value)
       by (inr h) = inr (first_stays f.front first h)
 
-  -- behind a line feed the line was a word
+  -- after a line feed the line was a word
   pub front_ends : first ≡ 10 → 0 < word → word < 2 ^ 64 → first_line run_in text ≡ Some ((Some word, 1), behind)
   front_ends feed large small =
       first_line_some run_in text f.front behind (Some word, 1) cut (ap (run_between f.front) (halves_off is_digit 42 refl f.front f.digits) ∙ says)

@@ -25,7 +25,7 @@ use Rattle.ppm_saved_reader.proofs.SpelledLemmas.{sizes_are, place_words}
 number_short : (n : ℕ) → IsWord n → length (decimal n) ≤ 20
 number_short n h = length-decimal-le 20 n (omega arith) (omega (arith, h)) h
 
--- numbers behind a word
+-- numbers after a word
 numbers_short : (ns : List ℕ) → AllByRecursion IsWord ns → length (flat_map spaced ns) ≤ 21 * length ns
 numbers_short [] h = omega arith
 numbers_short (n ∷ ns) h =
@@ -92,7 +92,7 @@ module _ (text : List ℕ) (s : Shape) (arrays : List NamedLength) (code : CodeP
       sym (length-words_of (runs_of words)) ∙ ap (λ (l : List ℕ). length l) (runs_are_longest.words words) in
       omega (arith, summed, runs_short (runs_of words) (runs_are_longest.longest words) h.fits.runs)
 
-  -- so the text is not
+  -- a text of a state is no longer than a saved text may be
   pub text_short : length text ≤ saved_limit
   text_short =
       let z = sizes_are (sizes_of s) h.sizes in

@@ -39,7 +39,7 @@ halves_off p s n (b ∷ xs) h = by (b == s) (eqb_tells b s) (halves_off p s n xs
     by true (inr t) e = absurd (both_ways true t.0 refl)
     by false t e = ap (more_in_front b) e
 
--- behind bytes without it a text is cut where it was
+-- after bytes without it a text is cut where it was
 pub halves_behind : (p : ℕ → Bool) (s : ℕ) → p s ≡ false → (xs ys l r : List ℕ) → list_all p xs ≡ true → halves_of s ys ≡ Some (l, r)
     → halves_of s (xs ++ ys) ≡ Some (xs ++ l, r)
 halves_behind p s n [] ys l r h e = e
@@ -106,7 +106,7 @@ first_line_none {A} form t l r e f = ap (said_by form) e ∙ ap (option_map (λ 
 pub first_line_missing : {A : Type 0} (form : List ℕ → Option A) (t : List ℕ) → halves_of 10 t ≡ None → first_line form t ≡ None
 first_line_missing form t e = ap (said_by form) e
 
--- a text whose first line says something is cut behind that line
+-- a text whose first line says something is cut after that line
 pub first_line_back : {A : Type 0} (form : List ℕ → Option A) (t r : List ℕ) (a : A) → first_line form t ≡ Some (a, r)
     → (l : List ℕ) × (form l ≡ Some a) × (halves_of 10 t ≡ Some (l, r))
 first_line_back {A} form t r a e = by (halves_of 10 t) refl e

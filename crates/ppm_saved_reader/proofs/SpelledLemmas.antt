@@ -302,7 +302,7 @@ read_at text k = leads_at text k.short k.leads (record { has = tt; same = refl }
 pub read_sizes_fit : (text : List ℕ) {z : Sizes} {arrays : List NamedLength} {r : List ℕ} {line : ℕ} → IsRead text (AtArrays z arrays) line r → sizes_fit z ≡ true
 read_sizes_fit text k = (read_at text k).has.sizes
 
--- so does the code, and the rest is no longer than a text may be
+-- the names that were read keep the rules; the code does, and the rest is no longer than a text may be
 pub read_names : (text : List ℕ) {z : Sizes} {arrays : List NamedLength} {r : List ℕ} {line : ℕ} → IsRead text (AtArrays z arrays) line r → AreNames arrays
 read_names text k = (read_at text k).has.names
 
@@ -395,7 +395,7 @@ state_read text s z arrays code words k l sizes runs count =
     read_text text s z arrays code runs.runs words runs.last (runs.leads text z arrays code l) sizes runs.words_are (runs.many ∙ count)
     (whole_state text s z arrays (lengths_of arrays) code words k sizes refl (runs.many ∙ count))
 
--- a code was read behind arrays, which are the same
+-- a code was read after arrays, which are the same
 pub coded_read : (text : List ℕ) (z : Sizes) (items arrays : List NamedLength) (code : CodeParts) {line later : ℕ} {r rest : List ℕ} → arrays ≡ items
     → (IsRead text (AtArrays z arrays) line r → IsRead text (AtWords z arrays code) later rest) → IsRead text (AtArrays z items) line r
     → IsRead text (AtWords z items code) later rest

@@ -62,7 +62,7 @@ all_both p xs ys h k = list_all-append p xs ys ∙ and_from (list_all p xs) (lis
 no_feed : (n : ℕ) → IsWord n → list_all (but 10) (decimal n) ≡ true
 no_feed n h = no_byte is_digit 10 refl (decimal n) (digits n h)
 
--- what stands behind a word
+-- what stands after a word
 behind_from : (word rest : List ℕ) → list_all (but 32) word ≡ true → behind_word word (word ++ 32 ∷ rest) ≡ Some rest
 behind_from word rest h =
     ap (behind_halves word) (halves_at (but 32) 32 refl word rest h)
@@ -224,7 +224,7 @@ arrays_lead z done (a ∷ xs) rest h fits =
     (then_on (Array (array_first a behind name fits.0) k.0 k.1)
     (subst (λ (l : List NamedLength). Leads (AtArrays z (done ++ a ∷ [])) behind (AtArrays z l) rest) same goes))
 
--- a code and the words behind it
+-- a code and the words after it
 module _ (s : Shape) (arrays : List NamedLength) (code : CodeParts) (words : List ℕ) (text : List ℕ) (h : IsSavedText text s arrays code words) where
   words_lead : Leads (AtWords (sizes_of s) arrays code) (words_text words) (AtRuns (sizes_of s) arrays code (runs_of words)) []
   words_lead =
@@ -271,7 +271,7 @@ fine f (NoRun some e) = some refl
 fine f (Same e other) = not_both refl e
 fine f (NoWord e) = not_both refl e
 
--- so the text of a state is wrong nowhere
+-- the text of a state is wrong nowhere
 pub text_right : (text : List ℕ) (s : Shape) (arrays : List NamedLength) (code : CodeParts) (words : List ℕ) (f : Fault) (line : ℕ)
     → length text ≤ saved_limit → IsSavedText text s arrays code words → IsWrongAt text f line → ⊥
 text_right text s arrays code words f line short h (Breaks r w) = none_wrong stuck fine (text_leads s arrays code words text h).1 r.leads w

@@ -41,7 +41,7 @@ refusal_at fault.BadListing line = error.BadListing line
 refusal_at fault.BadCode line = error.BadCode line
 refusal_at fault.WrongCount line = error.WrongCount line
 
--- the refusal where the listing behind a line is refused
+-- the refusal where the listing after a line is refused
 abbrev pub refusal_behind : ℕ → ListingError → SavedError
 refusal_behind line (listing.NoSuchForm at) = error.BadListing line
 refusal_behind line (listing.OutOfRange at) = error.BadListing line

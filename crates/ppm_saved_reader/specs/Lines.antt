@@ -10,16 +10,16 @@ use Rattle.ppm_pieces.specs.Pieces.{halves_of}
 use Rattle.ppm_text.specs.Spelling.{keyword_of}
 use Rattle.ppm_saved_reader.specs.declared.lines.Sizes.{Sizes}
 
--- what bytes say by a form, and the bytes behind them
+-- what bytes say by a form, and the bytes after them
 abbrev pub said_by : {A : Type 0} → (List ℕ → Option A) → Option (List ℕ × List ℕ) → Option (A × List ℕ)
 said_by form None = None
 said_by form (Some halves) = option_map (λ a. (a, halves.1)) (form halves.0)
 
--- what the first line of a text says by a form, and the text behind it; a line ends with a line feed
+-- what the first line of a text says by a form, and the text after it; a line ends with a line feed
 abbrev pub first_line : {A : Type 0} → (List ℕ → Option A) → List ℕ → Option (A × List ℕ)
 first_line form text = said_by form (halves_of 10 text)
 
--- what stands behind a word and a space
+-- what stands after a word and a space
 abbrev pub behind_halves : (word : List ℕ) → Option (List ℕ × List ℕ) → Option (List ℕ)
 behind_halves word None = None
 behind_halves word (Some halves) = if bytes_eq halves.0 word then Some halves.1 else None

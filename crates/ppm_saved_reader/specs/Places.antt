@@ -53,12 +53,12 @@ pub data Goes : Place → (text : List ℕ) → (lines : ℕ) → Place → (res
       → first_line run_in text ≡ Some ((Some word, times), rest) → ends_with rs word ≡ false
       → Goes (AtRuns z arrays code rs) text 1 (AtRuns z arrays code (rs ++ record { word = word; times = times } ∷ [])) rest
 
--- what is wrong with the line of an array behind others: its name was there, or it is past the limits
+-- what is wrong with the line of an array after others: its name was there, or it is past the limits
 pub data IsBadArray (arrays : List NamedLength) (line : List ℕ × ℕ) : Fault → Type 0 where
   Twice : is_twice arrays line.0 ≡ true → IsBadArray arrays line fault.NoSuchForm
   TooMany : is_twice arrays line.0 ≡ false → is_past arrays line.1 ≡ true → IsBadArray arrays line fault.OutOfRange
 
--- what is wrong with a code of so many bytes behind arrays: fewer bytes follow, they are no listing for these arrays, or the code of one that is not
+-- what is wrong with a code of so many bytes after arrays: fewer bytes follow, they are no listing for these arrays, or the code of one that is not
 -- tidy or has a conflict
 pub data IsBadCode (arrays : List NamedLength) (bytes : ℕ) (rest : List ℕ) : Fault → Type 0 where
   Short : length rest < bytes → IsBadCode arrays bytes rest fault.NoSuchForm

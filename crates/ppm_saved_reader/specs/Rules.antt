@@ -46,7 +46,7 @@ is_past arrays len = nat_le array_limit (length arrays) || nat_lt word_limit (su
 abbrev pub words_for : Sizes → List NamedLength → ℕ
 words_for z arrays = 1 + 2 * z.processors + z.processors * (5 + z.slots + z.room) + sum (lengths_of arrays)
 
--- the runs of the lines in front that are such, by the pieces between line feeds; what is behind the last line feed is no line
+-- the runs of the lines in front that are such, by the pieces between line feeds; what is after the last line feed is no line
 abbrev pub run_or_none : Option (Option ℕ × ℕ) → List (Option ℕ × ℕ) → List (Option ℕ × ℕ)
 run_or_none None rs = []
 run_or_none (Some r) rs = r ∷ rs

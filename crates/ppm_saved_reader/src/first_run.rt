@@ -8,7 +8,7 @@ use ppm_pieces::{is_digit, split_once};
 /// Words below this one have 64 bits with one digit more, whatever byte that is.
 const TENTH: u64 = 1_844_674_407_370_955_141;
 
-/// The word of a first line that is a number above 0 and not among the last ones of 64 bits, and the text behind it.
+/// The word of a first line that is a number above 0 and not among the last ones of 64 bits, and the text after it.
 #[inline(always)]
 fn plain_line(text: &[u8]) -> Option<(u64, &[u8])>
     ensures { IfSome result (λ p. first_line run text.now ≡ Some ((Some p.0, 1), p.1.now)) }
@@ -38,7 +38,7 @@ fn plain_line(text: &[u8]) -> Option<(u64, &[u8])>
     None
 }
 
-/// The run of any first line, and the text behind it.
+/// The run of any first line, and the text after it.
 #[inline(never)]
 fn any_line(text: &[u8]) -> Option<((Option<u64>, u64), &[u8])>
     ensures says { MatchOption result
@@ -56,7 +56,7 @@ fn any_line(text: &[u8]) -> Option<((Option<u64>, u64), &[u8])>
 }
 
 /// The run that the first line of a text says: its word, if that has 64 bits, and how often it
-/// stands there; and the text behind that line.
+/// stands there; and the text after that line.
 #[inline(always)]
 pub(crate) fn first_run(text: &[u8]) -> Option<((Option<u64>, u64), &[u8])>
     ensures says { MatchOption result

@@ -25,7 +25,7 @@ use std::alloc::Global;
 /// The first line of a saved text, without its line feed.
 const VERSION: &[u8] = b"saved 1";
 
-/// The text behind the version.
+/// The text after the version.
 pub(crate) fn read_version(text: &[u8]) -> Result<&[u8], Fault>
     ensures ok { IfOk result (λ rest. Goes AtVersion text.now 1 AtSizes rest.now) }
     ensures err { IfErr result (IsWrong AtVersion text.now) }
@@ -40,7 +40,7 @@ pub(crate) fn read_version(text: &[u8]) -> Result<&[u8], Fault>
     }
 }
 
-/// The sizes, and the text behind them.
+/// The sizes, and the text after them.
 pub(crate) fn read_sizes(text: &[u8]) -> Result<(Sizes, &[u8]), Fault>
     ensures ok { IfOk result (λ p. Goes AtSizes text.now 1 (AtArrays p.0 []) p.1.now) }
     ensures err { IfErr result (IsWrong AtSizes text.now) }
@@ -58,7 +58,7 @@ pub(crate) fn read_sizes(text: &[u8]) -> Result<(Sizes, &[u8]), Fault>
     }
 }
 
-/// Arrays that were read, how many words they have in all, and the text behind them with its line.
+/// Arrays that were read, how many words they have in all, and the text after them with its line.
 #[derive(Drop)]
 pub(crate) struct Arrays<'a> {
     pub arrays: Vec<NamedLength>,
@@ -174,7 +174,7 @@ fn front(bytes: &[u8], n: usize) -> &[u8]
     &bytes[..n]
 }
 
-/// A code that was read, and the text behind it with its line.
+/// A code that was read, and the text after it with its line.
 #[derive(Drop)]
 pub(crate) struct Coded<'a> {
     pub code: Code,
@@ -182,7 +182,7 @@ pub(crate) struct Coded<'a> {
     pub line: u32,
 }
 
-/// Reads the code behind so many arrays, the line of which stands at a line.
+/// Reads the code after so many arrays, the line of which stands at a line.
 pub(crate) fn read_code<'a>(
     alloc: Global,
     text: &'a [u8],
@@ -210,7 +210,7 @@ pub(crate) fn read_code<'a>(
     let code = match read_listing(alloc, listing) {
         Ok(code) => code,
         Err(error) => {
-            // so it is the listing of no code
+            // a listing with such a fault is the listing of no code
             faults_tell_listings();
             return Err(SavedError::for_listing(line, error));
         }

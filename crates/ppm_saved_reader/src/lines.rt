@@ -27,7 +27,7 @@ pub struct Sizes {
 /// The largest word, in decimal.
 const LAST_WORD: &[u8] = b"18446744073709551615";
 
-/// What stands behind a word and a space.
+/// What stands after a word and a space.
 fn behind_word<'a>(word: &[u8], line: &'a [u8]) -> Option<&'a [u8]>
     ensures { MatchOption result
         (word_behind word.now line.now ≡ None)
@@ -54,7 +54,7 @@ fn number_in(bytes: &[u8]) -> Option<u64>
     }
 }
 
-/// The number behind a word.
+/// The number after a word.
 pub(crate) fn count_in(word: &[u8], line: &[u8]) -> Option<u64>
     ensures { result ≡ count word.now line.now }
 {
@@ -77,7 +77,7 @@ fn three(processors: Option<u64>, room: Option<u64>, slots: Option<u64>) -> Opti
     })
 }
 
-/// The sizes of a first number, and of two numbers behind it.
+/// The sizes of a first number, and of two numbers after it.
 fn last_two(first: &[u8], rest: &[u8]) -> Option<Sizes>
     ensures { result ≡ two_behind first.now (halves_of 32 rest.now) }
 {

@@ -47,7 +47,7 @@ fn shape_of(sizes: Sizes, words: u64) -> Option<Shape>
     )
 }
 
-/// The sizes of a text that is not too long, and the text behind them.
+/// The sizes of a text that is not too long, and the text after them.
 fn read_front(text: &[u8]) -> Result<(Sizes, &[u8]), SavedError>
     ensures ok { IfOk result (λ p. IsRead text.now (AtArrays p.0 []) 3 p.1.now) }
     ensures err { IfErr result (IsRefusal text.now) }

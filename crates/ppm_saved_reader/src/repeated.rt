@@ -16,7 +16,7 @@ use crate::saved_error::SavedError;
 use ppm_pieces::split_once;
 use std::alloc::Global;
 
-/// The text behind the count of words.
+/// The text after the count of words.
 pub(crate) fn read_count(text: &[u8], count: u64, line: u32) -> Result<&[u8], SavedError>
     ensures ok { (whole : List ℕ) (z : Sizes) (arrays : List NamedLength) (code : CodeParts)
         → count ≡ count_for z arrays → IsRead whole (AtWords z arrays code) line text.now

@@ -56,7 +56,7 @@ pub(crate) fn is_twice(arrays: &[NamedLength], name: &[u8]) -> bool
     false
 }
 
-/// Whether an array of so many words is one too many behind others of so many words in all, or one
+/// Whether an array of so many words is one too many after others of so many words in all, or one
 /// with too many words.
 pub(crate) fn is_past(arrays: &[NamedLength], words: u64, len: u64) -> bool
     requires words { words ≡ sum (lengths_of arrays.now) }

@@ -33,13 +33,13 @@ pub enum SavedError {
     /// A number is out of its range, or the arrays are past their limits.
     #[error("a number in line {0} is out of its range")]
     OutOfRange(u32),
-    /// The listing behind the line is refused, or names an array that is not there.
+    /// The listing after the line is refused, or names an array that is not there.
     #[error("the listing behind line {0} is none for these arrays")]
     BadListing(u32),
-    /// The code behind the line has a conflict, or is not tidy.
+    /// The code after the line has a conflict, or is not tidy.
     #[error("the code behind line {0} may not be run again")]
     BadCode(u32),
-    /// The words behind the line are not as many as the shape has.
+    /// The words after the line are not as many as the shape has.
     #[error("the words behind line {0} are not as many as the shape has")]
     WrongCount(u32),
     /// Memory was refused.
@@ -76,7 +76,7 @@ impl Fault {
 }
 
 impl SavedError {
-    /// The refusal where the listing behind a line is refused.
+    /// The refusal where the listing after a line is refused.
     pub(crate) fn for_listing(line: u32, error: ListingError) -> SavedError
         ensures { result ≡ refusal_behind line error }
     {

@@ -114,7 +114,7 @@ trapped_so t turns {kind = kind} {l = l} {line = line} e f s =
 pub not_within_is : (t : ProgramTree) (turns : ℕ) → ((k : Counts) (z : End ℤ) → Spends t k z → turns < k.turns) → Serial t turns outcome.NotWithin
 not_within_is t turns h = NotWithin h
 
--- an array with one 0 more, and one less behind it
+-- an array with one 0 more, and one less after it
 pub filled_on : (xs : List ℤ) (w : ℕ) → length xs < w
     → (xs ++ pos 0 ∷ []) ++ replicate (w - length (xs ++ pos 0 ∷ [])) (pos 0) ≡ xs ++ replicate (w - length xs) (pos 0)
 filled_on xs w l =

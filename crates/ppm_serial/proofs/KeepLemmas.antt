@@ -23,7 +23,7 @@ keeps_same names = record { slot = λ x h. refl; there = λ x h. h }
 keeps_both : {i j k : List (List ℕ)} → Keeps i j → Keeps j k → Keeps i k
 keeps_both p q = record { slot = λ x h. q.slot x (p.there x h) ∙ p.slot x h; there = λ x h. q.there x (p.there x h) }
 
--- one name more behind the others
+-- one name more after the others
 behind_slot : (names : List (List ℕ)) (y x : List ℕ) → slot_in names x < length names → slot_in (names ++ y ∷ []) x ≡ slot_in names x
 behind_slot [] y x h = omega (arith, h)
 behind_slot (n ∷ names) y x h = go (bytes_eq n x) refl (behind_slot names y x)
@@ -63,7 +63,7 @@ noted_there names y = go (nat_lt (slot_in names y) (length names)) refl
     go true e = ltb-true (slot_in names y) (length names) e
     go false e = last_slot names y
 
--- so with the names of a procedure
+-- the names of a procedure keep their slots
 pub record KeepsBoth (n m : Slotted) : Type 0 where
   pub locals : Keeps n.locals m.locals
   pub regions : Keeps n.regions m.regions

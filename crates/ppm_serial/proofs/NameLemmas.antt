@@ -8,7 +8,7 @@ use Rattle.std.specs.Str.{bytes_eq}
 use Rattle.std.proofs.lemmas.Slice.Eq.{bytes_eq-Decides}
 use Rattle.ppm_serial.specs.Names.{slot_in, slot_if, IsIndex}
 
--- a slot is at most behind the last name
+-- a slot is at most after the last name
 pub slot_within : (names : List (List ℕ)) (y : List ℕ) → slot_in names y ≤ length names
 slot_within [] y = omega arith
 slot_within (n ∷ names) y = go (bytes_eq n y) (slot_within names y)

@@ -39,7 +39,7 @@ grows_both a b c p q = (p.0 ++ q.0, q.1 ∙ ap (λ (b : List (List Step)). b ++ 
 grows_one : (a b : List (List Step)) (x : List Step) → b ≡ a ++ x ∷ [] → Grows a b
 grows_one a b x e = (x ∷ [], e)
 
--- the block that was put behind the others
+-- the block that was put after the others
 last_block : (a : List (List Step)) (x : List Step) (added : List (List Step)) → get_or ((a ++ x ∷ []) ++ added) (length a) [] ≡ x
 last_block [] x added = refl
 last_block (y ∷ a) x added = last_block a x added
@@ -228,7 +228,7 @@ module _ (procedures : List Procedure) where
         (placed_by_name blocks empty procedures more.added (more.placed blocks grows_same) x);
   }
 
--- what is behind the first element
+-- what is after the first element
 take_all : {A : Type 0} (xs : List A) (k : ℕ) → length xs ≤ k → take k xs ≡ xs
 take_all [] zero h = refl
 take_all [] (suc k) h = refl

@@ -25,7 +25,7 @@ abbrev pub err_ : {B : Type 0} → Stop → Result B Stop
 err_ e = Err e
 
 module _ (t : ProgramTree) (c : Laid) (laid : IsLaid t.procedures c) where
-  -- what comes behind the body of `main`
+  -- what comes after the body of `main`
   after_on : (f : Frame) (n : ℕ) (z : End ℤ) (y : _) → Gave (main_of t).give f.regions (λ y. Way t.procedures (AtEnd y)) y n z
       → After t.procedures (main_of t).give [] f.regions y n z
   after_on f n z (Ended l a) q = (ends_later t.procedures c laid (main_of t).give (record { regions = f.regions; locals = l }) a refl).back n z (record { rest = n; sum = omega arith; next = q })

@@ -16,7 +16,7 @@ use Rattle.ppm_serial.specs.Simulation.{Moves}
 use Rattle.ppm_serial.proofs.ToComeLemmas.{same, chain}
 
 module _ (procedures : List Procedure) (c : Laid) where
-  -- a step behind so many turns
+  -- a step after so many turns
   pub moves_behind : (k left : ℕ) (A B : ℕ → End ℤ → Type 0) → Shifts k A B → k ≤ left → (r : Result Run Stop) → Moves procedures c (left - k) B r
       → Moves procedures c left A r
   moves_behind k left A B p l (Ok t) m = record { point = m.point; spent = k + m.spent; shows = m.shows; sum = let e = m.sum in omega (arith, l, e); shifts = chain p m.shifts }

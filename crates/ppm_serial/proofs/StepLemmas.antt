@@ -37,7 +37,7 @@ use Rattle.ppm_serial.proofs.ToComeLemmas.{called_step, left_step, right_step, c
 use Rattle.ppm_serial.proofs.SlotLemmas.{wrote_local, wrote_region, fits_local, fits_region, fresh_frame, fresh_fits, none_at, some_at, next_at}
 use Rattle.ppm_serial.proofs.SimulationLemmas.{moves_behind, moves_spent, moves_opened}
 
--- a way to go on behind no turns, the other way round
+-- a way to go on after no turns, the other way round
 turned : {A B : ℕ → End ℤ → Type 0} → Shifts 0 A B → Shifts 0 B A
 turned {A = A} {B = B} p = record {
   on = λ n z b. record { rest = n; sum = omega arith; next = p.back n z (record { rest = n; sum = omega arith; next = b }) };
@@ -437,7 +437,7 @@ module _ (procedures : List Procedure) (c : Laid) (laid : IsLaid procedures c) w
   regions_stay None v f = refl
   regions_stay (Some x) v f = refl
 
-  -- a procedure gives its value, and what comes behind it is done
+  -- a procedure gives its value, and what comes after it is done
   moves_given : (n : Slotted) (g : Option Give) (o : Option Value) (f : Frame) (u : Run) (Q : End ℤ → ℕ → End ℤ → Type 0) (go : Run → ℤ → Result Run Stop)
       → IsGive n g o → f ≡ frame_of n u.frame → ((t : TrapAt) → Shifts 0 (Q (Trapped t u.store)) (Trap t u.store))
       → ((v : ℤ) (l : ℕ) → Moves procedures c l (Q (Ended v u.store)) (go (with_left u l) v))
@@ -467,7 +467,7 @@ module _ (procedures : List Procedure) (c : Laid) (laid : IsLaid procedures c) w
         back = λ n z w. let v = w.next in ((let i = w.sum in let j = v.sum in let k = v.next.0 in omega (arith, i, j, k)), v.next.1);
       })
 
-  -- what comes behind a block is done
+  -- what comes after a block is done
   leaves : (n : Slotted) (f : Frame) (s : Run) (k : List Rest) (items : List Item) → s.ended ≡ false → f ≡ frame_of n s.frame → Fits n s.frame → Stacks procedures c n k items
       → Moves procedures c s.left (After procedures (main_named procedures).give items f.regions (Ended f.locals s.store)) (leaving c k s)
   leaves n f s k items running e fits (Empty) =

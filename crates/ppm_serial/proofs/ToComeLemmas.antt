@@ -1,4 +1,4 @@
--- Each statement of a block that is still to come is a way to go on, behind the turns that it spends.
+-- Each statement of a block that is still to come is a way to go on, after the turns that it spends.
 use Rattle.std.proofs.Common.{◌≡◌, ℕ, zero, suc, ◌+◌, ℤ, Bool, true, false, List, [], ◌∷◌, Option, Some, None, Result, Ok, Err, refl, sym, ap, subst, arith, ◌∙◌}
 use Rattle.ppm_tree.specs.declared.named.Named.{Named}
 use Rattle.ppm_tree.specs.Tree.{Expression, Side, Block, Nil, Then, Let, Assign, Put, If, While, Split, Give, Procedure}
@@ -22,7 +22,7 @@ not_both p q = cc
 err_same : {A T : Type 0} {r : Result A T} {x y : T} → r ≡ Err x → r ≡ Err y → x ≡ y
 err_same p q = cc
 
--- one way behind none is itself, and one behind another is behind both
+-- one way after none is itself, and one after another is after both
 pub same : {A : ℕ → End ℤ → Type 0} → Shifts 0 A A
 same {A = A} = record {
   on = λ n z a. record { rest = n; sum = omega arith; next = a };
@@ -45,7 +45,7 @@ gave_turn None l a = refl
 gave_turn (Some g) l a = refl
 
 module _ (procedures : List Procedure) (main : Option Give) where
-  -- the rest of a block, behind a statement
+  -- the rest of a block, after a statement
   follows_on : {b : Block} {f : Frame} {y z' : End Locals} {k : Counts} (K : List Item) (m : ℕ) {n : ℕ} (z : End ℤ)
       → Follows Plain procedures b f y k z' → After procedures main K f.regions z' m z → n ≡ k.turns + m
       → After procedures main (Behind b ∷ K) f.regions y n z
@@ -190,7 +190,7 @@ module _ (procedures : List Procedure) (main : Option Give) where
     back = split_back line r e x y p b f a K (then_with (evaluate f a e) (split_at line (f.regions r.name))) refl;
   }
 
-  -- a loop, whose tests come with the rest behind them
+  -- a loop, whose tests come with the rest after them
   while_on : {e : Expression} {p b : Block} {f : Frame} {a : Arrays} {k : Counts} {y : End Locals} (K : List Item) (m : ℕ) {n : ℕ} (z : End ℤ)
       → Runs Plain procedures (Then (While e p) b) f a k y → After procedures main K f.regions y m z → n ≡ k.turns + m
       → Later 1 (Loop_ procedures main e p f a (Behind b ∷ K)) n z
@@ -208,7 +208,7 @@ module _ (procedures : List Procedure) (main : Option Give) where
         record { counts = both (spent 1) (both t.counts u.counts); middle = u.middle; rest = u.rest; first = Whiles e p b f a t.first u.first; second = u.second; sum = omega (arith, w.sum, t.sum, u.sum) };
   }
 
-  -- what comes behind a test, whether it holds
+  -- what comes after a test, whether it holds
   abbrev pub Tested : Bool → Expression → Block → Frame → Arrays → List Item → ℕ → End ℤ → Type 0
   Tested true e p f a K n z = Block_ procedures main p f a (Tests e p ∷ K) n z
   Tested false e p f a K n z = After procedures main K f.regions (Ended f.locals a) n z
@@ -516,7 +516,7 @@ module _ (procedures : List Procedure) (main : Option Give) where
     back = call_back s b f a K (entered procedures f a s) refl;
   }
 
-  -- what is stored behind a fork, whatever the arrays behind its left branch
+  -- what is stored after a fork, whatever the arrays after its left branch
   joined_any : (x y : Option Named) (f : Frame) (v : ℤ) (a c : Arrays) (w : End ℤ) → joined x y f (Ended v a) w ≡ joined x y f (Ended v c) w
   joined_any x y f v a c (Ended u d) = refl
   joined_any x y f v a c (Trapped stop d) = refl

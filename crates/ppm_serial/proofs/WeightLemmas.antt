@@ -58,7 +58,7 @@ lighter_if : (m : ℕ) (b : Bool) (s t : Run) → weight s < m → weight t < m 
 lighter_if m true s t h i = h
 lighter_if m false s t h i = i
 
--- a statement, behind whose turn a run weighs two less
+-- a statement, after whose turn a run weighs two less
 lighter_doing : (c : Laid) (st : Step) (m : ℕ) (s : Run) → weight s + 2 ≤ m → Lighter m (doing c st s)
 lighter_doing c (step.Set k v) m s h = lighter_then m (worth s.frame s.store v) (λ x. Ok (with_frame s (with_local_at s.frame k x))) (λ x. omega (arith, h))
 lighter_doing c (step.Put k line i v) m s h =

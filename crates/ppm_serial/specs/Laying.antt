@@ -66,7 +66,7 @@ pub record Passes (n m : Slotted) (ps : List Parameter) (es : List Argument) (vs
   pub value : as_frame m (passing s a vs g) ≡ stopped (with_arguments (frame_of n s) a ps es (frame_of m g))
   pub fits : FitsIfAny m (passing s a vs g)
 
--- the place of the procedure with a name: the first one, or behind the last
+-- the place of the procedure with a name: the first one, or after the last
 abbrev pub place_in : List Procedure → List ℕ → ℕ
 place_in [] x = 0
 place_in (p ∷ procedures) x = if bytes_eq p.name.name x then 0 else suc (place_in procedures x)
@@ -152,7 +152,7 @@ abbrev mutual
   HasNames n Nil = ⊤
   HasNames n (Then s b) = HasWritten n s × HasNames n b
 
--- blocks with others behind them
+-- blocks with others after them
 abbrev pub Grows : List (List Step) → List (List Step) → Type 0
 Grows old new = (added : List (List Step)) × (new ≡ old ++ added)
 
@@ -194,22 +194,22 @@ pub data PassesAll (n m : Slotted) : List Parameter → List Argument → List P
   OneMore : (p : Parameter) (ps : List Parameter) (e : Argument) (es : List Argument) (v : Passed) (vs : List Passed) → PassesOne n m p e.value v
       → PassesAll n m ps es vs → PassesAll n m (p ∷ ps) (e ∷ es) (v ∷ vs)
 
--- what is passed, behind what was there
+-- what is passed, after what was there
 abbrev pub PassesMore : Slotted → Slotted → List Parameter → List Argument → List Passed → List Passed → Type 0
 PassesMore n m ps es old new = (vs : List Passed) × (new ≡ old ++ vs) × PassesAll n m ps es vs
 
 module _ (procedures : List Procedure) where
-  -- a statement is laid out, with its blocks behind those that were there
+  -- a statement is laid out, with its blocks after those that were there
   pub record LaysStep (n : Slotted) (s : Statement) (old new : List (List Step)) (st : Step) : Type 0 where
     pub grows : Grows old new
     pub stands : (longer : List (List Step)) → Grows new longer → HasWritten n s → Stands procedures longer n s st
 
-  -- a block is laid out, behind those that were there
+  -- a block is laid out, after those that were there
   pub record LaysBlock (n : Slotted) (b : Block) (old new : List (List Step)) (place : ℕ) : Type 0 where
     pub grows : Grows old new
     pub lies : (longer : List (List Step)) → Grows new longer → HasNames n b → Lies procedures longer n b (get_or longer place [])
 
-  -- so far the statements of a block are laid out, with these left
+  -- the statements of a block that are laid out, with these left
   pub record LaysSome (n : Slotted) (b left : Block) (old new : List (List Step)) (steps : List Step) : Type 0 where
     pub grows : Grows old new
     pub names : HasNames n b → HasNames n left
@@ -228,7 +228,7 @@ module _ (procedures : List Procedure) where
   ArePlaced blocks (p ∷ ps) [] = ⊥
   ArePlaced blocks (p ∷ ps) (r ∷ rs) = IsRoutine procedures blocks p r × ArePlaced blocks ps rs
 
-  -- so they are, behind those that were there
+  -- procedures are laid out after those that were there
   pub record LaysMore (ps : List Procedure) (old new : List (List Step)) (before after : List Routine) : Type 0 where
     pub grows : Grows old new
     pub added : List Routine

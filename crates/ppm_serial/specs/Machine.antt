@@ -48,11 +48,11 @@ spending n s = if nat_lt s.left n then Err stop.NotWithin else Ok (with_left s (
 abbrev pub first_of : ℕ → Place
 first_of b = record { block = b; at = 0 }
 
--- behind a place
+-- after a place
 abbrev pub behind : Place → Place
 behind p = record { block = p.block; at = suc p.at }
 
--- a block is entered, and another place comes behind it
+-- a block is entered, and another place comes after it
 abbrev pub inside : ℕ → Place → Run → Run
 inside b p s = with_place (with_stack s (rest.Block p ∷ s.stack)) (first_of b)
 
@@ -84,7 +84,7 @@ abbrev pub delivering : Option ℕ → ℤ → Slots → Slots
 delivering None v f = f
 delivering (Some k) v f = with_local_at f k v
 
--- the sweep behind its next block
+-- the sweep after its next block
 abbrev pub swept_once : Sweep → Sweep
 swept_once w = record {
   index = w.index;
@@ -122,7 +122,7 @@ putting k line i v s =
 abbrev pub choosing : Value → ℕ → ℕ → Run → Result Run Stop
 choosing v p q s = then_with (worth s.frame s.store v) (λ x. Ok (if holds x then inside p s.place s else inside q s.place s))
 
--- the block of a loop is entered where its test holds, and the test comes again behind it
+-- the block of a loop is entered where its test holds, and the test comes again after it
 abbrev pub testing : Value → ℕ → Run → Result Run Stop
 testing v p s = then_with (worth s.frame s.store v) (λ x. Ok (if holds x then inside p (first_of s.place.block) s else s))
 
@@ -208,7 +208,7 @@ joining c q x v s = then_with (give_spending c q.callee s) (λ t. then_with (giv
 abbrev pub ending : Laid → Run → Result Run Stop
 ending c s = then_with (give_spending c c.main s) (λ t. then_with (giving c c.main t) (λ v. Ok (with_end t)))
 
--- what comes behind a block
+-- what comes after a block
 abbrev pub leaving : Laid → List Rest → Run → Result Run Stop
 leaving c [] s = ending c s
 leaving c (rest.Block p ∷ k) s = Ok (with_place (with_stack s k) p)
@@ -218,11 +218,11 @@ leaving c (rest.Call q ∷ k) s = returning c q (with_stack s k)
 leaving c (rest.Left q x l g ∷ k) s = crossing c q x l g (with_stack s k)
 leaving c (rest.Right q x v ∷ k) s = joining c q x v (with_stack s k)
 
--- a statement at a place, or what comes behind its block
+-- a statement at a place, or what comes after its block
 abbrev pub stepping_at : Laid → Option Step → Run → Result Run Stop
 stepping_at c None s = leaving c s.stack s
 stepping_at c (Some st) s = then_with (spending 1 s) (λ t. doing c st (with_place t (behind t.place)))
 
--- one step: the statement at the place, or what comes behind its block
+-- one step: the statement at the place, or what comes after its block
 abbrev pub stepping : Laid → Run → Result Run Stop
 stepping c s = stepping_at c (step_at c s.place) s

@@ -12,7 +12,7 @@ use Rattle.ppm_tree.specs.Tree as tree
 use Rattle.ppm_tree.specs.State.{Frame, nowhere}
 use Rattle.ppm_serial.specs.Slots.{Slots}
 
--- the slot of a name: where it stands first, or behind the last one
+-- the slot of a name: where it stands first, or after the last one
 abbrev pub slot_in : List (List ℕ) → List ℕ → ℕ
 slot_in [] x = 0
 slot_in (n ∷ names) x = if bytes_eq n x then 0 else suc (slot_in names x)

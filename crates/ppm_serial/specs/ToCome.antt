@@ -5,7 +5,7 @@ use Rattle.ppm_tree.specs.Tree.{Expression, Block, Give, Procedure}
 use Rattle.ppm_tree.specs.State.{TrapAt, Region, Regions, Locals, Frame, Arrays, evaluate}
 use Rattle.ppm_tree.specs.Meaning.{Plain, Counts, End, Ended, Trapped, end_of, returned, joined, Runs, Loops, Enters, Sweeps}
 
--- what comes behind a block: another block, the tests of a loop, the end of a split's block, further blocks of an `each`, and
+-- what comes after a block: another block, the tests of a loop, the end of a split's block, further blocks of an `each`, and
 -- who waits for a procedure that gives
 pub data Item : Type 0 where
   Behind : (block : Block) → Item
@@ -16,7 +16,7 @@ pub data Item : Type 0 where
   Crosses : (give : Option Give) (left right : Option Named) (frame : Frame) (procedure : Procedure) (entered : Frame) → Item
   Joins : (give : Option Give) (left right : Option Named) (frame : Frame) (value : ℤ) → Item
 
--- a stretch that ends with so many turns, and then what comes behind it
+-- a stretch that ends with so many turns, and then what comes after it
 pub record Two {A : Type 0} (P : Counts → End A → Type 0) (Q : End A → ℕ → End ℤ → Type 0) (n : ℕ) (z : End ℤ) : Type 0 where
   pub counts : Counts
   pub middle : End A
@@ -60,7 +60,7 @@ Gave g rs Q (Trapped stop a) n z = Trap stop a n z
 Gave g rs Q (Ended l a) n z = Later (given_turns g) (Q (gave g rs l a)) n z
 
 module _ (procedures : List Procedure) where
-  -- behind a left branch the right one comes, and then
+  -- after a left branch the right one comes, and then
   abbrev pub Crossed : Procedure → Frame → (ℤ → End ℤ → ℕ → End ℤ → Type 0) → End ℤ → ℕ → End ℤ → Type 0
   Crossed p h Q (Trapped stop a) n z = Trap stop a n z
   Crossed p h Q (Ended v a) n z = Two (Enters Plain procedures p h a) (Q v) n z
@@ -79,19 +79,19 @@ module _ (procedures : List Procedure) where
       Gave g rs (Crossed p h (λ v w. After main k f.regions (joined x y f (Ended v []) w))) (Ended l a) n z
   After main (Joins g x y f v ∷ k) rs (Ended l a) n z = Gave g rs (λ w. After main k f.regions (joined x y f (Ended v []) w)) (Ended l a) n z
 
-  -- a block in a frame, and what comes behind it
+  -- a block in a frame, and what comes after it
   abbrev pub Block_ : Option Give → Block → Frame → Arrays → List Item → ℕ → End ℤ → Type 0
   Block_ main b f a k n z = Two (Runs Plain procedures b f a) (After main k f.regions) n z
 
-  -- the tests of a loop, and what comes behind them
+  -- the tests of a loop, and what comes after them
   abbrev pub Loop_ : Option Give → Expression → Block → Frame → Arrays → List Item → ℕ → End ℤ → Type 0
   Loop_ main e s f a k n z = Two (Loops Plain procedures e s f a) (After main k f.regions) n z
 
-  -- the blocks of an `each`, and what comes behind them
+  -- the blocks of an `each`, and what comes after them
   abbrev pub Sweep_ : Option Give → Named → Named → Block → Region → Frame → ℕ → ℕ → Arrays → List Item → ℕ → End ℤ → Type 0
   Sweep_ main i x s r f p m a k n z = Two (Sweeps Plain procedures i x s r f p m a) (After main k f.regions) n z
 
--- One way to go on is another behind so many turns, both ways.
+-- One way to go on is another after so many turns, both ways.
 pub record Shifts (c : ℕ) (A B : ℕ → End ℤ → Type 0) : Type 0 where
   pub on : (n : ℕ) (z : End ℤ) → A n z → Later c B n z
   pub back : (n : ℕ) (z : End ℤ) → Later c B n z → A n z

@@ -195,7 +195,7 @@ impl Code {
         self.main
     }
 
-    /// The step at a place, none behind the last one of a block.
+    /// The step at a place, none after the last one of a block.
     pub(crate) fn step(&self, place: &Place) -> Option<&Step>
         ensures bound { IfSome result (λ s. place.now.at + 1 < 2 ^ 64) }
         ensures value { MatchOption result (step_at self.now place.now

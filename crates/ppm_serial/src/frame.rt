@@ -9,7 +9,7 @@ use ppm_words::NoMemory;
 use std::alloc::Global;
 use std::marker::Model;
 
-/// Locals and regions, by their slots. They lie behind a pointer, since a call moves its caller's
+/// Locals and regions, by their slots. They lie in a box, since a call moves its caller's
 /// frame and its own.
 #[derive(Drop)]
 pub(crate) struct Frame {

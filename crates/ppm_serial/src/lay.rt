@@ -1,4 +1,4 @@
-//! A program is laid out: names become slots, and blocks are put one behind the other.
+//! A program is laid out: names become slots, and blocks are put one after the other.
 ghost use Rattle.std.specs.Prelude.{◌≡◌, ◌++◌, ◌∷◌, [], length, map, FitsSigned, IfOk, IfSome, OnOk};
 ghost use Rattle.std.specs.Int.{w64};
 ghost use Rattle.ppm_serial.specs.declared.code.Value.TheVariants as operand;
@@ -52,7 +52,7 @@ pub(crate) fn place_of(procedures: &[Proc], name: &[u8]) -> usize
     at
 }
 
-/// Procedures laid out behind those that are there.
+/// Procedures laid out after those that are there.
 fn lay_all(
     alloc: Global,
     procedures: &[Proc],
@@ -284,7 +284,7 @@ impl<'a> Scope<'a> {
         })
     }
 
-    /// A block laid out behind those that are there, and its place.
+    /// A block laid out after those that are there, and its place.
     #[cycle(lay)]
     fn block(&self, alloc: Global, block: &[Stmt], blocks: &mut Blocks) -> Result<usize, NoMemory>
         ensures { IfOk result (λ place. LaysBlock (map procedure_of self.now.procedures.now) self.now.names.now (block_of block.now) blocks.old blocks.new place) }
@@ -297,7 +297,7 @@ impl<'a> Scope<'a> {
         blocks.push(steps)
     }
 
-    /// A statement laid out, with its blocks behind those that are there.
+    /// A statement laid out, with its blocks after those that are there.
     #[cycle(lay)]
     fn statement(
         &self,

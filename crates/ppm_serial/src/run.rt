@@ -36,7 +36,7 @@ pub(crate) struct Run {
 }
 
 impl Run {
-    /// One step: a statement, or what comes behind a block.
+    /// One step: a statement, or what comes after a block.
     pub(crate) fn step(&mut self, alloc: Global, code: &Code) -> Result<(), Stop>
         ensures { Does result self.new (stepping code.now self.old) }
     {
@@ -121,7 +121,7 @@ impl Run {
         Ok(())
     }
 
-    /// Enters a block, behind which another place comes.
+    /// Enters a block, after which another place comes.
     #[inline(always)]
     fn inside(&mut self, block: usize, place: Place) -> Result<(), Stop>
         ensures { Does result self.new (Ok (inside block place self.old)) }
@@ -145,7 +145,7 @@ impl Run {
     }
 
     /// The test of a loop, which is the first step of its block: where it holds, the loop's block
-    /// is entered, and the test comes again behind it.
+    /// is entered, and the test comes again after it.
     fn test(&mut self, test: &Value, block: usize) -> Result<(), Stop>
         ensures { Does result self.new (testing test.now block self.old) }
     {
@@ -344,7 +344,7 @@ impl Run {
         self.stack.push(Rest::Sweep(sweep))
     }
 
-    /// What comes behind a block.
+    /// What comes after a block.
     fn leave(&mut self, alloc: Global, code: &Code) -> Result<(), Stop>
         ensures { Does result self.new (leaving code.now self.old.stack self.old) }
     {
@@ -412,7 +412,7 @@ impl Run {
         Ok(())
     }
 
-    /// The end of a left branch, behind which the right one begins.
+    /// The end of a left branch, after which the right one begins.
     fn cross(
         &mut self,
         code: &Code,
@@ -441,7 +441,7 @@ impl Run {
         )
     }
 
-    /// The end of a right branch, behind which both values are stored, the left one first.
+    /// The end of a right branch, after which both values are stored, the left one first.
     fn join(
         &mut self,
         code: &Code,

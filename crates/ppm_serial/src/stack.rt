@@ -40,7 +40,7 @@ pub(crate) struct Caller {
     pub(crate) callee: usize,
 }
 
-/// What comes behind a block.
+/// What comes after a block.
 #[derive(Drop)]
 pub(crate) enum Rest {
     /// Another block of the same frame, from a place on.

@@ -25,7 +25,7 @@ unlinked = refl
 no_link : (scene : Scene) → length scene.words ≡ word_count scene.shape → (at : ℕ) → word_count scene.shape ≤ at → link_at scene at ≡ None
 no_link scene count at past = ap link_of (get_or_past scene.words at 0 (subst (λ n. n ≤ at) (sym count) past)) ∙ unlinked
 
--- so nothing leads anywhere
+-- past the words nothing leads anywhere
 pub ends_past : (scene : Scene) → length scene.words ≡ word_count scene.shape → (ms : List Bool) → length ms ≡ word_count scene.shape
     → EndsPast (leads_to scene) ms
 ends_past scene count ms long at past = ap end_of_link (no_link scene count at (subst (λ n. n ≤ at) long past))

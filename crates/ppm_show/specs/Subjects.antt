@@ -23,7 +23,7 @@ use Rattle.ppm_show.specs.Routes.{right_lasts}
 abbrev pub life_text : (dead : ℕ) → List ℕ
 life_text dead = if dead == 0 then codes "alive" else (if dead == 1 then codes "dead" else codes "?")
 
--- the same by its number; there may be no such processor
+-- whether a processor is dead, by its number; there may be no such processor
 abbrev pub life_of : Scene → (processor : ℕ) → List ℕ
 life_of scene processor =
     if nat_lt processor scene.shape.processors then life_text (word_at scene (address scene.shape (DeadWord processor))) else codes "?"

@@ -48,7 +48,7 @@ module _ (code : CodeParts) where
   EndsBuild o (AsksFor n go) = EndsBuild o go
   EndsBuild o (Ends e) = Builds code e o
 
-  -- so does each from a store of it on
+  -- each path from a store of a word of the new block on comes to an end that builds the word
   abbrev Leads : Where → Capsule Where End → Type 0
   Leads (Own w) go = Unit {0}
   Leads (NewWord o) go = EndsBuild o go

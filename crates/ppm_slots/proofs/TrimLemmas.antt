@@ -58,7 +58,7 @@ module _ (code : CodeParts) (procedure : ℕ) where
       (procedure_at code k ≡ procedure) × IfSome left_to (λ slot. slot < slots) × IfSome right_to (λ slot. slot < slots)
       × (procedure_at code (entry_of code l) ≡ l) × (procedure_at code (entry_of code r) ≡ r)
 
-  -- so do all paths of a capsule
+  -- all paths of a capsule store in the frame's slots, or in none of them, and come to such ends
   abbrev Within : Capsule Where End → Type 0
   Within (Reads l go) = (v : ℕ) → Within (go v)
   Within (Writes l v go) = IsInside l × Within go
@@ -310,7 +310,7 @@ frames_stay_trim code words is_code = record {
       (Own (Slot i)) h;
 }
 
--- what a capsule leaves behind the slots of its frame
+-- what a capsule leaves after the slots of its frame
 pub leaves_trim : (code : CodeParts) (words : ℕ) → IsCode code → (f : Frame FrameWord Point) (a : Words) → IsTrim code f
     → (i : ℕ) → slots_at code f.point.capsule ≤ i
     → leaves code_locations (capsule_of words (instrs_of code f.point.capsule)) (start code_locations (table_of code words) f a) (Own (Slot i)) ≡ 0

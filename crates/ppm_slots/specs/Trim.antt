@@ -13,7 +13,7 @@ use Rattle.ppm_code.specs.declared.location.FrameWord.TheVariants.{Slot}
 use Rattle.ppm_code.specs.Sizes.{slots_at}
 
 module _ (code : CodeParts) where
-  -- a frame has 0 behind its slots, and the targets that it waits with are slots
+  -- a frame has 0 after its slots, and the targets that it waits with are slots
   pub record IsTrim (f : Frame FrameWord Point) : Type 0 where
     pub behind : (i : ℕ) → slots_at code f.point.capsule ≤ i → f.own (Slot i) ≡ 0
     pub left_target : IfSome f.point.left_to (λ slot. slot < slots_at code f.point.capsule)

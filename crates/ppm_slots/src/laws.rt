@@ -2,7 +2,7 @@
 ghost use Rattle.ppm_slots.specs.Blank.{WritesAreSlots};
 ghost use Rattle.ppm_slots.specs.Trim.{FramesStayTrim};
 
-/// A frame with 0 behind its slots, whose targets are slots, opens such frames and is one again
+/// A frame with 0 after its slots, whose targets are slots, opens such frames and is one again
 /// with each value that it takes; its capsules store into its slots alone.
 pub fn frames_stay_trim()
     ensures law { FramesStayTrim }

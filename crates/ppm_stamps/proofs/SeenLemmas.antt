@@ -26,7 +26,7 @@ module _ {F O : Type 0} (c : Code F O) (root : Tree F O) (input : Words) where
     pub wrote : (k : ℕ) (m : Moment c root input k) (x : ℕ) → k < s.time → q k ≡ true → Has x (c.writes m.frame m.words) → q (s.wrote x) ≡ true
     pub touched : (k : ℕ) (m : Moment c root input k) (x : ℕ) → k < s.time → q k ≡ true → Has x (touches c m.frame m.words) → q (s.touched x) ≡ true
 
-  -- so it is for each open fork: of its left branch where the right one is under way, else of all since it was opened
+  -- the stamps show what each open fork asks for: of its left branch where the right one is under way, else of all since it was opened
   abbrev AreSeen : List (Above F O) → Stamps → Type 0
   AreSeen [] s = Unit {0}
   AreSeen (InCallee g ∷ above) s = AreSeen above s

@@ -109,6 +109,6 @@ module _ {F O : Type 0} (c : Code F O) (on : GoesOnAtOnce c) (root : Tree F O) (
     ]
   ]
 
--- so it is with each run
+-- within any number of capsules a run comes to its end, meets something, or has one capsule more next
 pub are_told_within : {F O : Type 0} (c : Code F O) → GoesOnAtOnce c → AreToldWithin c
 are_told_within c on root input limit = told_within c on root input limit

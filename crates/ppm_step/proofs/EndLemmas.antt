@@ -32,7 +32,7 @@ EndsWell (Writes location word go) = EndsWell go
 EndsWell (AsksFor words go) = EndsWell go
 EndsWell (EndsAt e) = IsEnd e
 
--- so does an act, if it is an end
+-- an act that is an end is one that a capsule may come to
 abbrev ActsWell : Act → Type 0
 ActsWell (Stops e) = IsEnd e
 ActsWell _ = Unit {0}
@@ -139,7 +139,7 @@ code_ends_well code is_code number c one words skip g =
     (is_code.capsules number c (slice_get_within code.capsules number c one)) in
     ends_from words 0 skip c.instrs g (λ at i h e. does_well code c.procedure c.instrs at words i h (fit.each at i e))
 
--- so does the end that register work comes to
+-- the end that register work comes to is one that a capsule of the code may have
 pub reached_end : (code : CodeParts) → IsCode code → (number : ℕ) (c : CodeCapsule) → slice_get code.capsules number ≡ Some c
     → (words skip next : ℕ) (is : List Instr) (g h : List ℕ) (what : Reached) (e : End) → is ≡ c.instrs
     → capsule_from words 0 skip is g ≡ reached words is next what h → what ≡ AtEnd e → IsEnd e

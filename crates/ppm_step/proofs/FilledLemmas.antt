@@ -1,4 +1,4 @@
--- A turn that finds a pool full comes behind the turn of its processor that loaded the capsule's number from the frame's header.
+-- A turn that finds a pool full comes after the turn of its processor that loaded the capsule's number from the frame's header.
 use Rattle.std.proofs.Common.{◌≡◌, ◌≢◌, ◌<◌, ◌≤◌, ◌+◌, ◌⊎◌, inl, inr, refl, sym, ap, ◌∙◌, subst, arith, ℕ, zero, suc, Bool, true, false, ◌==◌, Option, Some, None}
 use Rattle.std.proofs.Common.{List, [], ◌∷◌, ◌++◌, replicate, slice_index, slice_set}
 use Rattle.std.specs.Prelude.{if◌then◌else◌, nat_lt, nat_le, slice_get}
@@ -188,7 +188,7 @@ module _ (s : Shape) (code : CodeParts) where
           live : Spares s (stand_of state turn.processor) → AllRowed (acted s code is state turn.processor turn.act (stand_of state turn.processor))
           live h q = at_one q (moved s code is state.stand turn.processor q next)
 
-      -- one of the turns loads the header, and those behind it are of other processors
+      -- one of the turns loads the header, and those after it are of other processors
       pub record HeaderLoaded (state : State) (turns : List Turn) (c : ℕ) (seat : Seat) : Type 0 where
         pub before : List Turn
         pub load : Turn

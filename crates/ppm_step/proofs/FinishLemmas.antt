@@ -44,7 +44,7 @@ module _ (s : Shape) (code : CodeParts) (is : IsCode code) where
       subst P (sym (acts_live s code is state turn.processor turn.act (stand_of state turn.processor) live)) (go live)
   by_turn P state turn same go (inr done) = subst P (sym (ap (acts s code state turn.processor turn.act) done)) same
 
-  -- so it goes on
+  -- after a turn each processor is done, or spares the finish word, if before it all were or did
   pub turn_spares : (state : State) (turn : Turn) → AllSpare state → AllSpare (happens s code state turn)
   turn_spares state turn all = by_turn AllSpare state turn all live (all turn.processor)
     where

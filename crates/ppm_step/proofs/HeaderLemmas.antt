@@ -1,4 +1,4 @@
--- A capsule of a frame is entered behind the load of its header alone, which is a Run's first.
+-- A capsule of a frame is entered after the load of its header alone, which is a Run's first.
 use Rattle.std.proofs.Common.{◌≡◌, ◌<◌, ◌+◌, ◌*◌, ◌⊎◌, inl, inr, refl, sym, subst, arith, ℕ, zero, suc, Bool, true, false, Option, Some, None, ◌==◌}
 use Rattle.std.specs.Prelude.{◌-◌, ◌^◌, ◌&&◌, if◌then◌else◌, nat_lt}
 use Rattle.ppm_words.specs.declared.trap.Trap.{Trap}

@@ -13,7 +13,7 @@
 -- `QuitLemmas` and `RoomLemmas`. That a processor stands where its record leads it is
 -- `RecordLemmas`.
 -- What capsules may write is one family over a type `Built` (no block, or any), so plain capsules
--- and those behind `room` are one set of lemmas (`PlainLemmas`).
+-- and those after `room` are one set of lemmas (`PlainLemmas`).
 
 pub mod EndLemmas
 pub mod ThereLemmas

@@ -8,7 +8,7 @@ use Rattle.ppm_step.specs.declared.row.Seat.{Seat}
 use Rattle.ppm_step.specs.Frames.{ending}
 use Rattle.ppm_step.specs.Standings.{rest_is_there, running_if, went_rest}
 
--- behind its one store comes the restart word
+-- after its one store comes the restart word
 pub stands_behind : (s : Shape) (code : CodeParts) (seat : Seat) (home : Home) (capsule n found : ℕ) (there : Bool) → n ≤ 0
     → there ≡ rest_is_there s seat (ending code home (Next capsule) 1)
     → running_if seat (ending code home (Next capsule) 1) there ≡ went_rest s seat found (ending code home (Next capsule) n)

@@ -37,7 +37,7 @@ module _ (Built : Type 0) where
   EndsPlainly (Fork left right capsule left_to right_to) = Built
   EndsPlainly _ = Unit {0}
 
-  -- so does a capsule, which asks for no room
+  -- a capsule that asks for no room, stores into old words alone, and ends plainly
   abbrev pub IsPlain : Capsule Where End → Type 0
   IsPlain (Reads location go) = (word : ℕ) → IsPlain (go word)
   IsPlain (Writes location word go) = IsOld location × IsPlain go
@@ -141,7 +141,7 @@ end_fits code p all (Trap trap line) none h = tt
 end_fits code p all (Call procedure capsule to) none h = no_room (room_of all) _ none h.3
 end_fits code p all (Fork left right capsule left_to right_to) none h = no_room (room_of all) _ none h.5
 
--- nor is room asked for behind the first instruction
+-- nor is room asked for after the first instruction
 room_first : (all : List Instr) (n : ℕ) → slice_get all 0 ≡ Some (Room n) → room_of all ≡ Some n
 room_first [] n e = cc
 room_first (i ∷ is) n e = let same : i ≡ Room n = cc in ap (λ j. room_of (j ∷ is)) same

@@ -1,4 +1,4 @@
--- A processor comes to be within a capsule of a frame behind the load of its header alone.
+-- A processor comes to be within a capsule of a frame after the load of its header alone.
 use Rattle.std.proofs.Common.{◌≡◌, ◌⊎◌, inl, inr, refl, sym, subst, ℕ, zero, suc, Bool, true, false, Option, Some, None}
 use Rattle.std.specs.Prelude.{if◌then◌else◌, nat_lt, slice_get}
 use Rattle.ppm_cells.specs.declared.restart.Restart.{Restart}
@@ -110,7 +110,7 @@ module _ (s : Shape) (code : CodeParts) where
       by true = begun_rowed seat restart.kind refl
       by false = (tt, tt)
 
-  -- behind what enters no capsule
+  -- after what enters no capsule
   plain_went : (seat : Seat) (victim found : ℕ) (next : Then) → IsPlainThen next → Both (went_then s code seat victim found next)
   plain_went seat victim found (Load point) h =
       stands_rowed seat (found_at s seat victim point (content_of (reading_at point) found))

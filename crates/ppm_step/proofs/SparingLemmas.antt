@@ -55,7 +55,7 @@ use Rattle.ppm_step.specs.Rows.{at_bottom, above_bottom, below_bottom, by_slot, 
 use Rattle.ppm_step.specs.Rows.{bid_holder, found_at, by_places, row_of}
 use Rattle.ppm_step.specs.Laws.{IsProposed, IsProposedWord}
 
--- the words of places lie behind those of processors
+-- the words of places lie after those of processors
 pub behind_first : (s : Shape) (place more : ℕ) → 0 < place_at s place + more
 behind_first s place more = positive s.processors (place * place_size s) more
   where

@@ -11,7 +11,7 @@ IsActAmong processors Soft = Unit {0}
 IsActAmong processors Hard = Unit {0}
 IsActAmong processors (Quit why) = Unit {0}
 
--- so is the processor whose turn it is
+-- the processor whose turn it is, and the victim that a step names, are processors
 pub record IsTurnAmong (processors : ℕ) (turn : Turn) : Type 0 where
   pub processor : turn.processor < processors
   pub act : IsActAmong processors turn.act

@@ -146,7 +146,7 @@ module _ (s : Shape) (code : CodeParts) where
   RoomHasCause = (words : List ℕ) (turns : List Turn) (place : ℕ) → read s words FinishWord ≡ 0
       → finish_of (finish_at s (reached words turns)) ≡ Some (OutOfRoom place) → IsFilled place words turns
 
-  -- likewise, where the frame is known
+  -- one of the turns found the pool full, in a frame that is known
   pub record IsFilledIn (place : ℕ) (words : List ℕ) (turns : List Turn) : Type 0 where
     pub first : List Turn
     pub turn : Turn
@@ -158,7 +158,7 @@ module _ (s : Shape) (code : CodeParts) where
   RoomHasFrame = (words : List ℕ) (turns : List Turn) (place : ℕ) → read s words FinishWord ≡ 0
       → finish_of (finish_at s (reached words turns)) ≡ Some (OutOfRoom place) → IsFilledIn place words turns
 
-  -- such a turn behind these turns, where the capsule is that of the frame's header: its number is the word that the processor's turn before
+  -- such a turn after these turns, where the capsule is that of the frame's header: its number is the word that the processor's turn before
   -- it loaded there
   pub record FindsFullBehind (place : ℕ) (words : List ℕ) (first : List Turn) (turn : Turn) : Type 0 where
     pub full : FindsFullIn place (reached words first) turn
@@ -173,7 +173,7 @@ module _ (s : Shape) (code : CodeParts) where
         ≡ IsWithin full.finds.seat (Now (Load (Header full.finds.home.frame full.finds.home.copy)))
     pub number_is : read s (reached words before).words (header_word full.finds.home.frame full.finds.home.copy) ≡ full.finds.number
 
-  -- likewise, where the capsule is known too
+  -- one of the turns found the pool full, in a capsule that is known
   pub record IsFilledBehind (place : ℕ) (words : List ℕ) (turns : List Turn) : Type 0 where
     pub first : List Turn
     pub turn : Turn

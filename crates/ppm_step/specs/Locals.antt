@@ -67,7 +67,7 @@ pub record IsHeaderOf (s : Shape) (seat : Seat) (address : ℕ) : Type 0 where
   pub is_at : address ≡ frame + 2 + copy
   pub begins_with : (code : CodeParts) → begins s code seat.own seat.place (Some seat.restart) ≡ IsWithin seat (Now (Load (Header frame copy)))
 
--- a seat's capsule is none of a frame, or behind the finish word its place has met broken words
+-- a seat's capsule is none of a frame, or after the finish word its place has met broken words
 abbrev pub HasNoHeader : Shape → Seat → Type 0
 HasNoHeader s seat =
     (code : CodeParts) (frame copy : ℕ) → seat.restart.kind ≡ Run frame copy

@@ -87,7 +87,7 @@ abbrev pub tried : Cell → Entry → Option Entry → Then → Row
 tried cell old None next = Now next
 tried cell old (Some new) next = raised cell old new next (nat_lt (tag_of old + 1) (2 ^ 34))
 
--- likewise, where the row goes on by a change alone
+-- a change of an entry, which has to be there, and whose tag is not the last; else words are broken
 abbrev pub changed : Cell → Entry → Option Entry → Then → Row
 changed cell old None next = Now Broken
 changed cell old (Some new) next = tried cell old (Some new) next

@@ -68,7 +68,7 @@ row_is_there s seat (Now next) = then_is_there s seat next
 row_is_there s seat (Store cell content next) = is_there s cell
 row_is_there s seat (Exchange cell old new next) = is_there s cell
 
--- so does what a capsule asks
+-- what a capsule asks next is there
 abbrev pub rest_is_there : Shape → Seat → Rest → Bool
 rest_is_there s seat (Loads cell go) = is_there s cell
 rest_is_there s seat (Stores cell content rest) = is_there s cell
@@ -81,7 +81,7 @@ abbrev pub within_if : Seat → Row → Bool → Standing
 within_if seat row true = IsWithin seat row
 within_if seat row false = IsBroken seat.place
 
--- likewise within a capsule
+-- within a capsule, or at broken words
 abbrev pub running_if : Seat → Rest → Bool → Standing
 running_if seat rest true = IsRunning seat rest
 running_if seat rest false = IsBroken seat.place

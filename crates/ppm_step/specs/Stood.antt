@@ -44,7 +44,7 @@ abbrev pub found_told : Event → ℕ
 found_told e = if e.step == 1 then e.value else 0
 
 module _ (s : Shape) (code : CodeParts) (own : ℕ) where
-  -- where it stands behind an event, and behind a list of them
+  -- where it stands after an event, and after a list of them
   abbrev pub stood_behind : Standing → Event → Standing
   stood_behind standing e = stand_after s code own (act_told s standing e) (found_told e) standing
 

@@ -43,6 +43,6 @@ kind_is_there s (Take2 victim) = nat_lt victim s.processors
 abbrev pub bottom_is_there : Shape → ℕ → Bool
 bottom_is_there s bottom = nat_le 1 bottom && nat_lt bottom s.slots
 
--- so does a restart
+-- a restart whose bottom and kind are there
 abbrev pub restart_is_there : Shape → Restart → Bool
 restart_is_there s restart = bottom_is_there s restart.bottom && kind_is_there s restart.kind

@@ -300,7 +300,7 @@ impl Home {
         }
     }
 
-    /// The n-th store of an end; `None` behind the last one.
+    /// The n-th store of an end; `None` after the last one.
     #[inline(always)]
     fn put(&self, code: &Code, end: End, n: usize) -> Option<Put>
         requires home { IsHome self.now }

@@ -49,7 +49,7 @@ pub enum Point {
         frame: u32,
         link: LinkKind,
     },
-    /// The slot and one more into which the frame's value goes in the frame `to`, or 0; behind it
+    /// The slot and one more into which the frame's value goes in the frame `to`, or 0; after it
     /// comes the right branch of a block, if one is named, and else `to` goes on with this copy.
     Target {
         frame: u32,

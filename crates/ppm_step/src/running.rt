@@ -7,7 +7,7 @@ use ppm_code::{End, Step};
 #[derive(Clone, Copy, Debug, PartialEq, Eq)]
 pub enum Stage {
     Before(Step),
-    /// The store of the end with this number, from 0; behind the last one the restart word.
+    /// The store of the end with this number, from 0; after the last one the restart word.
     Ending(End, usize),
     /// The pool is full.
     Filled,

@@ -278,7 +278,7 @@ impl Running {
         self.go_on(shape, code, registers)
     }
 
-    /// Goes on behind the n-th store of the end that goes on with a capsule, or behind the store of
+    /// Goes on after the n-th store of the end that goes on with a capsule, or after the store of
     /// its restart word.
     #[inline(always)]
     #[tactic(auto, using(crate::proofs::ThereLemmas::restart_fits))]

@@ -31,7 +31,7 @@ no_keyword (Some k) h = absurd (differ h)
 named : (name : List ℕ) → is_array_name name ≡ true → IsArrayName name
 named name h = record { form = name_back name h; plain = no_keyword (keyword_of name) (and_parts (is_name name) (is_none (keyword_of name)) h).1 }
 
--- so is each of arrays that may stand after others
+-- each name of arrays that may stand after others is one that an array may have
 named_all : (more : List Written) (done : List NamedArray) → AllFollow done more
     → AllByRecursion (λ (a : NamedLength). IsArrayName a.name) (names_of (map array_of more))
 named_all [] done h = tt

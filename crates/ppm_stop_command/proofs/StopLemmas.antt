@@ -90,7 +90,7 @@ module _ (options : StopOptions) (items : List ScheduleItem) where
   pub of_reading : (t : ProgramTree) (a : Answer) → ProgramReads options items t a → IsOfCode a
   of_reading t a h = of_program t a h.has
 
-  -- the text of the machine behind the run of the schedule is the code's answer, and is read back, since all its numbers fit
+  -- the text of the machine after the run of the schedule is the code's answer, and is read back, since all its numbers fit
   module _ (code : CodeParts) (input : List NamedArray) (keeper : ℕ) (start : Situation) where
     abbrev end : Situation
     end = followed start items options.after

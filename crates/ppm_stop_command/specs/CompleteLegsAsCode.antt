@@ -35,7 +35,7 @@ IsLimit (Some (finishes.OutOfTurns processor)) = Unit {0}
 IsLimit (Some finishes.Stopped) = Unit {0}
 IsLimit finish = ⊥
 
--- so the words that they find, whatever was saved
+-- fresh processors find no finish word that says only that turns were made, or that a watcher's memory was full, whatever was saved
 abbrev pub FreshFindNoLimit : Type 0
 FreshFindNoLimit = (s : Shape) (saved words : List ℕ) → AreRenewed s saved words → IsLimit (finish_of (read s words FinishWord)) → ⊥
 

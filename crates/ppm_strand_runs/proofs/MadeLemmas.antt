@@ -263,7 +263,7 @@ module _ (code : RacyParts) (array_words : ℕ) (root : FrameWord → ℕ) (arra
         by false =
             made_before h m made i n k was has less (made_in (made ++ []) i n 0) (ap (λ (l : List Made). made_in l i n 0) (append-nil made))
 
-    -- so notes tell all turns once that of the last one is there
+    -- notes tell all turns once that of the last one is there
     pub made_more : AreMade code array_words root arrays (m ∷ h)
         (made ++ made_now (length h + 1) (strand_of m.turn) (count_in old.strands.items (strand_of m.turn)) (count_in new.strands.items (strand_of m.turn)))
     made_more i n k has less = by (cases_order (strand_of m.turn) i)

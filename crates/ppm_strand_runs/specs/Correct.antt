@@ -33,7 +33,7 @@ pub record AreAlike (a b : StrandRun) : Type 0 where
   pub words : a.machine.words.items ≡ b.machine.words.items
   pub finish : finish_in a.machine.strands.items 0 ≡ finish_in b.machine.strands.items 0
 
--- so are two runs of a schedule
+-- two runs of a schedule are alike
 abbrev pub RunsAreOne : Type 0
 RunsAreOne = (code : RacyParts) (input : List NamedArray) (schedule : List StrandItem) (limit : ℕ) (a b : StrandRun)
     → IsRunOf code input schedule limit a → IsRunOf code input schedule limit b → AreAlike a b

@@ -50,7 +50,7 @@ abbrev pub AddsTurn : RacyParts → Turn → (old new : StrandRun) → Type 0
 AddsTurn code turn old new = (root : FrameWord → ℕ) (arrays : Words) (array_words : ℕ) (h : List Moment) → HasCome code array_words root arrays h old
     → (d : Option (Deed OwnWord Place Result)) × HasCome code array_words root arrays (moment turn d ∷ h) new
 
--- likewise the first fall, once the machine shows a turn more
+-- what the first fall is, once the machine shows a turn more
 abbrev pub SeesTurn : Machine → List Made → Option Fall → (turn strand : ℕ) → Option Told → Option Fall → Type 0
 SeesTurn machine made fall number strand told result = (code : RacyParts) (array_words : ℕ) (root : FrameWord → ℕ) (arrays : Words) (h : List Moment)
     (turn : Turn) (d : Option (Deed OwnWord Place Result)) → Shows code array_words root arrays (moment turn d ∷ h) machine

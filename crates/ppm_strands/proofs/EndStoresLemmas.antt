@@ -139,7 +139,7 @@ module _ {S N K E O : Type 0} (eq : Equality (Location S N)) (table : Table S N 
   abbrev long_code : Code (Frame S K) O
   long_code = code_of eq (with_end_stores_in eq table tails)
 
-  -- the same code, part by part
+  -- the codes are one, part by part
   pub same_code : long_code ≡ old_code
   same_code =
       let next : long_code.next ≡ old_code.next = fun_ext (λ f. fun_ext (λ a. same_next f a)) in

@@ -62,7 +62,7 @@ module _ {S N K E O : Type 0} (eq : Equality (Location S N)) (table : Table S N 
         let later = to_the_end k go (store eq m l v) now.stands (one_clean eq table safe k (Writes l v go) m h clean) in
         (then_same eq (table.capsule k) m (store eq m l v) (leaves eq go (store eq m l v)) now.same later.0, later.1)
 
-    -- so the end counts what the whole capsule counts
+    -- the end counts what the whole capsule counts
     same_counts : (f : Frame S K) (a : Words) → let n = leaves eq (table.capsule f.point) (start eq table f a) in
         of_capsule (code_of eq table) (frame_of f.point n) (shared_of n) ≡ of_capsule (code_of eq table) f a
     same_counts f a =

@@ -43,7 +43,7 @@ module _ {S N K E O : Type 0} (eq : Equality (Location S N)) (table : Table S N 
   AllStand (Forks g l r) a = AllStand l a × AllStand r a
   AllStand (IsOver o) a = Unit {0}
 
-  -- so at the beginning
+  -- at the beginning of each capsule what it has done stands
   pub begun_stand : (t : Tree (Frame S K) O) (a : Words) → AllStand (begun table t) a
   begun_stand (Strand f) a = ((zero, refl), λ n out. refl)
   begun_stand (Call g t) a = begun_stand t a

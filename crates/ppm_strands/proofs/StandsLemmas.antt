@@ -28,7 +28,7 @@ module _ {L E : Type 0} (eq : Equality L) where
   one_keeps (Asks n go) m l out = refl
   one_keeps (Ends e) m l out = refl
 
-  -- likewise many
+  -- many steps change neither the end nor the words then
   steps_whole : (n : ℕ) (g : Progress L E) → whole eq (steps eq n g).rest (steps eq n g).words ≡ whole eq g.rest g.words
   steps_whole zero g = refl
   steps_whole (suc n) g = steps_whole n (one eq g) ∙ one_whole g.rest g.words
@@ -99,7 +99,7 @@ module _ {L E : Type 0} (eq : Equality L) where
         ]) in
         (suc h.0, steps_more h.0 (at p (store eq m l v)) ∙ ap (one eq) r.1 ∙ ap (λ (o : Memory L). at go o) same)
 
-  -- the same from first to last, and so without conflicts
+  -- a capsule that does the same from first to last stays without conflicts
   pub still_free : (p : Capsule L E) (m n : Memory L) → DoesTheSame eq p m n → IsConflictFree eq p m → IsConflictFree eq p n
   still_free p m n same free l i j =
       free l (subst (λ (ls : List L). In l ls) same.reads i) (subst (λ (ls : List L). In l ls) same.writes j)

@@ -94,7 +94,7 @@ module _ {S N K E O : Type 0} (eq : Equality (Location S N)) (table : Table S N 
   FaultyRunsAreAhead = IsRestartable → (k : Counts) (t : Tree (Frame S K) O) (u : Running S N K E O) (a b : Words)
       → Calm (code_of eq table) t a → Happen eq table k (begun table t) a u b → Ahead (code_of eq table) k t a (shown u) b
 
-  -- so where it is over, that is the end of the depth-first run without faults: the same outcome, words and counts
+  -- where a run with faults is over, that is the end of the depth-first run without faults: the same outcome, words and counts
   abbrev pub FaultyRunsEndAlike : Type 0
   FaultyRunsEndAlike = IsRestartable → (k : Counts) (t : Tree (Frame S K) O) (o : O) (a b : Words)
       → Calm (code_of eq table) t a → Happen eq table k (begun table t) a (IsOver o) b

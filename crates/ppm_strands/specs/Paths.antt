@@ -32,6 +32,6 @@ module _ {L E : Type 0} (eq : Equality L) where
     pub reads : ReadsOnly q p → (m : Memory L) (l : L) → In l (exposed eq p m) → q l
     pub writes : WritesOnly q p → (m : Memory L) (l : L) → In l (written eq p m) → q l
 
-  -- likewise by a test
+  -- paths say by a test where a capsule reads and writes
   abbrev pub PathsSayWhereByTest : (L → Bool) → Capsule L E → Type 0
   PathsSayWhereByTest allows p = PathsSayWhere (λ l. IsTrue (allows l)) p

@@ -16,7 +16,7 @@ module _ {L E : Type 0} (eq : Equality L) where
   abbrev pub IsConflictFree : Capsule L E → Memory L → Type 0
   IsConflictFree p m = (l : L) → In l (exposed eq p m) → In l (written eq p m) → ⊥
 
-  -- so from all words
+  -- the capsule has no write-after-read conflict from any words
   abbrev pub IsAlwaysConflictFree : Capsule L E → Type 0
   IsAlwaysConflictFree p = (m : Memory L) → IsConflictFree p m
 
@@ -72,7 +72,7 @@ module _ {L E : Type 0} (eq : Equality L) where
     pub begins : (m : Memory L) → Stands p p m
     -- without conflicts it stands after each word step
     pub goes_on : (rest : Capsule L E) (m : Memory L) → IsConflictFree p m → Stands p rest m → Moment p m (one (at rest m))
-    -- so it does after any stops, and any number of word steps then
+    -- it stands after any stops, and any number of word steps then
     pub in_runs : (m : Memory L) (stops : List ℕ) (n : ℕ) → IsConflictFree p m → Moment p m (steps n (at p (stopped stops p m)))
     -- and while others store where it neither reads nor writes
     pub elsewhere : (rest : Capsule L E) (m n : Memory L) → ((l : L) → In l (exposed eq p m) ⊎ In l (written eq p m) → n l ≡ m l)
@@ -92,14 +92,14 @@ module _ {L : Type 0} (eq : Equality L) where
     pub end_after_stop : (run_with_stops eq (2 ∷ []) (counts_up l) m).end ≡ m l + 1
     pub word_after_stop : (run_with_stops eq (2 ∷ []) (counts_up l) m).words l ≡ (m l + 1) + 1
 
-  -- so without the rule the law is lost, at any location and from any words
+  -- without the rule the law is lost, at any location and from any words
   abbrev pub AConflictMayShow : Type 0
   AConflictMayShow = (l : L) (m : Memory L) → CountsTwice l m × (IsIdempotent eq (counts_up l) m → ⊥)
 
-  -- the same capsule once it writes the location first: that read is not exposed
+  -- a capsule that writes the location before it counts up: that read is not exposed
   abbrev pub counts_from : L → ℕ → Capsule L ℕ
   counts_from l v = Writes l v (counts_up l)
 
-  -- so it may read that location and write it again
+  -- a capsule that writes a location first may read it and write it again
   abbrev pub WrittenFirstIsConflictFree : Type 0
   WrittenFirstIsConflictFree = (l : L) (v : ℕ) (m : Memory L) → IsConflictFree eq (counts_from l v) m

@@ -106,7 +106,7 @@ module _ {S N K E O : Type 0} (eq : Equality (Location S N)) (table : Table S N 
       → ((o : N) → n (New o) ≡ m (New o)) → MayBeginAgain k m → Stands eq (table.capsule k) rest m
       → MayBeginAgain k n × Stands eq (table.capsule k) rest n × (IsClean k m → IsClean k n)
 
-  -- so do a strand's capsule under way and that of a strand beside it in a calm tree: what the one is about to store in a shared word,
+  -- a strand's capsule under way and that of a strand beside it in a calm tree stand: what the one is about to store in a shared word,
   -- the other neither reads nor writes
   abbrev pub StrandsBesideKeep : Type 0
   StrandsBesideKeep = (t : Tree (Frame S K) O) (j k : K) (x v : ℕ) (go rest : Capsule (Location S N) E) (m n : Memory (Location S N))

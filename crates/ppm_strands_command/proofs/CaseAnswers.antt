@@ -111,7 +111,7 @@ module _ (Of : RacyParts → List NamedArray → Answer → Type 0) where
         subst (λ (g : CaseFault). HasRacyCaseFault (text ++ rest) g line) same.0
         (subst (λ (n : ℕ). HasRacyCaseFault (text ++ rest) (fault.OfInput input_fault.TooMuch) n) same.1 (TooLong more))
 
-    -- it is of no case, so what stands behind its limit changes no answer
+    -- it is of no case, so what stands after its limit changes no answer
     pub front : FrontsDecide case_limit (HasOfCase Of)
     front text rest (answers.InputRefused r) long h =
         record { fault = h.fault; there = too_long text rest long (fault.OfInput h.fault) r.line h.there; number_is = h.number_is }

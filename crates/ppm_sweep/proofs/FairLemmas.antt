@@ -93,7 +93,7 @@ kills_put c front rest act =
 kept_same : (a b : List ScheduleItem) (keeper : ℕ) → ((c : ℕ) → kills c b ≡ kills c a) → IsKeeper schedule_form a keeper → IsKeeper schedule_form b keeper
 kept_same a b keeper e k = record { spared = e keeper ∙ k.spared; least = λ c h. e c ∙ k.least c h }
 
--- so it does where an act is put that spares it
+-- the keeper stays, where an act is put that spares it
 kept_more : (front rest : List ScheduleItem) (act : ScheduledAct) (keeper : ℕ) → act_kills keeper act ≡ false
     → IsKeeper schedule_form (front ++ rest) keeper → IsKeeper schedule_form (with_act front act ++ rest) keeper
 kept_more front rest act keeper e k = record {
@@ -298,7 +298,7 @@ module _ (s : Shape) (code : CodeParts) (keeper : ℕ) where
         all_fair (further s code keeper turns most window 0 p) (flat_map (λ w. further s code keeper turns most w 0 p) windows)
         (further_fair most window 0 p at) (windows_fair most windows p at)
 
--- so is each schedule of a sweep
+-- each schedule of a sweep is fair
 pub sweeps_are_fair : SweepsAreFair
 sweeps_are_fair s code keeper turns state items most windows fair =
     let p = first_place s code keeper turns state items in

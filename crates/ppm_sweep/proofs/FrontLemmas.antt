@@ -32,7 +32,7 @@ steps_are (Step c u) (Step d v) e =
 steps_are (Step c u) (Fails d fault) e = absurd (both_ways false refl e)
 steps_are (Fails c fault) b e = absurd (both_ways false refl e)
 
--- so often, and once more
+-- an element n times, and once more
 replicate_more : {A : Type 0} (n : ℕ) (a : A) → replicate (n + 1) a ≡ replicate n a ++ a ∷ []
 replicate_more zero a = refl
 replicate_more (suc n) a =

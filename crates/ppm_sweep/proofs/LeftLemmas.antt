@@ -27,7 +27,7 @@ no_more_than zero e h = absurd (omega (arith, h))
 no_more_than (suc zero) e h = refl
 no_more_than (suc (suc n)) e h = absurd (both_ways (nat_lt 1 (suc (suc n))) e (lt-ltb 1 (suc (suc n)) (omega arith)))
 
--- the same item, once less
+-- an item, once less
 abbrev pub less : ScheduleItem → ScheduleItem
 less i = record { act = i.act; times = i.times - 1 }
 

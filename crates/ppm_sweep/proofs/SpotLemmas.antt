@@ -100,7 +100,7 @@ module _ (m : Situation) (way : Way) where
       → is_made m.shape m.code (course m way) (Listed act) ≡ true
   made_listed act left lives = all_hold (nat_lt 0 way.left) true _ (lt-ltb 0 way.left left) refl lives
 
--- so the run after it is the same, of the list or in a round
+-- the run after an act is the same, of the list or in a round
 pub same_behind : (s : Shape) (code : CodeParts) (w : Course) (due : Due) → is_made s code w due ≡ true → is_made s code w (Listed (act_of due)) ≡ true
     → behind s code w (Listed (act_of due)) ≡ behind s code w due
 same_behind s code w due e f =

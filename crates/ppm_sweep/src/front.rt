@@ -46,7 +46,7 @@ fn once(act: ScheduledAct) -> ScheduleItem
     ScheduleItem { act, times: 1 }
 }
 
-/// Writes an act more behind the last item.
+/// Writes an act more after the last item.
 fn join(
     items: &mut Vec<ScheduleItem>,
     last: ScheduleItem,

@@ -59,7 +59,7 @@ lengths_count : (input : List NamedArray) → length (map (λ (a : NamedArray). 
 lengths_count [] = refl
 lengths_count (a ∷ input) = let rest = lengths_count input in omega (arith, rest)
 
--- so a machine with the arrays of the input has those of the outcome
+-- a machine with the arrays of the input has those of the outcome
 pub has_arrays : (m : Situation) (input : List NamedArray) (wanted : Outcome) → m.array_lengths ≡ map (λ (a : NamedArray). length a.values) input
     → IsInput input → IsOfInput input wanted → HasArraysOf m wanted
 has_arrays m input (outcome.Ended arrays) lengths is h =

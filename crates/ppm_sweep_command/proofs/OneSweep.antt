@@ -198,7 +198,7 @@ module _ (images : ImagesAreOne) (options : SweepOptions) (items : List Schedule
         let keeper = sym (keeper_is b c) in
         λ i. swept_by (start i) items (sweeping_of options (keeper i))
 
-    -- so counts are one
+    -- two counts of a sweep are one
     one_count : (j k : Sweep) → All j → All k → j ≡ k
     one_count j k a b =
         let l = same_sweep a.begins b.begins in

@@ -285,7 +285,7 @@ module _ (laws : SweepLaws) (options : SweepOptions) (are : AreSwept options) (s
           differs = other;
         })
 
-    -- so all agree, or one is the first that differs
+    -- all runs of a sweep agree, or one is the first that differs
     under : ((counts : Sweep) × AllAgree options items code input wanted t counts)
         ⊎ ((d : Difference) × FirstDiffers options items code input wanted t d)
     under = go (seek swept all_fair)

@@ -90,7 +90,7 @@ module _ (p : ℕ) where
       subst (λ (b : Bool). cond b (Some n) (first_at (schedule_form.is_outside p) (n + 1) items) ≡ None) (sym (act_there i.act all.0.act))
       (none_outside (n + 1) items all.1)
 
-  -- so the text of a schedule that may be obeyed is read back, and accepted
+  -- the text of a schedule that may be obeyed is read back, and accepted
   pub reads_back : SchedulesAreWritten → TextsReadAsWritten → p ≤ 64 → (keeper : ℕ) → keeper < p → (items : List ScheduleItem) → AreFair p keeper items
       → length items ≤ item_limit → (text : List ℕ) → text ≡ schedule_text items → IsAccepted schedule_form text p items
   reads_back written texts most keeper below items fair few text e = record {

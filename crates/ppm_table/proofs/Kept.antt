@@ -160,7 +160,7 @@ allows k slots id c act me i f d own lives writes says tells s r homes at small 
       refl,
     )
 
--- the same where the deed is told for each address that is the word's
+-- what an atomic step owes, where the deed is told for each address that is the word's
 pub allows_at : (k : Opening) (slots id : ℕ) (me : Mine) (i : ℕ) (f : ℕ → ℕ) (d : ℕ → ℕ → Deed)
     → Allows (IsRun k) slots id me (padding + i) f (λ n new. new ≡ (seen me.0 (d i n), me.1))
     → Allows (IsRun k) slots id me (padding + i) f (λ n new. (at : ℕ) → padding + i ≡ padding + at → new ≡ (seen me.0 (d at n), me.1))

@@ -1,4 +1,4 @@
--- How the table is shown. The rule (`IsRun`) is over plain data: a list of turns, the words behind
+-- How the table is shown. The rule (`IsRun`) is over plain data: a list of turns, the words after
 -- it, and what each seat keeps. One lemma, `allows` of `Kept`, is the debt of every atomic step;
 -- `Owed` has it by kinds. Splits and joins of seats are `splits` and `joins` of `Kept`.
 -- A seat's deeds say where its processor stands (`stands_by`): `stands_as` of `RunLemmas` shows it

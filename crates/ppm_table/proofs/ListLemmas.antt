@@ -1,11 +1,11 @@
--- Lists of words behind a padding, and parts of them.
+-- Lists of words after a padding, and parts of them.
 use Rattle.std.proofs.Common.{◌≡◌, ℕ, zero, suc, ◌+◌, ◌<◌, ◌≤◌, List, [], ◌∷◌, ◌++◌, length, take, drop, get_or, set, sym, refl, ap, ◌∙◌, arith}
 use Rattle.std.specs.Prelude.{slice_index, slice_set}
 use Rattle.std.proofs.lemmas.List.{get_or-drop, drop-set-add}
 use mathlib.Core.Option.{some, some-injective, some-ne-none}
 use lib.ListN.{get_elem?}
 
--- a word behind the padding
+-- a word after the padding
 pub behind : (n : ℕ) (ws : List ℕ) (i : ℕ) → slice_index (drop n ws) i ≡ slice_index ws (n + i)
 behind n ws i = get_or-drop n ws i 0
 
@@ -32,7 +32,7 @@ part_more ws start i less =
     ∙ next (drop start ws) i less
     ∙ ap (λ (w : ℕ). take i (drop start ws) ++ w ∷ []) (behind start ws i)
 
--- a word more behind the padding, and none
+-- a word more after the padding, and none
 pub drop_more : (n : ℕ) (ws : List ℕ) (w : ℕ) → n ≤ length ws → drop n (ws ++ w ∷ []) ≡ drop n ws ++ w ∷ []
 drop_more zero ws w few = refl
 drop_more (suc n) [] w few = absurd (omega (arith, few))

@@ -29,7 +29,7 @@ sits_more own me me' deed sits made =
     made ∙ ap (λ (m : Mine). (seen m.0 deed, m.1)) sits
     ∙ ap (λ (l : List Deed). (seated own l, [])) (sym (deeds_more_in own me me' deed sits made))
 
--- the looks behind one step
+-- the looks after one step
 looked_one : (b : Bool) (before : ℕ) → (if b then 0 else before + 1) ≡ looks_behind before (if b then 1 else 0) (if b then 0 else 1)
 looked_one true before = refl
 looked_one false before = refl
@@ -78,7 +78,7 @@ goes_none k own me sits = record {
   sits = sits;
 }
 
--- those of two lists are those of the one behind the other
+-- those of two lists are those of the one after the other
 steady_both : (s : Shape) (code : CodeParts) (own : ℕ) (st : Standing) (ds es : List Deed)
     → AreSteady s code own st ds → AreSteady s code own (stood s code own st ds) es → AreSteady s code own st (ds ++ es)
 steady_both s code own st [] es a b = b
@@ -197,7 +197,7 @@ from_none n looks = by (n == 0)
     by false = refl
 
 module _ {W : Type 0} (told : W → Option (List Event)) where
-  -- the same with the sums by name, and with a watcher
+  -- steps one after the other, with the sums by name, and with a watcher
   pub moves_both : (k : Opening) (own : ℕ) (a b c : Mine) (w0 w1 w2 : W) (m n v w x y made work looks : ℕ) (p q : Bool) → m + n ≡ made → v + w ≡ work → looks_behind x w y ≡ looks
       → Moves told k own a b w0 w1 m v x p → Moves told k own b c w1 w2 n w y q → Moves told k own a c w0 w2 made work looks (p || q)
   moves_both k own a b c w0 w1 w2 m n v w x y made work looks p q count works looked f g = record {
@@ -239,7 +239,7 @@ module _ {W : Type 0} (told : W → Option (List Event)) where
       subst (λ (b : Bool). Moves told k own a c w0 w2 n w y b) same
       (moves_both k own a b c w0 w1 w2 m n v w x y n w y p q count works (ap (λ (z : ℕ). looks_behind z w y) no_looks_yet ∙ from_none w y) f g)
 
-  -- nothing changed behind them
+  -- nothing changed after them
   pub moves_same : (k : Opening) (own : ℕ) (a b c : Mine) (w0 w1 w2 : W) (m v x : ℕ) → Moves told k own a b w0 w1 m v x false → c ≡ b → w2 ≡ w1 → Moves told k own a c w0 w2 m v x false
   moves_same k own a b c w0 w1 w2 m v x f same same_w =
       subst (λ (w : W). Moves told k own a c w0 w m v x false) (sym same_w) (subst (λ (z : Mine). Moves told k own a z w0 w1 m v x false) (sym same) f)
@@ -272,7 +272,7 @@ module _ {W : Type 0} (told : W → Option (List Event)) where
     stays = stays;
   }
 
-  -- behind others
+  -- after others
   pub refuses_both : (k : Opening) (own : ℕ) (a b c : Mine) (w0 w1 w2 : W) (m v x : ℕ) (p : Bool) (lives : Bool) (n most : ℕ) → m + n ≤ most
       → Moves told k own a b w0 w1 m v x p → Refuses told k own b c w1 w2 lives n → Refuses told k own a c w0 w2 lives most
   refuses_both k own a b c w0 w1 w2 m v x p lives n most within f r = record {
@@ -317,7 +317,7 @@ module _ {W : Type 0} (told : W → Option (List Event)) where
     stays = r.stays;
   }
 
--- no looks behind work
+-- no looks after work
 pub no_looks : (n : ℕ) → looks_behind 0 n 0 ≡ 0
 no_looks n = by (n == 0)
   where

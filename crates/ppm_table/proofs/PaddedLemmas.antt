@@ -1,4 +1,4 @@
--- Words that are moved behind the padding.
+-- Words that are moved to after the padding.
 use Rattle.std.proofs.Common.{◌≡◌, ℕ, ◌+◌, ◌-◌, ◌≤◌, List, [], ◌++◌, length, take, drop, replicate, sym, ap, ap₂, ◌∙◌, arith}
 use Rattle.std.specs.List.{copy_within}
 use Rattle.std.proofs.lemmas.List.{append_assoc, append-nil, length-append, length-replicate, length-take-le, take_all}
@@ -6,7 +6,7 @@ use Rattle.std.proofs.Math.ListN.{drop_of_length-le}
 use Rattle.std.proofs.Math.Seq.{drop-append_seam, take-append_seam}
 use Rattle.ppm_table.specs.Padding.{padding}
 
--- zeros are put behind the words, and all words are then copied so far behind
+-- zeros are put after the words, and all words are then copied so far up
 moved : (words zeros : List ℕ) (n : ℕ) → length zeros ≡ n → drop n (copy_within (words ++ zeros) 0 (length words) n) ≡ words
 moved words zeros n long =
     let old : List ℕ = words ++ zeros in

@@ -49,14 +49,14 @@ keeps_both (Some before) (Some now) None f g = absurd g
 keeps_both (Some before) (Some now) (Some later) f g =
     (f.0 ++ g.0, g.1 ∙ ap (λ (l : List Event). l ++ g.0) f.1 ∙ append_assoc before f.0 g.0)
 
--- so does one that has these events behind it, whatever it was
+-- a list that has these events after it, whatever it was, keeps its front
 pub keeps_known : (before now : Option (List Event)) (events : List Event) → ((list : List Event) → before ≡ Some list → now ≡ Some (list ++ events))
     → KeepsFront before now
 keeps_known None now events h = tt
 keeps_known (Some before) None events h = let e : None ≡ Some (before ++ events) = h before refl in cc
 keeps_known (Some before) (Some now) events h = (events, some_same now (before ++ events) (h before refl))
 
--- the events of two lists of deeds, the one behind the other
+-- the events of two lists of deeds, the one after the other
 pub shown_both : (s : Shape) (code : CodeParts) (own : ℕ) (standing : Standing) (ds es : List Deed)
     → shown s code own standing (ds ++ es) ≡ shown s code own standing ds ++ shown s code own (stood s code own standing ds) es
 shown_both s code own standing [] es = refl

@@ -29,7 +29,7 @@ act_found place Soft want found = event 4 place 0 0
 act_found place Hard want found = numbered 5 (event_found place want found)
 act_found place (Quit why) want found = numbered 6 (event_found place want found)
 
--- a processor that was not done has made an act: its deeds have one more, it stands behind that, and this was told
+-- a processor that was not done has made an act: its deeds have one more, it stands after that, and this was told
 pub record HasActed (s : Shape) (code : CodeParts) (own : ℕ) (act : Act) (old new : Standing) (deeds deeds' : List Deed) (told : Told) : Type 0 where
   pub found : ℕ
   pub is_found : IsFound (want_of s code own act old) found

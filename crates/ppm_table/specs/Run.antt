@@ -54,7 +54,7 @@ found_by (Loaded at found) = found
 found_by deed = 0
 
 module _ (s : Shape) (code : CodeParts) (own : ℕ) where
-  -- where it stands behind a deed, and behind a list of them
+  -- where it stands after a deed, and after a list of them
   abbrev pub behind : Standing → Deed → Standing
   behind standing deed = stand_after s code own (act_by s standing deed) (found_by deed) standing
 
@@ -85,7 +85,7 @@ module _ (s : Shape) (code : CodeParts) where
   AllTold state [] = Unit {0}
   AllTold state (turn ∷ turns) = IsTold state turn × AllTold (happens s code state turn) turns
 
--- the state with which the run of a table begins, and the one behind turns
+-- the state with which the run of a table begins, and the one after turns
 abbrev pub start : Opening → State
 start k = opening k.words k.shape.processors
 
@@ -95,7 +95,7 @@ behind_turns k turns = after k.shape k.code (start k) turns
 abbrev pub deeds_in_run : Opening → (processor : ℕ) → List Turn → List Deed
 deeds_in_run k processor turns = deeds_of k.shape k.code processor (start k) turns
 
--- where a processor stands behind its deeds
+-- where a processor stands after its deeds
 abbrev pub stands_by : Opening → (processor : ℕ) → List Deed → Standing
 stands_by k processor deeds = stood k.shape k.code processor IsLost deeds
 
@@ -142,7 +142,7 @@ abbrev pub Numbered : List Record → ℕ → Type 0
 Numbered [] c = ⊥
 Numbered (r ∷ rs) c = (r.number ≡ c) ⊎ Numbered rs c
 
--- the words behind the padding and the records in the views are those of one run
+-- the words after the padding and the records in the views are those of one run
 pub record IsRun (k : Opening) (t : TableState (Unit {0}) View) : Type 0 where
   pub turns : List Turn
   pub words : drop padding t.words ≡ (behind_turns k turns).words
@@ -155,7 +155,7 @@ pub record IsRun (k : Opening) (t : TableState (Unit {0}) View) : Type 0 where
   pub fresh : (i m c : ℕ) → get_elem? t.views i ≡ some (Maker m) → m ≤ c → deeds_in_run k c turns ≡ []
   pub one : (i j m n : ℕ) → get_elem? t.views i ≡ some (Maker m) → get_elem? t.views j ≡ some (Maker n) → i ≡ j
 
--- the view behind a deed
+-- the view after a deed
 abbrev pub seen : View → Deed → View
 seen (Maker n) deed = Maker n
 seen (Seated r) deed = seated r.number (r.deeds ++ deed ∷ [])
@@ -238,7 +238,7 @@ abbrev pub IsFound : Want → ℕ → Type 0
 IsFound (Loads at) found = Unit {0}
 IsFound want found = found ≡ 0
 
--- a seat is of a table whose words are those of a shape, behind the padding
+-- a seat is of a table whose words are those of a shape, after the padding
 abbrev pub IsAtTable : (seat table : TableId) → Opening → Shape → Type 0
 IsAtTable seat table k s = (seat ≡ table) × (k.shape ≡ s) × (padding + word_count s ≤ table.words)
 

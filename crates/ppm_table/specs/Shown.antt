@@ -74,7 +74,7 @@ abbrev pub counts_with : ActCounts → List Processor → ActCounts
 counts_with t [] = t
 counts_with t (p ∷ ps) = counts_with (both_counts t p.counts) ps
 
--- there is one run, with these words behind it, in which each processor does what it has done
+-- there is one run, with these words after it, in which each processor does what it has done
 pub record ClosedRun (k : Opening) (words : List ℕ) (ps : List Processor) : Type 0 where
   pub turns : List Turn
   pub told : AllTold k.shape k.code (start k) turns

@@ -36,7 +36,7 @@ shown_by k own deeds = shown k.shape k.code own IsLost deeds
 abbrev pub deeds_since : (before now : Mine) → List Deed
 deeds_since me me' = drop (length (deeds_in me.0)) (deeds_in me'.0)
 
--- a known list has the events of these behind it
+-- a known list has the events of these after it
 abbrev pub Shows : Opening → (own : ℕ) → Option (List Event) → Option (List Event) → Mine → Mine → Type 0
 Shows k own before now me me' = (list : List Event) → before ≡ Some list
     → now ≡ Some (list ++ shown k.shape k.code own (stands_by k own (deeds_in me.0)) (deeds_since me me'))

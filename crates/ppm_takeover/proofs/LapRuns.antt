@@ -498,7 +498,7 @@ module _ (code : CodeParts) (input : List NamedArray) (s : Shape) (keeper : ℕ)
             ]
       ]
 
-  -- so portions are no more than both may grow
+  -- portions are no more than work and tags may grow
   pub portions_few : (portions : List Portion) → Among (turns_in portions) → AreLaps s code start portions
       → (length portions ≤ work_in s code start (turns_in portions) + s.processors * (raised + s.processors)) ⊎ Over (turns_in portions)
   portions_few portions among are = elim (portions_grow portions [] tt among are) [

@@ -205,7 +205,7 @@ module _ (code : CodeParts) (input : List NamedArray) (s : Shape) (keeper : ℕ)
             ]
       ]
 
-  -- so in n rounds it has n turns
+  -- in n rounds a processor that goes on has n turns
   rounds_of : (n : ℕ) (w : Course) (first : List Turn) (d : ℕ) → Lead first w → Among first → n * s.processors ≤ w.left → d < s.processors
       → is_done_at (stand_of w.state d) ≡ false
       → (n ≤ turns_of d (turns_due s code w (rounds s.processors n))) ⊎ Over (first ++ turns_due s code w (rounds s.processors n))
@@ -340,7 +340,7 @@ module _ (code : CodeParts) (input : List NamedArray) (s : Shape) (keeper : ℕ)
           (steps_only s code c (rounds s.processors 17) due17 w) quiet seventeen settled in
           (look_counts s code c 16 (at first) turns a.0, a.1)
 
-    -- so there are as many looks as seventeens of rounds
+    -- a processor has made a look for each seventeen of these rounds
     loads_grow : (k : ℕ) (w : Course) (first : List Turn) → Lead first w → Among first → AllByRecursion (Spares c) first
         → 17 * k * s.processors ≤ w.left → Quiet first (turns_due s code w (rounds s.processors (17 * k))) → IsSettled s (at first) c
         → k ≤ loads_made s code c (at first) (turns_due s code w (rounds s.processors (17 * k)))

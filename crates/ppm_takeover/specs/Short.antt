@@ -75,6 +75,6 @@ LooksAtMost s seat k (suc left) (Now next) = LookEnds k next
 LooksAtMost s seat k (suc left) (Store cell content next) = LooksAtMost s seat k left (Now next)
 LooksAtMost s seat k (suc left) (Exchange cell old new next) = LooksAtMost s seat k left (Now next)
 
--- so it is with each row that looks
+-- each row that looks makes at most as many word steps as its kind costs, and ends, or has met broken words
 abbrev pub LooksAreShort : Type 0
 LooksAreShort = (s : Shape) → s.takeover ≡ ByPlaces → (seat : Seat) (k : RestartKind) → IsLook k → LooksAtMost s seat k (look_cost k) (row_of s seat k)

@@ -19,7 +19,7 @@ use Rattle.ppm_strands.proofs.StepLemmas.{put_at, put_else}
 pub races_are_not_calm : RacesAreNotCalm
 races_are_not_calm a = (λ calm. (calm 3).3 0 (inl refl) (inl refl), λ calm. (calm 3).2 0 (inl refl) (inl refl))
 
--- likewise behind the endless branch: its own D four times, and then A; and beside it, in the right branch alone
+-- within four of the bound it is A again: after the endless branch's own D four times, and in the right branch alone
 pub races_beside_no_end_are_not_calm : RacesBesideNoEndAreNotCalm
 races_beside_no_end_are_not_calm a = (
   λ calm. (calm 4).3 0 (inl refl) (inr (inr (inr (inr (inl refl))))),

@@ -43,6 +43,6 @@ pub record ClearingMeetsBoth : Type 0 where
   pub filled : HasFilledPaths clearing
   pub stands : (array_words : ℕ) (root : FrameWord → ℕ) (arrays : Words) → Stands (racing_system clearing array_words root arrays)
 
--- so its faults are invisible
+-- faults of the code that clears are invisible
 abbrev pub FaultsOfClearingAreInvisible : Type 0
 FaultsOfClearingAreInvisible = (array_words : ℕ) (root : FrameWord → ℕ) (arrays : Words) → FaultsAreInvisible (racing_system clearing array_words root arrays)

@@ -61,7 +61,7 @@ abbrev pub LosesTheLaw : ℕ → ℕ → Type 0
 LosesTheLaw l r = Step (sample racing) (counts_then r) (fork_of l r) start (right_first l r) (words_then r)
     × (Ahead (sample racing) (counts_then r) (fork_of l r) start (right_first l r) (words_then r) → ⊥)
 
--- so it is where the right branch writes what the left one reads, and where it reads what the left one writes
+-- the law is lost where the right branch writes what the left one reads, and where it reads what the left one writes
 abbrev pub RacesLoseTheLaw : Type 0
 RacesLoseTheLaw = LosesTheLaw 0 4 × LosesTheLaw 4 0
 

@@ -9,7 +9,7 @@ pub front_in_order : (s : Shared) (c : ℕ) (ps qs : List Processor) → InOrder
 front_in_order s c [] qs h = tt
 front_in_order s c (p ∷ ps) qs h = (h.0, h.1, front_in_order s (suc c) ps qs h.2)
 
--- those behind them are of the table
+-- those after them are of the table
 pub last_is_of : (s : Shared) (c : ℕ) (ps : List Processor) (p : Processor) → InOrder s c (ps ++ p ∷ []) → IsOf s p
 last_is_of s c [] p h = h.1
 last_is_of s c (q ∷ ps) p h = last_is_of s (suc c) ps p h.2

@@ -72,12 +72,12 @@ no_both (line_feed {b = b} {bs = bs} is) m k t = no_token_class b bs LineFeed is
 no_both (blank {b = b} {bs = bs} is) m k t = no_token_class b bs Blank is (λ e. cc (e)) (λ e. cc (e)) (λ e. cc (e)) m k t
 no_both (comment {b = b} {bs = bs} is len) m k t = no_token_class b bs Hash is (λ e. cc (e)) (λ e. cc (e)) (λ e. cc (e)) m k t
 
--- the same piece taken off
+-- a piece taken off, by equal lengths
 moved : (p l : ℕ) (bs : List ℕ) (n f n' f' : ℕ) {us : List Token} {r o : ℕ} {rest : List ℕ} → n ≡ n' → f ≡ f'
     → Lexes (p + n') (l + f') (drop n' bs) us r o rest → Lexes (p + n) (l + f) (drop n bs) us r o rest
 moved p l bs n f n' f' same lines c = rw (same, lines) c
 
--- the same token taken off
+-- a token taken off, by an equal length
 moved_token : (p l : ℕ) (bs : List ℕ) (n n' : ℕ) {us : List Token} {r o : ℕ} {rest : List ℕ} → n ≡ n'
     → Lexes (p + n') l (drop n' bs) us r o rest → Lexes (p + n) l (drop n bs) us r o rest
 moved_token p l bs n n' same c = rw same c
@@ -206,7 +206,7 @@ record Stands (p l size : ℕ) (t : Token) : Type 0 where
   first_line : l ≤ t.line
   line : t.line + p ≤ l + t.place
 
--- the tokens behind a piece of n bytes and at most one line stand behind its place
+-- the tokens after a piece of n bytes and at most one line stand after its place
 stands_on : (p l n l' size : ℕ) (t : Token) → 0 < n → n ≤ size → l ≤ l' → l' ≤ l + 1 → Stands (p + n) l' (size - n) t → Stands p l size t
 stands_on p l n l' size t some within above lines s = record {
   form = s.form;

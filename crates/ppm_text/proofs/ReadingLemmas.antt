@@ -113,7 +113,7 @@ pub record IsLexedToFault (p l : ℕ) (bytes : List ℕ) : Type 0 where
 abbrev IsReadSomehow : ℕ → ℕ → List ℕ → Type 0
 IsReadSomehow p l bytes = IsLexedTo p l bytes [] ⊎ IsLexedToFault p l bytes
 
--- behind a blank or a comment
+-- after a blank or a comment
 behind_skip : (p l n f : ℕ) (bytes : List ℕ) → Skips bytes n f → IsReadSomehow (p + n) (l + f) (drop n bytes) → IsReadSomehow p l bytes
 behind_skip p l n f bytes s (inl c) = inl (record { tokens = c.tokens; place = c.place; line = c.line; lexed = skip s c.lexed })
 behind_skip p l n f bytes s (inr c) = inr (record {
@@ -123,7 +123,7 @@ behind_skip p l n f bytes s (inr c) = inr (record {
   fault = c.fault;
 })
 
--- behind a token
+-- after a token
 behind_token : (p l n : ℕ) (k : Kind) (bytes : List ℕ) → Longest bytes n k → IsInRange k → IsReadSomehow (p + n) l (drop n bytes) → IsReadSomehow p l bytes
 behind_token p l n k bytes t fits (inl c) =
     inl (record { tokens = located k p l ∷ c.tokens; place = c.place; line = c.line; lexed = token t fits c.lexed })
@@ -153,7 +153,7 @@ read_somehow (suc most) p l (b ∷ bs) h = go (begins_somehow p b bs) (λ q m n 
       fault = e.1;
     })
 
--- a lexing comes to the place behind what it lexes
+-- a lexing comes to the place after what it lexes
 lexed_place : {p l : ℕ} {bs : List ℕ} {ts : List Token} {q m : ℕ} {rest : List ℕ} → Lexes p l bs ts q m rest → p + length bs ≡ q + length rest
 lexed_place here = refl
 lexed_place (skip {n = n} s c) = omega (arith, (skips_bounds s).1, rw length-drop at (lexed_place c))

@@ -66,7 +66,7 @@ mark_class : (class : ByteClass) → is_mark_class class ≡ true → class ≡ 
 mark_class Mark h = refl
 mark_class _ h = absurd (cc)
 
--- the same as a test
+-- a test for marks
 abbrev is_mark : List ℕ → Bool
 is_mark [] = false
 is_mark (b ∷ bs) = is_mark_class (class_of b) && nat_le (length bs) 1

@@ -18,11 +18,11 @@ class_of b =
     (if b == 35 then Hash else
     (if nat_le b 127 then Mark else High)))))
 
--- a byte of a comment behind its `#`: any of ASCII but the line feed
+-- a byte of a comment after its `#`: any of ASCII but the line feed
 abbrev pub is_comment_byte : ℕ → Bool
 is_comment_byte b = not (b == 10) && nat_le b 127
 
--- the number that digits stand for, behind a number that came before
+-- the number that digits stand for, after a number that came before
 abbrev pub value_from : ℕ → List ℕ → ℕ
 value_from before [] = before
 value_from before (b ∷ bs) = value_from (before * 10 + (b - 48)) bs

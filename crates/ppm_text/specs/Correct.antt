@@ -14,6 +14,6 @@ pub record HasOneReading (text : List ℕ) : Type 0 where
   pub none : ((e : TextError) → FaultsAt text e → ⊥) → (ts : List Token) × IsTextOf text ts
   pub place : (e : TextError) (fault : FaultsAt text e) → place_of e ≡ fault.place
 
--- so it is with every text
+-- every text has one reading: tokens or a fault
 abbrev pub HaveOneReading : Type 0
 HaveOneReading = (text : List ℕ) → HasOneReading text

@@ -12,7 +12,7 @@ number_of (error.NameTooLong place) = 4
 number_of (error.TooLong limit) = 5
 number_of error.NoMemory = 0
 
--- where a fault stands, counted from 0: behind the bytes that a text may have where it has more; 0 where memory was refused
+-- where a fault stands, counted from 0: after the bytes that a text may have where it has more; 0 where memory was refused
 abbrev pub place_of : TextError → ℕ
 place_of (error.NotAscii place) = place
 place_of (error.BadChar place) = place

@@ -27,7 +27,7 @@ IsInFront bytes (piece.Token kind n) = Longest bytes n kind × IsInRange kind
 abbrev pub Stops : ℕ → List ℕ → TextError → Type 0
 Stops place bytes e = (e ≡ error.NoMemory) ⊎ IsFault place bytes e
 
--- so many bytes in front are lexed into the tokens that are new, up to the line behind them
+-- so many bytes in front are lexed into the tokens that are new, up to the line after them
 pub record Advances (place line : ℕ) (bytes : List ℕ) (old new : List Token) (behind : ℕ × ℕ) : Type 0 where
   pub tokens : List Token
   pub added : new ≡ old ++ tokens

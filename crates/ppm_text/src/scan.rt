@@ -32,7 +32,7 @@ enum Piece {
     Token(Kind, usize),
 }
 
-/// The bytes behind the first n.
+/// The bytes after the first n.
 #[tactic(auto, using(std::proofs::lemmas::List::take_rest))]
 fn behind(bytes: &[u8], n: usize) -> &[u8]
     requires { n ≤ length bytes.now }
@@ -62,7 +62,7 @@ fn number_len(bytes: &[u8]) -> usize
     bytes.iter().take_while(|b| is_digit_byte(**b)).count()
 }
 
-/// How many bytes of a comment stand in front, behind its `#`.
+/// How many bytes of a comment stand in front, after its `#`.
 #[tactic(auto, using(crate::proofs::BytesLemmas::prefix_le))]
 fn remark_len(bytes: &[u8]) -> usize
     ensures len { result ≡ prefix_len is_comment_byte bytes.now }
@@ -185,7 +185,7 @@ fn front_piece(alloc: Global, place: u32, bytes: &[u8]) -> Result<Piece, TextErr
     }
 }
 
-/// Takes the piece in front, and adds its token; the number of its bytes, and the line behind it.
+/// Takes the piece in front, and adds its token; the number of its bytes, and the line after it.
 fn take_piece(
     alloc: Global,
     all: &mut Vec<Token>,

@@ -1,4 +1,4 @@
--- A processor behind a turn.
+-- A processor after a turn.
 use Rattle.std.proofs.Common.{◌≡◌, ◌≢◌, ◌∙◌, ◌⊎◌, inl, inr, ◌<◌, ◌≤◌, ◌+◌, ℕ, Bool, true, false, Option, Some, None, List, [], ◌∷◌, ◌++◌, length, arith, refl, sym, ap, subst}
 use Rattle.std.proofs.lemmas.List.{length-append}
 use Rattle.ppm_cells.specs.declared.shape.Shape.{Shape}
@@ -229,7 +229,7 @@ module _ (s : Shared) (p q : Processor) (act : Act) (told : Told) (of : IsOf s p
         grows = grows_still before now (told_so_far plan limits k own (deeds_of_processor p) past) kept;
       }
 
--- where a processor goes behind an act that its watcher took, or refused
+-- where a processor goes after an act that its watcher took, or refused
 pub goes_by_act : (plan : Planned) (limits : Limits) (k : Opening) (own : ℕ) (before first now : Option (List Event)) (me me' : Mine) (past : Past)
     (pace' : Pace) (victims : Drawing)
     → (taken : Bool) (came : ActResult) → came ≡ act_result_of taken

@@ -57,7 +57,7 @@ pub acts_both : (s : Shape) (code : CodeParts) (own : ℕ) (st : Standing) (ds e
 acts_both s code own st [] es = refl
 acts_both s code own st (d ∷ ds) es = ap (λ (l : List Acted). acted s st d ∷ l) (acts_both s code own (behind s code own st d) ds es)
 
--- the past behind steps for which nothing was chosen
+-- the past after steps for which nothing was chosen
 module _ (s : Shape) (code : CodeParts) (own : ℕ) where
   abbrev pub past_along : Past → Standing → List Deed → Past
   past_along past st [] = past
@@ -132,7 +132,7 @@ module _ (s : Shape) (code : CodeParts) (own : ℕ) where
       by (inl is) = absurd (none (parks_rests plan limits own past st is).1)
       by (inr is) = ap (λ (b : Bool). if b then parked st ∷ [] else []) is
 
-  -- so all that is told are their events
+  -- all that is told of steady deeds are their events
   pub steps_tell : (plan : Planned) (limits : Limits) (past : Past) (st : Standing) (ds : List Deed) → AreSteady s code own st ds
       → (more : List Acted) (events : List Event)
       → told_from plan limits own past (acts_of s code own st ds ++ more) (shown s code own st ds ++ events)

@@ -1,4 +1,4 @@
--- Behind a drive the finish word is set, since its keeper obeys until it is done; and no quit for a watcher has set it.
+-- After a drive the finish word is set, since its keeper obeys until it is done; and no quit for a watcher has set it.
 use Rattle.std.proofs.Common.{◌≡◌, ◌≢◌, ◌∙◌, ◌<◌, ℕ, List, Option, Some, sym, ap, subst}
 use Rattle.ppm_cells.specs.Finish.{finish_of}
 use Rattle.ppm_cells.specs.Memory.{read, AreWordsOf}

@@ -37,7 +37,7 @@ module _ (plan : Planned) (limits : Limits) (k : Opening) (own : ℕ) where
       → shown_by k own deeds' ≡ shown_by k own deeds ++ shown k.shape k.code own (stands_by k own deeds) ds
   shown_more deeds deeds' ds more = ap (λ (l : List Deed). shown_by k own l) more ∙ shown_both k.shape k.code own IsLost deeds ds
 
-  -- what is told of more deeds, by what is told behind those that were there
+  -- what is told of more deeds, by what is told after those that were there
   module _ (deeds deeds' ds : List Deed) (more : deeds' ≡ deeds ++ ds) (past past' : Past) (f : Follows plan limits k own deeds past)
       (told : List Event) where
     abbrev acts : List Acted
@@ -91,7 +91,7 @@ module _ (plan : Planned) (limits : Limits) (k : Opening) (own : ℕ) where
       told_there deeds (deeds ++ Quitted Watch ∷ []) (Quitted Watch ∷ []) refl past past f (up ++ quit ∷ []) refl
       ∙ sym (append_assoc (told_of_deeds plan limits k own deeds) up (quit ∷ []))
 
-  -- behind steps in a row
+  -- after steps in a row
   pub follows_along : {exchanged : Bool} → (me me' : Mine) (pace : Pace) (victims : Drawing) (made work looks n : ℕ)
       → (o : Obeying plan limits k own (deeds_in me.0) pace victims)
       → (g : Goes k own me me' made work looks exchanged) → made ≤ n → AreClear plan limits own o.past n
@@ -153,7 +153,7 @@ module _ (plan : Planned) (limits : Limits) (k : Opening) (own : ℕ) where
       let both = length-append (deeds_in me.0) g.deeds in
       omega (arith, all, both, g.count)
 
-  -- behind none of them
+  -- after none of them
   no_deeds : (ds : List Deed) → length ds ≡ 0 → ds ≡ []
   no_deeds [] e = refl
   no_deeds (d ∷ ds) e = absurd (omega (arith, e))
@@ -165,7 +165,7 @@ module _ (plan : Planned) (limits : Limits) (k : Opening) (own : ℕ) where
       g.more ∙ ap (λ (l : List Deed). deeds_in me.0 ++ l) (no_deeds g.deeds (g.count ∙ none)) ∙ append-nil (deeds_in me.0) in
       subst (λ (l : List Deed). Obeying plan limits k own l pace victims) (sym same) o
 
-  -- a processor that has quit, behind what was told before
+  -- a processor that has quit, after what was told before
   pub quit_behind : (before first now : Option (List Event)) (old mid : List Event) (deeds : List Deed) → TraceGrows before first old mid
       → HasQuit plan limits k own first now mid deeds → HasQuit plan limits k own before now old deeds
   quit_behind before first now old mid deeds grew h = record {
@@ -214,7 +214,7 @@ module _ (plan : Planned) (limits : Limits) (k : Opening) (own : ℕ) where
   pub nothing_before : (past : Past) (st : Standing) → ¬ Rests plan limits own past st → told_before plan limits own past st ≡ []
   nothing_before past st none = not_parked k.shape k.code own plan limits past st none
 
-  -- behind an act
+  -- after an act
   module _ (deeds deeds' : List Deed) (deed : Deed) (act : Act) (past : Past) (pace : Pace) (victims : Drawing)
       (r : Acting plan limits k own deeds past pace victims act)
       (more : deeds' ≡ deeds ++ deed ∷ []) (tells : act_by k.shape (stands_by k own deeds) deed ≡ act) where
@@ -259,7 +259,7 @@ module _ (plan : Planned) (limits : Limits) (k : Opening) (own : ℕ) where
           one_tells;
     }
 
-    -- its event is told behind what was told so far
+    -- its event is told after what was told so far
     pub told_more : told_of_deeds plan limits k own deeds' ≡ told_so_far plan limits k own deeds past ++ event_of_deed k.shape own st deed ∷ []
     told_more =
         let up = told_before plan limits own past st in

@@ -88,7 +88,7 @@ module _ {W : Type 0} (told : W → Option (List Event)) (plan : Planned) (limit
       (subst (λ (l : List W). AllEnd told plan limits s (x && y) (ps ++ ps') l (qs ++ qs') (vs ++ vs')) (sym watchers)
       (end_append x y ps ws qs vs ps' ws' qs' vs' e h k)))
 
-  -- watchers behind the last processor stay
+  -- watchers after the last processor stay
   pub end_rest : (x : Bool) (ps : List Processor) (ws : List W) (qs : List Processor) (vs rest : List W) → length ps ≡ length ws → AllEnd told plan limits s x ps ws qs vs → AllEnd told plan limits s x ps (ws ++ rest) qs (vs ++ rest)
   end_rest x ps ws qs vs rest e h =
       subst (λ (l : List Processor). AllEnd told plan limits s x l (ws ++ rest) qs (vs ++ rest)) (append-nil ps)
@@ -96,7 +96,7 @@ module _ {W : Type 0} (told : W → Option (List Event)) (plan : Planned) (limit
       (subst (λ (b : Bool). AllEnd told plan limits s b (ps ++ []) (ws ++ rest) (qs ++ []) (vs ++ rest)) (sym (and_true x))
       (end_append x true ps ws qs vs [] rest [] rest e h (refl, refl))))
 
-  -- the same of vectors whose slices these were
+  -- the ends of processors and watchers, of vectors whose slices these were
   pub end_lent : (x : Bool) (ps : List Processor) (ws : List W) (qs : List Processor) (vs rest : List W) (processors : List Processor) (watch : List W) (processors' : List Processor) (watch' : List W)
       → length ps ≡ length ws → ps ≡ processors → ws ++ rest ≡ watch → processors' ≡ qs → watch' ≡ vs ++ rest
       → AllEnd told plan limits s x ps ws qs vs → AllEnd told plan limits s x processors watch processors' watch'
@@ -236,7 +236,7 @@ module _ {W : Type 0} (told : W → Option (List Event)) (plan : Planned) (limit
   rest_at x (p ∷ ps) (w ∷ ws) (q ∷ qs) (v ∷ vs) h zero d le = absurd (omega (arith, le))
   rest_at x (p ∷ ps) (w ∷ ws) (q ∷ qs) (v ∷ vs) h (suc k) d le = rest_at h.1 ps ws qs vs h.4 k d (omega (arith, le))
 
-  -- all of them, behind a run
+  -- all of them, after a run
   module _ (words : List ℕ) (ps : List Processor) (ws : List W) (qs : List Processor) (vs : List W) (len : length ps ≡ k.shape.processors)
       (i : InOrder s 0 ps) (n : AllBegin s ps) (run : ClosedRun k words qs) where
     pub fares : (x : Bool) → AllEnd told plan limits s x ps ws qs vs → (c : ℕ) (d : W) → c < k.shape.processors

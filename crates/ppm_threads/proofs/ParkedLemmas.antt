@@ -1,4 +1,4 @@
--- A processor that rests parks, and goes on behind that.
+-- A processor that rests parks, and goes on after that.
 use Rattle.std.proofs.Common.{◌≡◌, ◌≢◌, ◌∙◌, ◌≤◌, ◌+◌, inl, inr, ℕ, Bool, true, false, if◌then◌else◌, Option, Some, List, [], ◌∷◌, ◌++◌, arith, refl, sym, ap, subst, append_assoc}
 use Rattle.ppm_words.specs.declared.event.Event.{Event}
 use Rattle.ppm_words.specs.declared.idle.Idle.{Idle}
@@ -33,7 +33,7 @@ abbrev pub from_none : Limits → Limits
 from_none limits = record { turns = limits.turns; looks = 1; seed = limits.seed; idle = limits.idle }
 
 module _ (plan : Planned) (limits : Limits) (k : Opening) (own : ℕ) where
-  -- a processor that rests parks, and acts then with no look behind it
+  -- a processor that rests parks, and acts then with no look after it
   pub acting_rested : (deeds : List Deed) (pace pace' : Pace) (victims victims' : Drawing) (act : Act) → (r : Resting plan limits k own deeds pace victims)
       → limits.idle ≡ Park → pace'.processor ≡ pace.processor
       → IsPace plan limits (rested r.obeying.past) (stands_by k own deeds) pace'
@@ -58,7 +58,7 @@ module _ (plan : Planned) (limits : Limits) (k : Opening) (own : ℕ) where
       → told_before plan limits own past st ≡ parked st ∷ []
   parked_before past st idle rests = ap (λ (b : Bool). if b then parked st ∷ [] else []) ((parks_where_it_rests plan limits own past st).1 (idle, rests))
 
--- the pace behind a rest, as other limits of looks see it
+-- the pace after a rest, as other limits of looks see it
 pub looks_from_none : (plan : Planned) (limits : Limits) (past : Past) (st : Standing) (pace : Pace) → IsPace plan limits (rested past) st pace
     → IsPace plan (from_none limits) (rested past) st pace
 looks_from_none plan limits past st pace p = record {
@@ -74,7 +74,7 @@ pub none_rests : (plan : Planned) (limits : Limits) (own : ℕ) (past : Past) (s
     → ¬ Rests plan (from_none limits) own (rested past) st
 none_rests plan limits own past st r = let e : 1 ≤ 0 = r.looked in absurd (omega (arith, e))
 
--- so it makes its next act then
+-- a processor that rested makes its next act then
 pub next_rested : (plan : Planned) (limits : Limits) (k : Opening) (own : ℕ) (deeds : List Deed) (pace pace' : Pace) (victims victims' : Drawing)
     (act : Option Act)
     → (r : Resting plan limits k own deeds pace victims) → pace'.processor ≡ pace.processor

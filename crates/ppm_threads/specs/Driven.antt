@@ -46,7 +46,7 @@ module _ {W : Type 0} (told : W → Option (List Event)) (plan : Planned) (limit
     pub quits : taken ≡ false → HasQuit plan limits (opening_of s) p.local.own (told w) (told v)
         (told_of_deeds plan limits (opening_of s) p.local.own (deeds_of_processor p)) (deeds_of_processor q)
 
-  -- the same of each, where all watchers together refused nothing, or one did; those behind the last processor stay
+  -- each processor before and after, where all watchers together refused nothing, or one did; those after the last processor stay
   abbrev pub AllEnd : Shared → (taken : Bool) → List Processor → List W → List Processor → List W → Type 0
   AllEnd s taken [] ws [] vs = (ws ≡ vs) × (taken ≡ true)
   AllEnd s taken [] ws (q ∷ qs) vs = ⊥
@@ -56,16 +56,16 @@ module _ {W : Type 0} (told : W → Option (List Event)) (plan : Planned) (limit
   AllEnd s taken (p ∷ ps) (w ∷ ws) (q ∷ qs) (v ∷ vs) =
       (first : Bool) × (rest : Bool) × (taken ≡ (first && rest)) × Ends s first p w q v × AllEnd s rest ps ws qs vs
 
-  -- a processor obeys in a run, and behind the list of its watcher stands what is told of it there: its record, and event 7 where it has parked
+  -- a processor obeys in a run, and after the list of its watcher stands what is told of it there: its record, and event 7 where it has parked
   abbrev pub IsToldOf : Opening → List Turn → (processor : ℕ) → Option (List Event) → Option (List Event) → Type 0
   IsToldOf k turns c before now =
       ObeysIn plan limits c k.shape k.code (start k) turns × AppendsList before now (told_in plan limits c k.shape k.code (start k) turns)
 
-  -- its watcher refused an event, behind the list of those before, and what it does in the run is what it did until it has quit
+  -- its watcher refused an event, after the list of those before, and what it does in the run is what it did until it has quit
   abbrev pub HasQuitIn : Opening → List Turn → (processor : ℕ) → Option (List Event) → Option (List Event) → Type 0
   HasQuitIn k turns c before now = HasQuit plan limits k c before now [] (deeds_in_run k c turns)
 
-  -- There is one run, behind which the words are these. Each processor obeys in it, and its watcher is told of that.
+  -- There is one run, after which the words are these. Each processor obeys in it, and its watcher is told of that.
   pub record Driven (k : Opening) (words : List ℕ) (old new : List W) : Type 0 where
     pub turns : List Turn
     pub words_are : (behind_turns k turns).words ≡ words

@@ -39,7 +39,7 @@ TraceGrows before now old new = (list : List Event) → before ≡ Some (list ++
 abbrev pub HasMoreDeeds : (made : ℕ) → Mine → Mine → Type 0
 HasMoreDeeds made me me' = length (deeds_in me'.0) ≡ length (deeds_in me.0) + made
 
--- behind these deeds a processor gives up, which is its last deed; or it is done, and makes none any more
+-- after these deeds a processor gives up, which is its last deed; or it is done, and makes none any more
 abbrev pub GaveUp : Opening → (own : ℕ) → (before deeds : List Deed) → Type 0
 GaveUp k own before deeds =
     ((stands_by k own before ≢ IsDone) × (deeds ≡ before ++ Quitted Watch ∷ [])) ⊎ ((stands_by k own before ≡ IsDone) × (deeds ≡ before))
@@ -50,7 +50,7 @@ module _ (plan : Planned) (limits : Limits) where
   told_of_deeds k own deeds =
       told_from plan limits own nothing_done (acts_of k.shape k.code own IsLost deeds) (shown_by k own deeds)
 
-  -- with such a past, whatever obeys behind these deeds obeys from the beginning on, and what is told of it is told behind what is told of them
+  -- with such a past, whatever obeys after these deeds obeys from the beginning on, and what is told of it is told after what is told of them
   pub record Follows (k : Opening) (own : ℕ) (deeds : List Deed) (past : Past) : Type 0 where
     pub back : (more : List Acted) (stands : Standing) → Obeys plan limits own past more stands
         → Obeys plan limits own nothing_done (acts_of k.shape k.code own IsLost deeds ++ more) stands
@@ -66,12 +66,12 @@ module _ (plan : Planned) (limits : Limits) where
     pub drawn : HasDrawn plan limits own past victims
     pub follows : Follows k own deeds past
 
-  -- so it does, and it rests
+  -- what a processor has done obeys so far, and it rests
   pub record Resting (k : Opening) (own : ℕ) (deeds : List Deed) (pace : Pace) (victims : Drawing) : Type 0 where
     pub obeying : Obeying k own deeds pace victims
     pub rests : Rests plan limits own obeying.past (stands_by k own deeds)
 
-  -- so it does, with such a past, and goes on to make its next act; where it was to park, it has
+  -- what a processor has done obeys, with such a past, and it goes on to make its next act; where it was to park, it has
   pub record Acting (k : Opening) (own : ℕ) (deeds : List Deed) (past : Past) (pace : Pace) (victims : Drawing) (act : Act) : Type 0 where
     pub number : pace.processor ≡ own
     pub pace_is : IsPace plan limits (awake plan limits own past (stands_by k own deeds)) (stands_by k own deeds) pace
@@ -93,14 +93,14 @@ module _ (plan : Planned) (limits : Limits) where
   abbrev pub ObeysSoFar : Opening → (own : ℕ) → List Deed → Type 0
   ObeysSoFar k own deeds = Obeys plan limits own nothing_done (acts_of k.shape k.code own IsLost deeds) IsDone
 
-  -- these are the events up to one that a watcher may refuse behind such deeds: that of the last of them, or event 7, where it is to park then; what
+  -- these are the events up to one that a watcher may refuse after such deeds: that of the last of them, or event 7, where it is to park then; what
   -- would be told of a quit there ends with them and the quit's
   abbrev pub AreUpTo : Opening → (own : ℕ) → List Deed → List Event → Type 0
   AreUpTo k own deeds events =
       (told_of_deeds k own deeds ≡ events) ⊎ ((quit : Event) × (told_of_deeds k own (deeds ++ Quitted Watch ∷ []) ≡ events ++ quit ∷ []))
 
   -- A processor has given up, since its watcher refused an event. Up to the act of that event it obeys, and of all up to that event its watcher was
-  -- told, behind which it had this at its end.
+  -- told, after which it had this at its end.
   pub record HasQuit (k : Opening) (own : ℕ) (before now : Option (List Event)) (old : List Event) (deeds : List Deed) : Type 0 where
     pub obeyed : List Deed
     pub obeys : ObeysSoFar k own obeyed
@@ -110,7 +110,7 @@ module _ (plan : Planned) (limits : Limits) where
     pub up_to : AreUpTo k own obeyed (told ++ refused ∷ [])
     pub grows : TraceGrows before now old told
 
-  -- behind so many acts, of which its watcher was told; or it refused one
+  -- after so many acts, of which its watcher was told; or it refused one
   abbrev pub GoesAhead : Opening → (own : ℕ) → Option (List Event) → Option (List Event) → Mine → Mine → Pace → Drawing → (made : Option ℕ) → Type 0
   GoesAhead k own before now me me' pace victims (Some made) =
       Obeying k own (deeds_in me'.0) pace victims
@@ -118,7 +118,7 @@ module _ (plan : Planned) (limits : Limits) where
       × HasMoreDeeds made me me'
   GoesAhead k own before now me me' pace victims None = HasQuit k own before now (told_of_deeds k own (deeds_in me.0)) (deeds_in me'.0)
 
-  -- behind its next acts: there was one, and it goes on; or its acts stop; or its watcher has refused
+  -- after its next acts: there was one, and it goes on; or its acts stop; or its watcher has refused
   abbrev pub RunsOn : Opening → (own : ℕ) → Option (List Event) → Option (List Event) → Mine → Mine → Pace → Drawing → ActResult → Type 0
   RunsOn k own before now me me' pace victims More =
       Obeying k own (deeds_in me'.0) pace victims
@@ -128,7 +128,7 @@ module _ (plan : Planned) (limits : Limits) where
       OwnObeys k own (deeds_in me'.0) × TraceGrows before now (told_of_deeds k own (deeds_in me.0)) (told_of_deeds k own (deeds_in me'.0))
   RunsOn k own before now me me' pace victims Refused = HasQuit k own before now (told_of_deeds k own (deeds_in me.0)) (deeds_in me'.0)
 
--- where a processor goes behind an act that its watcher took, or refused
+-- where a processor goes after an act that its watcher took, or refused
 abbrev pub act_result_of : (taken : Bool) → ActResult
 act_result_of true = More
 act_result_of false = Refused

@@ -154,7 +154,7 @@ pub fn drive_counted<W: Watch, R: Threads + Wait + Sync>(
     requires plan { plan.now.processors ≡ shared.shape.processors }
     requires watchers { vec_len processors ≤ vec_len watch.old }
 
-    // Each list keeps what it had in front, and the watchers after the last processor stay, whatever
+    // Each list keeps what it had before, and the watchers after the last processor stay, whatever
     // the answer is.
     ensures kept { (vec_len watch.new ≡ vec_len watch.old)
         × AllKeep W.told watch.old.items watch.new.items }
@@ -213,7 +213,7 @@ pub fn drive<W: Watch, R: Threads + Wait + Sync>(
     requires plan { plan.now.processors ≡ shared.shape.processors }
     requires watchers { vec_len processors ≤ vec_len watch.old }
 
-    // Each list keeps what it had in front, and the watchers behind the last processor stay, whatever
+    // Each list keeps what it had before, and the watchers after the last processor stay, whatever
     // the answer is.
     ensures kept { (vec_len watch.new ≡ vec_len watch.old)
         × AllKeep W.told watch.old.items watch.new.items }

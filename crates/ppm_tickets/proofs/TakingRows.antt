@@ -191,7 +191,7 @@ module _ (shut : ℕ → Type 0) (m : Spot → Word) (k : ℕ → RestartKind) (
   abbrev pub IsNoThief : RestartKind → Type 0
   IsNoThief K = (x j : ℕ) → IsThief K x j → ⊥
 
-  -- so it inherits from one place that is none
+  -- a place inherits from one place that is no thief
   pub one_place : (a c : Inherits shut m k b h e p) → IsNoThief (k a.place) → IsNoThief (k c.place) → a.place ≡ c.place
   one_place a c na nc = elim (order (length a.through) (length c.through)) [
     | inl same ↦ let one : (a.place ∷ a.through) ≡ (c.place ∷ c.through) = same_way (a.place ∷ a.through) (c.place ∷ c.through) (omega (arith, same)) a.way c.way in ap (heir_from p) one

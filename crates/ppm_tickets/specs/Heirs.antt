@@ -49,7 +49,7 @@ module _ (shut : ℕ → Type 0) (m : Spot → Word) (k : ℕ → RestartKind) (
   MayBegin r = (h r ≡ Stolen p)
       ⊎ ((i : Inherits) × ((h r ≡ Popping i.place) ⊎ (h r ≡ Stolen i.place)))
 
-  -- so of any place that is about to: it got it back itself, or one of these
+  -- a branch that the place is about to take: it got it back itself, or is about to begin it
   abbrev pub MayTake : (block : ℕ) → Type 0
   MayTake r = (h r ≡ Popping p) ⊎ MayBegin r
 
@@ -80,7 +80,7 @@ module _ (shut : ℕ → Type 0) (m : Spot → Word) (k : ℕ → RestartKind) (
   ChecksSo (Exchange cell old new next) = ⊥
   ChecksSo row = Unit {0}
 
--- so it is in each lawful state
+-- in each lawful state a row of Check ends, and loads next, as what its place may inherit says
 abbrev pub HeirsSee : Type 0
 HeirsSee = (s : Shape) (code : CodeParts) → s.takeover ≡ ByEntries
     → (state : State) (h : ℕ → Home) (forked taken : List ℕ) (law : IsLawful s code state h forked taken)
@@ -107,7 +107,7 @@ module _ (s : Shape) (code : CodeParts) where
       → (c : ℕ) (seat : Seat) (row : Row) (r : ℕ) → stand_of state c ≡ IsWithin seat row → Begins r row → IsTaker seat.restart.kind
       → MayTake (Closed s.takeover (view s state.words)) (view s state.words) (kinds s state.words) (bottoms s state.words) h law.1.board seat.place r
 
-  -- so no two places are about to begin one
+  -- no two places are about to begin one branch
   abbrev pub OneTakes : Type 0
   OneTakes = s.takeover ≡ ByEntries → (state : State) (h : ℕ → Home) (f tk : List ℕ) (law : IsLawful s code state h f tk)
       → (c d : ℕ) (seat chair : Seat) (row other : Row) (r : ℕ)

@@ -165,7 +165,7 @@ module _ (s : Shape) (m : Spot → Word) where
       pub kind : k p ≡ restart.kind
       pub bottom : b p ≡ restart.bottom
 
-    -- so is one that was read, if its word could be
+    -- a restart that was read is what place p is at, if its word could be read
     abbrev pub IsOfIf : (p : ℕ) → Option Restart → Type 0
     IsOfIf p None = Unit {0}
     IsOfIf p (Some restart) = IsOf p restart

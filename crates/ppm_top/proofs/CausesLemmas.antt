@@ -120,7 +120,7 @@ pub by_command : (words : List (List ℕ)) (o : Outside) (status : Status) (comm
     Answers (CommandMay command o) (CommandTells command o) o status → IsAnswered words o status
 by_command words o status command e a = subst (λ c. Answers (CommandMay c o) (CommandTells c o) o status) (sym e) a
 
--- so does one that was delivered by a command without watchers
+-- an answer that was delivered by a command without watchers answers the words
 pub by_ports : (words : List (List ℕ)) (o : Outside) (status : Status) (command : Option Command) → command_of words ≡ command →
     CommandTells command o ≡ TellsNothing → o.told_now ≡ o.told_before → DeliversAnswer (CommandMay command o) (ports_of o) status →
     IsAnswered words o status

@@ -16,7 +16,7 @@ LinesFollowOn = (names : Names) (only : Only) (from : ℕ) (m : Situation) (firs
     → along_turns (shown_line names only from) m (first ++ more)
     ≡ along_turns (shown_line names only from) m first ++ along_turns (shown_line names only from) (run_on m first) more
 
--- so it is with what is counted
+-- what is counted along turns after others goes on from what those counted
 abbrev pub CountsFollowOn : Type 0
 CountsFollowOn = (from : ℕ) (c : Counts) (m : Situation) (first more : List Turn)
     → counts_along from c m (first ++ more) ≡ counts_along from (counts_along from c m first) (run_on m first) more

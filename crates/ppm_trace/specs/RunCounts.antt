@@ -40,6 +40,6 @@ module _ (ordered : ℕ) (m : Situation) (turns : List Turn) where
     pub forks : (run_counts ordered m turns).forks ≡ length (along m.shape m.code forks_of m.state turns)
     pub takes : (run_counts ordered m turns).takes ≡ length (along m.shape m.code takes_of m.state turns)
 
--- so it is of all runs
+-- in all runs the counts are those of the turns
 abbrev pub CountsAreOfTurns : Type 0
 CountsAreOfTurns = (ordered : ℕ) (m : Situation) (turns : List Turn) → IsOfTurns ordered m turns

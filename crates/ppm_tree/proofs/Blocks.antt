@@ -50,7 +50,7 @@ each_is i x r v =
     let row = first_row (stmt.Each i x r v) in
     ap (Each i x r) (row_is row.0 row.1 ∙ ap block_of (items_hidden-the_row-Stmt-0 v))
 
--- the same of a statement that is known to be such a one
+-- a statement that is known to be one that holds blocks, by the lists of these
 module _ (s : Stmt) where
   pub is_if : (e : Expr) (v w : Vec Stmt Global) → s ≡ stmt.If e v w
       → statement_of s ≡ If (expression_of e) (block_of v.items) (block_of w.items)

@@ -50,7 +50,7 @@ module _ (form : Form) (procedures : List Procedure) where
     sweep : (i x : Named) (s : Block) (r : Region) (f : Frame) (k m : ℕ) (a : Arrays) → OfSweep n i x s r f k m a
 
   module _ (n : ℕ) (p : Goes n) where
-    -- what stands behind a statement that ended
+    -- what stands after a statement that ended
     rest : (b : Block) (f : Frame) (u : End Locals) → OfRest n b f u
     rest b f (Ended l a) = elim (p.block b (with_locals f l) a) [ inl d ↦ inl (d.0, d.1, GoesOn b f l a d.2) | inr q ↦ inr (Behind b f l a q) ]
     rest b f (Trapped stop a) = inl (none, Trapped stop a, Stops b f stop a)
@@ -217,7 +217,7 @@ module _ (form : Form) (procedures : List Procedure) where
     sweep = next_sweep n p;
   }
 
--- so with the run of a program
+-- no run of a program is stuck
 pub none_is_stuck : NoneIsStuck
 none_is_stuck form t a = record {
   goes_on = λ n. (goes form t.procedures n).body (main_of t) (main_frame t.arrays (main_of t).parameters) a;

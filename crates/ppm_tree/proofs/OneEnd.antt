@@ -20,7 +20,7 @@ not_both p q = cc
 err_same : {A T : Type 0} {r : Result A T} {x y : T} → r ≡ Err x → r ≡ Err y → x ≡ y
 err_same p q = cc
 
--- behind a trap the plain form does not go on
+-- after a trap the plain form does not go on
 pub not_on : {A : Type 0} {form : Form} {x : End A} {stop : TrapAt} {a : Arrays} → form ≡ Plain → x ≡ Trapped stop a → goes_on form x ≡ true → ⊥
 not_on {form = Plain} {x = Ended v b} p q h = cc
 not_on {form = Plain} {x = Trapped s b} p q h = cc
@@ -171,6 +171,6 @@ module _ (form : Form) (procedures : List Procedure) where
     one_sweeps (SweepStops i x s r f n m a c stop plain d) (SweepStops i' x' s' r' f' n' m' a' c' stop' plain' d') = let p =
         one d d' in (ap (both (spent 8)) p.0, p.1)
 
-  -- so in the law's words
+  -- the law of one end, of all blocks and procedures
   pub one_end : HasOneEnd form procedures
   one_end = record { block = λ b f a j k y z d d'. one d d'; procedure = λ p f a j k y z d d'. one_enters d d' }

@@ -21,7 +21,7 @@ behind : {A : Type 0} (i : Counts) {j k : Counts} {y z : End A} → IsAlike j y 
 behind i (Same k x a) = Same (both i k) x a
 behind i (SameTrap j k stop a b le) = SameTrap (both i j) (both i k) stop a b (omega (arith, le))
 
--- with more behind the later one of two that trap
+-- with more after the later one of two that trap
 longer : {A : Type 0} (i : Counts) {j k : Counts} {y z : End A} → IsAlike j y k z → (stop : TrapAt) (a : Arrays) → z ≡ Trapped stop a
     → IsAlike j y (both k i) z
 longer i (Same k x a) stop b p = absurd (cc)
@@ -41,7 +41,7 @@ returned_alike : (t : Option Named) (f : Frame) {j k : Counts} {y z : End ℤ} �
 returned_alike t f (Same k x a) = alike k (returned t f (Ended x a))
 returned_alike t f (SameTrap j k stop a b le) = SameTrap j k stop a b le
 
--- what a body gives behind ends alike
+-- what a body gives after ends alike
 given_alike : (g : Option Give) (f : Frame) {j k : Counts} {y z : End Locals} → IsAlike j y k z
     → IsAlike (both j (give_turn g y)) (given g f y) (both k (give_turn g z)) (given g f z)
 given_alike g f (Same k x a) = alike (both k (give_turn g (Ended x a))) (given g f (Ended x a))
@@ -62,7 +62,7 @@ grouped i j k l m {y} {z} h = subst₂ (λ (j k : Counts). IsAlike j y k z) (bot
 not_plain : Whole ≡ Plain → ⊥
 not_plain p = cc
 
--- what runs behind a trap is the trap
+-- what runs after a trap is the trap
 stays : {form : Form} {procedures : List Procedure} {b : Block} {f : Frame} {u : End Locals} {k : Counts} {z : End Locals} → Follows form procedures b f u k z
     → (stop : TrapAt) (a : Arrays) → u ≡ Trapped stop a → z ≡ Trapped stop a
 stays (GoesOn b f l a r) stop c p = absurd (cc)
@@ -82,7 +82,7 @@ module _ (procedures : List Procedure) where
   abbrev PlainSweeps : Named → Named → Block → Region → Frame → ℕ → ℕ → Arrays → Counts → End Locals → Type 0
   PlainSweeps i x s r f n m a k z = (j : Counts) × (y : End Locals) × Sweeps Plain procedures i x s r f n m a j y × IsAlike j y k z
 
-  -- the rest of a block, behind ends alike
+  -- the rest of a block, after ends alike
   abbrev PlainFollows : Block → Frame → End Locals → Counts → End Locals → Type 0
   PlainFollows b f u k z = (i j : Counts) (v : End Locals) → IsAlike i v j u
       → (l : Counts) × (y : End Locals) × Follows Plain procedures b f v l y × IsAlike (both i l) y (both j k) z
@@ -100,7 +100,7 @@ module _ (procedures : List Procedure) where
       → (j : Counts) × (y : End Locals) × Follows Plain procedures b f u j y × IsAlike (both (spent 1) j) y (both (spent 1) k) z
   one_turn b f u k z p = p (spent 1) (spent 1) u (alike (spent 1) u)
 
-  -- the ends of two branches, alike, behind a left one without a trap
+  -- the ends of two branches, alike, after a left one without a trap
   joined_alike : (x y : Option Named) (f : Frame) (v : ℤ) (a : Arrays) {j k : Counts} {u w : End ℤ} → IsAlike j u k w
       → IsAlike j (joined x y f (Ended v a) u) k (joined x y f (Ended v a) w)
   joined_alike x y f v a (Same k w b) = alike k (joined x y f (Ended v a) (Ended w b))
@@ -124,7 +124,7 @@ module _ (procedures : List Procedure) where
         subst (λ (z : End Locals). IsAlike (both (forked s t) i') (Trapped stop c) (both (forked s t) (both i (both j k))) z) (sym e) stopped,
       )
 
-  -- one block of an `each` that ends alike, from what those behind it do
+  -- one block of an `each` that ends alike, from what those after it do
   sweep_alike : (i x : Named) (s : Block) (r : Region) (f : Frame) (n m : ℕ) (a : Arrays) {j j' k : Counts} {y y' z : End Locals}
       → Runs Plain procedures s (with_element f r n i x) a j' y' → IsAlike j' y' j y → PlainSweeps i x s r f (suc n) m (arrays_of y) k z
       → PlainSweeps i x s r f n (suc m) a (both (spent 8) (both j k)) (first_trap y z)
@@ -137,7 +137,7 @@ module _ (procedures : List Procedure) where
         (arrays_of z) (omega (arith, le)),
   )
 
-  -- one block of a loop that ends alike, from what the loop behind it does
+  -- one block of a loop that ends alike, from what the loop after it does
   turn_alike : (e : Expression) (s : Block) (f : Frame) (a c : Arrays) (v : ℤ) (l : Locals) {j k : Counts} {z : End Locals}
       → evaluate f a e ≡ Ok v → holds v ≡ true → PlainRuns s f a j (Ended l c) → PlainLoops e s (with_locals f l) c k z
       → PlainLoops e s f a (both (spent 1) (both j k)) z

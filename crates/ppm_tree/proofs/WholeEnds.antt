@@ -33,7 +33,7 @@ before_rest (Ended l a) z h = (record {}, h)
 before_rest (Trapped stop a) z h = absurd h
 
 module _ (procedures : List Procedure) where
-  -- what follows is without a trap only behind what has none
+  -- what follows is without a trap only after what has none
   before : {b : Block} {f : Frame} {u : End Locals} {k : Counts} {z : End Locals} → Follows Plain procedures b f u k z → IsEnd z → IsEnd u
   before (GoesOn b f l a r) h = record {}
   before (Stops b f stop a) h = h
@@ -82,7 +82,7 @@ module _ (procedures : List Procedure) where
         Sweep i x s r f n m a (wholly d ends.0) refl (wholly_sweeps w ends.1)
     wholly_sweeps (SweepStops i x s r f n m a c stop plain d) h = absurd h
 
--- so with the run of a program
+-- where the whole form of a program ends, so does the plain one, and the other way round without a trap
 pub ends_whole : (t : ProgramTree) → EndsWhole t
 ends_whole t = record {
   plain = λ a k z r. whole_enters t.procedures r;

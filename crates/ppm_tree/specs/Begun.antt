@@ -10,7 +10,7 @@ use Rattle.ppm_tree.specs.Program.{main_of, main_frame, Means}
 
 module _ (form : Form) (procedures : List Procedure) where
   mutual
-    -- a block spends so many turns: it is stopped here, in a part of its first statement, or behind that
+    -- a block spends so many turns: it is stopped here, in a part of its first statement, or after that
     pub data Begins : ℕ → Block → Frame → Arrays → Type 0 where
       Here : (b : Block) (f : Frame) (a : Arrays) → Begins zero b f a
       BehindLet : (x : Named) (e : Expression) (b : Block) (f : Frame) (a : Arrays) {n : ℕ}
@@ -53,11 +53,11 @@ module _ (form : Form) (procedures : List Procedure) where
           → Sweeps form procedures i x s (f.regions r.name) f 0 (f.regions r.name).length a j y → BeginsBehind n b f y
           → Begins (suc n) (Then (tree.Each i x r s) b) f a
 
-    -- the rest of a block does, behind a statement without a trap
+    -- the rest of a block does, after a statement without a trap
     pub data BeginsBehind : ℕ → Block → Frame → End Locals → Type 0 where
       Behind : (b : Block) (f : Frame) (l : Locals) (a : Arrays) {n : ℕ} → Begins n b (with_locals f l) a → BeginsBehind n b f (Ended l a)
 
-    -- a loop does: in a block, or behind one
+    -- a loop does: in a block, or after one
     pub data BeginsLoop : ℕ → Expression → Block → Frame → Arrays → Type 0 where
       AtLoop : (e : Expression) (s : Block) (f : Frame) (a : Arrays) → BeginsLoop zero e s f a
       InTurn : (e : Expression) (s : Block) (f : Frame) (a : Arrays) (v : ℤ) {n : ℕ}
@@ -71,7 +71,7 @@ module _ (form : Form) (procedures : List Procedure) where
       AtEntry : (p : Procedure) (f : Frame) (a : Arrays) → BeginsBody zero p f a
       InBody : (p : Procedure) (f : Frame) (a : Arrays) {n : ℕ} → Begins n p.body f a → BeginsBody (suc n) p f a
 
-    -- the blocks of an `each` do: in one, or behind it
+    -- the blocks of an `each` do: in one, or after it
     pub data BeginsSweep : ℕ → Named → Named → Block → Region → Frame → ℕ → ℕ → Arrays → Type 0 where
       AtEach : (i x : Named) (s : Block) (r : Region) (f : Frame) (k m : ℕ) (a : Arrays) → BeginsSweep zero i x s r f k m a
       InBlock : (i x : Named) (s : Block) (r : Region) (f : Frame) (k m : ℕ) (a : Arrays) {n : ℕ}
@@ -87,6 +87,6 @@ pub record IsNeverStuck (form : Form) (t : ProgramTree) (a : Arrays) : Type 0 wh
   pub spends : (n : ℕ) (k : Counts) (z : End ℤ) → BeginsBody form t.procedures n (main_of t) (main_frame t.arrays (main_of t).parameters) a
       → Means form t a k z → n ≤ k.turns
 
--- so it is with all programs, from all arrays, in both forms
+-- no program is stuck, from any arrays, in either form
 abbrev pub NoneIsStuck : Type 0
 NoneIsStuck = (form : Form) (t : ProgramTree) (a : Arrays) → IsNeverStuck form t a

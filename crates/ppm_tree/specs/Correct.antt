@@ -14,7 +14,7 @@ pub record HasOneEnd (form : Form) (procedures : List Procedure) : Type 0 where
   pub procedure : (p : Procedure) (f : Frame) (a : Arrays) (j k : Counts) (y z : End ℤ)
       → Enters form procedures p f a j y → Enters form procedures p f a k z → (j ≡ k) × (y ≡ z)
 
--- so it is with all procedures
+-- blocks and procedures have one end at most, whatever the procedures, in each form
 abbrev pub HaveOneEnd : Type 0
 HaveOneEnd = (form : Form) (procedures : List Procedure) → HasOneEnd form procedures
 
@@ -30,7 +30,7 @@ pub record SpendsItsTurns (t : ProgramTree) : Type 0 where
   pub within : (n : ℕ) (k : Counts) (z : End ℤ) → Spends t k z → Serial t n (outcome_of (initial_arrays t) z) ↔ (k.turns ≤ n)
   pub not_within : (n : ℕ) → Serial t n outcome.NotWithin ↔ ((k : Counts) (z : End ℤ) → Spends t k z → n < k.turns)
 
--- so it is with all programs
+-- every program has its end exactly within the turns that it spends
 abbrev pub SpendTheirTurns : Type 0
 SpendTheirTurns = (t : ProgramTree) → SpendsItsTurns t
 
@@ -44,6 +44,6 @@ pub record EndsWhole (t : ProgramTree) : Type 0 where
   pub plain : (a : Arrays) (k : Counts) (z : End ℤ) → Means Whole t a k z → (j : Counts) × (y : End ℤ) × Means Plain t a j y × IsAlike j y k z
   pub whole : (a b : Arrays) (k : Counts) (v : ℤ) → Means Plain t a k (Ended v b) → Means Whole t a k (Ended v b)
 
--- so it is with all programs
+-- where the whole form of any program ends, so does the plain one, alike; where the plain one ends without a trap, the whole one ends too
 abbrev pub EndWhole : Type 0
 EndWhole = (t : ProgramTree) → EndsWhole t

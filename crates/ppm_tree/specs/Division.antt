@@ -8,6 +8,6 @@ pub record IsTruncated (x y q r : ℤ) : Type 0 where
   pub not_below : (m : ℕ) → x ≡ pos m → (n : ℕ) × (r ≡ pos n)
   pub not_above : (m : ℕ) → x ≡ neg_ℤ (pos m) → (n : ℕ) × (r ≡ neg_ℤ (pos n))
 
--- so are those of each division but by 0
+-- each division but by 0 truncates towards zero
 abbrev pub DivideTowardsZero : Type 0
 DivideTowardsZero = (x y : ℤ) → y ≢ pos 0 → IsTruncated x y (int_div x y) (int_rem x y)

@@ -6,7 +6,7 @@ use Rattle.ppm_tree.specs.Values.{holds}
 use Rattle.ppm_tree.specs.State.{TrapAt, then_with, Region, first_part, second_part, part_at, Locals, Frame, with_region, with_local, with_locals}
 use Rattle.ppm_tree.specs.State.{Arrays, with_word, split_at, evaluate, put_values, procedure_named, entered, both_entered, delivered}
 
--- Plain: a trap stops the run. Whole: both branches of a fork run, and all blocks of an `each`; those behind a trap run from
+-- Plain: a trap stops the run. Whole: both branches of a fork run, and all blocks of an `each`; those after a trap run from
 -- the arrays that it leaves, which by the region rules are to them as at the start (`run_in_either_order` of `ppm_ownership`).
 pub data Form : Type 0 where
   Plain : Form
@@ -88,12 +88,12 @@ joined x y frame (Trapped stop arrays) right = Trapped stop (arrays_of right)
 joined x y frame (Ended v arrays) (Trapped stop arrays') = Trapped stop arrays'
 joined x y frame (Ended v arrays) (Ended w arrays') = Ended (delivered y w (delivered x v frame)).locals arrays'
 
--- the end of one block of an `each` and of those behind it: the trap of the least index, else the locals as they were
+-- the end of one block of an `each` and of those after it: the trap of the least index, else the locals as they were
 abbrev pub first_trap : End Locals → End Locals → End Locals
 first_trap (Ended locals arrays) rest = rest
 first_trap (Trapped stop arrays) rest = Trapped stop (arrays_of rest)
 
--- whether what is beside a stretch still runs behind it: always in the whole form, else where it has no trap
+-- whether what is beside a stretch still runs after it: always in the whole form, else where it has no trap
 abbrev pub goes_on : {A : Type 0} → Form → End A → Bool
 goes_on Whole end = true
 goes_on Plain (Ended x arrays) = true
@@ -174,7 +174,7 @@ module _ (form : Form) (procedures : List Procedure) where
           → Sweeps i x s (f.regions r.name) f 0 (f.regions r.name).length a j y → Follows b f y k z
           → Runs (Then (tree.Each i x r s) b) f a (both (swept i x r s (f.regions r.name).length) (both j k)) z
 
-    -- the rest of a block, behind a statement that ended so: it runs with the new locals, or a trap is the end
+    -- the rest of a block, after a statement that ended so: it runs with the new locals, or a trap is the end
     pub data Follows : Block → Frame → End Locals → Counts → End Locals → Type 0 where
       GoesOn : (b : Block) (f : Frame) (l : Locals) (a : Arrays) {k : Counts} {z : End Locals}
           → Runs b (with_locals f l) a k z → Follows b f (Ended l a) k z

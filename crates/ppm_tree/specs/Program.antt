@@ -34,7 +34,7 @@ with_names [] values = []
 with_names (a ∷ arrays) [] = []
 with_names (a ∷ arrays) (v ∷ values) = record { name = a.name; values = v } ∷ with_names arrays values
 
--- the whole of the array with the name, at the place k or behind it
+-- the whole of the array with the name, at the place k or after it
 abbrev pub whole_from : ℕ → List Array → List ℕ → Region
 whole_from k [] x = nowhere
 whole_from k (a ∷ arrays) x = if bytes_eq a.name.name x then record { array = k; start = 0; length = a.words } else whole_from (suc k) arrays x

@@ -43,7 +43,7 @@ nowhere = record { array = 0; start = 0; length = 0 }
 abbrev pub first_part : ℕ → Region → Region
 first_part n r = record { array = r.array; start = r.start; length = n }
 
--- the words of a region behind the first ones, so many
+-- the words of a region after the first ones, so many
 abbrev pub second_part : ℕ → Region → Region
 second_part n r = record { array = r.array; start = r.start + n; length = r.length - n }
 

@@ -57,7 +57,7 @@ pub record Give : Type 0 where
   pub line : ℕ
   pub value : Expression
 
--- a procedure: its name, its parameters, the statements of its body and what the body gives behind them, if anything
+-- a procedure: its name, its parameters, the statements of its body and what the body gives after them, if anything
 pub record Procedure : Type 0 where
   pub name : Named
   pub parameters : List Parameter

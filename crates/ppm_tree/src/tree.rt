@@ -77,7 +77,7 @@ pub struct Parameter {
     pub name: Named,
 }
 
-/// A procedure: its name, its parameters, the statements of its body and what the body gives behind
+/// A procedure: its name, its parameters, the statements of its body and what the body gives after
 /// them, if anything.
 #[derive(Drop)]
 pub struct Proc {

@@ -24,7 +24,7 @@ past_last code number past =
     let none : instrs_of code number ≡ [] = ap instrs_in (slice_get_past code.capsules number past) in
     subst (λ (is : List Instr). HasNoConflict is) (sym none) nothing_there
 
--- so far, and here
+-- what holds below n and at n holds below n + 1
 pub and_here : (P : ℕ → Type 0) (n : ℕ) → ((k : ℕ) → k < n → P k) → P n → (k : ℕ) → k < n + 1 → P k
 and_here P n below here k less = by (nat_lt k n) refl
   where

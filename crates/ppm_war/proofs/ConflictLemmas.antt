@@ -27,7 +27,7 @@ none_below P n below here k less p = by (nat_lt k n) refl
     by true e = below k (ltb-true k n e) p
     by false e = let same : k ≡ n = omega (arith, less, ltb-false k n e) in here (subst P same p)
 
--- so a number of which it holds is not below
+-- a number with a property that none below n has is not below n
 at_most : (P : ℕ → Type 0) (n k : ℕ) → ((j : ℕ) → j < n → P j → ⊥) → P k → n ≤ k
 at_most P n k below p = by (nat_lt k n) refl
   where
@@ -45,7 +45,7 @@ module _ (is : List Instr) where
   of_class read write c d reads x = subst (λ (k : Class). IsConflict is read write k) (one_class read c d reads x.exposed.reads) x
 
   module _ (read : ℕ) (c : Class) where
-    -- the write of a conflict is one to which a path leads from behind its read
+    -- the write of a conflict is one to which a path leads from after its read
     leads : (write : ℕ) → IsConflict is read write c → LeadsToWrite is c (read + 1) write
     leads write x = (subst (λ (n : ℕ). Path is Any n write) x.goes_on x.between, x.writes)
 
@@ -59,7 +59,7 @@ module _ (is : List Instr) where
       writes = h.1;
     }
 
-    -- so the first one is the first in conflict
+    -- the first write that is led to is the first in conflict
     pub first_in_conflict : (o : Option ℕ) → Does is read (Read c) → Path is (Exposes c) 0 read → IsFirst (LeadsToWrite is c (read + 1)) o
         → IsFirst (λ write. IsConflict is read write c) o
     first_in_conflict o reads before =
@@ -162,7 +162,7 @@ module _ (is : List Instr) (place : ℕ) where
     | inr here ↦ absurd (none c (same_what is Any place (Read c) m here does))
   ]
 
-  -- behind the last instruction all classes were met
+  -- after the last instruction all classes were met
   pub all_met : (found : Option Found) → length is ≤ place → IsAnswer (IsReadBelow is place) is found
       → MatchOption found (HasNoConflict is) (IsFirstConflict is)
   all_met None past none = λ read write c x.

@@ -43,7 +43,7 @@ what_of [] k m (i, e, f) = cc
 what_of (j ∷ is) zero m (i, e, f) = let same : j ≡ i = cc in ap Some (ap may same ∙ f)
 what_of (j ∷ is) (suc k) m does = what_of is k m does
 
--- so it is among them
+-- what an instruction does is among what was decoded
 pub among : (is : List Instr) (mays : List May) (k : ℕ) (m : May) → IsDecoded is mays → Does is k m → Contains mays m
 among is mays k m d does =
     let there : slice_get mays k ≡ Some m = ap (λ (ms : List May). slice_get ms k) d ∙ what_of is k m does in

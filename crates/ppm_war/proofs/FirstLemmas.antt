@@ -146,7 +146,7 @@ module _ (is : List Instr) (c : Class) where
   blank (suc n) zero = refl
   blank (suc n) (suc k) = blank n k
 
-  -- from behind the last instruction no path leads to a write
+  -- from after the last instruction no path leads to a write
   pub past_end : (n from : ℕ) → length is ≤ from → IsFirst (LeadsToWrite is c from) (get_or (replicate n None) from None)
   past_end n from past = subst (IsFirst (LeadsToWrite is c from)) (blank n from) (first_none (LeadsToWrite is c from) (λ k h.
       omega (arith, past, path_forward is Any from k h.0, does_below is k (Write c) h.1)))

@@ -34,7 +34,7 @@ bit_below Array = omega arith
 pub has_all : (c : Class) → Has (2 ^ 32 - 1) c
 has_all c = bit_at_ones 32 (class_bit c) (bit_below c)
 
--- a class that is exposed behind a write has another bit than that which is written, where that bit is its class's own
+-- a class that is exposed after a write has another bit than that which is written, where that bit is its class's own
 pub other_bit : (c d : Class) → Exposes c (Write d) → (class_bit d ≡ 31 → ⊥) → class_bit c ≡ class_bit d → ⊥
 other_bit (Slot s) (Slot t) exposed own same = exposed (ap (λ (n : ℕ). Write (Slot n)) (same_slot s t own same))
   where
@@ -90,10 +90,10 @@ module _ (is : List Instr) (c : Class) where
           subst (λ (n : ℕ). HasAt (set masks at mask) n c) (sym same) (subst (λ (m : ℕ). Has m c) (sym (get_or-set_same masks at mask 0 less))
           (there (subst (λ (n : ℕ). LeadsToWrite is c n write) same leads)))
 
-  -- no path leads to a write from behind the last instruction
+  -- no path leads to a write from after the last instruction
   pub none_past : (from write : ℕ) → length is ≤ from → LeadsToWrite is c from write → ⊥
   none_past from write past h = omega (arith, past, path_forward is Any from write h.0, does_below is write (Write c) h.1)
 
-  -- what is written by a conflict is led to from behind its read
+  -- what is written by a conflict is led to from after its read
   pub leads_behind : (read write : ℕ) → IsConflict is read write c → LeadsToWrite is c (read + 1) write
   leads_behind read write x = (subst (λ (n : ℕ). Path is Any n write) x.goes_on x.between, x.writes)

@@ -59,7 +59,7 @@ fn both(a: u32, b: u32) -> u32
     a | b
 }
 
-/// The set behind a write of a class: that goes, if no other class has its bit.
+/// The set after a write of a class: that goes, if no other class has its bit.
 fn behind_write(mask: u32, written: Class) -> u32
     ensures { (c : Class) → Has mask c → Exposes c (Write written) → Has result c }
 {
@@ -87,7 +87,7 @@ fn put(masks: &mut [u32; 161], place: usize, mask: u32)
     }
 }
 
-/// Puts what is exposed behind an instruction at a place to where a path goes on.
+/// Puts what is exposed after an instruction at a place to where a path goes on.
 fn expose(masks: &mut [u32; 161], may: May, at: usize)
     requires { at < instr_limit }
     ensures kept { (c : Class) (to : ℕ) → HasAt masks.old to c → HasAt masks.new to c }
@@ -155,7 +155,7 @@ fn written(mays: &[May]) -> [u32; 161]
     masks
 }
 
-/// Whether an instruction may be a read that is exposed and whose class may be written behind it.
+/// Whether an instruction may be a read that is exposed and whose class may be written after it.
 fn may_conflict(may: May, before: u32, after: u32) -> bool
     ensures { (c : Class) → may ≡ Read c → Has before c → Has after c → IsTrue result }
 {

@@ -41,14 +41,14 @@ module _ (n : ℕ) (g h : List ℕ) (same : take n g ≡ take n h) where
       ∙ ap (λ (l : List ℕ). get_or l r.index 0) same
       ∙ get_or-take n h r.index 0 (omega (arith, few))
 
-  -- likewise each of two
+  -- each of two registers up to there holds the same in both
   left_same : (a b : Register) → up_to_both a b ≤ n → held g a ≡ held h a
   left_same a b few = held_same a (omega (arith, few, le-max_left (up_to a) (up_to b)))
 
   right_same : (a b : Register) → up_to_both a b ≤ n → held g b ≡ held h b
   right_same a b few = held_same b (omega (arith, few, le-max_right (up_to a) (up_to b)))
 
-  -- so an instruction does the same
+  -- an instruction does the same by both
   does_same : (array_words : ℕ) (i : Instr) → instr_width i ≤ n → does array_words i g ≡ does array_words i h
   does_same aw (Const d v) few = refl
   does_same aw (Move d a) few = λ i. Sets d (held_same a few i)
@@ -98,7 +98,7 @@ act_same n next go alike (Jumps t) g h same = alike (max t next) g h same
 act_same n next go alike (Steps s) g h same = step_same n next go alike s g h same
 act_same n next go alike (Stops e) g h same = refl
 
--- so does what is left of a capsule that reads no register past there
+-- what is left of a capsule that reads no register past there goes on alike
 capsule_same : (n array_words here skip : ℕ) (is : List Instr) → width_of is ≤ n → (g h : List ℕ) → take n g ≡ take n h
     → capsule_from array_words here skip is g ≡ capsule_from array_words here skip is h
 capsule_same n aw here skip [] few g h same = refl
@@ -110,7 +110,7 @@ capsule_same n aw here zero (i ∷ is) few g h same =
     ap (λ (act : Act). at_act go (here + 1) act g) (does_same n g h same aw i (omega (arith, few, le-max_left (instr_width i) (width_of is))))
     ∙ act_same n (here + 1) go (λ t l m alike. capsule_same n aw (here + 1) (t - (here + 1)) is rest l m alike) (does aw i h) g h same
 
--- so a capsule begins as with 0 in all registers where those hold 0 that it reads
+-- a capsule begins as with 0 in all registers where those hold 0 that it reads
 pub begins_same : (array_words : ℕ) (is : List Instr) (g : List ℕ) → take (width_of is) g ≡ take (width_of is) (replicate 64 0)
     → capsule_of array_words is ≡ capsule_from array_words 0 0 is g
 begins_same aw is g same = sym (capsule_same (width_of is) aw 0 0 is (omega arith) g (replicate 64 0) same)

@@ -5,7 +5,7 @@ use Rattle.ppm_cut.specs.Growth.{last_of}
 use Rattle.ppm_cut.proofs.Bodies.{Extends, rest_of}
 use Rattle.ppm_cut.proofs.body.+body.Given as goal
 
--- the capsules so far, and those of the statements behind; these have room
+-- the capsules so far, and those of the statements that follow; these have room
 abbrev pub invariant-push_block-loop-statement : goal.invariant-push_block-loop-statement
 invariant-push_block-loop-statement l =
     let rest = block_of (drop l.statement-index l.block) in

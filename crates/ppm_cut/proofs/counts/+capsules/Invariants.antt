@@ -4,7 +4,7 @@ use Rattle.ppm_cut.specs.Counts.{own_count, own_count_in, hidden_count, hidden_c
 use Rattle.ppm_cut_code.specs.Numbers.{end_of}
 use Rattle.ppm_cut.proofs.counts.+capsules.Given as goal
 
--- the number behind the statements so far, and what those behind count
+-- the number after the statements so far, and what those after count
 abbrev pub invariant-end_of-loop-statement : goal.invariant-end_of-loop-statement
 invariant-end_of-loop-statement l =
     (end_of (block_of (drop l.statement-index l.block)) l.next ≡ end_of (block_of l.block) l.at)

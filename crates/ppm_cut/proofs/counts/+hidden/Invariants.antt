@@ -4,7 +4,7 @@ use Rattle.ppm_cut.specs.Counts.{own_count, own_count_in, hidden_count, hidden_c
 use Rattle.ppm_cut_code.specs.Numbers.{hidden_behind_block}
 use Rattle.ppm_cut.proofs.counts.+hidden.Given as goal
 
--- the number behind the statements so far, and what those behind count
+-- the number after the statements so far, and what those after count
 abbrev pub invariant-hidden_behind_block-loop-statement : goal.invariant-hidden_behind_block-loop-statement
 invariant-hidden_behind_block-loop-statement l =
     (hidden_behind_block (block_of (drop l.statement-index l.block)) l.next ≡ hidden_behind_block (block_of l.block) l.hidden)

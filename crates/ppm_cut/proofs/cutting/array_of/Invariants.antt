@@ -2,7 +2,7 @@ use Rattle.std.proofs.Common.{◌≡◌, ◌≤◌, drop, length}
 use Rattle.ppm_tree.specs.Program.{whole_from}
 use Rattle.ppm_cut.proofs.cutting.array_of.Given as goal
 
--- the first one is among those behind
+-- the first one is among those that follow
 abbrev pub invariant-loop-array : goal.invariant-loop-array
 invariant-loop-array l =
     (l.number ≡ l.array-index)

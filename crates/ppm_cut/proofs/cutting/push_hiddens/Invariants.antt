@@ -6,7 +6,7 @@ use Rattle.ppm_cut.specs.Counts.{own_counts, hidden_counts, IsShortProcedure}
 use Rattle.ppm_cut.proofs.Texts.{Left}
 use Rattle.ppm_cut.proofs.cutting.push_hiddens.Given as goal
 
--- those behind are left, with the numbers that they need
+-- those that follow are left, with the numbers that they need
 abbrev pub invariant-loop-procedure : goal.invariant-loop-procedure
 invariant-loop-procedure l =
     let rest = drop l.procedure-index l.procedures in

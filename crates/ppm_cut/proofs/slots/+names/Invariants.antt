@@ -4,7 +4,7 @@ use Rattle.ppm_cut.specs.Counts.{own_count, own_count_in, hidden_count, hidden_c
 use Rattle.ppm_cut_bounds.specs.Slots.{most_in_force}
 use Rattle.ppm_cut.proofs.slots.+names.Given as goal
 
--- the most so far, with those of the rest above the names declared so far; and what counts behind
+-- the most so far, with those of the rest above the names declared so far; and what counts after them
 abbrev pub invariant-most_in_force-loop-statement : goal.invariant-most_in_force-loop-statement
 invariant-most_in_force-loop-statement l =
     (max l.most (l.lets + most_in_force (block_of (drop l.statement-index l.block))) ≡ most_in_force (block_of l.block))

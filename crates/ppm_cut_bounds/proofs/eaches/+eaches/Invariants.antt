@@ -5,7 +5,7 @@ use Rattle.ppm_cut_bounds.specs.Bounds.{KeepsAt}
 use Rattle.ppm_cut_bounds.proofs.Notes.{InBlock}
 use Rattle.ppm_cut_bounds.proofs.eaches.+eaches.Given as goal
 
--- the names behind are still to come, and a bound is kept exactly where it is kept behind
+-- the names that follow are still to come, and a bound is kept exactly where it is kept after them
 abbrev pub invariant-in_block-loop-statement : goal.invariant-in_block-loop-statement
 invariant-in_block-loop-statement l =
     InBlock (block_of l.block) (block_of (drop l.statement-index l.block)) l.initial.walk l.walk

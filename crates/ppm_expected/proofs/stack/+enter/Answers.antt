@@ -18,7 +18,7 @@ enter-requires t c =
     let less : rank (item_of c.in-Some-split_first.first.now) < t = omega (arith, below, part, now) in
     (less, tt)
 
--- so what it leaves the part leaves
+-- what the first item of a row leaves, the part leaves
 pub returns-in_ok-push_items-in-Some-split_first : goal.returns-in_ok-push_items-in-Some-split_first
 returns-in_ok-push_items-in-Some-split_first t c =
     IfOk-weaker c.enter.result _ _

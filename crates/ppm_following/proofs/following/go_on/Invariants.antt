@@ -4,7 +4,7 @@ use Rattle.ppm_choice.specs.Schedules.{rounds}
 use Rattle.ppm_following.specs.Following.{IsReady, LeadsTo}
 use Rattle.ppm_following.proofs.following.go_on.Given as goal
 
--- what is left, behind what was done, is all
+-- what is left, after what was done, is all
 abbrev pub invariant-loop-left : goal.invariant-loop-left
 invariant-loop-left l =
     LeadsTo (rounds (seen l.initial.machine).shape.processors l.count) (rounds (seen l.initial.machine).shape.processors l.left)

@@ -6,7 +6,7 @@ use Rattle.ppm_choice.specs.Schedules.{round}
 use Rattle.ppm_following.specs.Following.{IsReady, LeadsTo}
 use Rattle.ppm_following.proofs.following.go_round.Given as goal
 
--- what is left, behind what was done, is all
+-- what is left, after what was done, is all
 abbrev pub invariant-loop-processor : goal.invariant-loop-processor
 invariant-loop-processor l =
     LeadsTo (round (seen l.initial.machine).shape.processors) (map InRound (range_with_len l.processor (l.processors - l.processor)))

@@ -6,7 +6,7 @@ use Rattle.ppm_choice.specs.Schedules.{listed}
 use Rattle.ppm_following.specs.Following.{IsReady, LeadsTo}
 use Rattle.ppm_following.proofs.following.list.Given as goal
 
--- what is left, behind what was done, is all
+-- what is left, after what was done, is all
 abbrev pub invariant-loop-left : goal.invariant-loop-left
 invariant-loop-left l =
     LeadsTo (listed l.items) (listed l.left) (seen l.initial.machine) l.initial.way (seen l.machine) l.way

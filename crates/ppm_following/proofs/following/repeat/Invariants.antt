@@ -4,7 +4,7 @@ use Rattle.ppm_choice.specs.Course.{Listed}
 use Rattle.ppm_following.specs.Following.{IsReady, LeadsTo}
 use Rattle.ppm_following.proofs.following.repeat.Given as goal
 
--- what is left, behind what was done, is all
+-- what is left, after what was done, is all
 abbrev pub invariant-loop-left : goal.invariant-loop-left
 invariant-loop-left l =
     LeadsTo (replicate l.times (Listed l.act)) (replicate l.left (Listed l.act)) (seen l.initial.machine) l.initial.way

@@ -1,4 +1,4 @@
--- The last digit, behind those of a tenth of the number.
+-- The last digit, after those of a tenth of the number.
 use Rattle.std.proofs.Common.{◌∙◌, ◌++◌, ◌∷◌, [], ◌+◌, ◌/◌, ◌%◌, ap, sym, arith, append_assoc, decimal}
 use Rattle.std.proofs.lemmas.Fmt.{decimal_digit, decimal_step}
 use Rattle.ppm_listing.proofs.token.+push_decimal.Goals as goal

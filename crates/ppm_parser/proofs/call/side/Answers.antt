@@ -5,7 +5,7 @@ use Rattle.ppm_parser.proofs.Expressions.{not_front}
 use Rattle.ppm_parser.proofs.Calls.{side_read, side_fails, targeted_read, targeted_fails}
 use Rattle.ppm_parser.proofs.call.side.Goals as goal
 
--- the call behind the target stops
+-- the call after the target stops
 pub returns-in_err-called : goal.returns-in_err-called
 returns-in_err-called c =
     exit_by _ _ _ c.from_residual-in_err-called.result c.from_residual-in_err-called.ensures.1

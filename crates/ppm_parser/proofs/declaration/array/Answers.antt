@@ -8,7 +8,7 @@ returns-in_err-words c =
     exit_by _ _ _ c.from_residual-in_err-words.result c.from_residual-in_err-words.ensures.1
     (array_unnumbered c.in_ok-name.ensures.0 c.in_ok-inside.ensures.0 c.in_err-words.ensures)
 
--- the bracket behind it is missing
+-- the bracket after it is missing
 pub returns-in_err-closed : goal.returns-in_err-closed
 returns-in_err-closed c =
     exit_by _ _ _ c.from_residual-in_err-closed.result c.from_residual-in_err-closed.ensures.1

@@ -17,7 +17,7 @@ returns-in_err-next c =
     exit_by _ _ _ c.from_residual.result c.from_residual.ensures.1
     (values_step_fails c.integers.invariant.0 c.in-Ok.ensures.0 c.in_err-next.ensures)
 
--- behind it stand fewer tokens
+-- after it stand fewer tokens
 pub integers-smaller : goal.integers-smaller
 integers-smaller c =
     let h = ap length c.in-Ok.ensures.0.front.shape in
@@ -37,7 +37,7 @@ returns-in_err-end c =
     exit_by _ _ _ c.from_residual-in_err-end.result c.from_residual-in_err-end.ensures.1
     (values_end_fails c.integers.invariant.0 (not_front (Mark s.Comma) c.integers.behind.tokens.now _ c.in_default.ensures) c.in_err-end.ensures)
 
--- it stands behind them
+-- it stands after them
 pub returns : goal.returns
 returns c = (
   values_end c.integers.invariant.0 (not_front (Mark s.Comma) c.integers.behind.tokens.now _ c.in_default.ensures) c.in_ok-end.ensures.0,

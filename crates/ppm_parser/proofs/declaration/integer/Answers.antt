@@ -7,7 +7,7 @@ use Rattle.ppm_parser.proofs.Expressions.{not_front}
 use Rattle.ppm_parser.proofs.Declarations.{plain_read, plain_fails, negative_read, negative_fails, negated_is}
 use Rattle.ppm_parser.proofs.declaration.integer.Goals as goal
 
--- no number behind the minus
+-- no number after the minus
 pub returns-in_err-value : goal.returns-in_err-value
 returns-in_err-value c =
     exit_by _ _ _ c.from_residual.result c.from_residual.ensures.1 (negative_fails c.in-Ok.ensures.0 c.in_err-value.ensures)

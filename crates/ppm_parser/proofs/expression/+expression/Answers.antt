@@ -142,7 +142,7 @@ up_to-returns-in_err-at t c =
     exit_by _ _ _ c.from_residual-in_err-at.result c.from_residual-in_err-at.ensures.1
     (then_fails c.in_ok-whole.ensures (take_fails (Mark c.args.sign) c.in_ok-whole.at.tokens.now c.in_err-at.ensures))
 
--- the sign stands behind it
+-- the sign stands after it
 pub up_to-returns : goal.up_to-returns
 up_to-returns t c =
     rw c.in_ok-at.ensures.1 (record { end = c.in_ok-at.ensures.0.token; parses = then_reads c.in_ok-whole.ensures (take_reads c.in_ok-at.ensures.0) })

@@ -28,7 +28,7 @@ returns-in_err-next c =
     exit_by _ _ _ c.from_residual-in_err-next.result c.from_residual-in_err-next.ensures.1
     (parameters_step_fails c.parameters.invariant c.in-Ok-take.ensures.0 (rw c.in-Ok-take.ensures.1 at c.in_err-next.ensures))
 
--- behind it stand fewer tokens
+-- after it stand fewer tokens
 pub parameters-smaller : goal.parameters-smaller
 parameters-smaller c =
     let h = ap length c.in-Ok-take.ensures.0.front.shape in
@@ -46,7 +46,7 @@ returns-in_err-end c =
     exit_by _ _ _ c.from_residual-in_err-end.result c.from_residual-in_err-end.ensures.1
     (parameters_end_fails c.parameters.invariant (not_front (Mark s.Comma) c.parameters.behind.tokens.now _ c.in_default-take.ensures) c.in_err-end.ensures)
 
--- it stands behind them
+-- it stands after them
 pub returns : goal.returns
 returns c = rw c.in_ok-end.ensures.1 (record {
   end = c.in_ok-end.ensures.0.token;

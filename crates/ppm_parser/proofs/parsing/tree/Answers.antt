@@ -13,7 +13,7 @@ returns-in_err-next c =
     exit_by _ _ _ c.from_residual.result c.from_residual.ensures.1
     (stops_all c.declarations.at.tokens.now (sym c.is_empty.ensures ∙ c.declarations-test.true) c.declarations.invariant c.in_err-next.ensures)
 
--- behind it stand fewer tokens
+-- after it stand fewer tokens
 pub declarations-smaller : goal.declarations-smaller
 declarations-smaller c = goes_shorter c.declarations.invariant c.in_ok-next.ensures
 

@@ -212,7 +212,7 @@ statements-returns-in_err-next t c =
     exit_by _ _ _ c.from_residual-in_err-next.result c.from_residual-in_err-next.ensures.1
     (runs_fail c.further.invariant (search rules) c.in_err-next.ensures)
 
--- behind it stand fewer tokens
+-- after it stand fewer tokens
 pub statements-further-smaller : goal.statements-further-smaller
 statements-further-smaller t c =
     c.in_ok-next.ensures.smaller

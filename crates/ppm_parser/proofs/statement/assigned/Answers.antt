@@ -10,7 +10,7 @@ pub returns-in_err-called : goal.returns-in_err-called
 returns-in_err-called c =
     exit_by _ _ _ c.from_residual.result c.from_residual.ensures.1 (assigned_call_fails c.in-Ok.ensures.0 (rw c.in-Ok.ensures.1 at c.in_err-called.ensures))
 
--- the semicolon behind it is missing
+-- the semicolon after it is missing
 pub returns-in_err-at : goal.returns-in_err-at
 returns-in_err-at c =
     exit_by _ _ _ c.from_residual-in_err-at.result c.from_residual-in_err-at.ensures.1

@@ -2,7 +2,7 @@ use Rattle.std.proofs.Common.{arith}
 use Rattle.ppm_pieces.proofs.PieceLemmas.{split_whole, split_first, halves_none, halves_some}
 use Rattle.ppm_pieces.proofs.split.split_once.Goals as goal
 
--- what stands in front of a separator and behind it
+-- what stands in front of a separator and after it
 pub returns-then-len-bytes-clause-halves : goal.returns-then-len-bytes-clause-halves
 returns-then-len-bytes-clause-halves c =
     rw (c.behind.ensures, c.front_len-len.ensures.len) (halves_some c.args.separator c.args.bytes.now

@@ -2,7 +2,7 @@ use Rattle.std.proofs.Common.{arith, ◌∙◌}
 use Rattle.ppm_ports.proofs.WholeLemmas.{Appends-take}
 use Rattle.ppm_ports.proofs.writing.write_whole.Goals as goal
 
--- the next piece stands behind the front
+-- the next piece stands after the front
 pub loop-at-preserved : goal.loop-at-preserved
 loop-at-preserved g c = record {
   within = omega (arith, c.in_ok-at.ensures.bound);

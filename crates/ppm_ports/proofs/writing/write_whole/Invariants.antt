@@ -2,7 +2,7 @@ use Rattle.std.proofs.Common.{◌≡◌, length, ◌-◌, ◌≤◌, take}
 use Rattle.std.specs.Io.KnownBytes.{Appends}
 use Rattle.ppm_ports.proofs.writing.write_whole.Given as goal
 
--- a front of the bytes stands behind what was written, and the count hasn't fallen
+-- a front of the bytes stands after what was written, and the count hasn't fallen
 abbrev pub invariant-loop-at : goal.invariant-loop-at
 invariant-loop-at g l = record {
   within : l.at ≤ length l.bytes;

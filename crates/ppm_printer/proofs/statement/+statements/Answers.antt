@@ -5,7 +5,7 @@ use Rattle.ppm_printer.proofs.Appending.{if_text, while_text, split_text, each_t
 use Rattle.ppm_tree.proofs.Blocks.{is_if, is_while, is_split, is_each}
 use Rattle.ppm_printer.proofs.statement.+statements.Goals as goal
 
--- the test, the block, and what stands behind it
+-- the test, the block, and what stands after it
 pub push_statement-returns-in_ok-push_else-in-If : goal.push_statement-returns-in_ok-push_else-in-If
 push_statement-returns-in_ok-push_else-in-If t c =
     let e = is_if c.args.statement.now c.in-If.test c.in-If.block c.in-If.other c.in-If.is

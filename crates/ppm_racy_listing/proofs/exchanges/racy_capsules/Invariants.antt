@@ -4,7 +4,7 @@ use Rattle.ppm_code.specs.declared.code.Capsule.{Capsule}
 use Rattle.ppm_racy_listing.specs.Exchanges.{exchanged_capsules}
 use Rattle.ppm_racy_listing.proofs.exchanges.racy_capsules.Given as goal
 
--- those so far, and those that are left behind them, of few lines
+-- those so far, and those that are left after them, of few lines
 abbrev pub invariant-loop-left : goal.invariant-loop-left
 invariant-loop-left l =
     (l.racy.items ++ exchanged_capsules l.olds l.line l.left ≡ exchanged_capsules l.olds l.line-2 l.capsules)

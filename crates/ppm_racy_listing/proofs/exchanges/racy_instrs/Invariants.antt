@@ -2,7 +2,7 @@ use Rattle.std.proofs.Common.{◌≡◌, ◌+◌, ◌++◌, length}
 use Rattle.ppm_racy_listing.specs.Exchanges.{exchanged_instrs}
 use Rattle.ppm_racy_listing.proofs.exchanges.racy_instrs.Given as goal
 
--- those so far, and those that are left behind them
+-- those so far, and those that are left after them
 abbrev pub invariant-loop-left : goal.invariant-loop-left
 invariant-loop-left l =
     (l.racy.items ++ exchanged_instrs l.olds l.line l.left ≡ exchanged_instrs l.olds l.line-2 l.instrs)

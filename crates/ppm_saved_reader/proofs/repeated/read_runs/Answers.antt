@@ -40,7 +40,7 @@ loop-read-preserved c =
 pub returns-then-is_empty-clause-ok : goal.returns-then-is_empty-clause-ok
 returns-then-is_empty-clause-ok c = runs_end c.loop-read.invariant (empty_is c.loop-read.left.now c.if-is_empty.ensures)
 
--- a line of another form, or bytes behind the last line feed
+-- a line of another form, or bytes after the last line feed
 pub returns-else-is_empty-clause-err : goal.returns-else-is_empty-clause-err
 returns-else-is_empty-clause-err c =
     run_none c.loop-read.invariant (some_is c.loop-read.left.now c.if-is_empty.ensures) c.in_default.ensures.says

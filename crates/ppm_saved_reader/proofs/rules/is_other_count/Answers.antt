@@ -12,7 +12,7 @@ returns-then-times-rest_count c =
     sym (sym c.loop-times.invariant ∙ count_past c.loop-times.rest_count c.loop-times.left.now line c.in-Some.rest.now
     c.in-Some.field-0-0-0 c.in-Some.times (split_some 10 c.loop-times.left.now line c.in-Some.rest.now cut) says c.if-times-rest_count.true)
 
--- behind another one there is the rest
+-- after another one there is the rest
 pub loop-times-preserved : goal.loop-times-preserved
 loop-times-preserved c =
     let (line, says, cut) = first_line_back run_in c.loop-times.left.now c.in-Some.rest.now (c.in-Some.field-0-0-0, c.in-Some.times) c.in-Some.ensures.says in

@@ -1,4 +1,4 @@
--- One 0 more, and one less behind it.
+-- One 0 more, and one less after it.
 use Rattle.std.proofs.Common.{ap, ◌∙◌, ◌++◌, ◌-◌, ◌<◌, length, pos, replicate, arith, List, ℤ}
 use Rattle.ppm_serial.proofs.EntryLemmas.{filled_on}
 use Rattle.ppm_serial.proofs.interpret.values.Goals as goal

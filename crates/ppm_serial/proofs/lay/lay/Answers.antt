@@ -1,4 +1,4 @@
--- All procedures are laid out behind one empty block.
+-- All procedures are laid out after one empty block.
 use Rattle.std.proofs.Common.{◌≡◌, subst, sym, map, List}
 use Rattle.ppm_tree.specs.declared.tree.Proc.{Proc}
 use Rattle.ppm_tree.specs.Tree.{procedure_of}

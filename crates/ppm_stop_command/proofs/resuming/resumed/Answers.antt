@@ -8,7 +8,7 @@ use Rattle.ppm_outcomes.proofs.WantLemmas.{at_err, nothing_told}
 use Rattle.ppm_outcomes.proofs.WatchLemmas.{first_of, fronts_stay, keep_fronts, others_keep, others_still}
 use Rattle.ppm_stop_command.proofs.resuming.resumed.Goals as goal
 
--- what is said of the words behind the run, in which all processors obey, and what watchers were told of it
+-- what is said of the words after the run, in which all processors obey, and what watchers were told of it
 pub returns-clause-has : goal.returns-clause-has
 returns-clause-has g c =
     let some : 0 < length c.args.watch.now.items = omega (arith, c.requires.watchers) in

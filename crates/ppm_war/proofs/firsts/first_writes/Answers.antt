@@ -5,7 +5,7 @@ use Rattle.ppm_war.proofs.DecodedLemmas.{decoded_length, does_at}
 use Rattle.ppm_war.proofs.FirstLemmas.{past_end, one_more}
 use Rattle.ppm_war.proofs.firsts.first_writes.Goals as goal
 
--- behind the last instruction nothing is found
+-- after the last instruction nothing is found
 pub loop-at-init : goal.loop-at-init
 loop-at-init c = record {
   within = omega arith;

@@ -9,7 +9,7 @@ use Rattle.ppm_war.proofs.masks.exposed.Goals as goal
 pub loop-at-init : goal.loop-at-init
 loop-at-init c = λ is k to d less. all_at_first is k (replicate 161 0) (omega arith) to
 
--- and behind an instruction those that it does not write
+-- and after an instruction those that it does not write
 pub loop-at-preserved : goal.loop-at-preserved
 loop-at-preserved c = λ is k to d.
     further is k c.loop-at.at _ c.loop-at.masks c.expose.new.masks (does_at is c.args.mays.now c.loop-at.at _ d c.loop-at-test.true)

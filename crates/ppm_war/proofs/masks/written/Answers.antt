@@ -6,7 +6,7 @@ use Rattle.ppm_war.proofs.DecodedLemmas.{decoded_length, does_at}
 use Rattle.ppm_war.proofs.MaskLemmas.{none_past, one_more_written}
 use Rattle.ppm_war.proofs.masks.written.Goals as goal
 
--- behind the last instruction nothing is written
+-- after the last instruction nothing is written
 pub loop-at-init : goal.loop-at-init
 loop-at-init c = record {
   within = omega arith;

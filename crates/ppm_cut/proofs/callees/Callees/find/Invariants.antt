@@ -6,7 +6,7 @@ use Rattle.ppm_cut_code.specs.Statements.{number_of}
 use Rattle.ppm_cut.specs.Counts.{IsSmallProcedure}
 use Rattle.ppm_cut.proofs.callees.Callees.find.Given as goal
 
--- the first one is among those behind
+-- the first one is among those that follow
 abbrev pub invariant-loop-procedure : goal.invariant-loop-procedure
 invariant-loop-procedure l =
     (l.number ≡ l.procedure-index)

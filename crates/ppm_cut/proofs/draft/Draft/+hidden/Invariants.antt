@@ -5,7 +5,7 @@ use Rattle.ppm_cut.proofs.Bodies.{Extends}
 use Rattle.ppm_cut.proofs.Drafting.{Rest}
 use Rattle.ppm_cut.proofs.draft.Draft.+hidden.Given as goal
 
--- what was added, and what is to be added for the statements behind; these have room
+-- what was added, and what is to be added for the statements that follow; these have room
 abbrev pub invariant-push_hidden_block-loop-statement : goal.invariant-push_hidden_block-loop-statement
 invariant-push_hidden_block-loop-statement l =
     let rest = block_of (drop l.statement-index l.block) in

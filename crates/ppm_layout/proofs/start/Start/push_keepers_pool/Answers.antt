@@ -5,7 +5,7 @@ use Rattle.ppm_layout.specs.Sequence.{block_words}
 use Rattle.ppm_layout.proofs.PoolLemmas.{keepers_pool, frame_pushed}
 use Rattle.ppm_layout.proofs.start.Start.push_keepers_pool.Goals as goal
 
--- the frame, and zeros behind it
+-- the frame, and zeros after it
 pub returns : goal.returns
 returns c =
     let start = c.args.self.now in

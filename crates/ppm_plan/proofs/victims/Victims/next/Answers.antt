@@ -2,7 +2,7 @@ use Rattle.std.proofs.Common.{sym}
 use Rattle.ppm_plan.proofs.DrawLemmas.{first_victim}
 use Rattle.ppm_plan.proofs.victims.Victims.next.Goals as goal
 
--- one word, and the generator behind it
+-- one word, and the generator after it
 pub returns : goal.returns
 returns c k =
     rw (sym c.self.view_is, c.from.ensures)

@@ -9,7 +9,7 @@ invariant_of-self c =
     let i = c.self.inside in
     (c.self.invariant.0, among_first i.processors i.items.items i.at i.next i.count i.first _ c.in-Some.item c.in-Some.is c.less_one-self-inside.ensures c.self.invariant.1)
 
--- so is the next one
+-- the item that comes next is of so many processors
 pub invariant_of-self-in-Some-item_at : goal.invariant_of-self-in-Some-item_at
 invariant_of-self-in-Some-item_at c =
     let i = c.self.inside in

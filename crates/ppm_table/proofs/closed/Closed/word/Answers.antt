@@ -5,7 +5,7 @@ use Rattle.ppm_table.specs.Run.{padding}
 use Rattle.ppm_table.proofs.ListLemmas.{found_behind}
 use Rattle.ppm_table.proofs.closed.Closed.word.Goals as goal
 
--- the word behind the padding
+-- the word after the padding
 pub returns : goal.returns
 returns c =
     found_behind padding _ c.args.at c.word.result c.word.ensures
