@@ -25,12 +25,15 @@ distance_among (distance ∷ more) acts = if nat_le acts (12 * distance) then di
 abbrev pub ruler_label : (y : ℕ) → List ℕ
 ruler_label y = codes "<text class=\"t u\" x=\"900\" y=\"" ++ decimal y ++ codes "\">acts</text>\n"
 
+-- a number stands in the middle under its tick; near the right edge it ends there, so that the picture doesn't cut it
+abbrev pub tick_opening : (x : ℕ) → List ℕ
+tick_opening x = if nat_le x 89000 then codes "<text class=\"t u m\" x=\"" else codes "<text class=\"t u e\" x=\""
+
 module _ (canvas : Canvas) where
   -- the number of a tick, under the last lane
   abbrev pub tick_label : (x act : ℕ) → List ℕ
   tick_label x act =
-      codes "<text class=\"t u m\" x=\"" ++ decimal x ++ codes "\" y=\"" ++ decimal (bottom canvas + 1500) ++ codes "\">"
-      ++ grouped act ++ codes "</text>\n"
+      tick_opening x ++ decimal x ++ codes "\" y=\"" ++ decimal (bottom canvas + 1500) ++ codes "\">" ++ grouped act ++ codes "</text>\n"
 
   -- a tick at so many distances from the run's first act
   abbrev pub tick_text : (distance number : ℕ) → List ℕ

@@ -2,14 +2,15 @@
 ghost use Rattle.std.specs.Prelude.{◌≡◌, ◌+◌, ◌++◌, ◌≤◌, ◌*◌, ◌/◌, ◌-◌, OnOk};
 ghost use Rattle.std.specs.List.{flat_map, range_with_len};
 ghost use Rattle.ppm_picture.specs.Canvas.{IsCanvas};
+ghost use Rattle.ppm_picture.specs.Markup.{part_text};
 ghost use Rattle.ppm_picture.specs.Ruler.{distance_among, Fits, lane_text, lanes_text};
 ghost use Rattle.ppm_picture.specs.Ruler.{ruler_label, ruler_text, tick_label};
-ghost use Rattle.ppm_picture.specs.Ruler.{tick_text, ticks_by};
+ghost use Rattle.ppm_picture.specs.Ruler.{tick_opening, tick_text, ticks_by};
 
 use crate::arrow::push_upright;
 use crate::canvas::{Canvas, lane};
 use crate::markup::Markup::{Fixed, Grouped, Number};
-use crate::markup::push_markup;
+use crate::markup::{Markup, push_markup};
 use ppm_words::NoMemory;
 use std::alloc::Global;
 
@@ -32,6 +33,17 @@ fn distance_among(among: &[u64], acts: u64) -> u64
     acts
 }
 
+/// With what the number of a tick begins: it stands in the middle under the tick, and near the right
+/// edge it ends there.
+fn tick_opening(x: u64) -> Markup
+    ensures { part_text result ≡ tick_opening x }
+{
+    if x <= 89_000 {
+        return Fixed("<text class=\"t u m\" x=\"");
+    }
+    Fixed("<text class=\"t u e\" x=\"")
+}
+
 /// Appends the number of a tick, under the last lane.
 fn push_tick_label(
     alloc: Global,
@@ -43,7 +55,7 @@ fn push_tick_label(
     ensures { OnOk result (text.new.items ≡ text.old.items ++ tick_label canvas x act) }
 {
     let parts = [
-        Fixed("<text class=\"t u m\" x=\""),
+        tick_opening(x),
         Number(x),
         Fixed("\" y=\""),
         Number(canvas.bottom() + 1500),
