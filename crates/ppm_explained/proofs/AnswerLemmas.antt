@@ -245,7 +245,7 @@ module _ (states : StatesAreOne) where
   saved_answers : HasOneAnswer texts.Saved
   saved_answers = record { one = are_one texts.Saved saved_single; front = saved_front; some = saved_some }
 
--- so it is with each text
+-- each kind of text has one answer
 pub have_one_answer : ProgramsAreOne → TokensHaveOneAnswer → ListingsAreOne → FaultsTellListings → CasesAreOne → FaultsTellCases → StatesAreOne → HaveOneAnswer
 have_one_answer programs trees listings law cases faults states texts.Source = source_answers programs trees
 have_one_answer programs trees listings law cases faults states texts.Listing = listing_answers listings law

@@ -97,7 +97,7 @@ module _ (law : FaultsTellCases) where
   no_case : (text : List ℕ) → case_limit < length text → HasCase text → ⊥
   no_case text h c = let short = law.short text c.code c.input c.is in omega (arith, h, short)
 
-  -- so its notes stay where more stands after it
+  -- the notes of a text that is too long stay where more stands after it
   pub notes_stay : (text rest : List ℕ) (r : Refused) (notes : List ℕ) → case_limit < length text → HasOfCase UnreadyOf text (refused_answer r)
       → AreCaseNotes text r notes → AreCaseNotes (text ++ rest) r notes
   notes_stay text rest (refused.Input r) notes h k n =

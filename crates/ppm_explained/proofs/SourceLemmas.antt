@@ -103,7 +103,7 @@ heads {x = x} {y = y} {xs = xs} {ys = ys} o p (later i) (later j) =
     let b : Below x y = above_first x xs o j in
     absurd (omega (arith, a, b))
 
--- what is behind the first of one is behind that of the other
+-- what is after the first of one is after that of the other
 behind : {x y k : Terminal} {xs ys : List Terminal} → x ≡ y → AllPairs Below (x ∷ xs) → In k xs → In k (y ∷ ys) → In k ys
 behind {x = x} {y = y} {xs = xs} e o i first =
     let a : Below x y = above_first x xs o i in
@@ -142,7 +142,7 @@ pub same_end : {front : List Token} {kinds others : List Terminal} {end end' : B
 same_end {end = end} {end' = end'} a b =
     one_end end end' (λ e. b.exactly.whole.1 (a.exactly.whole.0 e)) (λ e. a.exactly.whole.1 (b.exactly.whole.0 e))
 
--- behind tokens with which a text begins something can, or nothing
+-- after tokens with which a text begins something can, or nothing
 pub record Followed (front : List Token) : Type 0 where
   pub kinds : List Terminal
   pub end : Bool

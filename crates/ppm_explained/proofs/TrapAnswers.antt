@@ -239,7 +239,7 @@ module _ (programs : ProgramsAreOne) (explained : ExplainedAreOne) (outcomes : O
       of_answer (answers.SourceRefused r) h free = absurd (free r h)
       of_answer a h free = absurd h
 
--- so it is with all numbers of turns
+-- `explain --trap yes` has one answer, whatever the number of turns
 pub have_one_answer : ProgramsAreOne → ExplainedAreOne → OutcomesAreOne → TrapPointsAreOne → TrapsHavePoints → SpendTheirTurns → StandWhereLater
     → HaveOneAnswer
 have_one_answer programs explained outcomes points some_points spends stands turns = record {

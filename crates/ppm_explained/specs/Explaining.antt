@@ -32,7 +32,7 @@ pub record HasOneAnswer (kind : ExplainedText) : Type 0 where
   pub front : FrontsDecide (limit_of kind) (ExplainHas kind)
   pub some : (text : List ℕ) → ((r : Refused) (notes : List ℕ) → ¬ IsExplained kind text r notes) → IsAccepted kind text
 
--- so it is with each text that is explained
+-- each kind of text that is explained has one answer
 abbrev pub HaveOneAnswer : Type 0
 HaveOneAnswer = (kind : ExplainedText) → HasOneAnswer kind
 
@@ -50,7 +50,7 @@ module _ (kind : ExplainedText) (o : Ports) where
   WritesOk = HasRead answers.Accepted × Gets o.out accepted_text
 
   -- The text that was read is refused, and err got exactly the line that the command writes of this refusal which reads the text, and the notes
-  -- behind it.
+  -- after it.
   pub record WritesNotes (status : Status) : Type 0 where
     pub refusal : Refused
     pub notes : List ℕ

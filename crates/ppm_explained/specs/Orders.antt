@@ -72,7 +72,7 @@ module _ (options : ExplainOptions) (text : List ℕ) where
     abbrev pub WritesOk : Type 0
     WritesOk = OrdersHave answers.Accepted × Gets o.out accepted_text
 
-    -- it is refused, and err got exactly the line that each command writes of this refusal, and the notes behind it
+    -- it is refused, and err got exactly the line that each command writes of this refusal, and the notes after it
     pub record WritesNotes : Type 0 where
       pub number : ℕ
       pub notes : List ℕ
@@ -91,7 +91,7 @@ module _ (options : ExplainOptions) (text : List ℕ) where
     pub rows : JudgedRows HaveUnread (λ all answer. OrdersHave answer) (OrdersSay o) o status
     pub shown : IsShown (λ all answer. OrdersHave answer) o status
 
--- so it is with all options and texts
+-- `explain` of a plan or a schedule has one answer, whatever the options and the text
 abbrev pub AllHaveOneAnswer : Type 0
 AllHaveOneAnswer = (options : ExplainOptions) (text : List ℕ) → HaveOneAnswer options text
 

@@ -70,7 +70,7 @@ pub record HasOneAnswer (turns : ℕ) : Type 0 where
   pub front : FrontsDecide text_limit (TrapHas turns)
   pub some : (text : List ℕ) → ((r : Refused) (notes : List ℕ) → ¬ IsExplained texts.Source text r notes) → (a : Answer) × TrapHas turns text a
 
--- so it is with all numbers of turns
+-- `explain --trap yes` has one answer, whatever the number of turns
 abbrev pub HaveOneAnswer : Type 0
 HaveOneAnswer = (turns : ℕ) → HasOneAnswer turns
 

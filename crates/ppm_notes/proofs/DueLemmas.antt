@@ -3,7 +3,7 @@ use Rattle.std.proofs.Common.{◌≡◌, suc, true, false, List, [], ◌∷◌, 
 use Rattle.ppm_notes.specs.declared.due.Due.{Due}
 use Rattle.ppm_notes.specs.Dues.{may_be, standing}
 
--- behind a word that does, others may
+-- after a word that does, others may
 pub next_stands : (d : Due) (ds : List Due) (w : List ℕ) (ws all : List (List ℕ)) → all ≡ w ∷ ws → true ≡ may_be d w
     → suc (standing ds ws) ≡ standing (d ∷ ds) all
 next_stands d ds w ws all e h = rw (e, sym h) refl

@@ -31,7 +31,7 @@ pieces_few (b ∷ bs) = go (b == 10) (split 10 bs) (pieces_few bs) where
   go false [] h = omega arith
   go false (p ∷ ps) h = omega (arith, h)
 
--- so no more lines of arrays are counted than it has bytes and one
+-- a text has at most one line of an array more than it has bytes
 pub few : (text : List ℕ) → arrays_in (split 10 text) ≤ length text + 1
 few text =
     let lines = few_lines (split 10 text) in

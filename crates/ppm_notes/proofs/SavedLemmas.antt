@@ -14,7 +14,7 @@ pools_few processors room slots few rooms deques =
 pub all_taken : (n : ℕ) (bytes : List ℕ) → length bytes ≤ n → bytes ≡ take n bytes
 all_taken n bytes h = sym (take_all n bytes h)
 
--- behind no fewer there are none
+-- after as many as there are or more, none are left
 pub all_dropped : (n : ℕ) (bytes : List ℕ) → length bytes ≤ n → [] ≡ drop n bytes
 all_dropped zero [] h = refl
 all_dropped zero (b ∷ bs) h = absurd (omega (arith, h))

@@ -3,13 +3,13 @@ use Rattle.std.proofs.Common.{◌≡◌, ◌≤◌, ℕ, zero, suc, ◌+◌, ◌
 use Rattle.ppm_pieces.specs.Pieces.{halves_of}
 use Rattle.ppm_notes.specs.Words.{after_pieces, begins_capsule, capsules_in, one_if}
 
--- behind one piece one piece fewer is in front
+-- after one piece one piece fewer is in front
 pub next_piece : (s n : ℕ) (bytes : List ℕ) (p : List ℕ × List ℕ) → halves_of s bytes ≡ Some p → (n ≡ 0 → ⊥)
     → after_pieces s (n - 1) p.1 ≡ after_pieces s n bytes
 next_piece s zero bytes p e more = absurd (more refl)
 next_piece s (suc n) bytes p e more = let one : suc n - 1 ≡ n = omega arith in rw (one, e) refl
 
--- behind the last piece there is none
+-- after the last piece there is none
 pub no_piece : (s n : ℕ) (bytes : List ℕ) → halves_of s bytes ≡ None → (n ≡ 0 → ⊥) → None ≡ after_pieces s n bytes
 no_piece s zero bytes e more = absurd (more refl)
 no_piece s (suc n) bytes e more = rw e refl
@@ -35,7 +35,7 @@ no_capsules : (n : ℕ) → capsules_in n [] ≡ 0
 no_capsules zero = refl
 no_capsules (suc n) = refl
 
--- behind the first line one line fewer is left
+-- after the first line one line fewer is left
 pub next_line : (n : ℕ) (l : List ℕ) (ls all : List (List ℕ)) → all ≡ l ∷ ls → (n ≡ 0 → ⊥)
     → one_if (begins_capsule l) + capsules_in (n - 1) ls ≡ capsules_in n all
 next_line zero l ls all e more = absurd (more refl)

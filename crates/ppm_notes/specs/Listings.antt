@@ -22,7 +22,7 @@ use Rattle.ppm_notes.specs.Meanings.{listing_meaning, long_listing, conflict_mea
 abbrev pub worded : List ℕ → List ℕ → List ℕ
 worded words text = words ++ text ++ codes "\n"
 
--- what stands in a line behind some words, with a mark under it
+-- what stands in a line after some words, with a mark under it
 abbrev pub spot_of : List ℕ → ℕ → Option (List ℕ) → List ℕ
 spot_of text line rest =
     marked_text line (line_bytes text line) (column_in (line_bytes text line) rest)
@@ -32,11 +32,11 @@ spot_of text line rest =
 abbrev pub stop_text : List ℕ → ℕ → Option (List ℕ) → List ℕ → List ℕ
 stop_text text line rest expected = spot_of text line rest ++ worded (codes "expected: ") expected
 
--- how many words behind its keyword stand where they may, in a line with this number in its listing
+-- how many words after its keyword stand where they may, in a line with this number in its listing
 abbrev pub count_in : (at capsules : ℕ) → Keyword → List ℕ → ℕ
 count_in at capsules k bytes = let ts = tokens_in (after_words 1 bytes) in fitting (operands at capsules k ts) ts
 
--- and what could stand behind these
+-- and what could stand after these
 abbrev pub wanted_in : (at capsules : ℕ) → Keyword → List ℕ → List ℕ
 wanted_in at capsules k bytes =
     operand_text k (operands at capsules k (tokens_in (after_words 1 bytes))) (count_in at capsules k bytes)
@@ -51,12 +51,12 @@ abbrev pub array_word : (case : Bool) → (above at : ℕ) → List ℕ
 array_word true above at = if (at == 1) && nat_lt above array_limit then codes "`array`, " else []
 array_word false above at = []
 
--- behind an end the text may end
+-- after an end the text may end
 abbrev pub end_word : Bool → List ℕ
 end_word true = codes ", the end of the text"
 end_word false = []
 
--- and what could stand behind these, in a case or in a listing alone, of which so many lines stand above it
+-- and what could stand after these, in a case or in a listing alone, of which so many lines stand above it
 abbrev pub stop_words : (case : Bool) → (above at capsules : ℕ) → Above → Option Keyword → List ℕ → List ℕ
 stop_words case above at capsules a None bytes = array_word case above at ++ keywords_text (leads at capsules a) ++ end_word a.is_ended
 stop_words case above at capsules a (Some k) bytes = wanted_in at capsules k bytes
@@ -89,12 +89,12 @@ abbrev pub stop_notes : (case : Bool) (above : ℕ) → List ℕ → ℕ → Lis
 stop_notes case above text line =
     stop_by case above text line (line - above) (capsules_above text line) (above_of above text line) (lead_at above text line)
 
--- the sorts of the words behind a keyword
+-- the sorts of the words after a keyword
 abbrev pub sorts_text : List Sort → List ℕ
 sorts_text [] = []
 sorts_text (s ∷ ss) = codes ", " ++ sort_text s ++ sorts_text ss
 
--- what the form of the root's line has behind its number
+-- what the form of the root's line has after its number
 abbrev pub form_end : Keyword → List ℕ
 form_end keyword.Root = codes ", then a number for each array"
 form_end k = []
@@ -120,7 +120,7 @@ fault_notes case above text r = fault_line case above text r ++ note_text (listi
 abbrev pub listing_notes : List ℕ → ListingRefusal → List ℕ
 listing_notes text r = if nat_lt listing_limit (length text) then note_text long_listing else fault_notes false 0 text r
 
--- a line of a listing, behind words
+-- a line of a listing, after words
 abbrev pub row_text : List ℕ → List ℕ → ℕ → List ℕ
 row_text words text line = worded words (decimal line) ++ shown_text (line_bytes text line)
 

@@ -1,4 +1,4 @@
--- With which words a line of a listing may begin, by the lines above it, and what stands behind them.
+-- With which words a line of a listing may begin, by the lines above it, and what stands after them.
 use Rattle.std.specs.Prelude.{ℕ, zero, suc, ◌-◌, ◌==◌, if◌then◌else◌, Bool, true, false, not, ◌||◌, nat_lt, is_some, List, [], ◌∷◌, ◌++◌, map, get_or, codes, Option}
 use Rattle.std.specs.Str.{bytes_eq}
 use Rattle.ppm_listing.specs.declared.keyword.Keyword.{Keyword}
@@ -45,13 +45,13 @@ is_end line =
 abbrev pub is_room : List ℕ → Bool
 is_room line = bytes_eq (first_word line) (codes "room")
 
--- whether the capsule that goes on behind a line asks for room: its first instruction does
+-- whether the capsule that goes on after a line asks for room: its first instruction does
 abbrev pub room_by : (is_first has_room begins asks : Bool) → Bool
 room_by is_first has_room true asks = false
 room_by true has_room false asks = asks
 room_by false has_room false asks = has_room
 
--- what is known behind one more line
+-- what is known after one more line
 abbrev pub below : Above → List ℕ → Above
 below a line = record {
   root = a.root;
@@ -60,7 +60,7 @@ below a line = record {
   has_room = room_by a.is_first a.has_room (begins_capsule line) (is_room line);
 }
 
--- and behind the first so many lines
+-- and after the first so many lines
 abbrev pub below_all : Above → ℕ → List (List ℕ) → Above
 below_all a zero lines = a
 below_all a (suc n) [] = a
@@ -71,7 +71,7 @@ abbrev pub takes_room : Keyword → Bool
 takes_room k =
     is_some (spelled (keyword.StoreNew ∷ keyword.Call ∷ keyword.CallTo ∷ keyword.Fork ∷ keyword.ForkTo ∷ []) (keyword_text k))
 
--- whether a line in a capsule may begin with a keyword, by the lines above: the next capsule comes behind an end alone, and `room` is asked for by the
+-- whether a line in a capsule may begin with a keyword, by the lines above: the next capsule comes after an end alone, and `room` is asked for by the
 -- first instruction alone; without it no other takes any
 abbrev pub may_lead : Above → Keyword → Bool
 may_lead a k =
@@ -115,7 +115,7 @@ abbrev pub numbers : List Token → List Wanted
 numbers [] = wanted.Word sort.Number ∷ []
 numbers (t ∷ ts) = wanted.Word sort.Number ∷ numbers ts
 
--- what stands behind a keyword: words of its sorts. Procedures and capsules count from 0; behind `root` stands any number of numbers, one at least
+-- what stands after a keyword: words of its sorts. Procedures and capsules count from 0; after `root` stands any number of numbers, one at least
 abbrev pub operands : (line capsules : ℕ) → Keyword → List Token → List Wanted
 operands line capsules keyword.Root ts = numbers ts
 operands line capsules keyword.Proc ts = numbered (line - 3) (sorts keyword.Proc)
@@ -140,11 +140,11 @@ fitting [] ts = 0
 fitting (w ∷ ws) [] = 0
 fitting (w ∷ ws) (t ∷ ts) = if fits w t then suc (fitting ws ts) else 0
 
--- behind a number the line of the root may end
+-- after a number the line of the root may end
 abbrev pub or_end : Keyword → ℕ → List ℕ
 or_end keyword.Root (suc n) = codes ", the end of the line"
 or_end k n = []
 
--- what could stand behind a keyword and so many fitting words
+-- what could stand after a keyword and so many fitting words
 abbrev pub operand_text : Keyword → List Wanted → ℕ → List ℕ
 operand_text k ws n = wanted_text (get_or ws n wanted.End) ++ or_end k n

@@ -8,7 +8,7 @@ use Rattle.ppm_explain.specs.Meanings.{note_text}
 use Rattle.ppm_explain.specs.Places.{mark_text, shown_text}
 use Rattle.ppm_notes.specs.Words.{after_pieces, column_in, first_piece}
 
--- the item that stands behind some pieces
+-- the item that stands after some pieces
 abbrev pub item_text : Option (List ℕ) → List ℕ
 item_text None = []
 item_text (Some rest) = first_piece 44 rest

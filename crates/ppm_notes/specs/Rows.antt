@@ -37,7 +37,7 @@ left_by taken left (suc n) (l ∷ ls) = left_by taken (left - taken l) n ls
 abbrev pub length_in : List ℕ → ℕ
 length_in line = value (word_at 2 line)
 
--- how many words of arrays are left behind so many lines of arrays
+-- how many words of arrays are left after so many lines of arrays
 abbrev pub room_in : ℕ → List (List ℕ) → ℕ
 room_in n ls = left_by length_in word_limit n ls
 

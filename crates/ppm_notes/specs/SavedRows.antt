@@ -14,7 +14,7 @@ use Rattle.ppm_notes.specs.declared.due.Literal.TheVariants as literal
 use Rattle.ppm_notes.specs.Words.{first_piece, first_word, text_after, word_at}
 use Rattle.ppm_notes.specs.Rows.{any_number, arrays_in, is_array, is_named_in, left_by, name_due, room_in}
 
--- the number behind the first word of a line
+-- the number after the first word of a line
 abbrev pub count_of : List ℕ → ℕ
 count_of line = value (word_at 1 line)
 
@@ -49,13 +49,13 @@ sizes_row ranged processors =
     due.This literal.Shape ∷ due.Number 1 processor_limit ranged ∷ due.Number 64 (most_room processors) ranged
     ∷ due.Number 2 4096 ranged ∷ []
 
--- an array behind so many others, where there is room for so many words
+-- an array after so many others, where there is room for so many words
 abbrev pub named_row : (number above room : ℕ) → (is_twice : Bool) → List Due
 named_row number above room is_twice =
     if (number == 2) && nat_le array_limit above then due.This literal.Code ∷ []
     else due.This literal.Array ∷ name_due is_twice ∷ due.Length room (if number == 2 then room else any_number) ∷ []
 
--- the code, behind which so many bytes follow
+-- the code, after which so many bytes follow
 abbrev pub code_row : (follow : ℕ) → List Due
 code_row follow = due.This literal.Code ∷ due.Length follow follow ∷ []
 

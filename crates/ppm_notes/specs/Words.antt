@@ -24,7 +24,7 @@ first_piece separator bytes = first_of (halves_of separator bytes) bytes
 abbrev pub first_word : List ℕ → List ℕ
 first_word bytes = first_piece 32 bytes
 
--- what some bytes have behind so many pieces; nothing where they have no more
+-- what some bytes have after so many pieces; nothing where they have no more
 abbrev pub after_half : (List ℕ → Option (List ℕ)) → Option (List ℕ × List ℕ) → Option (List ℕ)
 after_half more None = None
 after_half more (Some halves) = more halves.1
@@ -33,7 +33,7 @@ abbrev pub after_pieces : (separator : ℕ) → ℕ → List ℕ → Option (Lis
 after_pieces separator zero bytes = Some bytes
 after_pieces separator (suc n) bytes = after_half (after_pieces separator n) (halves_of separator bytes)
 
--- what a text has behind so many lines
+-- what a text has after so many lines
 abbrev pub or_empty : Option (List ℕ) → List ℕ
 or_empty None = []
 or_empty (Some rest) = rest
@@ -41,11 +41,11 @@ or_empty (Some rest) = rest
 abbrev pub text_after : ℕ → List ℕ → List ℕ
 text_after lines text = or_empty (after_pieces 10 lines text)
 
--- what a line has behind so many words
+-- what a line has after so many words
 abbrev pub after_words : ℕ → List ℕ → Option (List ℕ)
 after_words n bytes = after_pieces 32 n bytes
 
--- the word behind so many others; nothing where there is none
+-- the word after so many others; nothing where there is none
 abbrev pub word_of : Option (List ℕ) → List ℕ
 word_of None = []
 word_of (Some rest) = first_word rest
@@ -58,7 +58,7 @@ abbrev pub tokens_in : Option (List ℕ) → List Token
 tokens_in None = []
 tokens_in (Some bytes) = map token_of (split 32 bytes)
 
--- the column of what stands behind so many words, from 1; that of the end where there is nothing
+-- the column of what stands after so many words, from 1; that of the end where there is nothing
 abbrev pub column_in : List ℕ → Option (List ℕ) → ℕ
 column_in bytes None = length bytes + 1
 column_in bytes (Some rest) = length bytes - length rest + 1
@@ -94,7 +94,7 @@ wanted_text (wanted.Word s) = sort_text s
 wanted_text (wanted.Number n) = quoted (decimal n)
 wanted_text wanted.End = codes "the end of the line"
 
--- some keywords, behind others
+-- some keywords, after others
 abbrev pub more_keywords : List Keyword → List ℕ
 more_keywords [] = []
 more_keywords (k ∷ ks) = codes ", " ++ quoted (keyword_text k) ++ more_keywords ks
@@ -124,7 +124,7 @@ abbrev pub word_text : List ℕ → List ℕ
 word_text [] = codes "a blank"
 word_text (b ∷ bs) = parted_text (halves_of 13 (b ∷ bs)) (b ∷ bs)
 
--- what stands behind some words: another one, or the end of the line, which may be that of the text
+-- what stands after some words: another one, or the end of the line, which may be that of the text
 abbrev pub behind_text : (last : Bool) → Option (List ℕ) → List ℕ
 behind_text last None = end_name last
 behind_text last (Some rest) = word_text (first_word rest)
@@ -134,7 +134,7 @@ abbrev pub empty_name : Bool → List ℕ
 empty_name true = codes "the end of the text"
 empty_name false = codes "an empty line"
 
--- what stands in a line behind some words
+-- what stands in a line after some words
 abbrev pub thing_text : (last : Bool) → (line : List ℕ) → Option (List ℕ) → List ℕ
 thing_text last [] rest = empty_name last
 thing_text last (b ∷ bs) rest = behind_text last rest

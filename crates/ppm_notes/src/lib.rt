@@ -5,7 +5,7 @@
 //! `specs/Orders`), by the words of a line (`specs/Words`), the forms of lines (`specs/Operands`)
 //! and tables of words (`specs/Meanings`); or of the text and what is told of the trap
 //! (`specs/Traps`).
-//! Contract: the calls answer exactly these functions; what may stand behind a keyword is by the
+//! Contract: the calls answer exactly these functions; what may stand after a keyword is by the
 //! table of forms of `ppm_listing_reader`.
 //! Stands on `ppm_listing_reader`, `ppm_plan`, `ppm_trapped` and `ppm_explain`; `ppm_explained` calls
 //! it.

@@ -8,7 +8,7 @@ use ppm_listing_reader::Sort;
 use ppm_pieces::push_number;
 use ppm_words::NoMemory;
 
-/// What could stand at a place of a line behind its keyword.
+/// What could stand at a place of a line after its keyword.
 #[derive(Clone, Copy, Debug)]
 pub enum Wanted {
     /// A word of this sort.
