@@ -1,15 +1,15 @@
 //! The rows of a branch that has come to its join.
-ghost use Rattle.std.specs.Prelude.{◌≡◌, ◌<◌, ◌≤◌, ◌+◌, ◌==◌, ℕ, Some};
+ghost use Rattle.std.specs.Prelude.{◌≡◌, ◌<◌, ◌≤◌, ◌+◌, ◌==◌, ℕ, None, IfOk};
 ghost use Rattle.ppm_cells.specs.JoinOrder.{first as first_of};
 ghost use Rattle.ppm_cells.specs.declared.restart.Restart.{Restart};
 ghost use Rattle.ppm_cells.specs.declared.restart.RestartKind.TheVariants.{Arrive, Join};
 ghost use Rattle.ppm_engine.specs.Memory.{Spot};
-ghost use Rattle.ppm_engine.specs.Steps.{Came, IsBack, IsWorking, Led, Settles};
-ghost use Rattle.ppm_step.specs.Facts.{IsAddress};
+ghost use Rattle.ppm_engine.specs.Steps.{Any, Came, IsBack, IsWorking, Led, Settles};
+ghost use Rattle.ppm_step.specs.Facts.{IsAddress, IsFrame};
 ghost use Rattle.ppm_step.specs.Rows.{is_inline, is_last, row_of};
 ghost use Rattle.ppm_step.specs.Standings.{IsAt, stands, stands_then};
 ghost use Rattle.ppm_step.specs.declared.row.Then.TheVariants.{Load};
-ghost use Rattle.ppm_step.specs.declared.row.Point.TheVariants.{JoinLink, Target};
+ghost use Rattle.ppm_step.specs.declared.row.Point.TheVariants.{JoinLink, RightFrame, Target};
 
 use crate::ends::{Change, exchange_then, install};
 use crate::loads::{address_after, load_link, load_number, load_outcome};
@@ -91,9 +91,9 @@ fn comes_last(order: u64, side: Side) -> bool
     }
 }
 
-/// The values of both branches are given to the frame that has forked, which goes on.
+/// The frame of the right branch of a block.
 #[inline(always)]
-fn join_values<M: Memory, W: Watch>(
+fn right_frame<M: Memory, W: Watch>(
     memory: &M,
     own: &mut M::Own,
     watch: &mut W,
@@ -101,57 +101,32 @@ fn join_values<M: Memory, W: Watch>(
     seat: &Seat,
     block: u32,
     back: Back,
-) -> Result<Settled, Stop>
+) -> Result<u32, Stop>
     requires seat { IsWorking (M.shape memory.now) seat.now }
     requires block { IsAddress block × IsBack back }
-    requires few { tally.old.made < 24 }
+    requires few { tally.old.made < 32 }
     requires stands { (first : Spot M.Own) × Led (M.led memory.now seat.now.own) first own.old (W.told watch.old) tally.old
-        (stands_then (M.shape memory.now) (M.code memory.now) seat.now (Load (Target (block + 5) back.to back.copy (Some block)))) }
-    ensures few { tally.new.made ≤ tally.old.made + 8 }
+        (stands_then (M.shape memory.now) (M.code memory.now) seat.now (Load (RightFrame block back.to back.copy))) }
+    ensures few { (tally.new.made ≤ tally.old.made + 1) × IfOk result IsFrame }
     ensures came { (first : Spot M.Own) → Led (M.led memory.now seat.now.own) first own.old (W.told watch.old) tally.old
-        (stands_then (M.shape memory.now) (M.code memory.now) seat.now (Load (Target (block + 5) back.to back.copy (Some block))))
-        → Settles (M.led memory.now seat.now.own) first (M.refused memory.now seat.now.own) (M.over memory.now)
-        seat.now.place own.new (W.told watch.new) tally.new result }
+        (stands_then (M.shape memory.now) (M.code memory.now) seat.now (Load (RightFrame block back.to back.copy)))
+        → Came (M.led memory.now seat.now.own) first (M.refused memory.now seat.now.own) (M.over memory.now)
+        seat.now.place own.new (W.told watch.new) tally.new
+        Any (λ frame. stands_then (M.shape memory.now) (M.code memory.now) seat.now (Load (Target frame back.to back.copy None))) result }
 {
     let Back { to, copy } = back;
-    let left = Gift {
-        frame: block + 5,
-        to,
-        copy,
-        right_of: Some(block),
-    };
-    if let Err(stop) = give(memory, own, watch, tally, seat, left) {
-        return Err(stop);
-    }
     let looked = Point::RightFrame { block, to, copy };
     let offset = load_number(memory, own, watch, tally, seat, looked)?;
     let shape = memory.shape();
-    let Some(frame) = address_after(&shape, block, offset) else {
-        return Err(Stop::Broken);
-    };
-    let right = Gift {
-        frame,
-        to,
-        copy,
-        right_of: None,
-    };
-    if let Err(stop) = give(memory, own, watch, tally, seat, right) {
-        return Err(stop);
+    let _ = shape.word_count();
+    match address_after(&shape, block, offset) {
+        Some(frame) => Ok(frame),
+        None => Err(Stop::Broken),
     }
-    let kind = RestartKind::Run { frame: to, copy };
-    let bottom = seat.restart.bottom;
-    install(
-        memory,
-        own,
-        watch,
-        tally,
-        seat,
-        Then::Install(Restart { kind, bottom }),
-    )
 }
 
-/// The last branch goes on after the join.
-#[inline(always)]
+/// The last branch goes on after the join. This is too large for `#[inline(always)]`, which its
+/// parts have.
 fn join_last<M: Memory, W: Watch>(
     memory: &M,
     own: &mut M::Own,
@@ -188,7 +163,35 @@ fn join_last<M: Memory, W: Watch>(
     let Finish::Ended = outcome else {
         return take_over(memory, own, watch, tally, seat, to, outcome);
     };
-    join_values(memory, own, watch, tally, seat, block, Back { to, copy })
+    let left_value = Gift {
+        frame: block + 5,
+        to,
+        copy,
+        right_of: Some(block),
+    };
+    if let Err(stop) = give(memory, own, watch, tally, seat, left_value) {
+        return Err(stop);
+    }
+    let frame = right_frame(memory, own, watch, tally, seat, block, Back { to, copy })?;
+    let right_value = Gift {
+        frame,
+        to,
+        copy,
+        right_of: None,
+    };
+    if let Err(stop) = give(memory, own, watch, tally, seat, right_value) {
+        return Err(stop);
+    }
+    let kind = RestartKind::Run { frame: to, copy };
+    let bottom = seat.restart.bottom;
+    install(
+        memory,
+        own,
+        watch,
+        tally,
+        seat,
+        Then::Install(Restart { kind, bottom }),
+    )
 }
 
 /// Join: by the order word the branch is first, runs the other one next, or is last.

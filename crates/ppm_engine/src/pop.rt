@@ -1,9 +1,9 @@
 //! The rows by which a place gets its job back, and the right branch of a block begins.
-ghost use Rattle.std.specs.Prelude.{◌≡◌, ◌<◌, ◌≤◌, ◌+◌, ℕ, Some};
+ghost use Rattle.std.specs.Prelude.{◌≡◌, ◌<◌, ◌≤◌, ◌+◌, ◌-◌, ℕ, Some};
 ghost use Rattle.ppm_cells.specs.declared.restart.Restart.{Restart};
 ghost use Rattle.ppm_cells.specs.declared.restart.RestartKind.TheVariants.{Pop1, Pop2};
 ghost use Rattle.ppm_engine.specs.Memory.{Spot};
-ghost use Rattle.ppm_engine.specs.Steps.{Came, IsWorking, Led, Settles};
+ghost use Rattle.ppm_engine.specs.Steps.{Any, Came, IsWorking, Led, Settles};
 ghost use Rattle.ppm_step.specs.Facts.{IsAddress};
 ghost use Rattle.ppm_step.specs.Rows.{row_of};
 ghost use Rattle.ppm_step.specs.Standings.{IsAt, stands, stands_then};
@@ -121,7 +121,7 @@ pub(crate) fn pop1<M: Memory, W: Watch>(
     }
 }
 
-/// The entry above is emptied, and the right branch begins.
+/// The entry above is emptied, if it is local.
 #[inline(always)]
 fn empty_above<M: Memory, W: Watch>(
     memory: &M,
@@ -130,32 +130,29 @@ fn empty_above<M: Memory, W: Watch>(
     tally: &mut Tally,
     seat: &Seat,
     block: u32,
-) -> Result<Settled, Stop>
+) -> Result<(), Stop>
     requires seat { IsWorking (M.shape memory.now) seat.now }
     requires block { IsAddress block }
     requires few { tally.old.made < 24 }
     requires stands { (first : Spot M.Own) × Led (M.led memory.now seat.now.own) first own.old (W.told watch.old) tally.old
         (stands_then (M.shape memory.now) (M.code memory.now) seat.now (Load (PopAbove block))) }
-    ensures few { tally.new.made ≤ tally.old.made + 4 }
+    ensures few { tally.new.made ≤ tally.old.made + 2 }
     ensures came { (first : Spot M.Own) → Led (M.led memory.now seat.now.own) first own.old (W.told watch.old) tally.old
         (stands_then (M.shape memory.now) (M.code memory.now) seat.now (Load (PopAbove block)))
-        → Settles (M.led memory.now seat.now.own) first (M.refused memory.now seat.now.own) (M.over memory.now)
-        seat.now.place own.new (W.told watch.new) tally.new result }
+        → Came (M.led memory.now seat.now.own) first (M.refused memory.now seat.now.own) (M.over memory.now)
+        seat.now.place own.new (W.told watch.new) tally.new
+        Any (λ done. stands_then (M.shape memory.now) (M.code memory.now) seat.now (Load (Offset block (seat.now.restart.bottom - 1)))) result }
 {
-    let bottom = seat.restart.bottom;
     let entry = load_entry(memory, own, watch, tally, seat, Point::PopAbove { block })?;
     let Entry::Local { tag, .. } = entry else {
-        return begin_right(memory, own, watch, tally, seat, block, bottom - 1);
+        return Ok(());
     };
     let change = Raise {
-        slot: bottom,
+        slot: seat.restart.bottom,
         old: entry,
         new: Entry::Empty { tag: tag + 1 },
     };
-    if let Err(stop) = raise_entry(memory, own, watch, tally, seat, change) {
-        return Err(stop);
-    }
-    begin_right(memory, own, watch, tally, seat, block, bottom - 1)
+    raise_entry(memory, own, watch, tally, seat, change)
 }
 
 /// Pop2: if the entry below the bottom was got back, the one above it is emptied.
@@ -182,7 +179,12 @@ pub(crate) fn pop2<M: Memory, W: Watch>(
     let bottom = seat.restart.bottom;
     let entry = load_entry(memory, own, watch, tally, seat, Point::PopAgain { block })?;
     match entry {
-        Entry::Local { .. } => empty_above(memory, own, watch, tally, seat, block),
+        Entry::Local { .. } => {
+            if let Err(stop) = empty_above(memory, own, watch, tally, seat, block) {
+                return Err(stop);
+            }
+            begin_right(memory, own, watch, tally, seat, block, bottom - 1)
+        }
         Entry::Taken { .. } => {
             let kind = RestartKind::Seek;
             install(

@@ -4,14 +4,14 @@ ghost use Rattle.std.specs.Prelude.{◌≡◌, ◌<◌, ◌≤◌, ◌+◌, ◌^
 ghost use Rattle.ppm_cells.specs.declared.restart.Restart.{Restart};
 ghost use Rattle.ppm_cells.specs.declared.restart.RestartKind.TheVariants.{Bump, Push1, Push2};
 ghost use Rattle.ppm_engine.specs.Memory.{Spot};
-ghost use Rattle.ppm_engine.specs.Steps.{Came, IsWorking, Led, Settles};
+ghost use Rattle.ppm_engine.specs.Steps.{Any, Came, IsWorking, Led, Settles};
 ghost use Rattle.ppm_step.specs.Facts.{IsAddress};
-ghost use Rattle.ppm_step.specs.Rows.{push_at, row_of};
+ghost use Rattle.ppm_step.specs.Rows.{push_at, row_of, with_kind};
 ghost use Rattle.ppm_step.specs.Standings.{IsAt, stands, stands_then};
 ghost use Rattle.ppm_step.specs.declared.row.Then.TheVariants.{Load};
 ghost use Rattle.ppm_step.specs.declared.row.Point.TheVariants.{PushAbove, PushOrder};
 
-use crate::ends::{Raise, install, raise_then, store_then};
+use crate::ends::{Raise, install, raise_entry, raise_then, store_then};
 use crate::loads::{load_entry, load_link, load_number};
 use crate::memory::{Memory, Stop};
 use crate::tally::{Settled, Tally};
@@ -103,6 +103,43 @@ fn push_inline<M: Memory, W: Watch>(
     )
 }
 
+/// The entry above the bottom becomes local, if it is empty.
+#[inline(always)]
+fn raise_above<M: Memory, W: Watch>(
+    memory: &M,
+    own: &mut M::Own,
+    watch: &mut W,
+    tally: &mut Tally,
+    seat: &Seat,
+    block: u32,
+) -> Result<(), Stop>
+    requires seat { IsWorking (M.shape memory.now) seat.now }
+    requires block { IsAddress block }
+    requires few { tally.old.made < 24 }
+    requires stands { (first : Spot M.Own) × Led (M.led memory.now seat.now.own) first own.old (W.told watch.old) tally.old
+        (stands_then (M.shape memory.now) (M.code memory.now) seat.now (Load (PushAbove block))) }
+    ensures few { tally.new.made ≤ tally.old.made + 2 }
+    ensures came { (first : Spot M.Own) → Led (M.led memory.now seat.now.own) first own.old (W.told watch.old) tally.old
+        (stands_then (M.shape memory.now) (M.code memory.now) seat.now (Load (PushAbove block)))
+        → Came (M.led memory.now seat.now.own) first (M.refused memory.now seat.now.own) (M.over memory.now)
+        seat.now.place own.new (W.told watch.new) tally.new
+        Any (λ done. stands_then (M.shape memory.now) (M.code memory.now) seat.now (with_kind seat.now (Push2 block))) result }
+{
+    let entry = load_entry(memory, own, watch, tally, seat, Point::PushAbove { block })?;
+    let Entry::Empty { tag } = entry else {
+        return Ok(());
+    };
+    let change = Raise {
+        slot: seat.restart.bottom + 1,
+        old: entry,
+        new: Entry::Local {
+            tag: tag + 1,
+            block: 0,
+        },
+    };
+    raise_entry(memory, own, watch, tally, seat, change)
+}
+
 /// The entry above the bottom becomes local.
 #[inline(always)]
 fn push_above<M: Memory, W: Watch>(
@@ -124,22 +161,13 @@ fn push_above<M: Memory, W: Watch>(
         → Settles (M.led memory.now seat.now.own) first (M.refused memory.now seat.now.own) (M.over memory.now)
         seat.now.place own.new (W.told watch.new) tally.new result }
 {
-    let entry = load_entry(memory, own, watch, tally, seat, Point::PushAbove { block })?;
+    if let Err(stop) = raise_above(memory, own, watch, tally, seat, block) {
+        return Err(stop);
+    }
     let kind = RestartKind::Push2 { block };
     let bottom = seat.restart.bottom;
     let next = Then::Install(Restart { kind, bottom });
-    let Entry::Empty { tag } = entry else {
-        return install(memory, own, watch, tally, seat, next);
-    };
-    let change = Raise {
-        slot: bottom + 1,
-        old: entry,
-        new: Entry::Local {
-            tag: tag + 1,
-            block: 0,
-        },
-    };
-    raise_then(memory, own, watch, tally, seat, change, next)
+    install(memory, own, watch, tally, seat, next)
 }
 
 /// By the order word one strand runs both branches already, or the entry above is looked at.

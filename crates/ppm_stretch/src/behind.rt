@@ -126,7 +126,6 @@ fn filled_behind(made: u64, behind: Framed) -> Framed
 
 /// Gets the block that a capsule of a frame asks for, goes through the capsule after that, and
 /// makes the stores of its end, at most so many steps.
-#[inline(never)]
 pub(crate) fn fill_and_end<W: Watch>(
     local: &mut Local,
     words: &Words,

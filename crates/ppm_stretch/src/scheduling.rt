@@ -77,7 +77,6 @@ fn work_at<W: Watch>(
 }
 
 /// Makes the row of a restart of work.
-#[inline(never)]
 fn row_at<W: Watch>(
     memory: &Seated<'_>,
     mine: &mut Seat<(), View>,

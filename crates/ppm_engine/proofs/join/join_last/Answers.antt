@@ -165,8 +165,8 @@ returns-in_default-outcome-clause-came g c = λ first l.
     (moved led first (ap (λ (r : Row). stands s code place r) (ap (λ (k : LinkKind). join_by c.args.block k) c.in-Fork.is))
     ((c.in_ok-link.ensures.came first l).1))).1))).1))
 
-pub join_values-requires-clause-stands : goal.join_values-requires-clause-stands
-join_values-requires-clause-stands g c κs within =
+pub give-requires-clause-stands : goal.give-requires-clause-stands
+give-requires-clause-stands g c κs within =
     let m = c.args.memory.now in
     let s = g.M.Memory.shape m in
     let code = g.M.Memory.code m in
@@ -174,7 +174,7 @@ join_values-requires-clause-stands g c κs within =
     let led = g.M.Memory.led m place.own in
     let go : Finish → Row = λ right. join_outcome place c.args.block c.in-Fork.to c.in-Fork.copy (outcome_of_both c.in_ok-left.left right) in (
       c.requires.stands.0,
-      moved led c.requires.stands.0
+      (moved led c.requires.stands.0
           (ap (λ (r : Row). stands s code place r)
           (goes_by_outcome c.in_ok-right.right go (c.in_ok-right.ensures.came c.requires.stands.0
           (moved led c.requires.stands.0 (ap (λ (r : Row). stands s code place r)
@@ -194,19 +194,18 @@ join_values-requires-clause-stands g c κs within =
           ((c.in_ok-link.ensures.came c.requires.stands.0 c.requires.stands.1).1))).0.1))
           ((c.in_ok-left.ensures.came c.requires.stands.0
           (moved led c.requires.stands.0 (ap (λ (r : Row). stands s code place r) (ap (λ (k : LinkKind). join_by c.args.block k) c.in-Fork.is))
-          ((c.in_ok-link.ensures.came c.requires.stands.0 c.requires.stands.1).1))).1))).1),
+          ((c.in_ok-link.ensures.came c.requires.stands.0 c.requires.stands.1).1))).1))).1)),
     )
 
-pub returns-clause-came : goal.returns-clause-came
-returns-clause-came g c = λ first l.
+pub returns-in-Err-clause-came : goal.returns-in-Err-clause-came
+returns-in-Err-clause-came g c = λ first l.
     let m = c.args.memory.now in
     let s = g.M.Memory.shape m in
     let code = g.M.Memory.code m in
     let place = c.args.seat.now in
     let led = g.M.Memory.led m place.own in
     let go : Finish → Row = λ right. join_outcome place c.args.block c.in-Fork.to c.in-Fork.copy (outcome_of_both c.in_ok-left.left right) in
-    c.join_values.ensures.came first
-    (moved led first (ap (λ (r : Row). stands s code place r)
+    c.in-Err.ensures.came first (moved led first (ap (λ (r : Row). stands s code place r)
     (goes_by_outcome c.in_ok-right.right go
     (c.in_ok-right.ensures.came first
     (moved led first (ap (λ (r : Row). stands s code place r)
@@ -225,3 +224,186 @@ returns-clause-came g c = λ first l.
     ((c.in_ok-left.ensures.came first
     (moved led first (ap (λ (r : Row). stands s code place r) (ap (λ (k : LinkKind). join_by c.args.block k) c.in-Fork.is))
     ((c.in_ok-link.ensures.came first l).1))).1))).1))
+
+pub right_frame-requires-clause-stands : goal.right_frame-requires-clause-stands
+right_frame-requires-clause-stands g c κs within =
+    let m = c.args.memory.now in
+    let s = g.M.Memory.shape m in
+    let code = g.M.Memory.code m in
+    let place = c.args.seat.now in
+    let led = g.M.Memory.led m place.own in
+    let go : Finish → Row = λ right. join_outcome place c.args.block c.in-Fork.to c.in-Fork.copy (outcome_of_both c.in_ok-left.left right) in
+    let ended = (moved led c.requires.stands.0
+    (ap (λ (r : Row). stands s code place r)
+    (goes_by_outcome c.in_ok-right.right go (c.in_ok-right.ensures.came c.requires.stands.0
+    (moved led c.requires.stands.0 (ap (λ (r : Row). stands s code place r)
+    (goes_by_outcome c.in_ok-left.left (λ left. Now (Load (JoinRight c.args.block c.in-Fork.to c.in-Fork.copy left)))
+    (c.in_ok-left.ensures.came c.requires.stands.0
+    (moved led c.requires.stands.0 (ap (λ (r : Row). stands s code place r) (ap (λ (k : LinkKind). join_by c.args.block k) c.in-Fork.is))
+    ((c.in_ok-link.ensures.came c.requires.stands.0 c.requires.stands.1).1))).0.1))
+    ((c.in_ok-left.ensures.came c.requires.stands.0
+    (moved led c.requires.stands.0 (ap (λ (r : Row). stands s code place r) (ap (λ (k : LinkKind). join_by c.args.block k) c.in-Fork.is))
+    ((c.in_ok-link.ensures.came c.requires.stands.0 c.requires.stands.1).1))).1))).0.1 ∙ ap (λ (f : Finish). join_outcome place c.args.block c.in-Fork.to
+    c.in-Fork.copy f) (sym c.joined-outcome.ensures.value ∙ c.in-Ended.is)))
+    ((c.in_ok-right.ensures.came c.requires.stands.0
+    (moved led c.requires.stands.0 (ap (λ (r : Row). stands s code place r)
+    (goes_by_outcome c.in_ok-left.left (λ left. Now (Load (JoinRight c.args.block c.in-Fork.to c.in-Fork.copy left)))
+    (c.in_ok-left.ensures.came c.requires.stands.0
+    (moved led c.requires.stands.0 (ap (λ (r : Row). stands s code place r) (ap (λ (k : LinkKind). join_by c.args.block k) c.in-Fork.is))
+    ((c.in_ok-link.ensures.came c.requires.stands.0 c.requires.stands.1).1))).0.1))
+    ((c.in_ok-left.ensures.came c.requires.stands.0
+    (moved led c.requires.stands.0 (ap (λ (r : Row). stands s code place r) (ap (λ (k : LinkKind). join_by c.args.block k) c.in-Fork.is))
+    ((c.in_ok-link.ensures.came c.requires.stands.0 c.requires.stands.1).1))).1))).1)) in
+    (c.requires.stands.0, (c.in_default-give.ensures.came c.requires.stands.0 ended).1)
+
+pub returns-in_err-frame-clause-came : goal.returns-in_err-frame-clause-came
+returns-in_err-frame-clause-came g c = λ first l.
+    let m = c.args.memory.now in
+    let s = g.M.Memory.shape m in
+    let code = g.M.Memory.code m in
+    let place = c.args.seat.now in
+    let led = g.M.Memory.led m place.own in
+    let go : Finish → Row = λ right. join_outcome place c.args.block c.in-Fork.to c.in-Fork.copy (outcome_of_both c.in_ok-left.left right) in
+    let ended = (moved led first (ap (λ (r : Row). stands s code place r)
+    (goes_by_outcome c.in_ok-right.right go
+    (c.in_ok-right.ensures.came first
+    (moved led first (ap (λ (r : Row). stands s code place r)
+    (goes_by_outcome c.in_ok-left.left (λ left. Now (Load (JoinRight c.args.block c.in-Fork.to c.in-Fork.copy left)))
+    (c.in_ok-left.ensures.came first (moved led first (ap (λ (r : Row). stands s code place r) (ap (λ (k : LinkKind). join_by c.args.block k) c.in-Fork.is))
+    ((c.in_ok-link.ensures.came first l).1))).0.1))
+    ((c.in_ok-left.ensures.came first
+    (moved led first (ap (λ (r : Row). stands s code place r) (ap (λ (k : LinkKind). join_by c.args.block k) c.in-Fork.is))
+    ((c.in_ok-link.ensures.came first l).1))).1))).0.1 ∙ ap (λ (f : Finish). join_outcome place c.args.block c.in-Fork.to c.in-Fork.copy f)
+    (sym c.joined-outcome.ensures.value ∙ c.in-Ended.is)))
+    ((c.in_ok-right.ensures.came first
+    (moved led first (ap (λ (r : Row). stands s code place r)
+    (goes_by_outcome c.in_ok-left.left (λ left. Now (Load (JoinRight c.args.block c.in-Fork.to c.in-Fork.copy left)))
+    (c.in_ok-left.ensures.came first (moved led first (ap (λ (r : Row). stands s code place r) (ap (λ (k : LinkKind). join_by c.args.block k) c.in-Fork.is))
+    ((c.in_ok-link.ensures.came first l).1))).0.1))
+    ((c.in_ok-left.ensures.came first
+    (moved led first (ap (λ (r : Row). stands s code place r) (ap (λ (k : LinkKind). join_by c.args.block k) c.in-Fork.is))
+    ((c.in_ok-link.ensures.came first l).1))).1))).1)) in
+    exit_by (λ (r : Result Settled Stop). Settles led first (g.M.Memory.refused m place.own) (g.M.Memory.over m) place.place c.right_frame.new.own
+    (g.W.Watch.told c.right_frame.new.watch) c.right_frame.new.tally r) _ _
+    c.from_residual-in_err-frame.ensures.1
+    (c.in_err-frame.ensures.came first ((c.in_default-give.ensures.came first ended).1))
+
+pub give-requires-2-clause-stands : goal.give-requires-2-clause-stands
+give-requires-2-clause-stands g c κs within =
+    let m = c.args.memory.now in
+    let s = g.M.Memory.shape m in
+    let code = g.M.Memory.code m in
+    let place = c.args.seat.now in
+    let led = g.M.Memory.led m place.own in
+    let go : Finish → Row = λ right. join_outcome place c.args.block c.in-Fork.to c.in-Fork.copy (outcome_of_both c.in_ok-left.left right) in
+    let ended = (moved led c.requires.stands.0
+    (ap (λ (r : Row). stands s code place r)
+    (goes_by_outcome c.in_ok-right.right go (c.in_ok-right.ensures.came c.requires.stands.0
+    (moved led c.requires.stands.0 (ap (λ (r : Row). stands s code place r)
+    (goes_by_outcome c.in_ok-left.left (λ left. Now (Load (JoinRight c.args.block c.in-Fork.to c.in-Fork.copy left)))
+    (c.in_ok-left.ensures.came c.requires.stands.0
+    (moved led c.requires.stands.0 (ap (λ (r : Row). stands s code place r) (ap (λ (k : LinkKind). join_by c.args.block k) c.in-Fork.is))
+    ((c.in_ok-link.ensures.came c.requires.stands.0 c.requires.stands.1).1))).0.1))
+    ((c.in_ok-left.ensures.came c.requires.stands.0
+    (moved led c.requires.stands.0 (ap (λ (r : Row). stands s code place r) (ap (λ (k : LinkKind). join_by c.args.block k) c.in-Fork.is))
+    ((c.in_ok-link.ensures.came c.requires.stands.0 c.requires.stands.1).1))).1))).0.1 ∙ ap (λ (f : Finish). join_outcome place c.args.block c.in-Fork.to
+    c.in-Fork.copy f) (sym c.joined-outcome.ensures.value ∙ c.in-Ended.is)))
+    ((c.in_ok-right.ensures.came c.requires.stands.0
+    (moved led c.requires.stands.0 (ap (λ (r : Row). stands s code place r)
+    (goes_by_outcome c.in_ok-left.left (λ left. Now (Load (JoinRight c.args.block c.in-Fork.to c.in-Fork.copy left)))
+    (c.in_ok-left.ensures.came c.requires.stands.0
+    (moved led c.requires.stands.0 (ap (λ (r : Row). stands s code place r) (ap (λ (k : LinkKind). join_by c.args.block k) c.in-Fork.is))
+    ((c.in_ok-link.ensures.came c.requires.stands.0 c.requires.stands.1).1))).0.1))
+    ((c.in_ok-left.ensures.came c.requires.stands.0
+    (moved led c.requires.stands.0 (ap (λ (r : Row). stands s code place r) (ap (λ (k : LinkKind). join_by c.args.block k) c.in-Fork.is))
+    ((c.in_ok-link.ensures.came c.requires.stands.0 c.requires.stands.1).1))).1))).1)) in
+    (c.requires.stands.0, (c.in_ok-frame.ensures.came c.requires.stands.0 ((c.in_default-give.ensures.came c.requires.stands.0 ended).1)).1)
+
+pub returns-in-Err-give-clause-came : goal.returns-in-Err-give-clause-came
+returns-in-Err-give-clause-came g c = λ first l.
+    let m = c.args.memory.now in
+    let s = g.M.Memory.shape m in
+    let code = g.M.Memory.code m in
+    let place = c.args.seat.now in
+    let led = g.M.Memory.led m place.own in
+    let go : Finish → Row = λ right. join_outcome place c.args.block c.in-Fork.to c.in-Fork.copy (outcome_of_both c.in_ok-left.left right) in
+    let ended = (moved led first (ap (λ (r : Row). stands s code place r)
+    (goes_by_outcome c.in_ok-right.right go
+    (c.in_ok-right.ensures.came first
+    (moved led first (ap (λ (r : Row). stands s code place r)
+    (goes_by_outcome c.in_ok-left.left (λ left. Now (Load (JoinRight c.args.block c.in-Fork.to c.in-Fork.copy left)))
+    (c.in_ok-left.ensures.came first (moved led first (ap (λ (r : Row). stands s code place r) (ap (λ (k : LinkKind). join_by c.args.block k) c.in-Fork.is))
+    ((c.in_ok-link.ensures.came first l).1))).0.1))
+    ((c.in_ok-left.ensures.came first
+    (moved led first (ap (λ (r : Row). stands s code place r) (ap (λ (k : LinkKind). join_by c.args.block k) c.in-Fork.is))
+    ((c.in_ok-link.ensures.came first l).1))).1))).0.1 ∙ ap (λ (f : Finish). join_outcome place c.args.block c.in-Fork.to c.in-Fork.copy f)
+    (sym c.joined-outcome.ensures.value ∙ c.in-Ended.is)))
+    ((c.in_ok-right.ensures.came first
+    (moved led first (ap (λ (r : Row). stands s code place r)
+    (goes_by_outcome c.in_ok-left.left (λ left. Now (Load (JoinRight c.args.block c.in-Fork.to c.in-Fork.copy left)))
+    (c.in_ok-left.ensures.came first (moved led first (ap (λ (r : Row). stands s code place r) (ap (λ (k : LinkKind). join_by c.args.block k) c.in-Fork.is))
+    ((c.in_ok-link.ensures.came first l).1))).0.1))
+    ((c.in_ok-left.ensures.came first
+    (moved led first (ap (λ (r : Row). stands s code place r) (ap (λ (k : LinkKind). join_by c.args.block k) c.in-Fork.is))
+    ((c.in_ok-link.ensures.came first l).1))).1))).1)) in
+    c.in-Err-give.ensures.came first ((c.in_ok-frame.ensures.came first ((c.in_default-give.ensures.came first ended).1)).1)
+
+pub install-requires-clause-stands : goal.install-requires-clause-stands
+install-requires-clause-stands g c κs within =
+    let m = c.args.memory.now in
+    let s = g.M.Memory.shape m in
+    let code = g.M.Memory.code m in
+    let place = c.args.seat.now in
+    let led = g.M.Memory.led m place.own in
+    let go : Finish → Row = λ right. join_outcome place c.args.block c.in-Fork.to c.in-Fork.copy (outcome_of_both c.in_ok-left.left right) in
+    let ended = (moved led c.requires.stands.0
+    (ap (λ (r : Row). stands s code place r)
+    (goes_by_outcome c.in_ok-right.right go (c.in_ok-right.ensures.came c.requires.stands.0
+    (moved led c.requires.stands.0 (ap (λ (r : Row). stands s code place r)
+    (goes_by_outcome c.in_ok-left.left (λ left. Now (Load (JoinRight c.args.block c.in-Fork.to c.in-Fork.copy left)))
+    (c.in_ok-left.ensures.came c.requires.stands.0
+    (moved led c.requires.stands.0 (ap (λ (r : Row). stands s code place r) (ap (λ (k : LinkKind). join_by c.args.block k) c.in-Fork.is))
+    ((c.in_ok-link.ensures.came c.requires.stands.0 c.requires.stands.1).1))).0.1))
+    ((c.in_ok-left.ensures.came c.requires.stands.0
+    (moved led c.requires.stands.0 (ap (λ (r : Row). stands s code place r) (ap (λ (k : LinkKind). join_by c.args.block k) c.in-Fork.is))
+    ((c.in_ok-link.ensures.came c.requires.stands.0 c.requires.stands.1).1))).1))).0.1 ∙ ap (λ (f : Finish). join_outcome place c.args.block c.in-Fork.to
+    c.in-Fork.copy f) (sym c.joined-outcome.ensures.value ∙ c.in-Ended.is)))
+    ((c.in_ok-right.ensures.came c.requires.stands.0
+    (moved led c.requires.stands.0 (ap (λ (r : Row). stands s code place r)
+    (goes_by_outcome c.in_ok-left.left (λ left. Now (Load (JoinRight c.args.block c.in-Fork.to c.in-Fork.copy left)))
+    (c.in_ok-left.ensures.came c.requires.stands.0
+    (moved led c.requires.stands.0 (ap (λ (r : Row). stands s code place r) (ap (λ (k : LinkKind). join_by c.args.block k) c.in-Fork.is))
+    ((c.in_ok-link.ensures.came c.requires.stands.0 c.requires.stands.1).1))).0.1))
+    ((c.in_ok-left.ensures.came c.requires.stands.0
+    (moved led c.requires.stands.0 (ap (λ (r : Row). stands s code place r) (ap (λ (k : LinkKind). join_by c.args.block k) c.in-Fork.is))
+    ((c.in_ok-link.ensures.came c.requires.stands.0 c.requires.stands.1).1))).1))).1)) in
+    (c.requires.stands.0, (c.in_default-give-2.ensures.came c.requires.stands.0 ((c.in_ok-frame.ensures.came c.requires.stands.0 ((c.in_default-give.ensures.came c.requires.stands.0 ended).1)).1)).1)
+
+pub returns-clause-came : goal.returns-clause-came
+returns-clause-came g c = λ first l.
+    let m = c.args.memory.now in
+    let s = g.M.Memory.shape m in
+    let code = g.M.Memory.code m in
+    let place = c.args.seat.now in
+    let led = g.M.Memory.led m place.own in
+    let go : Finish → Row = λ right. join_outcome place c.args.block c.in-Fork.to c.in-Fork.copy (outcome_of_both c.in_ok-left.left right) in
+    let ended = (moved led first (ap (λ (r : Row). stands s code place r)
+    (goes_by_outcome c.in_ok-right.right go
+    (c.in_ok-right.ensures.came first
+    (moved led first (ap (λ (r : Row). stands s code place r)
+    (goes_by_outcome c.in_ok-left.left (λ left. Now (Load (JoinRight c.args.block c.in-Fork.to c.in-Fork.copy left)))
+    (c.in_ok-left.ensures.came first (moved led first (ap (λ (r : Row). stands s code place r) (ap (λ (k : LinkKind). join_by c.args.block k) c.in-Fork.is))
+    ((c.in_ok-link.ensures.came first l).1))).0.1))
+    ((c.in_ok-left.ensures.came first
+    (moved led first (ap (λ (r : Row). stands s code place r) (ap (λ (k : LinkKind). join_by c.args.block k) c.in-Fork.is))
+    ((c.in_ok-link.ensures.came first l).1))).1))).0.1 ∙ ap (λ (f : Finish). join_outcome place c.args.block c.in-Fork.to c.in-Fork.copy f)
+    (sym c.joined-outcome.ensures.value ∙ c.in-Ended.is)))
+    ((c.in_ok-right.ensures.came first
+    (moved led first (ap (λ (r : Row). stands s code place r)
+    (goes_by_outcome c.in_ok-left.left (λ left. Now (Load (JoinRight c.args.block c.in-Fork.to c.in-Fork.copy left)))
+    (c.in_ok-left.ensures.came first (moved led first (ap (λ (r : Row). stands s code place r) (ap (λ (k : LinkKind). join_by c.args.block k) c.in-Fork.is))
+    ((c.in_ok-link.ensures.came first l).1))).0.1))
+    ((c.in_ok-left.ensures.came first
+    (moved led first (ap (λ (r : Row). stands s code place r) (ap (λ (k : LinkKind). join_by c.args.block k) c.in-Fork.is))
+    ((c.in_ok-link.ensures.came first l).1))).1))).1)) in
+    c.install.ensures.came first ((c.in_default-give-2.ensures.came first ((c.in_ok-frame.ensures.came first ((c.in_default-give.ensures.came first ended).1)).1)).1)

@@ -34,16 +34,40 @@ empty_above-requires-clause-stands g c κs within =
           c.in-Local.is)) ((c.in_ok-entry.ensures.came c.requires.stands.0 c.requires.stands.1).1),
     )
 
-pub returns-in-Local-clause-came : goal.returns-in-Local-clause-came
-returns-in-Local-clause-came g c = λ first l.
+pub returns-in-Err-clause-came : goal.returns-in-Err-clause-came
+returns-in-Err-clause-came g c = λ first l.
     let m = c.args.memory.now in
     let s = g.M.Memory.shape m in
     let code = g.M.Memory.code m in
     let place = c.args.seat.now in
     let led = g.M.Memory.led m place.own in
-    c.empty_above.ensures.came first
+    c.in-Err.ensures.came first
     (moved led first (ap (λ (r : Row). stands s code place r) (ap (λ (e : Entry). got_back place c.args.block e) c.in-Local.is))
     ((c.in_ok-entry.ensures.came first l).1))
+
+pub begin_right-requires-clause-stands : goal.begin_right-requires-clause-stands
+begin_right-requires-clause-stands g c κs within =
+    let m = c.args.memory.now in
+    let s = g.M.Memory.shape m in
+    let code = g.M.Memory.code m in
+    let place = c.args.seat.now in
+    let led = g.M.Memory.led m place.own in (
+      c.requires.stands.0,
+      (c.in_default.ensures.came c.requires.stands.0
+          (moved led c.requires.stands.0 (ap (λ (r : Row). stands s code place r) (ap (λ (e : Entry). got_back place c.args.block e) c.in-Local.is))
+          ((c.in_ok-entry.ensures.came c.requires.stands.0 c.requires.stands.1).1))).1,
+    )
+
+pub returns-in_default-clause-came : goal.returns-in_default-clause-came
+returns-in_default-clause-came g c = λ first l.
+    let m = c.args.memory.now in
+    let s = g.M.Memory.shape m in
+    let code = g.M.Memory.code m in
+    let place = c.args.seat.now in
+    let led = g.M.Memory.led m place.own in
+    c.begin_right.ensures.came first ((c.in_default.ensures.came first
+    (moved led first (ap (λ (r : Row). stands s code place r) (ap (λ (e : Entry). got_back place c.args.block e) c.in-Local.is))
+    ((c.in_ok-entry.ensures.came first l).1))).1)
 
 pub install-requires-clause-stands : goal.install-requires-clause-stands
 install-requires-clause-stands g c κs within =
