@@ -7,9 +7,10 @@
 //! Contract: `sample::run` runs depth first, `stops::run_with_stops` with stops; laws fail where
 //! their premise does.
 //! Stands on `ppm_strands`, its tests of listings on `ppm_depth` and
-//! `ppm_listing_reader`, those of laws on the crates of the theorem and on `ppm_trace`; no crate
-//! stands on it. The tests of `ppm_code`, `ppm_racy` and `ppm_interleaving` are here, since a crate
-//! with tests is proved twice. The instances are this project's.
+//! `ppm_listing_reader`, those of laws on the crates of the theorem, on `ppm_trace` and on
+//! `ppm_trace_laws`; no crate stands on it. The tests of `ppm_code`, `ppm_racy` and
+//! `ppm_interleaving` are here, since a crate with tests is proved twice. The instances are this
+//! project's.
 #![tactic(auto)]
 
 pub mod clears;

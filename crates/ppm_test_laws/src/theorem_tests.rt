@@ -29,6 +29,7 @@ use ppm_tickets::{
 use ppm_trace::{
     counts_are_the_machines, lines_follow_on, thinner_lines_are_among, windows_are_parts,
 };
+use ppm_trace_laws::{lines_tell_turns, traces_tell_schedules, traces_tell_turns};
 
 #[test]
 fn the_laws_of_tickets_are_called() {
@@ -149,4 +150,7 @@ fn the_laws_of_traces_are_called() {
     thinner_lines_are_among();
     counts_are_the_machines();
     windows_are_parts();
+    lines_tell_turns();
+    traces_tell_turns();
+    traces_tell_schedules();
 }
