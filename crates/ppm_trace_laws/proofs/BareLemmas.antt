@@ -4,7 +4,7 @@ use Rattle.std.specs.List.{flat_map}
 use Rattle.ppm_cells.specs.declared.shape.Shape.{Shape}
 use Rattle.ppm_code.specs.declared.code.CodeParts.{CodeParts}
 use Rattle.ppm_core.specs.Situation.{Situation, turned}
-use Rattle.ppm_lines.specs.Line.{field, line_text, marks, row_fields, scene_of, who_fields}
+use Rattle.ppm_lines.specs.Line.{field, line_text, row_fields, scene_of, who_fields}
 use Rattle.ppm_lines.specs.Marks.{marks_at}
 use Rattle.ppm_lines.specs.MarkTexts.{mark_text}
 use Rattle.ppm_lines.specs.Parts.{part_asked}

@@ -3,7 +3,6 @@ use Rattle.std.proofs.Common.{◌≡◌, ◌≢◌, ◌∙◌, ℕ, ◌^◌, ◌
 use Rattle.std.proofs.Common.{append_assoc}
 use Rattle.std.proofs.lemmas.Fmt.{decimal_injective}
 use Rattle.std.proofs.lemmas.List.{append_cancel_left}
-use Rattle.ppm_cells.specs.Cells.{address}
 use Rattle.ppm_cells.specs.declared.cell.Cell.TheVariants.{HolderWord}
 use Rattle.ppm_core.specs.Situation.{Situation}
 use Rattle.ppm_lines.specs.Line.{carried_text, field, marks, row_fields, step_fields, who_fields}
@@ -13,7 +12,6 @@ use Rattle.ppm_naming.specs.Correct.{AddressesName}
 use Rattle.ppm_naming.specs.declared.names.Names.{Names}
 use Rattle.ppm_step.specs.Among.{IsActAmong}
 use Rattle.ppm_step.specs.Laws.{IsNoQuit}
-use Rattle.ppm_step.specs.Standings.{wanted}
 use Rattle.ppm_step.specs.State.{seeks_holder}
 use Rattle.ppm_step.specs.Told.{place_of}
 use Rattle.ppm_step.specs.declared.ask.Want.{Want}

@@ -1,5 +1,5 @@
 -- Lines tell a run, line by line.
-use Rattle.std.proofs.Common.{◌≡◌, ◌≢◌, ◌∙◌, ℕ, zero, suc, ◌+◌, ◌^◌, ◌<◌, ◌≤◌, ◌&&◌, if◌then◌else◌, Bool, true, List, [], ◌∷◌, ◌++◌, decimal, length, get_or, replicate, take, ◌-◌, refl, sym, subst, ap, arith}
+use Rattle.std.proofs.Common.{◌≡◌, ◌≢◌, ◌∙◌, ℕ, zero, suc, ◌+◌, ◌^◌, ◌<◌, ◌≤◌, ◌&&◌, if◌then◌else◌, true, List, [], ◌∷◌, ◌++◌, decimal, length, get_or, replicate, take, ◌-◌, refl, sym, subst, ap, arith}
 use Rattle.std.proofs.Common.{append_assoc, length-append}
 use Rattle.std.specs.List.{AllByRecursion}
 use Rattle.std.proofs.lemmas.List.{append_cancel_left}
@@ -13,9 +13,9 @@ use Rattle.ppm_cells.specs.declared.shape.Shape.{Shape}
 use Rattle.ppm_step.specs.Told.{place_of}
 use Rattle.ppm_step.specs.declared.turn.Turn.{Turn}
 use Rattle.ppm_trace.specs.Counts.{no_counts}
-use Rattle.ppm_trace.specs.Trace.{along_turns, counts_along, head_text, is_told, shown_line, tail_text, trace_text}
+use Rattle.ppm_trace.specs.Trace.{along_turns, counts_along, head_text, is_told, shown_line, tail_text}
 use Rattle.ppm_trace.specs.declared.counts.Counts.{Counts}
-use Rattle.ppm_trace_laws.specs.Runs.{bare, AreOneRun, AreTold, IsOrdered, LinesTellTurns, TracesTellTurns}
+use Rattle.ppm_trace_laws.specs.Runs.{bare, AreOneRun, IsOrdered, LinesTellTurns, TracesTellTurns}
 use Rattle.ppm_trace_laws.proofs.BareLemmas.{line, scene, standing}
 use Rattle.ppm_trace_laws.proofs.CutLemmas.{begins_with_digit, field_begins}
 use Rattle.ppm_trace_laws.proofs.LineLemmas.{after_who, begins, line_cut}

@@ -1,11 +1,11 @@
 -- A schedule names no victim that nobody asks for, so its turns are those that a trace tells.
-use Rattle.std.proofs.Common.{◌≡◌, ◌∙◌, ◌⊎◌, inl, inr, ℕ, ◌+◌, ◌<◌, ◌≤◌, if◌then◌else◌, Bool, true, false, List, [], ◌∷◌, ◌++◌, length, Option, Some, None, refl, sym, subst, ap, arith}
+use Rattle.std.proofs.Common.{◌≡◌, ◌∙◌, ◌⊎◌, inl, inr, ℕ, ◌+◌, ◌<◌, if◌then◌else◌, Bool, true, false, List, [], ◌∷◌, ◌++◌, Option, Some, None, refl, sym, subst, ap, arith}
 use Rattle.std.specs.List.{All, AllByRecursion}
 use Rattle.std.proofs.lemmas.List.Elements.{recursion_from_All}
 use Rattle.std.proofs.lemmas.Nat.{mod_below}
 use Rattle.ppm_cells.specs.declared.shape.Shape.{Shape}
 use Rattle.ppm_code.specs.declared.code.CodeParts.{CodeParts}
-use Rattle.ppm_choice.specs.Course.{Due, Listed, InRound, Course, act_of, behind, behind_act, loads_of, seeks, turn_of, turns_in, turns_of, victim_of}
+use Rattle.ppm_choice.specs.Course.{Due, Listed, Course, act_of, behind, behind_act, loads_of, seeks, turn_of, turns_in, turns_of, victim_of}
 use Rattle.ppm_choice.specs.Schedules.{beginning, dues_of, schedule_turns}
 use Rattle.ppm_choice.proofs.DueLemmas.{all_due}
 use Rattle.ppm_choice.proofs.MadeLemmas.{Makes, Skips, left_at, made_or_not}
