@@ -1,5 +1,5 @@
 -- What the calls of the walk answer: a value, or where the run traps.
-use Rattle.std.specs.Prelude.{◌≡◌, ℕ, ℤ, List, ⊤, Option, Some, None, Result, Ok, Err}
+use Rattle.std.specs.Prelude.{◌≡◌, ℕ, ℤ, List, [], ⊤, Option, Some, None, Result, Ok, Err}
 use Rattle.ppm_tree.specs.declared.named.Named.{Named}
 use Rattle.ppm_tree.specs.Tree.{Expression, Statement, Block, Then, Procedure, ProgramTree}
 use Rattle.ppm_tree.specs.State.{TrapAt, Locals, Region, Frame, Arrays}
