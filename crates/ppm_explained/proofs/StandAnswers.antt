@@ -4,11 +4,11 @@ use Rattle.ppm_words.specs.declared.outcome.Outcome.TheVariants as outcome
 use Rattle.ppm_tree.specs.Tree.{ProgramTree}
 use Rattle.ppm_tree.specs.Program.{Serial}
 use Rattle.ppm_tree.specs.Correct.{SpendTheirTurns}
-use Rattle.ppm_trapped.specs.declared.told.Stood.{Stood}
-use Rattle.ppm_trapped.specs.Correct.{StandWhereLater}
-use Rattle.ppm_trapped.specs.Nexts.{Run}
-use Rattle.ppm_trapped.specs.Standing.{stand}
-use Rattle.ppm_trapped.specs.Stood.{IsStood, IsStandOf, or_line, next_line, next_readings, calls_in, innermost}
+use Rattle.ppm_standing.specs.declared.stood.Stood.{Stood}
+use Rattle.ppm_standing.specs.Correct.{StandWhereLater}
+use Rattle.ppm_standing.specs.Nexts.{Run}
+use Rattle.ppm_standing.specs.Standing.{stand}
+use Rattle.ppm_standing.specs.Stood.{IsStood, IsStandOf, or_line, next_line, next_readings, calls_in, innermost}
 use Rattle.ppm_program.specs.Programs.{HasProgram}
 use Rattle.ppm_commands.specs.Serial.{ComesTo}
 use Rattle.ppm_notes.specs.Traps.{stand_notes}

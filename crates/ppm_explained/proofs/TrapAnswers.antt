@@ -9,12 +9,12 @@ use Rattle.ppm_tree.specs.Tree.{Procedure, ProgramTree}
 use Rattle.ppm_tree.specs.State.{TrapAt}
 use Rattle.ppm_tree.specs.Program.{Serial}
 use Rattle.ppm_tree.specs.Correct.{SpendTheirTurns}
-use Rattle.ppm_trapped.specs.declared.told.Reading.{Reading}
+use Rattle.ppm_by_name.specs.declared.held.Reading.{Reading}
 use Rattle.ppm_trapped.specs.declared.told.Told.{Told}
 use Rattle.ppm_trapped.specs.Sites.{Point, TrapsAt}
-use Rattle.ppm_trapped.specs.Readings.{deed_readings}
-use Rattle.ppm_trapped.specs.Walks.{IsTold, IsToldOf}
-use Rattle.ppm_trapped.specs.Correct.{StandWhereLater, TrapPointsAreOne, TrapsHavePoints}
+use Rattle.ppm_trapped.specs.Walks.{deed_readings, IsTold, IsToldOf}
+use Rattle.ppm_trapped.specs.Correct.{TrapPointsAreOne, TrapsHavePoints}
+use Rattle.ppm_standing.specs.Correct.{StandWhereLater}
 use Rattle.ppm_program.specs.Programs.{HasProgram}
 use Rattle.ppm_program.specs.Correct.{HaveOneAnswer as ProgramsAreOne}
 use Rattle.ppm_answers.specs.declared.answer.Answer.{Answer}

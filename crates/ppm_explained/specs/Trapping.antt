@@ -9,12 +9,12 @@ use Rattle.ppm_text.specs.Limits.{text_limit}
 use Rattle.ppm_tree.specs.Tree.{ProgramTree}
 use Rattle.ppm_tree.specs.Program.{Serial}
 use Rattle.ppm_trapped.specs.declared.told.Told.{Told}
-use Rattle.ppm_trapped.specs.declared.told.Stood.{Stood}
-use Rattle.ppm_trapped.specs.Nexts.{Run}
+use Rattle.ppm_standing.specs.declared.stood.Stood.{Stood}
+use Rattle.ppm_standing.specs.Nexts.{Run}
 use Rattle.ppm_trapped.specs.Sites.{Point, TrapsAt}
 use Rattle.ppm_trapped.specs.Walks.{IsTold}
-use Rattle.ppm_trapped.specs.Standing.{stand}
-use Rattle.ppm_trapped.specs.Stood.{IsStood}
+use Rattle.ppm_standing.specs.Standing.{stand}
+use Rattle.ppm_standing.specs.Stood.{IsStood}
 use Rattle.ppm_program.specs.Programs.{HasProgram}
 use Rattle.ppm_answers.specs.declared.answer.Answer.{Answer}
 use Rattle.ppm_answers.specs.declared.answer.Answer.TheVariants as answers

@@ -12,7 +12,8 @@ use ppm_listing_reader::faults_tell_listings;
 use ppm_plan::have_one_answer as plans_have_one_answer;
 use ppm_program::have_one_answer;
 use ppm_rows::have_one_answer as tokens_have_one_answer;
-use ppm_trapped::{stand_where_later, trap_points_are_one, traps_have_points};
+use ppm_standing::stand_where_later;
+use ppm_trapped::{trap_points_are_one, traps_have_points};
 use ppm_tree::spend_their_turns;
 
 /// Where it is explained, a text has one answer: that it is accepted, or its refusal with its notes;

@@ -7,8 +7,8 @@
 //! failed or memory was refused, `explain_trap_command` that of a source that is run, and
 //! `explain_orders_command` that of a plan or a schedule; what follows from each status is in
 //! `specs/Explaining`, `specs/Trapping` and `specs/Orders`.
-//! Stands on `ppm_explain`, `ppm_notes`, `ppm_trapped`, `ppm_commands` and `ppm_answers`; `ppm_top`
-//! calls it.
+//! Stands on `ppm_explain`, `ppm_notes`, `ppm_trapped`, `ppm_standing`, `ppm_commands` and
+//! `ppm_answers`; `ppm_top` calls it.
 //! The command is this project's.
 #![tactic(auto)]
 

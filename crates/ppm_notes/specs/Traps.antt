@@ -4,11 +4,11 @@ use Rattle.std.specs.Fmt.{signed_decimal}
 use Rattle.std.specs.List.{flat_map}
 use Rattle.ppm_words.specs.declared.trap.Trap.{Trap}
 use Rattle.ppm_words.specs.declared.trap.Trap.TheVariants as trap
-use Rattle.ppm_trapped.specs.declared.told.Held.{Held}
-use Rattle.ppm_trapped.specs.declared.told.Held.TheVariants as held
-use Rattle.ppm_trapped.specs.declared.told.Reading.{Reading}
+use Rattle.ppm_by_name.specs.declared.held.Held.{Held}
+use Rattle.ppm_by_name.specs.declared.held.Held.TheVariants as held
+use Rattle.ppm_by_name.specs.declared.held.Reading.{Reading}
 use Rattle.ppm_trapped.specs.declared.told.Told.{Told}
-use Rattle.ppm_trapped.specs.declared.told.Stood.{Stood}
+use Rattle.ppm_standing.specs.declared.stood.Stood.{Stood}
 use Rattle.ppm_explain.specs.Meanings.{note_text}
 use Rattle.ppm_explain.specs.Places.{line_bytes, line_text, shown_text}
 

@@ -7,8 +7,8 @@
 //! (`specs/Traps`).
 //! Contract: the calls answer exactly these functions; what may stand after a keyword is by the
 //! table of forms of `ppm_listing_reader`.
-//! Stands on `ppm_listing_reader`, `ppm_plan`, `ppm_trapped` and `ppm_explain`; `ppm_explained` calls
-//! it.
+//! Stands on `ppm_listing_reader`, `ppm_plan`, `ppm_trapped`, `ppm_standing` and `ppm_explain`;
+//! `ppm_explained` calls it.
 //! After the messages of assemblers; their words are this project's.
 #![tactic(auto)]
 

@@ -7,9 +7,11 @@ ghost use Rattle.ppm_notes.specs.Traps.{reading_text, stand_notes as notes_of_st
 ghost use Rattle.ppm_notes.specs.Traps.{trap_meaning as trap_words, trap_notes as notes_of_trap};
 
 use crate::meaning::push_note;
+use ppm_by_name::{Held, Reading};
 use ppm_explain::{push_line, push_word};
 use ppm_pieces::push_number;
-use ppm_trapped::{Held, Reading, Stood, Told};
+use ppm_standing::Stood;
+use ppm_trapped::Told;
 use ppm_words::{Name, NoMemory, Trap};
 use std::alloc::Global;
 

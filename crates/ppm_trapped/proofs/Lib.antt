@@ -1,12 +1,6 @@
 -- Each function of the walk has a lemma that joins what its callees say to a rule of the meaning or of the points that are reached.
-pub mod FrameLemmas
 pub mod WalkLemmas
-pub mod ArmLemmas
 pub mod ProgramLemmas
 pub mod SiteLemmas
 pub mod OnePointLemmas
 pub mod SomePointLemmas
-pub mod StandLemmas
-pub mod RunLemmas
-pub mod CountLemmas
-pub mod FollowLemmas

@@ -1,16 +1,12 @@
 -- The walk of `main` is that of the program.
-use Rattle.std.proofs.Common.{◌≡◌, ◌<◌, ◌-◌, ℕ, suc, ℤ, pos, List, [], ◌∷◌, ◌++◌, Some, refl, sym, ap, subst, arith, ◌∙◌, length, map, replicate, codes}
-use Rattle.std.proofs.lemmas.List.{append_assoc}
+use Rattle.std.proofs.Common.{◌≡◌, ℤ, List, Some, sym, ap, subst, ◌∙◌, map, codes}
 use Rattle.ppm_tree.specs.declared.tree.Proc.{Proc}
 use Rattle.ppm_tree.specs.declared.tree.Tree as declared
-use Rattle.ppm_tree.specs.declared.tree.Array.{Array}
-use Rattle.ppm_tree.specs.declared.tree.Parameter.{Parameter}
 use Rattle.ppm_tree.specs.Tree.{Procedure, ProgramTree, procedure_of, tree_of}
-use Rattle.ppm_tree.specs.State.{Region, Frame, Arrays, empty_frame, with_region, procedure_named}
-use Rattle.ppm_tree.specs.Meaning.{Plain, Counts, Ended, Enters}
-use Rattle.ppm_tree.specs.Program.{main_of, main_frame, whole_from, values_of, initial_arrays}
+use Rattle.ppm_tree.specs.State.{Frame, Arrays, procedure_named}
+use Rattle.ppm_tree.specs.Meaning.{Plain, Ended, Enters}
+use Rattle.ppm_tree.specs.Program.{main_of, main_frame, values_of, initial_arrays}
 use Rattle.ppm_trapped.specs.declared.told.Told.{Told}
-use Rattle.ppm_trapped.specs.Frames.{Bound, frame_of, with_lent}
 use Rattle.ppm_trapped.specs.Sites.{Point, Begins}
 use Rattle.ppm_trapped.specs.Walks.{IsTold, EndsProcedure, EndsSo, IsToldOfRun}
 
@@ -46,26 +42,3 @@ told_some t ps m f a told e named is from w =
     let q = moved (tree_of t) (λ ps m f a. Begins ps m f a w.0 × IsTold ps w.0 told) (map procedure_of ps) (procedure_of m) f a
     (ap (map procedure_of) e) (ap (λ (qs : List Proc). procedure_named (map procedure_of qs) (codes "main")) e ∙ named) is from (w.1, w.2) in
     (w.0, record { reached = q.0; trap = q.1.trap }, q.1)
-
--- `main` is lent its arrays
-pub lent_all : (b b' : Bound) (arrays arrays' : List Array) (ps ps' : List Parameter) → b ≡ record { locals = []; regions = [] }
-    → (frame_of b ≡ empty_frame → frame_of b' ≡ main_frame arrays' ps') → arrays' ≡ arrays → ps' ≡ ps → frame_of b' ≡ main_frame arrays ps
-lent_all b b' arrays arrays' ps ps' e lent i j =
-    lent (ap frame_of e) ∙ ap (λ (xs : List Array). main_frame xs ps') i ∙ ap (main_frame arrays) j
-
--- `main` is lent one more array
-pub lent_more : (b b' : Bound) (arrays : List Array) (p : Parameter) (ps : List Parameter) → frame_of b ≡ main_frame arrays ps
-    → b' ≡ with_lent b p.name.name (whole_from 0 arrays p.name.name) → frame_of b' ≡ main_frame arrays (p ∷ ps)
-lent_more b b' arrays p ps e is = ap frame_of is ∙ ap (λ (f : Frame). with_region f p.name.name (whole_from 0 arrays p.name.name)) e
-
--- an array with one 0 more, and one less behind it
-pub filled_on : (xs : List ℤ) (w : ℕ) → length xs < w
-    → (xs ++ pos 0 ∷ []) ++ replicate (w - length (xs ++ pos 0 ∷ [])) (pos 0) ≡ xs ++ replicate (w - length xs) (pos 0)
-filled_on xs w l =
-    let a = one_longer xs in
-    let e : w - length xs ≡ suc (w - length (xs ++ pos 0 ∷ [])) = omega (arith, l, a) in
-    append_assoc xs (pos 0 ∷ []) (replicate (w - length (xs ++ pos 0 ∷ [])) (pos 0)) ∙ ap (λ (j : ℕ). xs ++ replicate j (pos 0)) (sym e)
-  where
-    one_longer : (xs : List ℤ) → length (xs ++ pos 0 ∷ []) ≡ suc (length xs)
-    one_longer [] = refl
-    one_longer (x ∷ xs) = ap suc (one_longer xs)

@@ -1,7 +1,7 @@
 -- A run that reaches a point at which what is evaluated traps is a run to that trap.
 use Rattle.std.proofs.Common.{◌≡◌, ℕ, suc, ◌+◌, ◌-◌, ℤ, List, Option, Some, Result, Ok, Err, refl, sym, ap, subst, arith, ◌∙◌}
 use Rattle.ppm_tree.specs.declared.named.Named.{Named}
-use Rattle.ppm_tree.specs.Tree.{Expression, Side, Statement, Block, Nil, Then, Let, Assign, Put, If, While, Split, Give, Procedure}
+use Rattle.ppm_tree.specs.Tree.{Expression, Statement, Block, Nil, Then, Let, Assign, Put, If, While, Split, Give, Procedure}
 use Rattle.ppm_tree.specs.Tree as tree
 use Rattle.ppm_tree.specs.State.{TrapAt, then_with, Region, Locals, Frame, Arrays, split_at, evaluate, put_values, with_word, with_local, with_locals, procedure_named, entered, both_entered}
 use Rattle.ppm_tree.specs.Meaning.{Plain, Counts, spent, both, none, began, forked, swept, give_turn, given, End, Ended, Trapped, end_of}

@@ -1,7 +1,7 @@
 -- A run to a trap reaches a point at which what is evaluated has this trap: by recursion on the run.
 use Rattle.std.proofs.Common.{◌≡◌, ◌<◌, ℕ, zero, suc, ◌+◌, ℤ, pos, List, Option, Some, None, Result, Ok, Err, refl, sym, ap, subst, arith, ◌∙◌}
 use Rattle.ppm_tree.specs.declared.named.Named.{Named}
-use Rattle.ppm_tree.specs.Tree.{Expression, Side, Statement, Block, Nil, Then, Let, Assign, Put, If, While, Split, Give, Procedure}
+use Rattle.ppm_tree.specs.Tree.{Expression, Statement, Block, Nil, Then, Let, Assign, Put, If, While, Split, Give, Procedure}
 use Rattle.ppm_tree.specs.Tree as tree
 use Rattle.ppm_tree.specs.State.{TrapAt, Region, Locals, Frame, Arrays, evaluate, put_values, with_local, with_locals, with_word}
 use Rattle.ppm_tree.specs.Meaning.{Plain, Counts, spent, both, none, End, Ended, Trapped, end_of, returned, joined, given, with_element}

@@ -1,25 +1,24 @@
 -- Each rule of the meaning, and each rule of the points that are reached, for what the calls of the walk answer.
-use Rattle.std.proofs.Common.{◌≡◌, ◌<◌, ◌≤◌, ℕ, zero, suc, ◌+◌, ◌-◌, ℤ, pos, Bool, true, false, List, [], ◌∷◌, Option, Some, None, Result, Ok, Err, not, set, refl, sym, ap, subst, arith, ◌∙◌}
+use Rattle.std.proofs.Common.{◌≡◌, ℕ, suc, ◌+◌, ℤ, pos, Bool, true, false, List, [], Option, Some, None, Result, Ok, Err, refl, sym, ap, subst, arith, ◌∙◌}
 use Rattle.std.specs.Result.{IsErrAnd}
 use Rattle.ppm_words.specs.declared.trap.Trap.{Trap}
 use Rattle.ppm_tree.specs.declared.named.Named.{Named}
 use Rattle.ppm_tree.specs.Tree.{Expression, Side, Statement, Block, Nil, Then, Let, Assign, Put, If, While, Split, Give, Procedure}
 use Rattle.ppm_tree.specs.Tree as tree
 use Rattle.ppm_tree.specs.Values.{holds}
-use Rattle.ppm_tree.specs.State.{TrapAt, then_with, Region, Locals, Frame, Arrays, split_at, evaluate, put_values, with_word, array_at, with_local, with_region, part_at, delivered, first_part, second_part, procedure_named, entered, both_entered}
+use Rattle.ppm_tree.specs.State.{TrapAt, then_with, Region, Locals, Frame, Arrays, split_at, evaluate, put_values, with_word, with_local, delivered, first_part, second_part, procedure_named, entered, both_entered}
 use Rattle.ppm_tree.specs.Meaning.{Plain, Counts, spent, both, none, began, forked, swept, give_turn, given, End, Ended, Trapped, end_of, assigned, stored, chosen}
-use Rattle.ppm_tree.specs.Meaning.{returned, joined, with_parts, with_element, Call, Runs, Follows, Loops, Enters, Sweeps}
+use Rattle.ppm_tree.specs.Meaning.{with_element, Call, Runs, Follows, Loops, Enters, Sweeps}
 use Rattle.ppm_tree.specs.Meaning.{Done, Lets, Assigns, Puts, Ifs, Whiles, Calls, Forks, Splits, Eaches, GoesOn, TestFails, Turns, Enter, Swept, Sweep}
-use Rattle.ppm_trapped.specs.declared.told.Told.{Told}
-use Rattle.ppm_trapped.specs.declared.told.Reading.{Reading}
+use Rattle.ppm_by_name.specs.declared.held.Reading.{Reading}
 use Rattle.ppm_trapped.specs.declared.halt.Halt.{Halt}
 use Rattle.ppm_trapped.specs.declared.halt.Halt.TheVariants as halt
-use Rattle.ppm_trapped.specs.Frames.{Bound, frame_of, local_of, region_of, with_bound, with_lent}
+use Rattle.ppm_by_name.specs.Frames.{Bound, frame_of, local_of, region_of, with_lent}
 use Rattle.ppm_trapped.specs.Sites.{Deed, Does, Gives, Point, trap_of, deed_trap, Meets, Reaches, Begins}
-use Rattle.ppm_trapped.specs.Sites.{Itself, InChosen, InLoop, Again, InCall, InLeft, InRight, InParts, InElement, First, Later, InBody, AtGive}
-use Rattle.ppm_trapped.specs.Readings.{read_in, side_in, deed_readings}
-use Rattle.ppm_trapped.specs.Walks.{IsTold, Halts, HaltsIn, Says, Walks, IsPassed, Gets, Binds, EndsStatement, EndsBlock, EndsLoop, EndsSweep, EndsProcedure}
-use Rattle.ppm_trapped.proofs.FrameLemmas.{bound_is}
+use Rattle.ppm_trapped.specs.Sites.{Itself, InChosen, InLoop, Again, First, Later, AtGive}
+use Rattle.ppm_by_name.specs.Readings.{read_in}
+use Rattle.ppm_trapped.specs.Walks.{deed_readings, Halts, HaltsIn, Says, Walks, Gets, Binds, EndsStatement, EndsBlock, EndsLoop, EndsSweep, EndsProcedure}
+use Rattle.ppm_by_name.proofs.FrameLemmas.{bound_is}
 
 -- a walk that halts at a point which is reached
 pub halt_at : (ps : List Procedure) (p : Procedure) (d : Deed) (f : Frame) (a : Arrays) (Has : Point → Type 0) (h : Halt)
@@ -42,31 +41,6 @@ pub exit_walks : {A : Type 0} (ps : List Procedure) (Ends : A → Type 0) (Has :
     → HaltsIn ps Has h → Walks ps Ends Has r
 exit_walks ps Ends Has h (Ok x) is w = absurd is
 exit_walks ps Ends Has h (Err y) is w = subst (λ (y : Halt). HaltsIn ps Has y) (sym is) w
-
--- the word of a region that is written
-pub put_is : (a a' : Arrays) (r g : Region) (array place at : ℕ) (v : ℤ) → g ≡ r → array ≡ g.array → place ≡ g.start + at
-    → a' ≡ set a array (set (array_at a array) place v) → a' ≡ with_word a r at v
-put_is a a' r g array place at v e i j is =
-    subst (λ (r : Region). a' ≡ with_word a r at v) e
-    (subst (λ (k : ℕ). a' ≡ set a g.array (set (array_at a g.array) k v)) j
-    (subst (λ (k : ℕ). a' ≡ set a k (set (array_at a k) place v)) i is))
-
--- both parts of a region, lent to their names
-pub parted : (old mid new : Bound) (x y : List ℕ) (r g f s : Region) (n : ℕ) → g ≡ r → f ≡ first_part n g → s ≡ second_part n g
-    → mid ≡ with_lent old x f → new ≡ with_lent mid y s → new ≡ with_lent (with_lent old x (first_part n r)) y (second_part n r)
-parted old mid new x y r g f s n i j k l m =
-    m ∙ ap (λ (b : Bound). with_lent b y s) l ∙ ap (λ (f : Region). with_lent (with_lent old x f) y s) (j ∙ ap (first_part n) i)
-    ∙ ap (λ (s : Region). with_lent (with_lent old x (first_part n r)) y s) (k ∙ ap (second_part n) i)
-
--- the frame of one element
-pub elemented : (old copy mid new : Bound) (i x : List ℕ) (r g e : Region) (n : ℕ) → copy ≡ old → mid ≡ with_bound copy i (pos n) → g ≡ r
-    → e ≡ part_at n g → new ≡ with_lent mid x e
-    → frame_of new ≡ with_region (with_local (frame_of old) i (pos n)) x (part_at n r)
-elemented old copy mid new i x r g e n c l h k m =
-    ap frame_of m
-    ∙ ap (λ (b : Bound). with_region (frame_of b) x e) (l ∙ ap (λ (b : Bound). with_bound b i (pos n)) c)
-    ∙ ap (λ (f : Frame). with_region f x e) (bound_is old i (pos n))
-    ∙ ap (λ (e : Region). with_region (with_local (frame_of old) i (pos n)) x e) (k ∙ ap (part_at n) h)
 
 -- whether a test holds, by what was answered for a value that is its own
 pub holds_so : (z w : ℤ) (b c : Bool) → w ≡ z → b ≡ holds w → b ≡ c → holds z ≡ c

@@ -1,11 +1,3 @@
-pub mod Arguments
-pub mod Frames
 pub mod Sites
-pub mod Readings
 pub mod Walks
-pub mod Rests
-pub mod Nexts
-pub mod Standing
-pub mod Shown
-pub mod Stood
 pub mod Correct

@@ -1,20 +1,23 @@
 -- What the calls of the walk answer: a value, or where the run traps.
-use Rattle.std.specs.Prelude.{◌≡◌, ℕ, ℤ, List, ⊤, Option, Some, None, Result, Ok, Err}
+use Rattle.std.specs.Prelude.{◌≡◌, ℕ, ℤ, List, [], ⊤, Option, Some, None, Result, Ok, Err}
 use Rattle.ppm_tree.specs.declared.named.Named.{Named}
-use Rattle.ppm_tree.specs.Tree.{Expression, Statement, Block, Then, Procedure, ProgramTree, procedure_of}
-use Rattle.ppm_tree.specs.State.{TrapAt, Locals, Region, Frame, Arrays, procedure_named}
+use Rattle.ppm_tree.specs.Tree.{Expression, Statement, Block, Then, Procedure, ProgramTree}
+use Rattle.ppm_tree.specs.State.{TrapAt, Locals, Region, Frame, Arrays}
 use Rattle.ppm_tree.specs.Meaning.{Plain, Counts, End, Ended, Runs, Follows, Loops, Enters, Sweeps}
 use Rattle.ppm_tree.specs.Program.{values_of, initial_arrays, Means}
-use Rattle.ppm_tree.specs.declared.tree.Proc.{Proc}
-use Rattle.ppm_trapped.specs.declared.halt.Stop.{Stop}
-use Rattle.ppm_trapped.specs.declared.halt.Stop.TheVariants as stop
 use Rattle.ppm_trapped.specs.declared.told.Told.{Told}
-use Rattle.ppm_trapped.specs.declared.told.Reading.{Reading}
+use Rattle.ppm_by_name.specs.declared.held.Reading.{Reading}
 use Rattle.ppm_trapped.specs.declared.halt.Halt.{Halt}
 use Rattle.ppm_trapped.specs.declared.halt.Halt.TheVariants as halt
-use Rattle.ppm_trapped.specs.Frames.{Bound, frame_of, local_of, with_bound}
-use Rattle.ppm_trapped.specs.Sites.{Point, trap_of, deed_trap, TrapsAt}
-use Rattle.ppm_trapped.specs.Readings.{deed_readings}
+use Rattle.ppm_by_name.specs.Frames.{Bound, frame_of, local_of, with_bound}
+use Rattle.ppm_trapped.specs.Sites.{Deed, Does, Gives, Point, trap_of, deed_trap, TrapsAt}
+use Rattle.ppm_by_name.specs.Readings.{read_in, statement_readings}
+
+module _ (procedures : List Procedure) where
+  -- the names of what is evaluated at a point
+  abbrev pub deed_readings : Frame → Deed → List Reading
+  deed_readings f (Does s) = statement_readings procedures f s
+  deed_readings f (Gives g) = read_in f g.value []
 
 -- what is told of a trap: its kind and line, the procedure with the line of its name, and what is read
 pub record IsToldOf (o : Option TrapAt) (p : Procedure) (readings : List Reading) (told : Told) : Type 0 where
@@ -64,27 +67,6 @@ abbrev pub IsToldOfRun : ProgramTree → Option Told → Type 0
 IsToldOfRun t None = EndsSo t
 IsToldOfRun t (Some told) = (z : Point) × TrapsAt t z (told.trap, told.line) × IsTold t.procedures z told
 
--- the procedure with a name, if there is one
-abbrev pub IsNamed : List Procedure → List ℕ → Option Proc → Type 0
-IsNamed procedures x None = ⊤
-IsNamed procedures x (Some p) = procedure_named procedures x ≡ procedure_of p
-
--- a call fills a frame as it is said, or stops at the trap that is said
-abbrev pub Fills : Result Frame TrapAt → Frame → Result ⊤ Stop → Type 0
-Fills said f (Ok x) = said ≡ Ok f
-Fills said f (Err (stop.Trapped t line)) = said ≡ Err (t, line)
-Fills said f (Err stop.NoMemory) = ⊤
-
--- a call opens such a frame
-abbrev pub Opens : Result Frame TrapAt → Result Bound Stop → Type 0
-Opens said (Ok b) = said ≡ Ok (frame_of b)
-Opens said (Err (stop.Trapped t line)) = said ≡ Err (t, line)
-Opens said (Err stop.NoMemory) = ⊤
-
--- the two frames of a fork
-abbrev pub frames_of : Bound × Bound → Frame × Frame
-frames_of p = (frame_of p.0, frame_of p.1)
-
 -- a statement ends: its regions stay, and it is passed
 pub record EndsStatement (procedures : List Procedure) (s : Statement) (old : Bound) (a : Arrays) (new : Bound) (a' : Arrays) : Type 0 where
   pub regions : new.regions ≡ old.regions
@@ -122,9 +104,3 @@ pub record Gets (said : Result ℤ TrapAt) (x : List ℕ) (old new : Bound) : Ty
 abbrev pub Binds : Result ℤ TrapAt → List ℕ → Bound → Bound → Procedure → List Reading → Result ⊤ Halt → Type 0
 Binds said x old new p readings (Ok t) = Gets said x old new
 Binds said x old new p readings (Err h) = Halts (trap_of said) p readings h
-
--- a call opens both frames of a fork
-abbrev pub OpensBoth : Result (Frame × Frame) TrapAt → Result (Bound × Bound) Stop → Type 0
-OpensBoth said (Ok p) = said ≡ Ok (frames_of p)
-OpensBoth said (Err (stop.Trapped t line)) = said ≡ Err (t, line)
-OpensBoth said (Err stop.NoMemory) = ⊤

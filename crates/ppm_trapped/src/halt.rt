@@ -1,27 +1,7 @@
 //! Why a walk ends before the end of the run.
 use crate::told::Told;
-use ppm_words::{NoMemory, Trap};
+use ppm_words::NoMemory;
 use std::alloc::AllocFailed;
-
-/// Why a frame is not filled.
-#[derive(Clone, Copy, Debug, PartialEq, Eq)]
-pub(crate) enum Stop {
-    /// An argument has a trap, in this line.
-    Trapped(Trap, u32),
-    /// Memory was refused.
-    NoMemory,
-}
-
-impl From<NoMemory> for Stop {
-    ghost use Rattle.std.specs.Prelude.{◌≡◌};
-    ghost use Rattle.ppm_trapped.specs.declared.halt.Stop.TheVariants as stop;
-
-    ghost from_gives = { λ x e. e ≡ stop.NoMemory };
-
-    fn from(_: NoMemory) -> Self {
-        Stop::NoMemory
-    }
-}
 
 /// Why a walk ends before the end of the run.
 #[derive(Drop)]

@@ -1,5 +1,5 @@
 //! What is true of every point at which a run traps, shown by calls that do nothing.
-ghost use Rattle.ppm_trapped.specs.Correct.{StandWhereLater, TrapPointsAreOne, TrapPointsTrap, TrapsHavePoints};
+ghost use Rattle.ppm_trapped.specs.Correct.{TrapPointsAreOne, TrapPointsTrap, TrapsHavePoints};
 
 /// Where a program traps at a point, its meaning is a run to that trap.
 pub fn trap_points_trap()
@@ -14,10 +14,4 @@ pub fn trap_points_are_one()
 /// A program whose meaning is a run to a trap traps at a point with it.
 pub fn traps_have_points()
     ensures law { TrapsHavePoints }
-{}
-
-/// A program's run stands somewhere after so many turns exactly where each end of its meaning takes
-/// more.
-pub fn stand_where_later()
-    ensures law { StandWhereLater }
 {}

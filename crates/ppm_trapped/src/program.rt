@@ -1,21 +1,15 @@
 //! Where the run of a program traps.
-ghost use Rattle.std.specs.Prelude.{◌≡◌, ◌++◌, ◌+◌, ◌<◌, ◌^◌, codes, length, map, IfOk, OnOk};
+ghost use Rattle.std.specs.Prelude.{◌≡◌, codes, map, IfOk};
 ghost use Rattle.ppm_tree.specs.Tree.{procedure_of, tree_of};
-ghost use Rattle.ppm_tree.specs.Program.{initial_array, initial_arrays, input_of, main_frame as frame_of_main};
-ghost use Rattle.ppm_tree.specs.Program.{values_of, whole_from};
-ghost use Rattle.ppm_tree.specs.State.{empty_frame, procedure_named};
-ghost use Rattle.ppm_trapped.specs.Frames.{frame_of};
+ghost use Rattle.ppm_tree.specs.State.{procedure_named};
 ghost use Rattle.ppm_trapped.specs.Walks.{IsToldOfRun};
 
-use crate::entering::named_main;
-use crate::frame::{Frame, same};
 use crate::halt::Halt;
-use crate::region::Region;
-use crate::store::Store;
 use crate::told::Told;
 use crate::walking::Scope;
-use ppm_tree::{Array, ArrayInput, Parameter, Proc, Program, Tree};
-use ppm_words::{Name, NoMemory};
+use ppm_by_name::{initial_store, main_frame, named_main};
+use ppm_tree::{Proc, Program, Tree};
+use ppm_words::NoMemory;
 use std::alloc::Global;
 
 /// How many calls and blocks may be open at a time.
@@ -46,114 +40,12 @@ fn walk_main(alloc: Global, tree: &Tree, main: &Proc) -> Result<Option<Told>, No
     ensures { procedure_named (map procedure_of tree.now.procedures) (codes "main") ≡ procedure_of main.now
         → IfOk result (λ told. IsToldOfRun (tree_of tree.now) told) }
 {
-    let mut frame = Frame::empty(alloc);
-    lend(
-        alloc,
-        &mut frame,
-        tree.arrays.as_slice(),
-        main.parameters.as_slice(),
-    )?;
-    let mut store = store(alloc, tree)?;
+    let frame = main_frame(alloc, tree, main)?;
+    let mut store = initial_store(alloc, tree)?;
     let scope = Scope::new(tree.procedures.as_slice(), main);
     match scope.body(alloc, frame, &mut store, LEVEL_LIMIT) {
         Ok(_) => Ok(None),
         Err(Halt::Trapped(told)) => Ok(Some(told)),
         Err(Halt::NoMemory) => Err(NoMemory),
-    }
-}
-
-/// The values that an array has in front.
-fn input<'a>(inputs: &'a [ArrayInput], name: &Name) -> &'a [i64]
-    ensures { result.now ≡ input_of inputs.now name.now }
-{
-    let mut left = inputs;
-    while let [first, rest @ ..] = left {
-        if same(&first.name.name, name) {
-            return first.values.as_slice();
-        }
-        left = rest;
-    }
-    &[]
-}
-
-/// An array as it starts: the input's values in front, then 0 in each word.
-fn values(alloc: Global, inputs: &[ArrayInput], array: &Array) -> Result<Vec<i64>, NoMemory>
-    ensures { IfOk result (λ v. v.items ≡ (initial_array inputs.now array.now).values) }
-{
-    let mut values = Vec::from_slice(alloc, input(inputs, &array.name.name))?;
-    while values.len() < array.words as usize {
-        values.push(0)?;
-    }
-    Ok(values)
-}
-
-/// Adds arrays as they start.
-fn fill(
-    alloc: Global,
-    inputs: &[ArrayInput],
-    arrays: &[Array],
-    all: &mut Vec<Vec<i64>>,
-) -> Result<(), NoMemory>
-    ensures { OnOk result (map (λ v. v.items) all.new.items
-        ≡ map (λ v. v.items) all.old.items ++ values_of (map (initial_array inputs.now) arrays.now)) }
-{
-    match arrays {
-        [] => Ok(()),
-        [first, rest @ ..] => {
-            let words = values(alloc, inputs, first)?;
-            all.push(words)?;
-            fill(alloc, inputs, rest, all)
-        }
-    }
-}
-
-/// The arrays that a program starts with.
-pub(crate) fn store(alloc: Global, tree: &Tree) -> Result<Store, NoMemory>
-    ensures { IfOk result (λ s. s ≡ values_of (initial_arrays (tree_of tree.now))) }
-{
-    let mut arrays = Vec::new(alloc);
-    fill(
-        alloc,
-        tree.inputs.as_slice(),
-        tree.arrays.as_slice(),
-        &mut arrays,
-    )?;
-    Ok(Store::from_vec(arrays))
-}
-
-/// The whole of the array with a name, at the place or behind it.
-fn whole(at: usize, arrays: &[Array], name: &Name) -> Region
-    requires { at + length arrays.now < 2 ^ 64 }
-    ensures { result ≡ whole_from at arrays.now name.now }
-{
-    match arrays {
-        [] => Region::nowhere(),
-        [first, rest @ ..] => {
-            if same(&first.name.name, name) {
-                Region::whole(at, first.words)
-            } else {
-                whole(at + 1, rest, name)
-            }
-        }
-    }
-}
-
-/// Lends to `main`: each parameter is the whole of the array with its name.
-pub(crate) fn lend(
-    alloc: Global,
-    frame: &mut Frame,
-    arrays: &[Array],
-    parameters: &[Parameter],
-) -> Result<(), NoMemory>
-    ensures { OnOk result (frame_of frame.old ≡ empty_frame
-        → frame_of frame.new ≡ frame_of_main arrays.now parameters.now) }
-{
-    match parameters {
-        [] => Ok(()),
-        [first, rest @ ..] => {
-            lend(alloc, frame, arrays, rest)?;
-            let name = &first.name.name;
-            frame.lend(alloc, name, whole(0, arrays, name))
-        }
     }
 }

@@ -3,23 +3,21 @@ ghost use Rattle.std.specs.Prelude.{◌≡◌, ◌<◌, ◌≤◌, map, Some, If
 ghost use Rattle.ppm_tree.specs.Tree.{block_of, expression_of, procedure_of, side_of, statement_of};
 ghost use Rattle.ppm_tree.specs.State.{both_entered, entered, evaluate as evaluated, procedure_named};
 ghost use Rattle.ppm_tree.specs.State.{put_values, split_at, then_with};
-ghost use Rattle.ppm_tree.specs.Values.{holds as is_true};
-ghost use Rattle.ppm_tree.specs.Meaning.{chosen};
-ghost use Rattle.ppm_trapped.specs.Frames.{frame_of, region_of};
-ghost use Rattle.ppm_trapped.specs.Readings.{read_in, side_in, with_region_read};
+ghost use Rattle.ppm_by_name.specs.Frames.{frame_of, region_of};
+ghost use Rattle.ppm_by_name.specs.Readings.{read_in, side_in, with_region_read};
 ghost use Rattle.ppm_trapped.specs.Sites.{Begins, Meets, Reaches};
 ghost use Rattle.ppm_tree.specs.Tree as tree;
-ghost use Rattle.ppm_trapped.specs.Walks.{Binds, Halts, Says, Walks, frames_of};
+ghost use Rattle.ppm_by_name.specs.Entering.{frames_of};
+ghost use Rattle.ppm_trapped.specs.Walks.{Binds, Halts, Says, Walks};
 ghost use Rattle.ppm_trapped.specs.Walks.{EndsBlock, EndsLoop, EndsProcedure, EndsStatement, EndsSweep};
-ghost use Rattle.ppm_trapped.specs.declared.told.Reading.{Reading};
+ghost use Rattle.ppm_by_name.specs.declared.held.Reading.{Reading};
 
-use crate::entering::{enter, enter_both, named};
-use crate::evaluating::{element_value, evaluate, first_words};
-use crate::frame::Frame;
-use crate::halt::{Halt, Stop};
-use crate::reading::{read_call, read_element, read_fork, read_split, read_value};
-use crate::store::Store;
-use crate::told::{Reading, Told};
+use crate::halt::Halt;
+use crate::told::Told;
+use ppm_by_name::{
+    Each, Frame, Reading, Split, Stop, Store, choose, element_value, enter, enter_both, evaluate,
+    first_words, holds, named, read_call, read_element, read_fork, read_split, read_value,
+};
 use ppm_tree::{Expr, Named, Proc, Side, Stmt};
 use ppm_words::{Items, Name, NoMemory, Trap};
 use std::alloc::Global;
@@ -29,41 +27,6 @@ use std::alloc::Global;
 pub(crate) struct Scope<'a> {
     procedures: &'a [Proc],
     procedure: &'a Proc,
-}
-
-/// A region that is split: the line of the word, the region, how many words the first part has,
-/// both parts and the block.
-#[derive(Clone, Copy)]
-pub(crate) struct Split<'a> {
-    pub(crate) line: u32,
-    pub(crate) region: &'a Named,
-    pub(crate) at: &'a Expr,
-    pub(crate) first: &'a Named,
-    pub(crate) second: &'a Named,
-    pub(crate) block: &'a [Stmt],
-}
-
-/// An `each`: the index, the part of one element, the region and the block.
-#[derive(Clone, Copy)]
-pub(crate) struct Each<'a> {
-    pub(crate) index: &'a Named,
-    pub(crate) part: &'a Named,
-    pub(crate) region: &'a Named,
-    pub(crate) block: &'a [Stmt],
-}
-
-/// Whether a test holds.
-fn holds(test: i64) -> bool
-    ensures { result ≡ is_true test }
-{
-    test != 0
-}
-
-/// The block that a test chooses.
-pub(crate) fn choose<'b>(test: i64, block: &'b [Stmt], otherwise: &'b [Stmt]) -> &'b [Stmt]
-    ensures { block_of result.now ≡ chosen (is_true test) (block_of block.now) (block_of otherwise.now) }
-{
-    if holds(test) { block } else { otherwise }
 }
 
 impl<'a> Scope<'a> {

@@ -1,6 +1,6 @@
 use Rattle.std.proofs.Common.{refl, subst, ◌∙◌}
 use Rattle.ppm_tree.specs.Tree.{tree_of}
-use Rattle.ppm_trapped.specs.Stood.{IsStandOf}
+use Rattle.ppm_standing.specs.Stood.{IsStandOf}
 use Rattle.ppm_explained.proofs.StandAnswers.{stand_explained, not_nowhere}
 use Rattle.ppm_explained.proofs.trapping.stood_answer.Goals as goal
 

@@ -1,5 +1,5 @@
 -- Each exit of the walk, by a rule of the meaning or of the points that are reached.
-use Rattle.std.proofs.Common.{◌≡◌, ◌∙◌, ◌+◌, to_z, of_z, w64, true, false, ap, subst, sym, refl, rules, arith, map, drop, length, List, ℕ, ℤ, Err}
+use Rattle.std.proofs.Common.{◌≡◌, ◌∙◌, ◌+◌, to_z, of_z, w64, true, false, ap, subst, sym, refl, rules, arith, map, drop, length, List, ℕ, ℤ}
 use Rattle.ppm_tree.specs.declared.tree.Stmt.{Stmt}
 use Rattle.ppm_tree.specs.Tree.{Procedure, Statement, Block, If, While, Split, procedure_of, block_of, statement_of, expression_of, side_of, give_of}
 use Rattle.ppm_tree.specs.Tree as tree
@@ -7,13 +7,14 @@ use Rattle.ppm_tree.specs.State.{Region, Frame, delivered, procedure_named}
 use Rattle.ppm_tree.specs.Values.{holds}
 use Rattle.ppm_tree.specs.Meaning.{Plain, Ended, chosen, Runs, Sweeps}
 use Rattle.ppm_trapped.specs.declared.halt.Halt.TheVariants as halt
-use Rattle.ppm_trapped.specs.Frames.{Bound, frame_of, local_of, region_of}
-use Rattle.ppm_trapped.specs.Sites.{Does, Meets, Reaches, Begins, Itself, InCall, InLeft, InRight, InParts, InElement, InBody}
+use Rattle.ppm_by_name.specs.Frames.{Bound, frame_of, local_of, region_of}
+use Rattle.ppm_trapped.specs.Sites.{Does, Reaches, Begins, Itself, InCall, InLeft, InRight, InParts, InElement, InBody}
 use Rattle.ppm_trapped.specs.Walks.{HaltsIn, Walks, EndsBlock, EndsProcedure}
-use Rattle.ppm_trapped.proofs.WalkLemmas.{exit_walks, halt_at, halt_in, Steps, let_walks, assign_walks, if_walks, while_walks, each_walks, call_ends, fork_ends, split_ends, parted, elemented}
+use Rattle.ppm_trapped.proofs.WalkLemmas.{exit_walks, halt_at, halt_in, Steps, let_walks, assign_walks, if_walks, while_walks, each_walks, call_ends, fork_ends, split_ends}
+use Rattle.ppm_by_name.proofs.FrameLemmas.{parted, elemented}
 use Rattle.ppm_trapped.proofs.WalkLemmas.{gives_none, gives_walks, Going, going, gone, gone_all, gone_halt, turning, turned, turned_all, test_halts, turn_halts, holds_so}
 use Rattle.ppm_trapped.proofs.WalkLemmas.{sweeping, swept_on, swept_all}
-use Rattle.ppm_trapped.proofs.ArmLemmas.{if_is, while_is, split_is, each_is, next_is, none_left}
+use Rattle.ppm_by_name.proofs.ArmLemmas.{if_is, while_is, split_is, each_is, next_is, none_left}
 use Rattle.ppm_trapped.proofs.walking.Scope.+walk.Goals as goal
 
 pub decide-returns-in_err-test : goal.decide-returns-in_err-test

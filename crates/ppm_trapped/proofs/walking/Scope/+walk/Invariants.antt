@@ -1,7 +1,7 @@
 -- A block counts more than its statements, and these more than what is one level further in.
-use Rattle.std.proofs.Common.{◌≡◌, ◌+◌, ◌*◌, drop, map}
+use Rattle.std.proofs.Common.{◌+◌, ◌*◌, drop, map}
 use Rattle.ppm_tree.specs.Tree.{block_of, expression_of, procedure_of}
-use Rattle.ppm_trapped.specs.Frames.{frame_of, region_of}
+use Rattle.ppm_by_name.specs.Frames.{frame_of, region_of}
 use Rattle.ppm_trapped.proofs.WalkLemmas.{Going, Turning, Sweeping}
 use Rattle.ppm_trapped.proofs.walking.Scope.+walk.Given as goal
 

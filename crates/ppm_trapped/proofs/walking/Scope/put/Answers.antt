@@ -2,9 +2,10 @@ use Rattle.std.proofs.Common.{◌≡◌, ◌∙◌, ap, rules, map, set, ℤ, to
 use Rattle.ppm_tree.specs.State.{array_at}
 use Rattle.ppm_tree.specs.Tree.{expression_of, procedure_of}
 use Rattle.ppm_tree.specs.Tree as tree
-use Rattle.ppm_trapped.specs.Frames.{frame_of, region_of}
+use Rattle.ppm_by_name.specs.Frames.{frame_of, region_of}
 use Rattle.ppm_trapped.specs.Sites.{Does, Itself}
-use Rattle.ppm_trapped.proofs.WalkLemmas.{exit_walks, halt_at, put_ends, put_is}
+use Rattle.ppm_trapped.proofs.WalkLemmas.{exit_walks, halt_at, put_ends}
+use Rattle.ppm_by_name.proofs.FrameLemmas.{put_is}
 use Rattle.ppm_trapped.proofs.walking.Scope.put.Goals as goal
 
 pub returns-in_err-at : goal.returns-in_err-at

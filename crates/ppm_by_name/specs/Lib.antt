@@ -1,0 +1,4 @@
+pub mod Arguments
+pub mod Frames
+pub mod Readings
+pub mod Entering

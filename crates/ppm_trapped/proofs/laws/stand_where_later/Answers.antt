@@ -1,5 +1,0 @@
-use Rattle.ppm_trapped.proofs.StandLemmas.{stand_where_later}
-use Rattle.ppm_trapped.proofs.laws.stand_where_later.Goals as goal
-
-pub returns : goal.returns
-returns c = record { law = stand_where_later }

@@ -1,6 +1,0 @@
--- Each call has one less.
-use Rattle.std.proofs.Common.{length}
-use Rattle.ppm_trapped.proofs.program.+fill.Given as goal
-
-abbrev pub decreases-fill : goal.decreases-fill
-decreases-fill l = length l.arrays.now
