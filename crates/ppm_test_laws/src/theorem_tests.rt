@@ -29,7 +29,10 @@ use ppm_tickets::{
 use ppm_trace::{
     counts_are_the_machines, lines_follow_on, thinner_lines_are_among, windows_are_parts,
 };
-use ppm_trace_laws::{lines_tell_turns, traces_tell_schedules, traces_tell_turns};
+use ppm_trace_laws::{
+    branch_arrows_are_marks, branch_arrows_lead_on, join_arrows_are_marks, lines_tell_turns,
+    steals_are_marked, traces_tell_schedules, traces_tell_turns,
+};
 
 #[test]
 fn the_laws_of_tickets_are_called() {
@@ -153,4 +156,8 @@ fn the_laws_of_traces_are_called() {
     lines_tell_turns();
     traces_tell_turns();
     traces_tell_schedules();
+    branch_arrows_are_marks();
+    branch_arrows_lead_on();
+    join_arrows_are_marks();
+    steals_are_marked();
 }

@@ -49,7 +49,7 @@ field_begins width a x =
     ap (λ (text : List ℕ). text ++ x) (append_assoc a filled (32 ∷ []) ∙ ap (λ (rest : List ℕ). a ++ rest) (blank_first (width - length a)))
     ∙ append_assoc a (32 ∷ filled) x
 
--- so fields are cut off
+-- fields are cut off alike
 pub field_cut : (width : ℕ) (a b x y : List ℕ) → IsDark a → IsDark b → field width a ++ x ≡ field width b ++ y → (a ≡ b) × (x ≡ y)
 field_cut width a b x y p q e =
     let (same, rest) =

@@ -9,3 +9,6 @@ pub mod BareLemmas
 pub mod LineLemmas
 pub mod RunLemmas
 pub mod ScheduleLemmas
+pub mod ArrowLemmas
+pub mod LeadLemmas
+pub mod JoinLemmas

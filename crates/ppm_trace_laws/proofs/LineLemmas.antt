@@ -207,7 +207,7 @@ module _ (names : Names) (m : Situation) where
         ap (λ a. turn_by names m own a) act
         ∙ ap (λ c. turn_by names m c (bare_act (seeks_holder (standing names m c)) other.act)) same
 
-    -- so the whole line is cut off
+    -- then the whole line is cut off
     pub line_cut : (turn other : Turn) (x y : List ℕ) → IsOrdered m.shape.processors turn → IsOrdered m.shape.processors other
         → line names m turn ++ x ≡ line names m other ++ y
         → (bare m turn ≡ bare m other) × IsAs names m turn other × (x ≡ y)

@@ -22,7 +22,7 @@ bare_act seeks Soft = Soft
 bare_act seeks Hard = Hard
 bare_act seeks (Quit why) = Quit why
 
--- so a turn, by where its processor stands before it
+-- a turn without it, by where its processor stands before
 abbrev pub bare : Situation → Turn → Turn
 bare m turn = record { processor = turn.processor; act = bare_act (seeks_holder (stand_of m.state turn.processor)) turn.act }
 
@@ -54,7 +54,7 @@ LinesTellTurns = (names : Names) (from : ℕ) (m : Situation) (first second : Li
     → along_turns (shown_line names Turns from) m first ≡ along_turns (shown_line names Turns from) m second
     → AreOneRun m first second
 
--- so does the trace, with its head and its tail
+-- traces tell them too, with head and tail
 abbrev pub TracesTellTurns : Type 0
 TracesTellTurns = (names : Names) (from : ℕ) (m : Situation) (first second : List Turn) → AreTold m from first second
     → m.turns + length first ≤ 2 ^ 64 → m.turns + length second ≤ 2 ^ 64
