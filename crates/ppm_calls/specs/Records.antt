@@ -1,8 +1,9 @@
--- The records of a run that ended.
-use Rattle.std.specs.Prelude.{◌≡◌, ◌<◌, ◌≤◌, ℕ, List, [], Some, slice_get}
+-- The records of a run.
+use Rattle.std.specs.Prelude.{◌≡◌, ◌<◌, ◌≤◌, ℕ, List, [], Some, map, replicate, slice_get}
 use Rattle.ppm_words.specs.declared.event.Event.{Event}
 use Rattle.ppm_words.specs.declared.named_array.NamedArray.{NamedArray}
 use Rattle.ppm_words.specs.declared.outcome.Outcome.TheVariants as outcomes
+use Rattle.ppm_ports.specs.Outside.{Outside}
 use Rattle.ppm_plan.specs.Forms.{plan_form}
 use Rattle.ppm_plan.specs.Refusals.{IsAccepted, IsKeeper}
 use Rattle.ppm_plan.specs.declared.plan_item.PlanItem.{PlanItem}
@@ -15,8 +16,10 @@ use Rattle.ppm_core.specs.Situation.{Situation}
 use Rattle.ppm_choice.specs.Obeying.{ObeyAll}
 use Rattle.ppm_choice.specs.Tells.{told_in}
 use Rattle.ppm_answers.specs.Texts.{arrays_text}
+use Rattle.ppm_answers.specs.declared.status.Status.{Status}
 use Rattle.ppm_cli.specs.declared.run.RunOptions.{RunOptions}
 use Rattle.ppm_loading.specs.Loading.{OpensRun}
+use Rattle.ppm_driver.specs.RunRows.{RunRows}
 use Rattle.ppm_outcomes.specs.Meant.{EndsAsProgram}
 use Rattle.ppm_outcomes.specs.Runs.{plan_of, limits_of, sizes_of}
 use Rattle.ppm_outcomes.specs.Watchers.{watcher_count}
@@ -41,3 +44,14 @@ pub record AreRecords (options : RunOptions) (plan source out : List ℕ) (lists
   pub arrays : List NamedArray
   pub ends : EndsAsProgram start turns program (outcomes.Ended arrays)
   pub shown : out ≡ arrays_text arrays
+
+-- What the rows of `run` say of each status: of ports of which the source had these bytes and out, which was empty, has those, and of recorders that
+-- were told nothing before and have these lists.
+pub record HasRows (options : RunOptions) (plan source out : List ℕ) (lists : List (List Event)) (status : Status) : Type 0 where
+  pub outside : Outside
+  pub had : outside.source.before ≡ Some source
+  pub began : outside.out.before ≡ Some []
+  pub stands : outside.out.now ≡ Some out
+  pub untold : outside.told_before ≡ map Some (replicate watcher_count [])
+  pub told : outside.told_now ≡ map Some lists
+  pub rows : RunRows options options.processors plan outside status

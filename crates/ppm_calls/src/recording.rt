@@ -3,7 +3,7 @@ ghost use Rattle.std.specs.Prelude.{◌≡◌, [], IfOk, replicate};
 ghost use Rattle.ppm_answers.specs.declared.status.Status.TheVariants.{Ended};
 ghost use Rattle.ppm_cli.specs.Words.{AreRun};
 ghost use Rattle.ppm_outcomes.specs.Watchers.{watcher_count};
-ghost use Rattle.ppm_calls.specs.Records.{AreRecords};
+ghost use Rattle.ppm_calls.specs.Records.{AreRecords, HasRows};
 
 use ppm_answers::Status;
 use ppm_cli::RunOptions;
@@ -40,8 +40,9 @@ pub fn record_run<R: Threads + Wait + Sync>(
     source: Vec<u8>,
 ) -> Result<Recorded, NoMemory>
     requires options { AreRun options }
-    ensures { IfOk result (λ run. run.status ≡ Ended
+    ensures records { IfOk result (λ run. run.status ≡ Ended
         → AreRecords options plan.now source.items run.out.bytes run.watch.items) }
+    ensures rows { IfOk result (λ run. HasRows options plan.now source.items run.out.bytes run.watch.items run.status) }
 {
     let mut source = MemorySource::new(source, MOST, Vec::new(alloc));
     let mut out = MemorySink::new(alloc, ROOM, MOST, Vec::new(alloc))?;
