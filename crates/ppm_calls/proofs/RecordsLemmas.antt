@@ -1,7 +1,9 @@
 -- What recorders have after a run that ended.
 use Rattle.std.proofs.Common.{◌≡◌, ◌∙◌, ◌<◌, ◌≤◌, ℕ, zero, suc, List, [], ◌∷◌, length, map, replicate, get_or, slice_get, Option, Some, None, refl, ap, subst, arith}
 use Rattle.ppm_words.specs.declared.event.Event.{Event}
-use Rattle.ppm_ports.specs.Outside.{Outside}
+use Rattle.ppm_ports.specs.Ports.{port}
+use Rattle.ppm_ports.specs.Outside.{Outside, outside}
+use Rattle.ppm_ports.specs.Memory.{SourceState, SinkState, new_source, new_sink}
 use Rattle.ppm_ports.specs.Told.{AppendsList, KeepsList}
 use Rattle.ppm_answers.specs.declared.status.Status.TheVariants.{Ended}
 use Rattle.ppm_answers.specs.Texts.{arrays_text}
@@ -10,7 +12,7 @@ use Rattle.ppm_cli.specs.declared.run.RunOptions.{RunOptions}
 use Rattle.ppm_driver.specs.Headline.{Headline}
 use Rattle.ppm_outcomes.specs.Watchers.{watcher_count}
 use Rattle.ppm_program.specs.Programs.{HasProgram}
-use Rattle.ppm_calls.specs.Records.{AreRecords}
+use Rattle.ppm_calls.specs.Records.{AreRecords, in_memory}
 
 -- what recorders show of their lists
 abbrev pub shown : List (List Event) → List (Option (List Event))
@@ -91,3 +93,14 @@ records_are options most plan text bytes lists o source out_before out_now befor
           (subst (λ before. Appends before o.out.now (arrays_text h.0)) out_before h.2.on_out.0) in
           appends;
     }
+
+-- what ports in memory and recorders show that were made so, and were then left so
+pub memory_is : (bytes : List ℕ) (most room : ℕ) (failing unwritten untaken : List ℕ) (s s' : SourceState) (o o' e e' : SinkState)
+    (lists lists' : List (List Event)) → s ≡ new_source bytes most failing → o ≡ new_sink room most unwritten → e ≡ new_sink room most untaken
+    → lists ≡ untold_yet watcher_count
+    → outside (port (λ s. Some s.rest) (λ s. s.faults) s s') (port (λ s. Some s.bytes) (λ s. s.faults) o o')
+    (port (λ s. Some s.bytes) (λ s. s.faults) e e') (shown lists) (shown lists')
+    ≡ in_memory bytes s' o' e' lists'
+memory_is bytes most room failing unwritten untaken s s' o o' e e' lists lists' a b c d =
+    λ i. outside (port (λ s. Some s.rest) (λ s. s.faults) (a i) s') (port (λ s. Some s.bytes) (λ s. s.faults) (b i) o')
+    (port (λ s. Some s.bytes) (λ s. s.faults) (c i) e') (shown (d i)) (shown lists')

@@ -3,7 +3,9 @@ use Rattle.std.specs.Prelude.{◌≡◌, ◌<◌, ◌≤◌, ℕ, List, [], Some
 use Rattle.ppm_words.specs.declared.event.Event.{Event}
 use Rattle.ppm_words.specs.declared.named_array.NamedArray.{NamedArray}
 use Rattle.ppm_words.specs.declared.outcome.Outcome.TheVariants as outcomes
-use Rattle.ppm_ports.specs.Outside.{Outside}
+use Rattle.ppm_ports.specs.Ports.{Port}
+use Rattle.ppm_ports.specs.Outside.{Outside, outside}
+use Rattle.ppm_ports.specs.Memory.{SourceState, SinkState}
 use Rattle.ppm_plan.specs.Forms.{plan_form}
 use Rattle.ppm_plan.specs.Refusals.{IsAccepted, IsKeeper}
 use Rattle.ppm_plan.specs.declared.plan_item.PlanItem.{PlanItem}
@@ -16,10 +18,8 @@ use Rattle.ppm_core.specs.Situation.{Situation}
 use Rattle.ppm_choice.specs.Obeying.{ObeyAll}
 use Rattle.ppm_choice.specs.Tells.{told_in}
 use Rattle.ppm_answers.specs.Texts.{arrays_text}
-use Rattle.ppm_answers.specs.declared.status.Status.{Status}
 use Rattle.ppm_cli.specs.declared.run.RunOptions.{RunOptions}
 use Rattle.ppm_loading.specs.Loading.{OpensRun}
-use Rattle.ppm_driver.specs.RunRows.{RunRows}
 use Rattle.ppm_outcomes.specs.Meant.{EndsAsProgram}
 use Rattle.ppm_outcomes.specs.Runs.{plan_of, limits_of, sizes_of}
 use Rattle.ppm_outcomes.specs.Watchers.{watcher_count}
@@ -45,13 +45,13 @@ pub record AreRecords (options : RunOptions) (plan source out : List ℕ) (lists
   pub ends : EndsAsProgram start turns program (outcomes.Ended arrays)
   pub shown : out ≡ arrays_text arrays
 
--- What the rows of `run` say of each status: of ports of which the source had these bytes and out, which was empty, has those, and of recorders that
--- were told nothing before and have these lists.
-pub record HasRows (options : RunOptions) (plan source out : List ℕ) (lists : List (List Event)) (status : Status) : Type 0 where
-  pub outside : Outside
-  pub had : outside.source.before ≡ Some source
-  pub began : outside.out.before ≡ Some []
-  pub stands : outside.out.now ≡ Some out
-  pub untold : outside.told_before ≡ map Some (replicate watcher_count [])
-  pub told : outside.told_now ≡ map Some lists
-  pub rows : RunRows options options.processors plan outside status
+-- A port in memory that was made for a run: the bytes that it had and has, and how many of its calls failed.
+abbrev pub fresh : List ℕ → List ℕ → ℕ → Port
+fresh before now faults = record { before = Some before; now = Some now; faults_before = 0; faults_now = faults }
+
+-- The outside of a run on ports in memory and recorders, all made for it: the source had these bytes, out and err were empty, and no recorder was
+-- told anything. The run leaves the ports so, and the recorders have these lists.
+abbrev pub in_memory : List ℕ → SourceState → SinkState → SinkState → List (List Event) → Outside
+in_memory bytes source out err lists =
+    outside (fresh bytes source.rest source.faults) (fresh [] out.bytes out.faults) (fresh [] err.bytes err.faults)
+    (map Some (replicate watcher_count [])) (map Some lists)

@@ -3,7 +3,8 @@ ghost use Rattle.std.specs.Prelude.{◌≡◌, [], IfOk, replicate};
 ghost use Rattle.ppm_answers.specs.declared.status.Status.TheVariants.{Ended};
 ghost use Rattle.ppm_cli.specs.Words.{AreRun};
 ghost use Rattle.ppm_outcomes.specs.Watchers.{watcher_count};
-ghost use Rattle.ppm_calls.specs.Records.{AreRecords, HasRows};
+ghost use Rattle.ppm_driver.specs.RunRows.{RunRows};
+ghost use Rattle.ppm_calls.specs.Records.{AreRecords, in_memory};
 
 use ppm_answers::Status;
 use ppm_cli::RunOptions;
@@ -24,8 +25,12 @@ const ROOM: usize = 1_000_000;
 #[derive(Debug, Drop)]
 pub struct Recorded {
     pub status: Status,
+    /// What is left of the source.
+    pub source: MemorySource,
     /// What stands on out: with status 0 the arrays, with 1 the trap.
     pub out: MemorySink,
+    /// What stands on err: with any other status why there are none.
+    pub err: MemorySink,
     /// What each watcher was told, one for each processor that a run may have.
     pub watch: Vec<Recorder>,
 }
@@ -42,7 +47,8 @@ pub fn record_run<R: Threads + Wait + Sync>(
     requires options { AreRun options }
     ensures records { IfOk result (λ run. run.status ≡ Ended
         → AreRecords options plan.now source.items run.out.bytes run.watch.items) }
-    ensures rows { IfOk result (λ run. HasRows options plan.now source.items run.out.bytes run.watch.items run.status) }
+    ensures rows { IfOk result (λ run. RunRows options options.processors plan.now
+        (in_memory source.items run.source run.out run.err run.watch.items) run.status) }
 {
     let mut source = MemorySource::new(source, MOST, Vec::new(alloc));
     let mut out = MemorySink::new(alloc, ROOM, MOST, Vec::new(alloc))?;
@@ -58,7 +64,13 @@ pub fn record_run<R: Threads + Wait + Sync>(
         &mut err,
         &mut watch,
     );
-    Ok(Recorded { status, out, watch })
+    Ok(Recorded {
+        status,
+        source,
+        out,
+        err,
+        watch,
+    })
 }
 
 /// A recorder for each processor that a run may have.

@@ -14,6 +14,7 @@ use ppm_cli::RunOptions;
 use ppm_lines::Mark;
 use ppm_loading::Sizes;
 use ppm_plan::read_schedule;
+use ppm_ports::{Sink, Source};
 use ppm_words::{Idle, Outcome};
 use std::alloc::Global;
 use std::test::Fail;
@@ -160,5 +161,37 @@ fn a_sum_is_recorded(rt: HostRuntime) -> Result<(), Fail> {
         number = number.saturating_add(1);
     }
     assert_eq!(rt; number, 64);
+    Ok(())
+}
+
+#[test]
+fn a_trap_is_recorded(rt: HostRuntime) -> Result<(), Fail> {
+    let alloc = rt.alloc();
+    let source = "array a[1]; proc main(mut a) { a[0] = 1 / 0; }"
+        .as_bytes()
+        .to_vec(alloc)?;
+    let run = record_run(&rt, alloc, two(), b"", source).map_err(|_| "memory")?;
+    assert_eq!(rt; run.status, Status::Trapped);
+    assert!(rt; run.out.bytes() == b"trap divzero line 1\n".as_slice());
+    assert!(rt; run.err.bytes().is_empty());
+    assert!(rt; run.source.rest().is_empty());
+    assert_eq!(rt; run.source.faults(), 0);
+    assert_eq!(rt; run.out.faults(), 0);
+    assert_eq!(rt; run.err.faults(), 0);
+    Ok(())
+}
+
+#[test]
+fn a_refused_source_is_recorded(rt: HostRuntime) -> Result<(), Fail> {
+    let alloc = rt.alloc();
+    let source = "array a".as_bytes().to_vec(alloc)?;
+    let run = record_run(&rt, alloc, two(), b"", source).map_err(|_| "memory")?;
+    assert_eq!(rt; run.status, Status::SourceRefused);
+    assert!(rt; run.out.bytes().is_empty());
+    assert!(rt; run.err.bytes() == b"source refused: syntax 2 at 7\n".as_slice());
+    // The run did not begin.
+    for recorder in &run.watch {
+        assert_eq!(rt; recorder.events().len(), 0);
+    }
     Ok(())
 }
