@@ -25,10 +25,17 @@ from_text from = if from == 0 then [] else codes " from " ++ grouped from
 abbrev pub ending_text : (finish : ℕ) → List ℕ
 ending_text finish = if finish == 0 then codes "not ended" else value_text Finish finish
 
+-- what so many processors are called, and so many acts
+abbrev pub processors_word : ℕ → List ℕ
+processors_word processors = if processors == 1 then codes " processor, " else codes " processors, "
+
+abbrev pub acts_word : ℕ → List ℕ
+acts_word acts = if acts == 1 then codes " act" else codes " acts"
+
 -- how many processors there are, and acts
 abbrev pub sizes_text : (processors acts : ℕ) → List ℕ
 sizes_text processors acts =
-    codes "<text class=\"t h\" x=\"6400\" y=\"2200\">" ++ decimal processors ++ codes " processors, " ++ grouped acts ++ codes " acts"
+    codes "<text class=\"t h\" x=\"6400\" y=\"2200\">" ++ decimal processors ++ processors_word processors ++ grouped acts ++ acts_word acts
 
 -- the first line over the lanes, of so many acts
 abbrev pub title_text : Canvas → (acts finish : ℕ) → List ℕ

@@ -27,7 +27,7 @@ ruler_label y = codes "<text class=\"t u\" x=\"900\" y=\"" ++ decimal y ++ codes
 
 -- a number stands in the middle under its tick; near the right edge it ends there, so that the picture doesn't cut it
 abbrev pub tick_opening : (x : ℕ) → List ℕ
-tick_opening x = if nat_le x 89000 then codes "<text class=\"t u m\" x=\"" else codes "<text class=\"t u e\" x=\""
+tick_opening x = if nat_le x 88300 then codes "<text class=\"t u m\" x=\"" else codes "<text class=\"t u e\" x=\""
 
 module _ (canvas : Canvas) where
   -- the number of a tick, under the last lane

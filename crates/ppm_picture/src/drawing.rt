@@ -1,14 +1,16 @@
 //! What stands over the lanes of a picture, and what in them.
 ghost use Rattle.std.specs.Prelude.{◌≡◌, ◌++◌, ◌≤◌, OnOk, length};
 ghost use Rattle.ppm_picture.specs.Canvas.{IsCanvas};
-ghost use Rattle.ppm_picture.specs.Drawing.{dead_lane_text, ending_text, frame_text, from_text};
-ghost use Rattle.ppm_picture.specs.Drawing.{middle_text, sizes_text, title_text, top_text};
+ghost use Rattle.ppm_picture.specs.Drawing.{acts_word, dead_lane_text, ending_text, frame_text};
+ghost use Rattle.ppm_picture.specs.Drawing.{from_text, middle_text, processors_word, sizes_text};
+ghost use Rattle.ppm_picture.specs.Drawing.{title_text, top_text};
+ghost use Rattle.ppm_picture.specs.Markup.{part_text};
 
 use crate::arrow::{push_arrows, push_upright};
 use crate::canvas::{Canvas, lane};
 use crate::layer::{push_layers, push_row_ends};
 use crate::markup::Markup::{Fixed, Grouped, Number};
-use crate::markup::push_markup;
+use crate::markup::{Markup, push_markup};
 use crate::ruler::{push_lanes, push_ruler};
 use crate::sign::{push_dotted, push_signs};
 use crate::stroke::Stroke;
@@ -52,6 +54,26 @@ fn push_ending(alloc: Global, text: &mut Vec<u8>, finish: u64) -> Result<(), NoM
     push_value(alloc, text, WordKind::Finish, finish)
 }
 
+/// What so many processors are called.
+fn processors_word(processors: u32) -> Markup
+    ensures { part_text result ≡ processors_word processors }
+{
+    if processors == 1 {
+        return Fixed(" processor, ");
+    }
+    Fixed(" processors, ")
+}
+
+/// What so many acts are called.
+fn acts_word(acts: u64) -> Markup
+    ensures { part_text result ≡ acts_word acts }
+{
+    if acts == 1 {
+        return Fixed(" act");
+    }
+    Fixed(" acts")
+}
+
 /// Appends how many processors there are, and acts.
 fn push_sizes(alloc: Global, text: &mut Vec<u8>, processors: u32, acts: u64) -> Result<(), NoMemory>
     ensures { OnOk result (text.new.items ≡ text.old.items ++ sizes_text processors acts) }
@@ -59,9 +81,9 @@ fn push_sizes(alloc: Global, text: &mut Vec<u8>, processors: u32, acts: u64) -> 
     let parts = [
         Fixed("<text class=\"t h\" x=\"6400\" y=\"2200\">"),
         Number(u64::from(processors)),
-        Fixed(" processors, "),
+        processors_word(processors),
         Grouped(acts),
-        Fixed(" acts"),
+        acts_word(acts),
     ];
     push_markup(alloc, text, &parts)
 }

@@ -38,7 +38,7 @@ fn distance_among(among: &[u64], acts: u64) -> u64
 fn tick_opening(x: u64) -> Markup
     ensures { part_text result ≡ tick_opening x }
 {
-    if x <= 89_000 {
+    if x <= 88_300 {
         return Fixed("<text class=\"t u m\" x=\"");
     }
     Fixed("<text class=\"t u e\" x=\"")
