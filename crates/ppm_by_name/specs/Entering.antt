@@ -1,5 +1,6 @@
 -- What the calls answer that find a procedure and fill its frame.
-use Rattle.std.specs.Prelude.{◌≡◌, ℕ, List, ⊤, Option, Some, None, Result, Ok, Err}
+use Rattle.std.specs.Prelude.{◌≡◌, ℕ, List, ⊤, All, Option, Some, None, Result, Ok, Err, false}
+use Rattle.std.specs.Str.{bytes_eq}
 use Rattle.ppm_tree.specs.Tree.{Procedure, procedure_of}
 use Rattle.ppm_tree.specs.State.{TrapAt, Frame, procedure_named}
 use Rattle.ppm_tree.specs.declared.tree.Proc.{Proc}
@@ -7,9 +8,9 @@ use Rattle.ppm_by_name.specs.declared.stop.Stop.{Stop}
 use Rattle.ppm_by_name.specs.declared.stop.Stop.TheVariants as stop
 use Rattle.ppm_by_name.specs.Frames.{Bound, frame_of}
 
--- the procedure with a name, if there is one
+-- the first procedure with a name, or none where no procedure has it
 abbrev pub IsNamed : List Procedure → List ℕ → Option Proc → Type 0
-IsNamed procedures x None = ⊤
+IsNamed procedures x None = All (λ p. bytes_eq p.name.name x ≡ false) procedures
 IsNamed procedures x (Some p) = procedure_named procedures x ≡ procedure_of p
 
 -- a call fills a frame as it is said, or stops at the trap that is said

@@ -16,7 +16,7 @@ use ppm_tree::{Argument, Expr, Mode, Parameter, Proc, Side};
 use ppm_words::Name;
 use std::alloc::Global;
 
-/// The first procedure with a name.
+/// The first procedure with a name, `None` where there is none.
 pub fn named<'a>(procedures: &'a [Proc], name: &Name) -> Option<&'a Proc>
     ensures { IsNamed (map procedure_of procedures.now) name.now (option_map (λ r. r.now) result) }
 {
@@ -30,7 +30,7 @@ pub fn named<'a>(procedures: &'a [Proc], name: &Name) -> Option<&'a Proc>
     None
 }
 
-/// The procedure `main`.
+/// The first procedure that is named `main`, `None` where there is none.
 pub fn named_main(procedures: &[Proc]) -> Option<&Proc>
     ensures { IsNamed (map procedure_of procedures.now) (codes "main") (option_map (λ r. r.now) result) }
 {

@@ -31,6 +31,7 @@ fn walk(alloc: Global, tree: &Tree) -> Result<Option<Told>, NoMemory>
 {
     match named_main(tree.procedures.as_slice()) {
         Some(main) => walk_main(alloc, tree, main),
+        // An admitted program has one.
         None => Err(NoMemory),
     }
 }

@@ -282,6 +282,7 @@ impl<'a> Scope<'a> {
                 let scope = Scope::new(self.procedures, procedure);
                 scope.body(alloc, frame, store, depth - 1)
             }
+            // An admitted program calls what it has.
             None => Err(Halt::NoMemory),
         }
     }

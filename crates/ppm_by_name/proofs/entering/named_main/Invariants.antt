@@ -1,11 +1,14 @@
-use Rattle.std.proofs.Common.{◌≡◌, length, map, codes}
+use Rattle.std.proofs.Common.{◌≡◌, None, length, map, codes}
 use Rattle.ppm_tree.specs.Tree.{procedure_of}
 use Rattle.ppm_tree.specs.State.{procedure_named}
+use Rattle.ppm_by_name.specs.Entering.{IsNamed}
 use Rattle.ppm_by_name.proofs.entering.named_main.Given as goal
 
--- what is left has what is sought
+-- what is left has what is sought, and where nothing left has the name, nothing has
 abbrev pub invariant-loop-left : goal.invariant-loop-left
-invariant-loop-left l = procedure_named (map procedure_of l.left) (codes "main") ≡ procedure_named (map procedure_of l.procedures) (codes "main")
+invariant-loop-left l =
+    (procedure_named (map procedure_of l.left) (codes "main") ≡ procedure_named (map procedure_of l.procedures) (codes "main"))
+    × (IsNamed (map procedure_of l.left) (codes "main") None → IsNamed (map procedure_of l.procedures) (codes "main") None)
 
 abbrev pub decreases-loop-left : goal.decreases-loop-left
 decreases-loop-left l = length l.left
