@@ -1,6 +1,6 @@
 //! What `explain` answers of each text, and of a plan or a schedule: that the command accepts it
 //! which reads it, or that command's refusal with the notes that explain it; and of a source also
-//! what the names stand for where its run traps.
+//! what the names stand for where its run traps, or where it stands once its turns are spent.
 //! Model: a text is accepted or refused by the definitions of the command that reads it, and the
 //! notes are those of the crates of notes (`specs/Texts`, `specs/Orders`, `specs/Trapping`).
 //! Contract: `explain_command` delivers the answer of the text that was read, or says that a port

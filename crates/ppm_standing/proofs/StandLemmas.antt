@@ -23,28 +23,28 @@ use Rattle.ppm_standing.specs.Standing.{to, with_frame, with_store, with_left, w
 use Rattle.ppm_standing.specs.Standing.{doing, testing, leaving, advancing, give_cost, rest_cost, block_cost, next_cost, cost, step, on, stands, beginning, steps_of}
 use Rattle.ppm_standing.specs.Correct.{StandWhereLater}
 
--- a way to go on that is another one behind no turns, the other way round
+-- a way to go on that is another one after no turns, the other way round
 turned : {A B : ℕ → End ℤ → Type 0} → Shifts 0 A B → Shifts 0 B A
 turned {A = A} {B = B} p = record {
   on = λ n z b. record { rest = n; sum = omega arith; next = p.back n z (record { rest = n; sum = omega arith; next = b }) };
   back = λ n z w. let v = p.on w.rest z w.next in let e : v.rest ≡ n = (let i = v.sum in let j = w.sum in omega (arith, i, j)) in subst (λ (m : ℕ). B m z) e v.next;
 }
 
--- one that is another behind so many turns is this way behind none
+-- one that is another after so many turns is this way after none
 at_once : {c : ℕ} {A B : ℕ → End ℤ → Type 0} → Shifts c A B → Shifts 0 A (λ n z. Later c B n z)
 at_once {A = A} p = record {
   on = λ n z a. record { rest = n; sum = omega arith; next = p.on n z a };
   back = λ n z w. let e : w.rest ≡ n = (let i = w.sum in omega (arith, i)) in subst (λ (m : ℕ). A m z) e (p.back w.rest z w.next);
 }
 
--- a way that is another one behind no turns, which is a third one behind so many
+-- a way that is another one after no turns, which is a third one after so many
 behind_none : {c : ℕ} {A B C : ℕ → End ℤ → Type 0} → Shifts 0 A B → Shifts c B C → Shifts c A C
 behind_none p q = record {
   on = λ n z a. let v = p.on n z a in let w = q.on v.rest z v.next in record { rest = w.rest; sum = (let i = v.sum in let j = w.sum in omega (arith, i, j)); next = w.next };
   back = λ n z w. p.back n z (record { rest = n; sum = omega arith; next = q.back n z w });
 }
 
--- what is later is behind its turns
+-- what is later comes after its turns
 later : {c : ℕ} {B : ℕ → End ℤ → Type 0} → Shifts c (λ n z. Later c B n z) B
 later = record { on = λ n z v. v; back = λ n z v. v }
 
@@ -107,7 +107,7 @@ module _ (procedures : List Procedure) (main : Option Give) where
   rooted_at (next.Leave r) w = Rooted w.procedure (r ∷ w.around)
   rooted_at next.Last w = w.procedure.give ≡ main
 
-  -- a run that goes on to what this way is, behind so many turns
+  -- a run that goes on to what this way is, after so many turns
   record Goes (c : ℕ) (A : ℕ → End ℤ → Type 0) (u : Run) : Type 0 where
     running : u.ended ≡ false
     shifts : Shifts c A (way u)

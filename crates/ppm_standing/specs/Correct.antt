@@ -12,6 +12,6 @@ pub record StandsWhereLater (t : ProgramTree) (turns : ℕ) : Type 0 where
   pub there : (w : Run) → stand t turns ≡ Some w → (k : Counts) (z : End ℤ) → Spends t k z → turns < k.turns
   pub somewhere : ((k : Counts) (z : End ℤ) → Spends t k z → turns < k.turns) → (w : Run) × stand t turns ≡ Some w
 
--- so it is with all programs and turns
+-- each program's run stands so, whatever the turns
 abbrev pub StandWhereLater : Type 0
 StandWhereLater = (t : ProgramTree) (turns : ℕ) → StandsWhereLater t turns

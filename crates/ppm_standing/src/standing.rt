@@ -15,7 +15,8 @@ use std::alloc::Global;
 
 /// Where the run of a program stands after so many turns: before a step that takes more than are
 /// left. `None` where it ends or traps within them. The memory that it takes is that of the arrays
-/// and of the procedures and blocks that are open at a time. `Err` where memory is refused.
+/// and of the procedures and blocks that are open at a time. `Err` where memory is refused, or where
+/// four times the turns and four more have no 64 bits.
 pub fn stand(alloc: Global, program: &Program, turns: u64) -> Result<Option<Stood>, NoMemory>
     ensures { IfOk result (IsStandOf (tree_of program.now) turns) }
 {
@@ -28,6 +29,7 @@ fn stand_of_tree(alloc: Global, tree: &Tree, turns: u64) -> Result<Option<Stood>
 {
     match named_main(tree.procedures.as_slice()) {
         Some(main) => stand_of_main(alloc, tree, main, turns),
+        // An admitted program has one.
         None => Err(NoMemory),
     }
 }
