@@ -18,7 +18,7 @@ pub lent_more : (b b' : Bound) (arrays : List Array) (p : Parameter) (ps : List 
     → b' ≡ with_lent b p.name.name (whole_from 0 arrays p.name.name) → frame_of b' ≡ main_frame arrays (p ∷ ps)
 lent_more b b' arrays p ps e is = ap frame_of is ∙ ap (λ (f : Frame). with_region f p.name.name (whole_from 0 arrays p.name.name)) e
 
--- an array with one 0 more, and one less behind it
+-- an array with one 0 more, and one less after it
 pub filled_on : (xs : List ℤ) (w : ℕ) → length xs < w
     → (xs ++ pos 0 ∷ []) ++ replicate (w - length (xs ++ pos 0 ∷ [])) (pos 0) ≡ xs ++ replicate (w - length xs) (pos 0)
 filled_on xs w l =

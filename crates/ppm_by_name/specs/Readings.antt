@@ -28,7 +28,7 @@ with_local_read f x rs = with_reading rs x (held.Value (f.locals x))
 abbrev pub with_region_read : Frame → List ℕ → List Reading → List Reading
 with_region_read f x rs = with_reading rs x (held.Words (f.regions x).length)
 
--- the names of an expression, from left to right, behind those that are read already
+-- the names of an expression, from left to right, after those that are read already
 abbrev pub read_in : Frame → Expression → List Reading → List Reading
 read_in f (tree.Number z) rs = rs
 read_in f (tree.Name x) rs = with_local_read f x.name rs

@@ -82,7 +82,7 @@ impl Region {
         }
     }
 
-    /// The words behind the first ones, so many.
+    /// The words after the first ones, so many.
     pub fn second(&self, count: usize) -> Self
         requires { count ≤ self.now.length }
         ensures { result ≡ second_part count self.now }

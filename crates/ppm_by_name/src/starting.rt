@@ -72,7 +72,7 @@ pub fn initial_store(alloc: Global, tree: &Tree) -> Result<Store, NoMemory>
     Ok(Store::from_vec(arrays))
 }
 
-/// The whole of the array with a name, at the place or behind it.
+/// The whole of the array with a name, at the place or after it.
 fn whole(at: usize, arrays: &[Array], name: &Name) -> Region
     requires { at + length arrays.now < 2 ^ 64 }
     ensures { result ≡ whole_from at arrays.now name.now }

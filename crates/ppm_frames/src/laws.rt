@@ -27,7 +27,7 @@ pub fn parts_swap()
 {}
 
 /// A value passes from a callee to its caller, by a store and an install, each a step of the tree;
-/// so does a trap. Of a fork's branches nothing is said here.
+/// a trap passes by these too. Of a fork's branches nothing is said here.
 pub fn values_pass()
     ensures law { AllValuesPass }
 {}

@@ -22,11 +22,11 @@ bare_act seeks Soft = Soft
 bare_act seeks Hard = Hard
 bare_act seeks (Quit why) = Quit why
 
--- a turn without it, by where its processor stands before
+-- a turn without what nobody asks for, by where its processor stands before it
 abbrev pub bare : Situation → Turn → Turn
 bare m turn = record { processor = turn.processor; act = bare_act (seeks_holder (stand_of m.state turn.processor)) turn.act }
 
--- those of a run
+-- the turns of a run without that
 abbrev pub bare_turns : Situation → List Turn → List Turn
 bare_turns m turns = along_turns (λ m turn. bare m turn ∷ []) m turns
 
@@ -54,7 +54,7 @@ LinesTellTurns = (names : Names) (from : ℕ) (m : Situation) (first second : Li
     → along_turns (shown_line names Turns from) m first ≡ along_turns (shown_line names Turns from) m second
     → AreOneRun m first second
 
--- traces tell them too, with head and tail
+-- a whole trace tells them too, with its head and its tail
 abbrev pub TracesTellTurns : Type 0
 TracesTellTurns = (names : Names) (from : ℕ) (m : Situation) (first second : List Turn) → AreTold m from first second
     → m.turns + length first ≤ 2 ^ 64 → m.turns + length second ≤ 2 ^ 64

@@ -11,7 +11,7 @@ pub fn lines_tell_turns()
     addresses_name_cells();
 }
 
-/// A whole trace tells them too, with its head and its tail.
+/// A whole trace tells the turns too, with its head and its tail.
 pub fn traces_tell_turns()
     ensures law { TracesTellTurns }
 {

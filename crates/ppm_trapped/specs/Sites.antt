@@ -73,7 +73,7 @@ module _ (procedures : List Procedure) where
           → n < (f.regions r.name).length → Sweeps Plain procedures i x s (f.regions r.name) f 0 n a k (Ended f.locals a')
           → Reaches p s (with_element f (f.regions r.name) n i x) a' z → Meets p (tree.Each i x r s) f a z
 
-    -- a run of a block reaches a point: in its first statement, or behind it
+    -- a run of a block reaches a point: in its first statement, or after it
     pub data Reaches : Procedure → Block → Frame → Arrays → Point → Type 0 where
       First : (p : Procedure) (s : Statement) (b : Block) (f : Frame) (a : Arrays) (z : Point)
           → Meets p s f a z → Reaches p (Then s b) f a z

@@ -50,7 +50,7 @@ abbrev pub Walks : {A : Type 0} → List Procedure → (A → Type 0) → (Point
 Walks procedures Ends Has (Ok x) = Ends x
 Walks procedures Ends Has (Err h) = HaltsIn procedures Has h
 
--- a statement ends with these locals and arrays: what comes behind it comes behind it
+-- a statement ends with these locals and arrays: a run that goes on from these is one of the statement and what stands after it
 abbrev pub IsPassed : List Procedure → Statement → Frame → Arrays → Locals → Arrays → Type 0
 IsPassed procedures s f a l a' = (b : Block) (k : Counts) (y : End Locals)
     → Follows Plain procedures b f (Ended l a') k y → (j : Counts) × Runs Plain procedures (Then s b) f a j y

@@ -1,4 +1,4 @@
--- One 0 more, and one less behind it.
+-- One 0 more, and one less after it.
 use Rattle.std.proofs.Common.{ap, ◌∙◌, ◌++◌, ◌-◌, ◌<◌, length, pos, replicate, arith, List, ℤ}
 use Rattle.ppm_by_name.proofs.StartLemmas.{filled_on}
 use Rattle.ppm_by_name.proofs.starting.values.Goals as goal

@@ -1,4 +1,4 @@
--- The values so far, and 0 in each word behind them, are the array.
+-- The values so far, and 0 in each word after them, are the array.
 use Rattle.std.proofs.Common.{◌≡◌, ◌++◌, ◌-◌, length, pos, replicate}
 use Rattle.ppm_tree.specs.Program.{input_of}
 use Rattle.ppm_by_name.proofs.starting.values.Given as goal
