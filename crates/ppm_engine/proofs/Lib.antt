@@ -6,3 +6,7 @@ pub mod SumLemmas
 pub mod KindLemmas
 pub mod WaitingLemmas
 pub mod WidthLemmas
+pub mod CapsuleLemmas
+pub mod EnteringLemmas
+pub mod EndingLemmas
+pub mod RoundLemmas

@@ -1,0 +1,90 @@
+-- Capsules of a frame, with the block that one asks for and the stores of its end, and rows of work between them, on words of any kind.
+use Rattle.std.specs.Prelude.{◌≡◌, ◌⊎◌, ◌+◌, ℕ, true, false, Bool, List, Option, Some, None}
+use Rattle.ppm_cells.specs.Restart.{IsRestart}
+use Rattle.ppm_cells.specs.declared.shape.Shape.{Shape}
+use Rattle.ppm_code.specs.declared.act.End.{End}
+use Rattle.ppm_code.specs.declared.code.CodeParts.{CodeParts}
+use Rattle.ppm_code.specs.declared.work.Reached.TheVariants.{AtEnd, Before}
+use Rattle.ppm_words.specs.declared.event.Event.{Event}
+use Rattle.ppm_step.specs.Locals.{IsHeaderOf, IsLocal, standing_of}
+use Rattle.ppm_step.specs.Standings.{Standing, IsAt, IsBroken, IsDone, IsWithin, begins}
+use Rattle.ppm_step.specs.declared.local.Local.{Local}
+use Rattle.ppm_step.specs.declared.row.Row.{Row}
+use Rattle.ppm_step.specs.declared.row.Seat.{Seat}
+use Rattle.ppm_engine.specs.declared.way.FrameEnd.{FrameEnd}
+use Rattle.ppm_engine.specs.declared.way.FrameEnd.TheVariants.{Installed, Stands, Refused}
+use Rattle.ppm_engine.specs.declared.way.Framed.{Framed}
+use Rattle.ppm_engine.specs.declared.way.Halt.{Halt}
+use Rattle.ppm_engine.specs.declared.way.Halt.TheVariants as halts
+use Rattle.ppm_engine.specs.declared.way.RowEnd.{RowEnd}
+use Rattle.ppm_engine.specs.declared.way.RowEnd.TheVariants as ends
+use Rattle.ppm_engine.specs.declared.way.Rowed.{Rowed}
+use Rattle.ppm_engine.specs.declared.way.Worked.{Worked}
+use Rattle.ppm_engine.specs.Memory.{Counts, Spot, spot, counts, forks_by, takes_by, looks_after}
+use Rattle.ppm_engine.specs.Steps.{HasRow, IsWorking}
+use Rattle.ppm_engine.specs.Walking.{RefusedBy}
+
+-- the end at which a capsule has halted
+abbrev pub end_in : Halt → Option End
+end_in halts.Done = None
+end_in halts.Broken = None
+end_in (halts.Midway number at) = None
+end_in (halts.Stopped number next (Before step)) = None
+end_in (halts.Stopped number next (AtEnd end)) = Some end
+end_in (halts.Full number) = None
+
+-- a processor's own place and restart, by which it goes on
+pub record IsFrom (s : Shape) (own : ℕ) (seat : Seat) : Type 0 where
+  pub same : seat.own ≡ own
+  pub carrier : own < s.processors
+  pub place : seat.place < s.processors
+  pub restart : IsRestart seat.restart
+
+-- a row of work whose first step is there
+pub record IsRowThere (s : Shape) (seat : Seat) : Type 0 where
+  pub working : IsWorking s seat
+  pub row : HasRow seat.restart.kind
+  pub first : Row
+  pub begins_with : (code : CodeParts) → begins s code seat.own seat.place (Some seat.restart) ≡ IsWithin seat first
+
+-- the header of the seat's frame is there
+abbrev pub HasHeader : Shape → Seat → Type 0
+HasHeader s seat = (address : ℕ) × IsHeaderOf s seat address
+
+-- there were no looks since the last work, or the last one found that the run is over
+abbrev pub LooksNot : (over : Type 0) → (looks : ℕ) → Type 0
+LooksNot over looks = (looks ≡ 0) ⊎ over
+
+module _ {Own : Type 0} (led : Spot Own → Spot Own → Counts → Type 0) (refused : Spot Own → Spot Own → ℕ → Type 0) (first : Spot Own) where
+  -- what came of capsules of a frame, where at most so many steps were to be made
+  abbrev pub FramedSo : Shape → CodeParts → (place : ℕ) → Own → Option (List Event) → Local → (most made work looks : ℕ) → FrameEnd → Type 0
+  FramedSo s code place own told local most made work looks (Installed restart) =
+      led first (spot own (IsAt place (Some restart)) told) (counts made work looks false 0 0) × IsRestart restart
+  FramedSo s code place own told local most made work looks Stands =
+      led first (spot own (standing_of s code local) told) (counts made work looks false 0 0) × IsLocal s code local
+  FramedSo s code place own told local most made work looks (Refused lives) = RefusedBy led refused first own told most lives
+
+  abbrev pub HasFramed : Shape → CodeParts → (place : ℕ) → Own → Option (List Event) → Local → (most : ℕ) → Framed → Type 0
+  HasFramed s code place own told local most framed = FramedSo s code place own told local most framed.made framed.work framed.looks framed.end
+
+  -- what came of the row of a restart of work, by so many steps after the load of the finish word
+  abbrev pub RowedSo : (over : Type 0) → (place : ℕ) → Own → Option (List Event) → (work : ℕ) → (exchanged : Bool) → RowEnd → Type 0
+  RowedSo over place own told work exchanged (ends.Installed settled) =
+      led first (spot own (IsAt place (Some settled.restart)) told)
+      (counts (work + 1) work (looks_after 1 work 0) exchanged (forks_by settled.mark) (takes_by settled.mark)) × IsRestart settled.restart
+  RowedSo over place own told work exchanged ends.Broken =
+      led first (spot own (IsBroken place) told) (counts (work + 1) work (looks_after 1 work 0) exchanged 0 0)
+  RowedSo over place own told work exchanged ends.Over = over × led first (spot own IsDone told) (counts (work + 1) work (looks_after 1 work 0) exchanged 0 0)
+  RowedSo over place own told work exchanged (ends.Refused lives) = RefusedBy led refused first own told 16 lives
+
+  abbrev pub HasRowed : (over : Type 0) → (place : ℕ) → Own → Option (List Event) → Rowed → Type 0
+  HasRowed over place own told rowed = RowedSo over place own told rowed.work rowed.exchanged rowed.end
+
+  -- what came of capsules of frames and rows of work
+  abbrev pub WorkedSo : Shape → CodeParts → Own → Option (List Event) → Local → (most : ℕ) → Counts → (refused : Option Bool) → Type 0
+  WorkedSo s code own told local most c None = led first (spot own (standing_of s code local) told) c × IsLocal s code local
+  WorkedSo s code own told local most c (Some lives) = RefusedBy led refused first own told most lives
+
+  abbrev pub HasWorked : Shape → CodeParts → Own → Option (List Event) → Local → (most : ℕ) → Worked → Type 0
+  HasWorked s code own told local most it =
+      WorkedSo s code own told local most (counts it.made it.work it.looks it.exchanged it.forks it.takes) it.refused

@@ -1,0 +1,270 @@
+//! Rows of work, each made whole, and capsules of frames between them.
+ghost use Rattle.std.specs.Prelude.{◌≡◌, ◌≤◌, ◌<◌, ◌+◌, ◌^◌, ◌||◌, ◌⊎◌, Bool, true, Some};
+ghost use Rattle.ppm_engine.specs.Framing.{HasHeader, HasRowed, HasWorked, IsFrom, IsRowThere, LooksNot};
+ghost use Rattle.ppm_engine.specs.Memory.{forks_by, looks_after, spot, takes_by};
+ghost use Rattle.ppm_engine.specs.Steps.{HasRow};
+ghost use Rattle.ppm_step.specs.Standings.{IsAt};
+
+use crate::entering::load_finish;
+use crate::frames::{looks_after, rounds};
+use crate::memory::{Memory, Stop};
+use crate::rows::{has_row, make_row};
+use crate::tally::{Mark, Settled, Tally};
+use crate::waiting::{wait_at, wait_broken};
+use crate::way::{Coding, FrameEnd, Framed, RowEnd, Rowed, Worked};
+use ppm_cells::{Cell, RestartKind, Shape};
+use ppm_ports::Watch;
+use ppm_step::{Local, Seat, Stand, cell_is_there, restart_there};
+
+/// So many steps suffice for each row of work, which has 13 at most with the load of the finish
+/// word.
+const MOST_OF_A_ROW: u64 = 16;
+
+/// Whether the first step of a row of work is there, and an order word where it may be needed.
+#[inline(always)]
+fn row_there(shape: &Shape, seat: &Seat) -> bool
+    requires seat { IsFrom shape.now seat.now.own seat.now × HasRow seat.now.restart.kind }
+    ensures { result ≡ true → IsRowThere shape.now seat.now }
+{
+    if !restart_there(shape, seat.restart) {
+        return false;
+    }
+    match seat.restart.kind {
+        RestartKind::Push1 { block }
+        | RestartKind::Arrive { block, .. }
+        | RestartKind::Join { block, .. } => cell_is_there(shape, Cell::order_word(block)),
+        _ => true,
+    }
+}
+
+/// How a row ends, by what came of its steps.
+#[inline(always)]
+fn end_of(made: Result<Settled, Stop>) -> RowEnd {
+    match made {
+        Ok(settled) => RowEnd::Installed(settled),
+        Err(stop) => match stop {
+            Stop::Broken => RowEnd::Broken,
+            Stop::Refused => RowEnd::Refused(true),
+        },
+    }
+}
+
+/// A row of which no step of work was made.
+#[inline(always)]
+fn no_row(end: RowEnd) -> Rowed
+    ensures { result ≡ record { work = 0; exchanged = false; end = end } }
+{
+    Rowed {
+        work: 0,
+        exchanged: false,
+        end,
+    }
+}
+
+/// Makes the row of a restart of work, with the load of the finish word before it.
+#[inline(never)]
+fn row_at<M: Memory + Copy, W: Watch>(
+    memory: &M,
+    own: &mut M::Own,
+    watch: &mut W,
+    seat: &Seat,
+) -> Rowed
+    requires there { IsRowThere (M.shape memory.now) seat.now }
+    requires lives { M.lives memory.now own.old }
+    requires stands { M.at memory.now seat.now.own (spot own.old (IsAt seat.now.place (Some seat.now.restart)) (W.told watch.old)) }
+    ensures few { (result.work ≤ 12) × LooksNot (M.ends memory.now) (looks_after 1 result.work 0) }
+    ensures rowed { HasRowed (M.led memory.now seat.now.own) (M.refused memory.now seat.now.own)
+        (spot own.old (IsAt seat.now.place (Some seat.now.restart)) (W.told watch.old)) (M.ends memory.now)
+        seat.now.place own.new (W.told watch.new) result }
+{
+    // Copies, as in `work_along`.
+    let here = *memory;
+    let at = *seat;
+    let finish = load_finish(&here, own, watch, &at);
+    if finish.word != 0 {
+        if finish.taken {
+            return no_row(RowEnd::Over);
+        }
+        return no_row(RowEnd::Refused(false));
+    }
+    if !finish.taken {
+        return no_row(RowEnd::Refused(true));
+    }
+    let mut tally = Tally {
+        made: 0,
+        exchanged: false,
+    };
+    let made = make_row(&here, own, watch, &mut tally, &at);
+    Rowed {
+        work: tally.made,
+        exchanged: tally.exchanged,
+        end: end_of(made),
+    }
+}
+
+/// The forks of a step with a mark.
+#[inline(always)]
+fn forks_by(mark: Mark) -> u64
+    ensures value { result ≡ forks_by mark }
+    ensures bound { result < 2 }
+{
+    match mark {
+        Mark::Fork => 1,
+        Mark::Plain | Mark::Take => 0,
+    }
+}
+
+/// The takes of a step with a mark.
+#[inline(always)]
+fn takes_by(mark: Mark) -> u64
+    ensures value { result ≡ takes_by mark }
+    ensures bound { result < 2 }
+{
+    match mark {
+        Mark::Take => 1,
+        Mark::Plain | Mark::Fork => 0,
+    }
+}
+
+/// No steps.
+const NOTHING: Worked = Worked {
+    made: 0,
+    work: 0,
+    looks: 0,
+    exchanged: false,
+    forks: 0,
+    takes: 0,
+    refused: None,
+};
+
+/// The watcher refused one; whether the processor is still to take a step.
+#[inline(always)]
+fn refused(lives: bool) -> Worked {
+    Worked {
+        refused: Some(lives),
+        ..NOTHING
+    }
+}
+
+/// These steps, and then those of a row, whose last one has this mark.
+#[inline(always)]
+fn with_row(so_far: Worked, rowed: Rowed, mark: Mark) -> Worked {
+    let last = looks_after(1, rowed.work, 0);
+    Worked {
+        made: so_far.made + (rowed.work + 1),
+        work: so_far.work + rowed.work,
+        looks: looks_after(so_far.looks, rowed.work, last),
+        exchanged: so_far.exchanged || rowed.exchanged,
+        forks: so_far.forks + forks_by(mark),
+        takes: so_far.takes + takes_by(mark),
+        refused: None,
+    }
+}
+
+/// These steps, and then those of capsules of a frame.
+#[inline(always)]
+fn with_frames(so_far: Worked, framed: Framed) -> Worked {
+    Worked {
+        made: so_far.made + framed.made,
+        work: so_far.work + framed.work,
+        looks: looks_after(so_far.looks, framed.work, framed.looks),
+        exchanged: so_far.exchanged,
+        forks: so_far.forks,
+        takes: so_far.takes,
+        refused: None,
+    }
+}
+
+/// Makes capsules of frames and rows of work, by which the place goes on, one after the other, at
+/// most so many steps, while the run is not over.
+#[inline(never)]
+pub fn work_along<M: Memory + Copy, W: Watch>(
+    local: &mut Local,
+    memory: &M,
+    own: &mut M::Own,
+    watch: &mut W,
+    coding: &Coding<'_>,
+    from: &Seat,
+    most: u64,
+) -> Worked
+    requires coding { coding.now.code.now ≡ M.code memory.now }
+    requires from { IsFrom (M.shape memory.now) local.old.own from.now }
+    requires stands { M.at memory.now local.old.own (spot own.old (IsAt from.now.place (Some from.now.restart)) (W.told watch.old)) }
+    ensures few { (result.made ≤ most) × (result.work ≤ result.made) × (result.looks ≤ result.made) × (result.forks ≤ result.made)
+        × (result.takes ≤ result.made) × LooksNot (M.ends memory.now) result.looks }
+    ensures worked { HasWorked (M.led memory.now local.old.own) (M.refused memory.now local.old.own)
+        (spot own.old (IsAt from.now.place (Some from.now.restart)) (W.told watch.old))
+        (M.shape memory.now) (M.code memory.now) own.new (W.told watch.new) local.new most result }
+    ensures some { 2 ≤ most → M.lives memory.now own.old → HasHeader (M.shape memory.now) from.now
+        → (0 < result.made) ⊎ ((lives : Bool) × (result.refused ≡ Some lives)) }
+    ensures own_stays { local.new.own ≡ local.old.own }
+{
+    // Copies: after an atomic step the compiler reads anew what a reference leads to, and would work
+    // out addresses anew.
+    let here = *memory;
+    let shape = memory.shape();
+    let place = from.place;
+    let mut at = from.restart;
+    let mut so_far = NOTHING;
+    while most - so_far.made >= 2 {
+        let seat = Seat {
+            own: from.own,
+            place,
+            restart: at,
+        };
+        if has_row(at.kind) {
+            if most - so_far.made < MOST_OF_A_ROW || memory.is_over(own) || !row_there(&shape, &seat)
+            {
+                let last = at;
+                wait_at(local, &shape, coding.code, place, last);
+                return so_far;
+            }
+            let rowed = row_at(memory, own, watch, &seat);
+            match rowed.end {
+                RowEnd::Installed(settled) => {
+                    so_far = with_row(so_far, rowed, settled.mark);
+                    at = settled.restart;
+                }
+                RowEnd::Broken => {
+                    wait_broken(local, &shape, coding.code, place);
+                    return with_row(so_far, rowed, Mark::Plain);
+                }
+                RowEnd::Over => {
+                    local.stand = Stand::Done;
+                    return with_row(so_far, rowed, Mark::Plain);
+                }
+                RowEnd::Refused(lives) => return refused(lives),
+            }
+        } else {
+            let framed = rounds(
+                local,
+                &here,
+                own,
+                watch,
+                coding,
+                &seat,
+                most - so_far.made,
+            );
+            if let FrameEnd::Refused(lives) = framed.end {
+                return refused(lives);
+            }
+            so_far = with_frames(so_far, framed);
+            match framed.end {
+                FrameEnd::Installed(next) => {
+                    if framed.made == 0 {
+                        // Copies, here and below, as in `rounds`.
+                        let last = next;
+                        wait_at(local, &shape, coding.code, place, last);
+                        return so_far;
+                    }
+                    at = next;
+                }
+                FrameEnd::Stands => return so_far,
+                FrameEnd::Refused(_) => unreachable!(),
+            }
+        }
+    }
+    let last = at;
+    wait_at(local, &shape, coding.code, place, last);
+    so_far
+}
