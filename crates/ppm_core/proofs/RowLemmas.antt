@@ -144,20 +144,18 @@ led_by s code own items a b c = Led s code own (items a.own) a.stands (items b.o
 module _ {Own : Type 0} (s : Shape) (code : CodeParts) (own place : ℕ) (x : Standing) (o o' : Own) (items : Own → List ℕ) (told told' : Option (List Event))
     (tally : Tally) where
   abbrev came : Result Settled Stop → Type 0
-  came r = Settles (led_by s code own items) (spot o x told) (λ (a b : Spot Own) (n : ℕ). ⊥) ⊥ place o' told' tally r
+  came r = Settles (led_by s code own items) (spot o x told) (λ (a b : Spot Own) (n : ℕ). ⊥) place o' told' tally r
 
   -- the words still fit
   pub count_so : (r : Result Settled Stop) → came r → AreWordsOf s (items o')
   count_so (Ok settled) h = h.1.to.count
   count_so (Err stops.Broken) h = h.to.count
-  count_so (Err stops.Over) h = absurd h.1
   count_so (Err stops.Refused) h = absurd h.2
 
   -- without a step they are as they were
   pub none_so : (r : Result Settled Stop) → tally.made ≡ 0 → came r → items o' ≡ items o
   none_so (Ok settled) none h = none_made s code own (items o) (items o') x _ _ none h.1
   none_so (Err stops.Broken) none h = none_made s code own (items o) (items o') x _ _ none h
-  none_so (Err stops.Over) none h = absurd h.1
   none_so (Err stops.Refused) none h = absurd h.2
 
 -- a row that made steps
@@ -172,13 +170,11 @@ ended_so s code seat o o' items told told' tally (Ok settled) row finish there s
 )
 ended_so s code seat o o' items told told' tally (Err stops.Broken) row finish there some h =
     row_leads s code seat (items o) (items o') (IsBroken seat.place) (works tally.made tally.exchanged) tally.made row finish there some refl refl h
-ended_so s code seat o o' items told told' tally (Err stops.Over) row finish there some h = absurd h.1
 ended_so s code seat o o' items told told' tally (Err stops.Refused) row finish there some h = absurd h.2
 
 pub breaks_so : (s : Shape) (code : CodeParts) (seat : Seat) (words words' : List ℕ) (work : ℕ) (stop : Stop) → HasEnded s code seat words words' work (Err stop)
     → Leads s code seat.own (work + 1) work 0 0 (moment words (IsAt seat.place (Some seat.restart))) (moment words' (IsBroken seat.place))
 breaks_so s code seat words words' work stops.Broken h = h
-breaks_so s code seat words words' work stops.Over h = absurd h
 breaks_so s code seat words words' work stops.Refused h = absurd h
 
 pub positive : (n : ℕ) → n ≢ 0 → 0 < n

@@ -6,7 +6,7 @@ use Rattle.ppm_code.specs.declared.code.CodeParts.{CodeParts}
 use Rattle.ppm_step.specs.declared.row.Seat.{Seat}
 use Rattle.ppm_step.specs.Standings.{Standing, IsAt, IsBroken}
 use Rattle.ppm_engine.specs.declared.memory.Stop.{Stop}
-use Rattle.ppm_engine.specs.declared.memory.Stop.TheVariants.{Over, Refused, Broken}
+use Rattle.ppm_engine.specs.declared.memory.Stop.TheVariants.{Refused, Broken}
 use Rattle.ppm_engine.specs.declared.tally.Settled.{Settled}
 use Rattle.ppm_engine.specs.Memory.{forks_by, takes_by}
 use Rattle.ppm_core.specs.declared.rows.Rowed.{Rowed}
@@ -25,7 +25,6 @@ module _ (s : Shape) (code : CodeParts) (seat : Seat) where
       × IsRestart settled.restart
   HasEnded words words' work (Err Broken) =
       Leads s code seat.own (work + 1) work 0 0 (moment words (IsAt seat.place (Some seat.restart))) (moment words' (IsBroken seat.place))
-  HasEnded words words' work (Err Over) = ⊥
   HasEnded words words' work (Err Refused) = ⊥
 
   -- what came of a row for which so many steps were left: none was made, or so many steps of work after the load of the finish word

@@ -10,3 +10,5 @@ pub mod CapsuleLemmas
 pub mod EnteringLemmas
 pub mod EndingLemmas
 pub mod RoundLemmas
+pub mod AfterLemmas
+pub mod AskingLemmas

@@ -1,5 +1,5 @@
 -- Capsules of a frame, with the block that one asks for and the stores of its end, and rows of work between them, on words of any kind.
-use Rattle.std.specs.Prelude.{◌≡◌, ◌⊎◌, ◌+◌, ℕ, true, false, Bool, List, Option, Some, None}
+use Rattle.std.specs.Prelude.{◌≡◌, ◌⊎◌, ◌+◌, ◌<◌, ℕ, true, false, Bool, List, Option, Some, None}
 use Rattle.ppm_cells.specs.Restart.{IsRestart}
 use Rattle.ppm_cells.specs.declared.shape.Shape.{Shape}
 use Rattle.ppm_code.specs.declared.act.End.{End}
@@ -32,6 +32,14 @@ end_in (halts.Midway number at) = None
 end_in (halts.Stopped number next (Before step)) = None
 end_in (halts.Stopped number next (AtEnd end)) = Some end
 end_in (halts.Full number) = None
+
+-- and its number
+abbrev pub number_in : Halt → ℕ
+number_in halts.Done = 0
+number_in halts.Broken = 0
+number_in (halts.Midway number at) = 0
+number_in (halts.Stopped number next what) = number
+number_in (halts.Full number) = 0
 
 -- a processor's own place and restart, by which it goes on
 pub record IsFrom (s : Shape) (own : ℕ) (seat : Seat) : Type 0 where

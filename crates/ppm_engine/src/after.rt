@@ -3,7 +3,7 @@
 ghost use Rattle.std.specs.Prelude.{◌≡◌, ◌≤◌, ◌<◌, ◌+◌, ◌^◌, length};
 ghost use Rattle.ppm_engine.specs.Asking.{rest_asking};
 ghost use Rattle.ppm_engine.specs.Entering.{HaltsAt};
-ghost use Rattle.ppm_engine.specs.Framing.{HasFramed, end_in};
+ghost use Rattle.ppm_engine.specs.Framing.{HasFramed, end_in, number_in};
 ghost use Rattle.ppm_engine.specs.Memory.{spot};
 ghost use Rattle.ppm_engine.specs.Walking.{IsFramed};
 ghost use Rattle.ppm_step.specs.Locals.{IsLocal, standing_of};
@@ -50,7 +50,9 @@ fn end_in(halt: Halt) -> Option<End>
 
 /// The number of the capsule that has come to an end.
 #[inline(always)]
-fn number_in(halt: Halt) -> u64 {
+fn number_in(halt: Halt) -> u64
+    ensures { result ≡ number_in halt }
+{
     match halt {
         Halt::Stopped(number, _, _) => number,
         Halt::Done | Halt::Broken | Halt::Midway(..) | Halt::Full(_) => 0,
@@ -95,14 +97,15 @@ fn end_or_wait<M: Memory + Copy, W: Watch>(
     requires code { code.now ≡ M.code memory.now }
     requires framed { IsFramed (M.shape memory.now) halted.now.framing × (halted.now.framing.seat.own ≡ local.old.own) }
     requires halts { (standing : Standing) × HaltsAt (M.shape memory.now) code.now halted.now.framing local.old.registers halted.now.halt standing
-        × M.at memory.now local.old.own (spot own.old standing (W.told watch.old)) }
+        × M.at memory.now halted.now.framing.seat.own (spot own.old standing (W.told watch.old)) }
     ensures few { (result.made ≤ most) × (result.work ≡ result.made) × (result.looks ≡ 0) }
     ensures framed { (standing : Standing) → HaltsAt (M.shape memory.now) code.now halted.now.framing local.old.registers halted.now.halt standing
-        → M.at memory.now local.old.own (spot own.old standing (W.told watch.old))
-        → HasFramed (M.led memory.now local.old.own) (M.refused memory.now local.old.own) (spot own.old standing (W.told watch.old))
+        → M.at memory.now halted.now.framing.seat.own (spot own.old standing (W.told watch.old))
+        → HasFramed (M.led memory.now halted.now.framing.seat.own) (M.refused memory.now halted.now.framing.seat.own) (spot own.old standing (W.told watch.old))
         (M.shape memory.now) code.now halted.now.framing.seat.place own.new (W.told watch.new) local.new most result }
     ensures own_stays { local.new.own ≡ local.old.own }
 {
+    let _ = code.parts().capsules.as_slice().len();
     // Copies, as in `work_along`.
     let here = *memory;
     let shape = memory.shape();
@@ -161,10 +164,10 @@ fn fill_and_end<M: Memory + Copy, W: Watch>(
         × (request.now.framing.seat.own ≡ local.old.own) }
     requires most { 0 < most }
     requires lives { M.lives memory.now own.old }
-    requires stands { M.at memory.now local.old.own (spot own.old (running (M.shape memory.now) request.now.framing.seat
+    requires stands { M.at memory.now request.now.framing.seat.own (spot own.old (running (M.shape memory.now) request.now.framing.seat
         (rest_asking (M.shape memory.now) code.now request.now local.old.registers)) (W.told watch.old)) }
     ensures few { (result.made ≤ most) × (result.work ≡ result.made) × (result.looks ≡ 0) }
-    ensures framed { HasFramed (M.led memory.now local.old.own) (M.refused memory.now local.old.own) (spot own.old
+    ensures framed { HasFramed (M.led memory.now request.now.framing.seat.own) (M.refused memory.now request.now.framing.seat.own) (spot own.old
         (running (M.shape memory.now) request.now.framing.seat (rest_asking (M.shape memory.now) code.now request.now local.old.registers)) (W.told watch.old))
         (M.shape memory.now) code.now request.now.framing.seat.place own.new (W.told watch.new) local.new most result }
     ensures own_stays { local.new.own ≡ local.old.own }
@@ -216,11 +219,11 @@ pub(crate) fn go_after<M: Memory + Copy, W: Watch>(
     requires code { code.now ≡ M.code memory.now }
     requires framed { IsFramed (M.shape memory.now) halted.now.framing × (halted.now.framing.seat.own ≡ local.old.own) }
     requires halts { (standing : Standing) × HaltsAt (M.shape memory.now) code.now halted.now.framing local.old.registers halted.now.halt standing
-        × M.at memory.now local.old.own (spot own.old standing (W.told watch.old)) }
+        × M.at memory.now halted.now.framing.seat.own (spot own.old standing (W.told watch.old)) }
     ensures few { (result.made ≤ most) × (result.work ≡ result.made) × (result.looks ≡ 0) }
     ensures framed { (standing : Standing) → HaltsAt (M.shape memory.now) code.now halted.now.framing local.old.registers halted.now.halt standing
-        → M.at memory.now local.old.own (spot own.old standing (W.told watch.old))
-        → HasFramed (M.led memory.now local.old.own) (M.refused memory.now local.old.own) (spot own.old standing (W.told watch.old))
+        → M.at memory.now halted.now.framing.seat.own (spot own.old standing (W.told watch.old))
+        → HasFramed (M.led memory.now halted.now.framing.seat.own) (M.refused memory.now halted.now.framing.seat.own) (spot own.old standing (W.told watch.old))
         (M.shape memory.now) code.now halted.now.framing.seat.place own.new (W.told watch.new) local.new most result }
     ensures own_stays { local.new.own ≡ local.old.own }
 {

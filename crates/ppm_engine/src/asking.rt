@@ -85,7 +85,7 @@ pub fn fill_along<M: Memory, W: Watch>(
     most: u64,
 ) -> Filled
     requires code { code.now ≡ M.code memory.now }
-    requires request { IsFramed (M.shape memory.now) request.now.framing × (request.now.number < length (M.code memory.now).capsules) }
+    requires request { IsFramed (M.shape memory.now) request.now.framing × (request.now.number < length code.now.capsules) }
     requires most { 0 < most }
     requires lives { M.lives memory.now own.old }
     requires stands { M.at memory.now request.now.framing.seat.own (spot own.old (running (M.shape memory.now) request.now.framing.seat
@@ -96,6 +96,7 @@ pub fn fill_along<M: Memory, W: Watch>(
         (rest_asking (M.shape memory.now) (M.code memory.now) request.now registers.old)) (W.told watch.old))
         (M.shape memory.now) (M.code memory.now) request.now.framing registers.new own.new (W.told watch.new) most result }
 {
+    let _ = code.parts().capsules.as_slice().len();
     let old = request.framing.home.block;
     let Some(found) = code.capsule(request.number as u32) else {
         unreachable!()

@@ -1,5 +1,5 @@
 //! The stores with which a capsule of a frame ends.
-ghost use Rattle.std.specs.Prelude.{◌≡◌, ◌≤◌, ◌<◌, ◌+◌};
+ghost use Rattle.std.specs.Prelude.{false, ◌≡◌, ◌≤◌, ◌<◌, ◌+◌};
 ghost use Rattle.ppm_engine.specs.Ending.{HasEnded, HasMadeEnds, is_stored, made_by};
 ghost use Rattle.ppm_engine.specs.Memory.{spot};
 ghost use Rattle.ppm_engine.specs.Walking.{IsFramed};

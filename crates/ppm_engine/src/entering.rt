@@ -182,7 +182,9 @@ pub(crate) fn capsule_along<M: Memory, W: Watch>(
     if number >= coding.code.parts().capsules.as_slice().len() as u64 {
         return None;
     }
-    let found = coding.code.capsule(number as u32)?;
+    let Some(found) = coding.code.capsule(number as u32) else {
+        return None;
+    };
     let _ = found.procedure;
     set_to_0(registers, coding.widths[number as usize]);
     let whole = Span { from: 0, most };

@@ -1,5 +1,5 @@
 //! Capsules of a frame, one after the other.
-ghost use Rattle.std.specs.Prelude.{◌≡◌, ◌≤◌, ◌<◌, ◌+◌, ◌^◌, ◌⊎◌, Some};
+ghost use Rattle.std.specs.Prelude.{Bool, ◌≡◌, ◌≤◌, ◌<◌, ◌+◌, ◌^◌, ◌⊎◌, Some};
 ghost use Rattle.ppm_engine.specs.Entering.{looks_at};
 ghost use Rattle.ppm_engine.specs.Framing.{HasFramed, HasHeader, IsFrom, LooksNot};
 ghost use Rattle.ppm_engine.specs.Memory.{looks_after, spot};
@@ -77,9 +77,9 @@ pub fn rounds<M: Memory + Copy, W: Watch>(
 ) -> Framed
     requires coding { coding.now.code.now ≡ M.code memory.now }
     requires from { IsFrom (M.shape memory.now) local.old.own from.now }
-    requires stands { M.at memory.now local.old.own (spot own.old (IsAt from.now.place (Some from.now.restart)) (W.told watch.old)) }
+    requires stands { M.at memory.now from.now.own (spot own.old (IsAt from.now.place (Some from.now.restart)) (W.told watch.old)) }
     ensures few { (result.made ≤ most) × (result.work ≤ result.made) × LooksNot (M.ends memory.now) result.looks × (result.looks ≤ 1) }
-    ensures framed { HasFramed (M.led memory.now local.old.own) (M.refused memory.now local.old.own)
+    ensures framed { HasFramed (M.led memory.now from.now.own) (M.refused memory.now from.now.own)
         (spot own.old (IsAt from.now.place (Some from.now.restart)) (W.told watch.old))
         (M.shape memory.now) (M.code memory.now) from.now.place own.new (W.told watch.new) local.new most result }
     ensures some { 2 ≤ most → M.lives memory.now own.old → HasHeader (M.shape memory.now) from.now

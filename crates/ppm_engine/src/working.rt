@@ -1,5 +1,5 @@
 //! Rows of work, each made whole, and capsules of frames between them.
-ghost use Rattle.std.specs.Prelude.{◌≡◌, ◌≤◌, ◌<◌, ◌+◌, ◌^◌, ◌||◌, ◌⊎◌, Bool, true, Some};
+ghost use Rattle.std.specs.Prelude.{false, ◌≡◌, ◌≤◌, ◌<◌, ◌+◌, ◌^◌, ◌||◌, ◌⊎◌, Bool, true, Some};
 ghost use Rattle.ppm_engine.specs.Framing.{HasHeader, HasRowed, HasWorked, IsFrom, IsRowThere, LooksNot};
 ghost use Rattle.ppm_engine.specs.Memory.{forks_by, looks_after, spot, takes_by};
 ghost use Rattle.ppm_engine.specs.Steps.{HasRow};
@@ -189,10 +189,10 @@ pub fn work_along<M: Memory + Copy, W: Watch>(
 ) -> Worked
     requires coding { coding.now.code.now ≡ M.code memory.now }
     requires from { IsFrom (M.shape memory.now) local.old.own from.now }
-    requires stands { M.at memory.now local.old.own (spot own.old (IsAt from.now.place (Some from.now.restart)) (W.told watch.old)) }
+    requires stands { M.at memory.now from.now.own (spot own.old (IsAt from.now.place (Some from.now.restart)) (W.told watch.old)) }
     ensures few { (result.made ≤ most) × (result.work ≤ result.made) × (result.looks ≤ result.made) × (result.forks ≤ result.made)
         × (result.takes ≤ result.made) × LooksNot (M.ends memory.now) result.looks }
-    ensures worked { HasWorked (M.led memory.now local.old.own) (M.refused memory.now local.old.own)
+    ensures worked { HasWorked (M.led memory.now from.now.own) (M.refused memory.now from.now.own)
         (spot own.old (IsAt from.now.place (Some from.now.restart)) (W.told watch.old))
         (M.shape memory.now) (M.code memory.now) own.new (W.told watch.new) local.new most result }
     ensures some { 2 ≤ most → M.lives memory.now own.old → HasHeader (M.shape memory.now) from.now

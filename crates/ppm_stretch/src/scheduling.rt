@@ -39,7 +39,6 @@ fn end_by(made: Result<Settled, Stop>) -> RowEnd
         Ok(settled) => RowEnd::Installed(settled.restart),
         Err(stop) => match stop {
             Stop::Broken => RowEnd::Broken,
-            Stop::Over => RowEnd::Over,
             Stop::Refused => RowEnd::Refused(true),
         },
     }

@@ -1,4 +1,4 @@
-use Rattle.std.proofs.Common.{◌≡◌, ◌∙◌, ◌+◌, ◌<◌, ◌≤◌, ℕ, refl, sym, ap, subst, arith}
+use Rattle.std.proofs.Common.{◌≡◌, ◌∙◌, ◌+◌, ◌<◌, ◌≤◌, ℕ, false, refl, sym, ap, subst, arith}
 use Rattle.ppm_step.specs.Frames.{ending}
 use Rattle.ppm_step.specs.Standings.{running}
 use Rattle.ppm_engine.specs.declared.way.EndStep.{EndStep}

@@ -1,7 +1,7 @@
 use Rattle.std.proofs.Common.{◌≡◌, ◌∙◌, ◌+◌, ◌<◌, ◌≤◌, ℕ, true, false, Result, Ok, Err, Some, refl, sym, ap, subst, arith}
-use Rattle.ppm_cells.specs.Cells.{word_count}
+use Rattle.ppm_cells.specs.Cells.{address, word_count}
 use Rattle.ppm_cells.specs.Restart.{restart_word}
-use Rattle.ppm_cells.specs.declared.cell.Cell.TheVariants.{BlockWord}
+use Rattle.ppm_cells.specs.declared.cell.Cell.TheVariants.{BlockWord, RestartWord}
 use Rattle.ppm_cells.specs.declared.restart.Restart.{Restart}
 use Rattle.ppm_cells.specs.declared.shape.Shape.{Shape}
 use Rattle.ppm_code.specs.declared.act.End.TheVariants.{Next}
@@ -145,7 +145,7 @@ step_in-requires-2-clause-stands g c κs within =
     let is_more = running_so s seat more true there_more in
     let goes : goes_round seat home ≡ c.restart-restart.result =
     sym (c.restart-restart.ensures ∙ (λ i. record { kind = c.goes_round.ensures i; bottom = seat.restart.bottom })) in
-    let wants_more = stores_same _ _ _ _ c.address-at.ensures.value (c.pack.ensures ∙ ap (λ (r : Restart). restart_word r) (sym goes)) in
+    let wants_more = stores_same _ _ _ _ (c.address-at.ensures.value ∙ ap (λ (x : Shape). address x (RestartWord seat.place)) c.shape-shape.ensures) (c.pack.ensures ∙ ap (λ (r : Restart). restart_word r) (sym goes)) in
     let at_more = standing_as (g.M.Memory.at m seat.own) c.step_in.new.own (t c.step_in.new.watch) is_more
     (g.met.M.Memory.stays m seat.own first mid (works 1 false) l) in
     (more, wants_more, at_more)
@@ -174,7 +174,7 @@ returns-in-Ok g c =
     let is_more = running_so s seat more true there_more in
     let goes : goes_round seat home ≡ c.restart-restart.result =
     sym (c.restart-restart.ensures ∙ (λ i. record { kind = c.goes_round.ensures i; bottom = seat.restart.bottom })) in
-    let wants_more = stores_same _ _ _ _ c.address-at.ensures.value (c.pack.ensures ∙ ap (λ (r : Restart). restart_word r) (sym goes)) in
+    let wants_more = stores_same _ _ _ _ (c.address-at.ensures.value ∙ ap (λ (x : Shape). address x (RestartWord seat.place)) c.shape-shape.ensures) (c.pack.ensures ∙ ap (λ (r : Restart). restart_word r) (sym goes)) in
     let at_more = standing_as (g.M.Memory.at m seat.own) c.step_in.new.own (t c.step_in.new.watch) is_more
     (g.met.M.Memory.stays m seat.own first mid (works 1 false) l) in
     let last = spot c.step_in-2.new.own (IsAt seat.place (Some (goes_round seat home))) (t c.step_in-2.new.watch) in
@@ -183,8 +183,8 @@ returns-in-Ok g c =
     (c.in-Ok.ensures.stepped more wants_more at_more) in
     worked_on led refused (g.met.M.Memory.on m seat.own) (g.met.M.Memory.stopped m seat.own) first mid last 1 1 l k
 
-pub returns-in-Err-2 : goal.returns-in-Err-2
-returns-in-Err-2 g c =
+pub returns-in-Err-step_in : goal.returns-in-Err-step_in
+returns-in-Err-step_in g c =
     let m = c.args.memory.now in
     let s = g.M.Memory.shape m in
     let code = g.M.Memory.code m in
@@ -207,13 +207,13 @@ returns-in-Err-2 g c =
     let is_more = running_so s seat more true there_more in
     let goes : goes_round seat home ≡ c.restart-restart.result =
     sym (c.restart-restart.ensures ∙ (λ i. record { kind = c.goes_round.ensures i; bottom = seat.restart.bottom })) in
-    let wants_more = stores_same _ _ _ _ c.address-at.ensures.value (c.pack.ensures ∙ ap (λ (r : Restart). restart_word r) (sym goes)) in
+    let wants_more = stores_same _ _ _ _ (c.address-at.ensures.value ∙ ap (λ (x : Shape). address x (RestartWord seat.place)) c.shape-shape.ensures) (c.pack.ensures ∙ ap (λ (r : Restart). restart_word r) (sym goes)) in
     let at_more = standing_as (g.M.Memory.at m seat.own) c.step_in.new.own (t c.step_in.new.watch) is_more
     (g.met.M.Memory.stays m seat.own first mid (works 1 false) l) in
     let h = stepped_as led refused seat.place c.step_in.new.own c.step_in-2.new.own (t c.step_in.new.watch) (t c.step_in-2.new.watch)
-    (λ (word : ℕ). IsAt seat.place (Some (goes_round seat home))) (Err c.in-Err-2.stop) (sym is_more)
-    (c.in-Err-2.ensures.stepped more wants_more at_more) in (
+    (λ (word : ℕ). IsAt seat.place (Some (goes_round seat home))) (Err c.in-Err-step_in.stop) (sym is_more)
+    (c.in-Err-step_in.ensures.stepped more wants_more at_more) in (
       omega arith,
       fails_on led refused (g.met.M.Memory.on m seat.own) (g.met.M.Memory.stopped m seat.own) first mid seat.place c.step_in-2.new.own
-          (t c.step_in-2.new.watch) 1 0 1 1 2 c.in-Err-2.stop refl (omega arith) l h,
+          (t c.step_in-2.new.watch) 1 0 1 1 2 c.in-Err-step_in.stop refl (omega arith) l h,
     )
