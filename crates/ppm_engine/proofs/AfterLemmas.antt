@@ -1,9 +1,9 @@
 -- How a processor goes on where a round of a frame has halted.
-use Rattle.std.proofs.Common.{◌≡◌, ◌∙◌, ◌+◌, ◌<◌, ◌≤◌, ℕ, Bool, true, false, zero, suc, length, List, [], ◌∷◌, Option, Some, None, slice_get, refl, sym, ap, subst, arith}
+use Rattle.std.proofs.Common.{◌≡◌, ◌∙◌, ◌+◌, ◌<◌, ◌≤◌, ◌==◌, if◌then◌else◌, ℕ, Bool, true, false, zero, suc, length, List, [], ◌∷◌, Option, Some, None, slice_get, refl, sym, ap, subst, arith}
 use Rattle.ppm_cells.specs.declared.shape.Shape.{Shape}
-use Rattle.ppm_code.specs.Capsules.{capsule_from, reached}
+use Rattle.ppm_code.specs.Capsules.{capsule_from}
 use Rattle.ppm_code.specs.Code.{IsCode}
-use Rattle.ppm_code.specs.Strands.{instrs_of}
+use Rattle.ppm_code.specs.Strands.{instrs_in}
 use Rattle.ppm_code.specs.declared.act.End.{End}
 use Rattle.ppm_code.specs.declared.act.Step.TheVariants.{Asks}
 use Rattle.ppm_code.specs.declared.code.Capsule.{Capsule}
@@ -11,7 +11,7 @@ use Rattle.ppm_code.specs.declared.code.CodeParts.{CodeParts}
 use Rattle.ppm_code.specs.declared.work.Reached.TheVariants.{AtEnd, Before}
 use Rattle.ppm_words.specs.declared.event.Event.{Event}
 use Rattle.ppm_step.specs.Facts.{IsEnd}
-use Rattle.ppm_step.specs.Frames.{ending}
+use Rattle.ppm_step.specs.Frames.{at_counter, ending, rest_of}
 use Rattle.ppm_step.specs.Locals.{standing_of}
 use Rattle.ppm_step.specs.Standings.{Standing, IsAt, running}
 use Rattle.ppm_step.specs.declared.local.Local.{Local}
@@ -22,7 +22,7 @@ use Rattle.ppm_engine.specs.declared.way.Framing.{Framing}
 use Rattle.ppm_engine.specs.declared.way.Asking.{Asking}
 use Rattle.ppm_engine.specs.declared.way.Halt.{Halt}
 use Rattle.ppm_engine.specs.declared.way.Halt.TheVariants as halts
-use Rattle.ppm_engine.specs.Asking.{rest_asking}
+use Rattle.ppm_engine.specs.Asking.{asking, rest_asking}
 use Rattle.ppm_engine.specs.Entering.{HaltsAt}
 use Rattle.ppm_engine.specs.Framing.{FramedSo, HasFramed, end_in, number_in}
 use Rattle.ppm_engine.specs.Memory.{Counts, Spot, spot, both, counts, looks_after}
@@ -59,6 +59,23 @@ ends_within s code framing registers halts.Done end standing at h = absurd cc
 ends_within s code framing registers halts.Broken end standing at h = absurd cc
 ends_within s code framing registers (halts.Midway number i) end standing at h = absurd cc
 ends_within s code framing registers (halts.Full number) end standing at h = absurd cc
+
+-- where a capsule has halted that asks for words
+pub asks_so : (s : Shape) (code : CodeParts) (it : Asking) (registers : List ℕ) (standing : Standing)
+    → HaltsAt s code it.framing registers (halts.Stopped it.number it.next (Before (Asks it.words))) standing
+    → standing ≡ running s it.framing.seat (rest_asking s code it registers)
+asks_so s code it registers standing h =
+    h.2.1
+    ∙ ap (λ (o : Option Capsule). running s it.framing.seat (asking s it.framing.seat it.words
+    (λ counter. rest_of s code it.framing.seat.place (at_counter it.framing.home counter) (capsule_from s.arrays 0 it.next (instrs_in o) registers)))) (sym h.1)
+
+-- work leaves no looks
+none_left : (b : Bool) → (if b then 0 + 0 else 0) ≡ 0
+none_left true = refl
+none_left false = refl
+
+pub no_more : (work : ℕ) → looks_after 0 work 0 ≡ 0
+no_more work = none_left (work == 0)
 
 module _ {Own : Type 0} (led : Spot Own → Spot Own → Counts → Type 0) (refused : Spot Own → Spot Own → ℕ → Type 0) (s : Shape) (code : CodeParts)
     (place : ℕ) where

@@ -1,25 +1,19 @@
 -- A capsule of a frame that asks for the words of a block.
-use Rattle.std.proofs.Common.{◌≡◌, ◌+◌, ◌≤◌, ℕ, Bool, true, false, not, List, Option, refl, sym, subst, arith}
+use Rattle.std.proofs.Common.{◌≡◌, ◌+◌, ◌≤◌, ℕ, Bool, true, false, not, List, Option, refl, arith}
 use Rattle.ppm_cells.specs.declared.shape.Shape.{Shape}
 use Rattle.ppm_code.specs.declared.code.CodeParts.{CodeParts}
 use Rattle.ppm_words.specs.declared.event.Event.{Event}
 use Rattle.ppm_step.specs.Standings.{IsBroken}
 use Rattle.ppm_engine.specs.declared.memory.Stop.{Stop}
 use Rattle.ppm_engine.specs.declared.memory.Stop.TheVariants as stops
-use Rattle.ppm_engine.specs.declared.way.Filled.{Filled}
 use Rattle.ppm_engine.specs.declared.way.Framing.{Framing}
-use Rattle.ppm_engine.specs.Asking.{GoesOn, HasFilled}
+use Rattle.ppm_engine.specs.Asking.{GoesOn}
 use Rattle.ppm_engine.specs.Entering.{end_by}
 use Rattle.ppm_engine.specs.Memory.{Counts, Spot, spot, both, none}
 use Rattle.ppm_engine.specs.Walking.{FailsAt}
 
 module _ {Own : Type 0} (led : Spot Own → Spot Own → Counts → Type 0) (refused : Spot Own → Spot Own → ℕ → Type 0) (s : Shape) (code : CodeParts)
     (framing : Framing) where
-  -- by its numbers
-  pub filled_as : (first : Spot Own) (registers : List ℕ) (own : Own) (told : Option (List Event)) (most : ℕ) (f g : Filled) → f ≡ g
-      → HasFilled led refused first s code framing registers own told most g → HasFilled led refused first s code framing registers own told most f
-  filled_as first registers own told most f g is h = subst (λ (x : Filled). HasFilled led refused first s code framing registers own told most x) (sym is) h
-
   -- the load of the room counter was not made, or was refused
   pub not_asked : (first : Spot Own) (registers : List ℕ) (own : Own) (told : Option (List Event)) (most : ℕ) (stop : Stop)
       → ((x y z : Spot Own) (c : Counts) (n most : ℕ) → led x y c → refused y z n → c.made + n ≤ most → refused x z most)

@@ -18,6 +18,7 @@ use Rattle.ppm_engine.specs.declared.way.Circuit.{Circuit}
 use Rattle.ppm_engine.specs.declared.way.Coming.{Coming}
 use Rattle.ppm_engine.specs.declared.way.Framing.{Framing}
 use Rattle.ppm_engine.specs.declared.way.Halt.{Halt}
+use Rattle.ppm_engine.specs.declared.way.Headed.{Headed}
 use Rattle.ppm_engine.specs.declared.way.Halt.TheVariants.{Done, Broken, Midway, Stopped, Full}
 use Rattle.ppm_engine.specs.declared.way.RoundEnd.{RoundEnd}
 use Rattle.ppm_engine.specs.declared.way.RoundEnd.TheVariants as ends
@@ -34,12 +35,12 @@ use Rattle.ppm_engine.specs.Walking.{FailsAt, IsFramed, LedTo, RefusedBy, Worked
 abbrev pub look : Counts
 look = counts 1 0 1 false 0 0
 
--- a frame that a seat goes on with, and whose header lies at the address that is the number
-pub record IsComing (s : Shape) (coming : Coming) : Type 0 where
-  pub framed : IsFramed s coming.framing
-  pub block : coming.framing.home.block ≡ 0
-  pub kind : coming.framing.seat.restart.kind ≡ Run coming.framing.home.frame coming.framing.home.copy
-  pub header : IsHeaderOf s coming.framing.seat coming.number
+-- a frame that a seat goes on with, and whose header lies there
+pub record IsHeaded (s : Shape) (it : Headed) : Type 0 where
+  pub framed : IsFramed s it.framing
+  pub block : it.framing.home.block ≡ 0
+  pub kind : it.framing.seat.restart.kind ≡ Run it.framing.home.frame it.framing.home.copy
+  pub header_is : IsHeaderOf s it.framing.seat it.header
 
 -- where a round halts by a step that was not made
 abbrev pub end_by : Stop → RoundEnd

@@ -21,19 +21,6 @@ use ppm_code::{Code, End, Reached, Step};
 use ppm_ports::Watch;
 use ppm_step::{Home, Local, Stand};
 
-/// So many steps, all of them work, and how they ended.
-#[inline(always)]
-fn framed(made: u64, end: FrameEnd) -> Framed
-    ensures { result ≡ record { made = made; work = made; looks = 0; end = end } }
-{
-    Framed {
-        made,
-        work: made,
-        looks: 0,
-        end,
-    }
-}
-
 /// The end at which a capsule has halted, if it is at one.
 #[inline(always)]
 fn end_in(halt: Halt) -> Option<End>
@@ -117,34 +104,50 @@ fn end_or_wait<M: Memory + Copy, W: Watch>(
         };
         let ended = end_along(&here, own, watch, code, &ending, most);
         return match ended.step {
-            EndStep::Installed(restart) => framed(ended.made, FrameEnd::Installed(restart)),
+            EndStep::Installed(restart) => Framed {
+                made: ended.made,
+                work: ended.made,
+                looks: 0,
+                end: FrameEnd::Installed(restart),
+            },
             EndStep::Stored => {
                 let Framing { seat, home } = halted.framing;
                 let number = number_in(halted.halt) as u32;
                 let n = ended.made as usize;
                 wait_ending(local, &shape, code, seat, home, number, end, n);
-                framed(ended.made, FrameEnd::Stands)
+                Framed {
+                    made: ended.made,
+                    work: ended.made,
+                    looks: 0,
+                    end: FrameEnd::Stands,
+                }
             }
             EndStep::Fails(stop) => match stop {
                 Stop::Broken => {
                     wait_broken(local, &shape, code, halted.framing.seat.place);
-                    framed(ended.made, FrameEnd::Stands)
+                    Framed {
+                        made: ended.made,
+                        work: ended.made,
+                        looks: 0,
+                        end: FrameEnd::Stands,
+                    }
                 }
-                Stop::Refused => framed(0, FrameEnd::Refused(true)),
+                Stop::Refused => Framed {
+                    made: 0,
+                    work: 0,
+                    looks: 0,
+                    end: FrameEnd::Refused(true),
+                },
             },
         };
     }
     wait_halted(local, &shape, code, *halted);
-    framed(0, FrameEnd::Stands)
-}
-
-/// These steps, and those after them, all of them work.
-#[inline(always)]
-fn filled_after(made: u64, after: Framed) -> Framed
-    requires { made + after.made < 2 ^ 64 }
-    ensures { result ≡ record { made = made + after.made; work = made + after.made; looks = 0; end = after.end } }
-{
-    framed(made + after.made, after.end)
+    Framed {
+        made: 0,
+        work: 0,
+        looks: 0,
+        end: FrameEnd::Stands,
+    }
 }
 
 /// Gets the block that a capsule of a frame asks for, goes through the capsule after that, and makes
@@ -198,9 +201,19 @@ fn fill_and_end<M: Memory + Copy, W: Watch>(
                 &halted,
                 most - filled.made,
             );
-            filled_after(filled.made, after)
+            Framed {
+                made: filled.made + after.made,
+                work: filled.made + after.made,
+                looks: 0,
+                end: after.end,
+            }
         }
-        RoundEnd::Refused(lives) => framed(0, FrameEnd::Refused(lives)),
+        RoundEnd::Refused(lives) => Framed {
+            made: 0,
+            work: 0,
+            looks: 0,
+            end: FrameEnd::Refused(lives),
+        },
         RoundEnd::Round => unreachable!(),
     }
 }

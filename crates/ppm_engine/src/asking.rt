@@ -64,14 +64,6 @@ fn ask_at<M: Memory, W: Watch>(
     }
 }
 
-/// So many steps, all of them work, after which the block lies at this address, and how they ended.
-#[inline(always)]
-fn filled(made: u64, block: u32, end: RoundEnd) -> Filled
-    ensures { result ≡ record { made = made; block = block; end = end } }
-{
-    Filled { made, block, end }
-}
-
 /// Loads the room counter for a capsule of a frame that asks for words, puts the block into its home,
 /// and goes through the capsule after that, at most so many steps.
 #[inline(always)]
@@ -104,12 +96,30 @@ pub fn fill_along<M: Memory, W: Watch>(
     let _ = found.procedure;
     let room = match ask_at(memory, own, watch, &request.framing.seat, request.words) {
         Ok(room) => room,
-        Err(stop) => return filled(0, old, fails(stop)),
+        Err(stop) => {
+            return Filled {
+                made: 0,
+                block: old,
+                end: fails(stop),
+            };
+        }
     };
     let block = match room {
         Room::Block(block) => block,
-        Room::Full => return filled(1, old, RoundEnd::Halts(Halt::Full(request.number))),
-        Room::Broken => return filled(1, old, RoundEnd::Halts(Halt::Broken)),
+        Room::Full => {
+            return Filled {
+                made: 1,
+                block: old,
+                end: RoundEnd::Halts(Halt::Full(request.number)),
+            };
+        }
+        Room::Broken => {
+            return Filled {
+                made: 1,
+                block: old,
+                end: RoundEnd::Halts(Halt::Broken),
+            };
+        }
     };
     let framing = Framing {
         seat: request.framing.seat,
@@ -132,9 +142,9 @@ pub fn fill_along<M: Memory, W: Watch>(
         registers,
         rest,
     );
-    filled(
-        1 + stretch.made,
+    Filled {
+        made: 1 + stretch.made,
         block,
-        halt_after(request.number, stretch.way),
-    )
+        end: halt_after(request.number, stretch.way),
+    }
 }

@@ -2,7 +2,7 @@
 ghost use Rattle.std.specs.Prelude.{◌≡◌, ◌≢◌, ◌≤◌, ◌<◌, ℕ, false, slice_get, IfSome, Some};
 ghost use Rattle.ppm_cells.specs.declared.restart.RestartKind.TheVariants.{Run};
 ghost use Rattle.ppm_code.specs.declared.act.End.TheVariants.{Next};
-ghost use Rattle.ppm_engine.specs.Entering.{Circled, HasBegun, HasTurned, IsComing, WentAlong, end_by, halt_after, look};
+ghost use Rattle.ppm_engine.specs.Entering.{Circled, HasBegun, HasTurned, IsHeaded, WentAlong, end_by, halt_after, look};
 ghost use Rattle.ppm_engine.specs.Memory.{CameIf, spot, works};
 ghost use Rattle.ppm_engine.specs.Walking.{IsFramed};
 ghost use Rattle.ppm_engine.specs.declared.way.RoundEnd.TheVariants.{Refused, Round};
@@ -17,7 +17,9 @@ ghost use Rattle.ppm_step.specs.declared.turn.Next.TheVariants.{Look};
 
 use crate::capsule::{go_along, step_in};
 use crate::memory::{Memory, Stepped, Stop};
-use crate::way::{Begun, Circuit, Coding, Coming, Framing, Halt, RoundEnd, Span, Stretch, Turned, Way};
+use crate::way::{
+    Begun, Circuit, Coding, Coming, Framing, Halt, Headed, RoundEnd, Span, Stretch, Turned, Way,
+};
 use ppm_cells::Cell;
 use ppm_code::{End, Reached};
 use ppm_ports::Watch;
@@ -222,14 +224,6 @@ pub(crate) fn fails(stop: Stop) -> RoundEnd
     }
 }
 
-/// So many steps, of which so many were work, and how they ended.
-#[inline(always)]
-fn circuit(made: u64, work: u64, end: RoundEnd) -> Circuit
-    ensures { result ≡ record { made = made; work = work; end = end } }
-{
-    Circuit { made, work, end }
-}
-
 /// Goes through the next capsule of a frame, at most so many steps, and on to the one after it where
 /// it names one. The header of the frame lies at this address.
 #[inline(always)]
@@ -238,34 +232,49 @@ pub(crate) fn round<M: Memory, W: Watch>(
     own: &mut M::Own,
     watch: &mut W,
     coding: &Coding<'_>,
-    coming: &Coming,
+    headed: &Headed,
     registers: &mut [u64; 64],
     most: u64,
 ) -> Circuit
     requires coding { coding.now.code.now ≡ M.code memory.now }
-    requires coming { IsComing (M.shape memory.now) coming.now }
+    requires headed { IsHeaded (M.shape memory.now) headed.now }
     requires most { 2 ≤ most }
     requires lives { M.lives memory.now own.old }
-    requires stands { M.at memory.now coming.now.framing.seat.own (spot own.old
-        (IsAt coming.now.framing.seat.place (Some coming.now.framing.seat.restart)) (W.told watch.old)) }
+    requires stands { M.at memory.now headed.now.framing.seat.own (spot own.old
+        (IsAt headed.now.framing.seat.place (Some headed.now.framing.seat.restart)) (W.told watch.old)) }
     ensures few { (result.made ≤ most) × (result.work ≤ result.made) }
-    ensures circled { Circled (M.led memory.now coming.now.framing.seat.own) (M.refused memory.now coming.now.framing.seat.own) (spot own.old
-        (IsAt coming.now.framing.seat.place (Some coming.now.framing.seat.restart)) (W.told watch.old)) (M.ends memory.now)
-        (M.shape memory.now) (M.code memory.now) coming.now.framing registers.new own.new (W.told watch.new) most result }
+    ensures circled { Circled (M.led memory.now headed.now.framing.seat.own) (M.refused memory.now headed.now.framing.seat.own) (spot own.old
+        (IsAt headed.now.framing.seat.place (Some headed.now.framing.seat.restart)) (W.told watch.old)) (M.ends memory.now)
+        (M.shape memory.now) (M.code memory.now) headed.now.framing registers.new own.new (W.told watch.new) most result }
 {
-    let header = coming.number as u32;
-    let number = match begin(memory, own, watch, &coming.framing.seat, header) {
+    let number = match begin(memory, own, watch, &headed.framing.seat, headed.header) {
         Begun::Entered(number) => number,
-        Begun::Over => return circuit(1, 0, RoundEnd::Halts(Halt::Done)),
-        Begun::Refused(lives) => return circuit(0, 0, RoundEnd::Refused(lives)),
+        Begun::Over => {
+            return Circuit {
+                made: 1,
+                work: 0,
+                end: RoundEnd::Halts(Halt::Done),
+            };
+        }
+        Begun::Refused(lives) => {
+            return Circuit {
+                made: 0,
+                work: 0,
+                end: RoundEnd::Refused(lives),
+            };
+        }
     };
     let entered = Coming {
-        framing: coming.framing,
+        framing: headed.framing,
         number,
     };
     let Some(stretch) = capsule_along(memory, own, watch, coding, &entered, registers, most - 2)
     else {
-        return circuit(2, 1, RoundEnd::Halts(Halt::Broken));
+        return Circuit {
+            made: 2,
+            work: 1,
+            end: RoundEnd::Halts(Halt::Broken),
+        };
     };
     let made = stretch.made;
     if let Way::Stops(_, what) = stretch.way {
@@ -273,16 +282,26 @@ pub(crate) fn round<M: Memory, W: Watch>(
             if let Reached::AtEnd(end) = what {
                 if let End::Next { capsule } = end {
                     if !memory.is_over(own) {
-                        return match go_round(memory, own, watch, &coming.framing, capsule) {
-                            Turned::Round => circuit(made + 4, made + 3, RoundEnd::Round),
-                            Turned::Fails(stored, stop) => {
-                                circuit(made + 2 + stored, made + 1 + stored, fails(stop))
-                            }
+                        return match go_round(memory, own, watch, &headed.framing, capsule) {
+                            Turned::Round => Circuit {
+                                made: made + 4,
+                                work: made + 3,
+                                end: RoundEnd::Round,
+                            },
+                            Turned::Fails(stored, stop) => Circuit {
+                                made: made + 2 + stored,
+                                work: made + 1 + stored,
+                                end: fails(stop),
+                            },
                         };
                     }
                 }
             }
         }
     }
-    circuit(made + 2, made + 1, halt_after(number, stretch.way))
+    Circuit {
+        made: made + 2,
+        work: made + 1,
+        end: halt_after(number, stretch.way),
+    }
 }

@@ -10,23 +10,10 @@ use crate::after::go_after;
 use crate::entering::round;
 use crate::memory::Memory;
 use crate::waiting::wait_at;
-use crate::way::{Coding, Coming, FrameEnd, Framed, Framing, Halt, Halted, RoundEnd};
+use crate::way::{Coding, FrameEnd, Framed, Framing, Halt, Halted, Headed, RoundEnd};
 use ppm_cells::{Restart, RestartKind};
 use ppm_ports::Watch;
 use ppm_step::{Home, Local, Seat, header_of};
-
-/// So many steps, and how they ended.
-#[inline(always)]
-fn framed(made: u64, work: u64, end: FrameEnd) -> Framed
-    ensures { result ≡ record { made = made; work = work; looks = 0; end = end } }
-{
-    Framed {
-        made,
-        work,
-        looks: 0,
-        end,
-    }
-}
 
 /// How many looks there are with these, since the last work.
 #[inline(always)]
@@ -35,20 +22,6 @@ pub(crate) fn looks_after(before: u64, work: u64, looks: u64) -> u64
     ensures { result ≡ looks_after before work looks }
 {
     if work == 0 { before + looks } else { looks }
-}
-
-/// These steps, and those after them, which are work.
-#[inline(always)]
-fn framed_after(made: u64, work: u64, looks: u64, after: Framed) -> Framed
-    requires { (made + after.made < 2 ^ 64) × (work ≤ made) × (after.work ≤ after.made) × (looks ≤ 1) }
-    ensures { result ≡ record { made = made + after.made; work = work + after.work; looks = looks_after looks after.work 0; end = after.end } }
-{
-    Framed {
-        made: made + after.made,
-        work: work + after.work,
-        looks: looks_after(looks, after.work, 0),
-        end: after.end,
-    }
 }
 
 /// The looks after its last work where a processor halts.
@@ -92,7 +65,12 @@ pub fn rounds<M: Memory + Copy, W: Watch>(
     let mut work = 0;
     while most - made >= 2 {
         if memory.is_over(own) {
-            return framed(made, work, FrameEnd::Installed(at));
+            return Framed {
+                made,
+                work,
+                looks: 0,
+                end: FrameEnd::Installed(at),
+            };
         }
         let seat = Seat {
             own: from.own,
@@ -100,14 +78,24 @@ pub fn rounds<M: Memory + Copy, W: Watch>(
             restart: at,
         };
         let RestartKind::Run { frame, copy } = at.kind else {
-            return framed(made, work, FrameEnd::Installed(at));
+            return Framed {
+                made,
+                work,
+                looks: 0,
+                end: FrameEnd::Installed(at),
+            };
         };
         let Some(header) = header_of(&shape, seat) else {
             // A copy: what is handed to a function that isn't inlined lies in memory from its
             // beginning on, and `at` is to stay out of it.
             let last = at;
             wait_at(local, &shape, coding.code, from.place, last);
-            return framed(made, work, FrameEnd::Stands);
+            return Framed {
+                made,
+                work,
+                looks: 0,
+                end: FrameEnd::Stands,
+            };
         };
         let framing = Framing {
             seat,
@@ -117,16 +105,13 @@ pub fn rounds<M: Memory + Copy, W: Watch>(
                 block: 0,
             },
         };
-        let coming = Coming {
-            framing,
-            number: u64::from(header),
-        };
+        let headed = Headed { framing, header };
         let circuit = round(
             memory,
             own,
             watch,
             coding,
-            &coming,
+            &headed,
             &mut local.registers,
             most - made,
         );
@@ -152,10 +137,27 @@ pub fn rounds<M: Memory + Copy, W: Watch>(
                     &halted,
                     most - made,
                 );
-                return framed_after(made, work, looks_at(halt), after);
+                return Framed {
+                    made: made + after.made,
+                    work: work + after.work,
+                    looks: looks_after(looks_at(halt), after.work, 0),
+                    end: after.end,
+                };
             }
-            RoundEnd::Refused(lives) => return framed(0, 0, FrameEnd::Refused(lives)),
+            RoundEnd::Refused(lives) => {
+                return Framed {
+                    made: 0,
+                    work: 0,
+                    looks: 0,
+                    end: FrameEnd::Refused(lives),
+                };
+            }
         }
     }
-    framed(made, work, FrameEnd::Installed(at))
+    Framed {
+        made,
+        work,
+        looks: 0,
+        end: FrameEnd::Installed(at),
+    }
 }

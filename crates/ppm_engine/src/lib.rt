@@ -42,5 +42,5 @@ pub use waiting::{wait_at, wait_broken, wait_ending, wait_full, wait_midway, wai
 pub use working::work_along;
 pub use way::{
     Asking, Begun, Circuit, Coding, Coming, EndStep, Ended, Ending, Filled, FrameEnd, Framed, Framing, Halt,
-    Halted, Room, RoundEnd, RowEnd, Rowed, Span, Stretch, Turned, Way, Worked,
+    Halted, Headed, Room, RoundEnd, RowEnd, Rowed, Span, Stretch, Turned, Way, Worked,
 };

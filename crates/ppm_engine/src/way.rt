@@ -22,6 +22,13 @@ pub struct Framing {
     pub home: Home,
 }
 
+/// A frame whose header lies at this address.
+#[derive(Clone, Copy, Debug, PartialEq, Eq)]
+pub struct Headed {
+    pub framing: Framing,
+    pub header: u32,
+}
+
 /// A frame whose next capsule is the one with this number.
 #[derive(Clone, Copy, Debug, PartialEq, Eq)]
 pub struct Coming {

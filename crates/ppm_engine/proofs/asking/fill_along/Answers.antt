@@ -6,7 +6,6 @@ use Rattle.ppm_code.specs.declared.code.CodeParts.{CodeParts}
 use Rattle.ppm_code.specs.declared.instr.Instr.{Instr}
 use Rattle.ppm_step.specs.Frames.{Rest, at_counter, rest_of}
 use Rattle.ppm_step.specs.Standings.{IsBroken, running}
-use Rattle.ppm_engine.specs.declared.way.Filled.{Filled}
 use Rattle.ppm_engine.specs.declared.way.Framing.{Framing}
 use Rattle.ppm_engine.specs.declared.way.Room.{Room}
 use Rattle.ppm_engine.specs.declared.way.RoundEnd.{RoundEnd}
@@ -15,7 +14,7 @@ use Rattle.ppm_engine.specs.Entering.{halt_after}
 use Rattle.ppm_engine.specs.Memory.{spot, works}
 use Rattle.ppm_engine.specs.Waiting.{stands_before}
 use Rattle.ppm_engine.specs.Walking.{LedTo}
-use Rattle.ppm_engine.proofs.AskingLemmas.{filled_as, not_asked}
+use Rattle.ppm_engine.proofs.AskingLemmas.{not_asked}
 use Rattle.ppm_engine.proofs.MakingLemmas.{moved}
 use Rattle.ppm_engine.proofs.RoundLemmas.{goes_along}
 use Rattle.ppm_engine.proofs.asking.fill_along.Goals as goal
@@ -60,7 +59,7 @@ returns-in-Err-clause-filled g c =
     let first = spot c.args.own.now (running s seat (rest_asking s code it registers)) (t c.args.watch.now) in
     let ask = c.ask_at in
     let get = ap (λ (k : CodeParts). slice_get k.capsules it.number) (sym c.requires.code) ∙ c.in-Some.ensures in
-    filled_as led refused s code framing first registers ask.new.own (t ask.new.watch) c.args.most c.filled.result _ c.filled.ensures (
+    (
       c.requires.request.0.1.block,
       subst (λ (e : RoundEnd). GoesOn led refused first s code framing registers ask.new.own (t ask.new.watch) c.args.most 0 e) (sym c.fails.ensures)
           (not_asked led refused s code framing first registers ask.new.own (t ask.new.watch) c.args.most c.in-Err.stop (g.met.M.Memory.stopped m seat.own)
@@ -86,7 +85,6 @@ returns-in-Full-clause-filled g c =
     let get = ap (λ (k : CodeParts). slice_get k.capsules it.number) (sym c.requires.code) ∙ c.in-Some.ensures in
     let asked = subst (λ (r : Room). HasAsked led refused first s seat go ask.new.own (t ask.new.watch) (Ok r)) c.in-Full.is (c.in-Ok.ensures go c.requires.stands) in
     let x = running s seat asked.0 in
-    filled_as led refused s code framing first registers ask.new.own (t ask.new.watch) c.args.most c.filled-in-Full.result _ c.filled-in-Full.ensures
     (c.requires.request.0.1.block, (x, (c.in-Some.found.now, get, ap (λ (r : Rest). running s seat r) asked.1), asked.2))
 
 pub returns-in-Broken-clause-filled : goal.returns-in-Broken-clause-filled
@@ -108,7 +106,6 @@ returns-in-Broken-clause-filled g c =
     let get = ap (λ (k : CodeParts). slice_get k.capsules it.number) (sym c.requires.code) ∙ c.in-Some.ensures in
     let asked = subst (λ (r : Room). HasAsked led refused first s seat go ask.new.own (t ask.new.watch) (Ok r)) c.in-Broken.is (c.in-Ok.ensures go c.requires.stands) in
     let x = running s seat asked.0 in
-    filled_as led refused s code framing first registers ask.new.own (t ask.new.watch) c.args.most c.filled-in-Broken.result _ c.filled-in-Broken.ensures
     (c.requires.request.0.1.block, (x, ap (λ (r : Rest). running s seat r) asked.1, asked.2))
 
 pub go_along-stretch-requires-clause-framed : goal.go_along-stretch-requires-clause-framed
@@ -188,7 +185,7 @@ returns-clause-filled g c =
     let went = c.go_along-stretch in
     let led_on = subst (λ (list : List Instr). LedTo led refused (spot ask.new.own (stands_before s code seat with.home list it.next registers) (t ask.new.watch)) s code with list
     went.new.registers went.new.own (t went.new.watch) (c.args.most - 1) went.result.made went.result.way) c.as_slice.ensures went.ensures.led in
-    filled_as led refused s code framing first went.new.registers went.new.own (t went.new.watch) c.args.most c.filled-2.result _ c.filled-2.ensures (
+    (
       asked.1.0,
       subst (λ (e : RoundEnd). GoesOn led refused first s code with went.new.registers went.new.own (t went.new.watch) c.args.most (1 + went.result.made) e)
           (sym c.halt_after.ensures)
