@@ -12,3 +12,5 @@ pub mod EndingLemmas
 pub mod RoundLemmas
 pub mod AfterLemmas
 pub mod AskingLemmas
+pub mod FramesLemmas
+pub mod ThereLemmas

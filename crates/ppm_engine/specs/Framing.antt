@@ -1,5 +1,5 @@
 -- Capsules of a frame, with the block that one asks for and the stores of its end, and rows of work between them, on words of any kind.
-use Rattle.std.specs.Prelude.{◌≡◌, ◌⊎◌, ◌+◌, ◌<◌, ℕ, true, false, Bool, List, Option, Some, None}
+use Rattle.std.specs.Prelude.{◌≡◌, ◌⊎◌, ◌+◌, ◌<◌, ◌||◌, ℕ, true, false, Bool, List, Option, Some, None, Result, Ok, Err}
 use Rattle.ppm_cells.specs.Restart.{IsRestart}
 use Rattle.ppm_cells.specs.declared.shape.Shape.{Shape}
 use Rattle.ppm_code.specs.declared.act.End.{End}
@@ -20,7 +20,12 @@ use Rattle.ppm_engine.specs.declared.way.RowEnd.{RowEnd}
 use Rattle.ppm_engine.specs.declared.way.RowEnd.TheVariants as ends
 use Rattle.ppm_engine.specs.declared.way.Rowed.{Rowed}
 use Rattle.ppm_engine.specs.declared.way.Worked.{Worked}
-use Rattle.ppm_engine.specs.Memory.{Counts, Spot, spot, counts, forks_by, takes_by, looks_after}
+use Rattle.ppm_engine.specs.Memory.{Counts, Spot, spot, counts, forks_by, takes_by}
+use Rattle.ppm_engine.specs.declared.memory.Stop.{Stop}
+use Rattle.ppm_engine.specs.declared.memory.Stop.TheVariants as stops
+use Rattle.ppm_engine.specs.declared.tally.Mark.{Mark}
+use Rattle.ppm_engine.specs.declared.tally.Settled.{Settled}
+use Rattle.ppm_engine.specs.Entering.{look}
 use Rattle.ppm_engine.specs.Steps.{HasRow, IsWorking}
 use Rattle.ppm_engine.specs.Walking.{RefusedBy}
 
@@ -55,6 +60,12 @@ pub record IsRowThere (s : Shape) (seat : Seat) : Type 0 where
   pub first : Row
   pub begins_with : (code : CodeParts) → begins s code seat.own seat.place (Some seat.restart) ≡ IsWithin seat first
 
+-- how a row ends, by what came of its steps
+abbrev pub row_end : Result Settled Stop → RowEnd
+row_end (Ok settled) = ends.Installed settled
+row_end (Err stops.Broken) = ends.Broken
+row_end (Err stops.Refused) = ends.Refused true
+
 -- the header of the seat's frame is there
 abbrev pub HasHeader : Shape → Seat → Type 0
 HasHeader s seat = (address : ℕ) × IsHeaderOf s seat address
@@ -75,14 +86,13 @@ module _ {Own : Type 0} (led : Spot Own → Spot Own → Counts → Type 0) (ref
   abbrev pub HasFramed : Shape → CodeParts → (place : ℕ) → Own → Option (List Event) → Local → (most : ℕ) → Framed → Type 0
   HasFramed s code place own told local most framed = FramedSo s code place own told local most framed.made framed.work framed.looks framed.end
 
-  -- what came of the row of a restart of work, by so many steps after the load of the finish word
+  -- what came of the row of a restart of work, by so many steps of work after the load of the finish word
   abbrev pub RowedSo : (over : Type 0) → (place : ℕ) → Own → Option (List Event) → (work : ℕ) → (exchanged : Bool) → RowEnd → Type 0
   RowedSo over place own told work exchanged (ends.Installed settled) =
-      led first (spot own (IsAt place (Some settled.restart)) told)
-      (counts (work + 1) work (looks_after 1 work 0) exchanged (forks_by settled.mark) (takes_by settled.mark)) × IsRestart settled.restart
-  RowedSo over place own told work exchanged ends.Broken =
-      led first (spot own (IsBroken place) told) (counts (work + 1) work (looks_after 1 work 0) exchanged 0 0)
-  RowedSo over place own told work exchanged ends.Over = over × led first (spot own IsDone told) (counts (work + 1) work (looks_after 1 work 0) exchanged 0 0)
+      led first (spot own (IsAt place (Some settled.restart)) told) (counts (work + 1) work 0 exchanged (forks_by settled.mark) (takes_by settled.mark))
+      × IsRestart settled.restart
+  RowedSo over place own told work exchanged ends.Broken = led first (spot own (IsBroken place) told) (counts (work + 1) work 0 exchanged 0 0)
+  RowedSo over place own told work exchanged ends.Over = over × (work ≡ 0) × (exchanged ≡ false) × led first (spot own IsDone told) look
   RowedSo over place own told work exchanged (ends.Refused lives) = RefusedBy led refused first own told 16 lives
 
   abbrev pub HasRowed : (over : Type 0) → (place : ℕ) → Own → Option (List Event) → Rowed → Type 0
@@ -96,3 +106,27 @@ module _ {Own : Type 0} (led : Spot Own → Spot Own → Counts → Type 0) (ref
   abbrev pub HasWorked : Shape → CodeParts → Own → Option (List Event) → Local → (most : ℕ) → Worked → Type 0
   HasWorked s code own told local most it =
       WorkedSo s code own told local most (counts it.made it.work it.looks it.exchanged it.forks it.takes) it.refused
+
+-- these steps, and then those of a row, with so many of work after the load of the finish word
+abbrev pub with_row : Worked → Rowed → Mark → Worked
+with_row so_far rowed mark = record {
+  made = so_far.made + (rowed.work + 1);
+  work = so_far.work + rowed.work;
+  looks = so_far.looks;
+  exchanged = so_far.exchanged || rowed.exchanged;
+  forks = so_far.forks + forks_by mark;
+  takes = so_far.takes + takes_by mark;
+  refused = so_far.refused;
+}
+
+-- and then those of capsules of a frame
+abbrev pub with_frames : Worked → Framed → Worked
+with_frames so_far framed = record {
+  made = so_far.made + framed.made;
+  work = so_far.work + framed.work;
+  looks = framed.looks;
+  exchanged = so_far.exchanged;
+  forks = so_far.forks;
+  takes = so_far.takes;
+  refused = so_far.refused;
+}

@@ -1,12 +1,12 @@
 //! Rows of work, each made whole, and capsules of frames between them.
-ghost use Rattle.std.specs.Prelude.{false, ◌≡◌, ◌≤◌, ◌<◌, ◌+◌, ◌^◌, ◌||◌, ◌⊎◌, Bool, true, Some};
-ghost use Rattle.ppm_engine.specs.Framing.{HasHeader, HasRowed, HasWorked, IsFrom, IsRowThere, LooksNot};
-ghost use Rattle.ppm_engine.specs.Memory.{forks_by, looks_after, spot, takes_by};
+ghost use Rattle.std.specs.Prelude.{ℕ, ◌≡◌, ◌≤◌, ◌<◌, ◌+◌, ◌^◌, ◌||◌, ◌⊎◌, Bool, true, Some};
+ghost use Rattle.ppm_engine.specs.Framing.{HasHeader, HasRowed, HasWorked, IsFrom, IsRowThere, LooksNot, row_end, with_frames, with_row};
+ghost use Rattle.ppm_engine.specs.Memory.{Spot, forks_by, spot, takes_by};
 ghost use Rattle.ppm_engine.specs.Steps.{HasRow};
 ghost use Rattle.ppm_step.specs.Standings.{IsAt};
 
 use crate::entering::load_finish;
-use crate::frames::{looks_after, rounds};
+use crate::frames::rounds;
 use crate::memory::{Memory, Stop};
 use crate::rows::{has_row, make_row};
 use crate::tally::{Mark, Settled, Tally};
@@ -37,27 +37,34 @@ fn row_there(shape: &Shape, seat: &Seat) -> bool
     }
 }
 
+/// Whether a row of work may be made, where so many steps are left.
+#[inline(always)]
+fn may_row<M: Memory>(memory: &M, own: &M::Own, shape: &Shape, seat: &Seat, left: u64) -> bool
+    requires shape { shape.now ≡ M.shape memory.now }
+    requires seat { IsFrom shape.now seat.now.own seat.now × HasRow seat.now.restart.kind }
+    requires stands { (number : ℕ) × (a : Spot M.Own) × (a.own ≡ own.now) × M.at memory.now number a }
+    ensures { result ≡ true → (16 ≤ left) × M.lives memory.now own.now × IsRowThere shape.now seat.now }
+{
+    if left < MOST_OF_A_ROW {
+        return false;
+    }
+    if memory.is_over(own) {
+        return false;
+    }
+    row_there(shape, seat)
+}
+
 /// How a row ends, by what came of its steps.
 #[inline(always)]
-fn end_of(made: Result<Settled, Stop>) -> RowEnd {
+fn row_end(made: Result<Settled, Stop>) -> RowEnd
+    ensures { result ≡ row_end made }
+{
     match made {
         Ok(settled) => RowEnd::Installed(settled),
         Err(stop) => match stop {
             Stop::Broken => RowEnd::Broken,
             Stop::Refused => RowEnd::Refused(true),
         },
-    }
-}
-
-/// A row of which no step of work was made.
-#[inline(always)]
-fn no_row(end: RowEnd) -> Rowed
-    ensures { result ≡ record { work = 0; exchanged = false; end = end } }
-{
-    Rowed {
-        work: 0,
-        exchanged: false,
-        end,
     }
 }
 
@@ -72,7 +79,7 @@ fn row_at<M: Memory + Copy, W: Watch>(
     requires there { IsRowThere (M.shape memory.now) seat.now }
     requires lives { M.lives memory.now own.old }
     requires stands { M.at memory.now seat.now.own (spot own.old (IsAt seat.now.place (Some seat.now.restart)) (W.told watch.old)) }
-    ensures few { (result.work ≤ 12) × LooksNot (M.ends memory.now) (looks_after 1 result.work 0) }
+    ensures few { result.work ≤ 12 }
     ensures rowed { HasRowed (M.led memory.now seat.now.own) (M.refused memory.now seat.now.own)
         (spot own.old (IsAt seat.now.place (Some seat.now.restart)) (W.told watch.old)) (M.ends memory.now)
         seat.now.place own.new (W.told watch.new) result }
@@ -83,12 +90,24 @@ fn row_at<M: Memory + Copy, W: Watch>(
     let finish = load_finish(&here, own, watch, &at);
     if finish.word != 0 {
         if finish.taken {
-            return no_row(RowEnd::Over);
+            return Rowed {
+                work: 0,
+                exchanged: false,
+                end: RowEnd::Over,
+            };
         }
-        return no_row(RowEnd::Refused(false));
+        return Rowed {
+            work: 0,
+            exchanged: false,
+            end: RowEnd::Refused(false),
+        };
     }
     if !finish.taken {
-        return no_row(RowEnd::Refused(true));
+        return Rowed {
+            work: 0,
+            exchanged: false,
+            end: RowEnd::Refused(true),
+        };
     }
     let mut tally = Tally {
         made: 0,
@@ -98,7 +117,7 @@ fn row_at<M: Memory + Copy, W: Watch>(
     Rowed {
         work: tally.made,
         exchanged: tally.exchanged,
-        end: end_of(made),
+        end: row_end(made),
     }
 }
 
@@ -137,41 +156,42 @@ const NOTHING: Worked = Worked {
     refused: None,
 };
 
-/// The watcher refused one; whether the processor is still to take a step.
+/// These steps, and then those of a row, with so many of work after the load of the finish word. The
+/// last one has this mark.
 #[inline(always)]
-fn refused(lives: bool) -> Worked {
-    Worked {
-        refused: Some(lives),
-        ..NOTHING
-    }
-}
-
-/// These steps, and then those of a row, whose last one has this mark.
-#[inline(always)]
-fn with_row(so_far: Worked, rowed: Rowed, mark: Mark) -> Worked {
-    let last = looks_after(1, rowed.work, 0);
+fn with_row(so_far: Worked, rowed: Rowed, mark: Mark) -> Worked
+    requires few { (so_far.made + 13 < 2 ^ 64) × (so_far.work ≤ so_far.made) × (so_far.forks ≤ so_far.made) × (so_far.takes ≤ so_far.made)
+        × (rowed.work ≤ 12) }
+    ensures { result ≡ with_row so_far rowed mark }
+{
+    let forks = forks_by(mark);
+    let takes = takes_by(mark);
     Worked {
         made: so_far.made + (rowed.work + 1),
         work: so_far.work + rowed.work,
-        looks: looks_after(so_far.looks, rowed.work, last),
+        looks: so_far.looks,
         exchanged: so_far.exchanged || rowed.exchanged,
-        forks: so_far.forks + forks_by(mark),
-        takes: so_far.takes + takes_by(mark),
-        refused: None,
+        forks: so_far.forks + forks,
+        takes: so_far.takes + takes,
+        refused: so_far.refused,
     }
 }
 
-/// These steps, and then those of capsules of a frame.
+/// These steps, and then those of capsules of a frame, among which there is neither a fork nor a
+/// take.
 #[inline(always)]
-fn with_frames(so_far: Worked, framed: Framed) -> Worked {
+fn with_frames(so_far: Worked, framed: Framed) -> Worked
+    requires few { (so_far.made + framed.made < 2 ^ 64) × (so_far.work ≤ so_far.made) × (framed.work ≤ framed.made) }
+    ensures { result ≡ with_frames so_far framed }
+{
     Worked {
         made: so_far.made + framed.made,
         work: so_far.work + framed.work,
-        looks: looks_after(so_far.looks, framed.work, framed.looks),
+        looks: framed.looks,
         exchanged: so_far.exchanged,
         forks: so_far.forks,
         takes: so_far.takes,
-        refused: None,
+        refused: so_far.refused,
     }
 }
 
@@ -213,8 +233,7 @@ pub fn work_along<M: Memory + Copy, W: Watch>(
             restart: at,
         };
         if has_row(at.kind) {
-            if most - so_far.made < MOST_OF_A_ROW || memory.is_over(own) || !row_there(&shape, &seat)
-            {
+            if !may_row(memory, own, &shape, &seat, most - so_far.made) {
                 let last = at;
                 wait_at(local, &shape, coding.code, place, last);
                 return so_far;
@@ -231,9 +250,27 @@ pub fn work_along<M: Memory + Copy, W: Watch>(
                 }
                 RowEnd::Over => {
                     local.stand = Stand::Done;
-                    return with_row(so_far, rowed, Mark::Plain);
+                    return Worked {
+                        made: so_far.made + 1,
+                        work: so_far.work,
+                        looks: 1,
+                        exchanged: so_far.exchanged,
+                        forks: so_far.forks,
+                        takes: so_far.takes,
+                        refused: None,
+                    };
                 }
-                RowEnd::Refused(lives) => return refused(lives),
+                RowEnd::Refused(lives) => {
+                    return Worked {
+                        made: 0,
+                        work: 0,
+                        looks: 0,
+                        exchanged: false,
+                        forks: 0,
+                        takes: 0,
+                        refused: Some(lives),
+                    };
+                }
             }
         } else {
             let framed = rounds(
@@ -246,7 +283,15 @@ pub fn work_along<M: Memory + Copy, W: Watch>(
                 most - so_far.made,
             );
             if let FrameEnd::Refused(lives) = framed.end {
-                return refused(lives);
+                return Worked {
+                    made: 0,
+                    work: 0,
+                    looks: 0,
+                    exchanged: false,
+                    forks: 0,
+                    takes: 0,
+                    refused: Some(lives),
+                };
             }
             so_far = with_frames(so_far, framed);
             match framed.end {
