@@ -93,16 +93,10 @@ fn end_or_wait<M: Memory + Copy, W: Watch>(
     ensures own_stays { local.new.own ≡ local.old.own }
 {
     let _ = code.parts().capsules.as_slice().len();
-    // Copies, as in `work_along`.
-    let here = *memory;
     let shape = memory.shape();
     if let Some(end) = end_in(halted.halt) {
-        let ending = Ending {
-            framing: halted.framing,
-            end,
-            next: 0,
-        };
-        let ended = end_along(&here, own, watch, code, &ending, most);
+        let from = Ending { end, next: 0 };
+        let ended = end_along(memory, own, watch, code, &halted.framing, from, most);
         return match ended.step {
             EndStep::Installed(restart) => Framed {
                 made: ended.made,

@@ -11,9 +11,9 @@ ghost use Rattle.ppm_step.specs.Standings.{running};
 
 use crate::capsule::step_in;
 use crate::memory::{Memory, Stop};
-use crate::way::{EndStep, Ended, Ending};
+use crate::way::{EndStep, Ended, Ending, Framing};
 use ppm_cells::{Cell, Restart, RestartKind};
-use ppm_code::Code;
+use ppm_code::{Code, End};
 use ppm_ports::Watch;
 use ppm_step::{Put, Seat, Want, address, cell_is_there, restart_there, restart_word};
 
@@ -89,37 +89,31 @@ fn install_at<M: Memory, W: Watch>(
     }
 }
 
-/// Makes the store that comes next of an end, or after the last one that of the restart word.
+/// Makes the n-th store of an end, or after the last one that of the restart word.
 #[inline(always)]
 fn end_at<M: Memory, W: Watch>(
     memory: &M,
     own: &mut M::Own,
     watch: &mut W,
     code: &Code,
-    at_end: &Ending,
+    framing: &Framing,
+    end: End,
+    n: usize,
 ) -> EndStep
     requires code { code.now ≡ M.code memory.now }
-    requires end { IsFramed (M.shape memory.now) at_end.now.framing × IsEnd at_end.now.end }
+    requires end { IsFramed (M.shape memory.now) framing.now × IsEnd end }
     requires lives { M.lives memory.now own.old }
-    requires stands { M.at memory.now at_end.now.framing.seat.own (spot own.old (running (M.shape memory.now) at_end.now.framing.seat
-        (ending (M.code memory.now) at_end.now.framing.home at_end.now.end at_end.now.next)) (W.told watch.old)) }
-    ensures few { result ≡ Stored → at_end.now.next < 11 }
-    ensures ended { HasEnded (M.led memory.now at_end.now.framing.seat.own) (M.refused memory.now at_end.now.framing.seat.own)
-        (spot own.old (running (M.shape memory.now) at_end.now.framing.seat
-        (ending (M.code memory.now) at_end.now.framing.home at_end.now.end at_end.now.next)) (W.told watch.old))
-        (M.shape memory.now) at_end.now.framing.seat (ending (M.code memory.now) at_end.now.framing.home at_end.now.end (at_end.now.next + 1))
-        own.new (W.told watch.new) result }
+    requires stands { M.at memory.now framing.now.seat.own (spot own.old (running (M.shape memory.now) framing.now.seat
+        (ending (M.code memory.now) framing.now.home end n)) (W.told watch.old)) }
+    ensures few { result ≡ Stored → n < 11 }
+    ensures ended { HasEnded (M.led memory.now framing.now.seat.own) (M.refused memory.now framing.now.seat.own)
+        (spot own.old (running (M.shape memory.now) framing.now.seat (ending (M.code memory.now) framing.now.home end n)) (W.told watch.old))
+        (M.shape memory.now) framing.now.seat (ending (M.code memory.now) framing.now.home end (n + 1)) own.new (W.told watch.new) result }
 {
-    let home = &at_end.framing.home;
-    match home.coming_put(code, at_end.end, at_end.next) {
-        Some(put) => put_at(memory, own, watch, &at_end.framing.seat, put),
-        None => install_at(
-            memory,
-            own,
-            watch,
-            &at_end.framing.seat,
-            home.installed(at_end.end),
-        ),
+    let home = &framing.home;
+    match home.coming_put(code, end, n) {
+        Some(put) => put_at(memory, own, watch, &framing.seat, put),
+        None => install_at(memory, own, watch, &framing.seat, home.installed(end)),
     }
 }
 
@@ -153,25 +147,27 @@ pub fn end_along<M: Memory + Copy, W: Watch>(
     own: &mut M::Own,
     watch: &mut W,
     code: &Code,
-    at_end: &Ending,
+    framing: &Framing,
+    at_end: Ending,
     most: u64,
 ) -> Ended
     requires code { code.now ≡ M.code memory.now }
-    requires end { IsFramed (M.shape memory.now) at_end.now.framing × IsEnd at_end.now.end }
-    requires stands { M.at memory.now at_end.now.framing.seat.own (spot own.old (running (M.shape memory.now) at_end.now.framing.seat
-        (ending (M.code memory.now) at_end.now.framing.home at_end.now.end at_end.now.next)) (W.told watch.old)) }
+    requires end { IsFramed (M.shape memory.now) framing.now × IsEnd at_end.end }
+    requires stands { M.at memory.now framing.now.seat.own (spot own.old (running (M.shape memory.now) framing.now.seat
+        (ending (M.code memory.now) framing.now.home at_end.end at_end.next)) (W.told watch.old)) }
     ensures few { result.made ≤ most }
-    ensures next { (0 < result.made) → result.step ≡ Stored → at_end.now.next + result.made ≤ 11 }
-    ensures ended { HasMadeEnds (M.led memory.now at_end.now.framing.seat.own) (M.refused memory.now at_end.now.framing.seat.own)
-        (spot own.old (running (M.shape memory.now) at_end.now.framing.seat
-        (ending (M.code memory.now) at_end.now.framing.home at_end.now.end at_end.now.next)) (W.told watch.old))
-        (M.shape memory.now) at_end.now.framing.seat (ending (M.code memory.now) at_end.now.framing.home at_end.now.end (at_end.now.next + result.made))
+    ensures next { (0 < result.made) → result.step ≡ Stored → at_end.next + result.made ≤ 11 }
+    ensures ended { HasMadeEnds (M.led memory.now framing.now.seat.own) (M.refused memory.now framing.now.seat.own)
+        (spot own.old (running (M.shape memory.now) framing.now.seat
+        (ending (M.code memory.now) framing.now.home at_end.end at_end.next)) (W.told watch.old))
+        (M.shape memory.now) framing.now.seat (ending (M.code memory.now) framing.now.home at_end.end (at_end.next + result.made))
         own.new (W.told watch.new) most result.made result.step }
 {
     // Copies, as in `work_along`.
     let here = *memory;
-    let from = *at_end;
-    let mut n = from.next;
+    let frame = *framing;
+    let end = at_end.end;
+    let mut n = at_end.next;
     let mut made = 0;
     while made < most {
         if here.is_over(own) {
@@ -180,12 +176,7 @@ pub fn end_along<M: Memory + Copy, W: Watch>(
                 step: EndStep::Stored,
             };
         }
-        let at = Ending {
-            framing: from.framing,
-            end: from.end,
-            next: n,
-        };
-        let step = end_at(&here, own, watch, code, &at);
+        let step = end_at(&here, own, watch, code, &frame, end, n);
         if !is_stored(step) {
             let more = made_by(step);
             return Ended {

@@ -59,12 +59,17 @@ pub fn rounds<M: Memory + Copy, W: Watch>(
         → (0 < result.made) ⊎ ((lives : Bool) × (result.end ≡ ends.Refused lives)) }
     ensures own_stays { local.new.own ≡ local.old.own }
 {
-    let shape = memory.shape();
+    // Copies: after an atomic step the compiler reads anew what a reference leads to that may have
+    // gone out of this function, and would work out addresses anew. So no reference to them goes to a
+    // function that isn't inlined.
+    let here = *memory;
+    let codes = *coding;
+    let sizes = here.shape();
     let mut at = from.restart;
     let mut made = 0;
     let mut work = 0;
     while most - made >= 2 {
-        if memory.is_over(own) {
+        if here.is_over(own) {
             return Framed {
                 made,
                 work,
@@ -85,10 +90,11 @@ pub fn rounds<M: Memory + Copy, W: Watch>(
                 end: FrameEnd::Installed(at),
             };
         };
-        let Some(header) = header_of(&shape, seat) else {
+        let Some(header) = header_of(&sizes, seat) else {
             // A copy: what is handed to a function that isn't inlined lies in memory from its
             // beginning on, and `at` is to stay out of it.
             let last = at;
+            let shape = memory.shape();
             wait_at(local, &shape, coding.code, from.place, last);
             return Framed {
                 made,
@@ -107,10 +113,10 @@ pub fn rounds<M: Memory + Copy, W: Watch>(
         };
         let headed = Headed { framing, header };
         let circuit = round(
-            memory,
+            &here,
             own,
             watch,
-            coding,
+            &codes,
             &headed,
             &mut local.registers,
             most - made,

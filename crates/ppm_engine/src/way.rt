@@ -45,10 +45,9 @@ pub struct Asking {
     pub words: u32,
 }
 
-/// A frame whose capsule has come to an end, of which this store comes next.
+/// An end that a capsule has come to, of which the store with this number comes next.
 #[derive(Clone, Copy, Debug, PartialEq, Eq)]
 pub struct Ending {
-    pub framing: Framing,
     pub end: End,
     pub next: usize,
 }

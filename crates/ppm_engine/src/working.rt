@@ -219,10 +219,9 @@ pub fn work_along<M: Memory + Copy, W: Watch>(
         → (0 < result.made) ⊎ ((lives : Bool) × (result.refused ≡ Some lives)) }
     ensures own_stays { local.new.own ≡ local.old.own }
 {
-    // Copies: after an atomic step the compiler reads anew what a reference leads to, and would work
-    // out addresses anew.
+    // Copies, as in `rounds`.
     let here = *memory;
-    let shape = memory.shape();
+    let sizes = here.shape();
     let place = from.place;
     let mut at = from.restart;
     let mut so_far = NOTHING;
@@ -233,8 +232,9 @@ pub fn work_along<M: Memory + Copy, W: Watch>(
             restart: at,
         };
         if has_row(at.kind) {
-            if !may_row(memory, own, &shape, &seat, most - so_far.made) {
+            if !may_row(&here, own, &sizes, &seat, most - so_far.made) {
                 let last = at;
+                let shape = memory.shape();
                 wait_at(local, &shape, coding.code, place, last);
                 return so_far;
             }
@@ -245,6 +245,7 @@ pub fn work_along<M: Memory + Copy, W: Watch>(
                     at = settled.restart;
                 }
                 RowEnd::Broken => {
+                    let shape = memory.shape();
                     wait_broken(local, &shape, coding.code, place);
                     return with_row(so_far, rowed, Mark::Plain);
                 }
@@ -275,7 +276,7 @@ pub fn work_along<M: Memory + Copy, W: Watch>(
         } else {
             let framed = rounds(
                 local,
-                &here,
+                memory,
                 own,
                 watch,
                 coding,
@@ -299,6 +300,7 @@ pub fn work_along<M: Memory + Copy, W: Watch>(
                     if framed.made == 0 {
                         // Copies, here and below, as in `rounds`.
                         let last = next;
+                        let shape = memory.shape();
                         wait_at(local, &shape, coding.code, place, last);
                         return so_far;
                     }
@@ -310,6 +312,7 @@ pub fn work_along<M: Memory + Copy, W: Watch>(
         }
     }
     let last = at;
+    let shape = memory.shape();
     wait_at(local, &shape, coding.code, place, last);
     so_far
 }

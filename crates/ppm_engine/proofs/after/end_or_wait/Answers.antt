@@ -1,4 +1,4 @@
-use Rattle.std.proofs.Common.{◌≡◌, ◌∙◌, ◌+◌, ℕ, Some, sym, ap, subst}
+use Rattle.std.proofs.Common.{◌≡◌, ◌∙◌, ◌+◌, ◌<◌, ℕ, length, Some, sym, ap, subst, arith}
 use Rattle.ppm_code.specs.declared.code.CodeParts.{CodeParts}
 use Rattle.ppm_step.specs.Frames.{ending}
 use Rattle.ppm_cells.specs.declared.shape.Shape.{Shape}
@@ -17,6 +17,9 @@ use Rattle.ppm_engine.proofs.AfterLemmas.{ends_at, ends_within}
 use Rattle.ppm_engine.proofs.CapsuleLemmas.{standing_as}
 use Rattle.ppm_engine.proofs.MakingLemmas.{moved}
 use Rattle.ppm_engine.proofs.after.end_or_wait.Goals as goal
+
+as_many : (n : ℕ) → 0 + n ≡ n
+as_many n = omega arith
 
 pub end_along-ended-requires-clause-end : goal.end_along-ended-requires-clause-end
 end_along-ended-requires-clause-end g c κs within = (
@@ -41,12 +44,13 @@ end_along-ended-requires-clause-stands g c κs within =
     standing_as (g.M.Memory.at m seat.own) c.args.own.now (t c.args.watch.now) is c.requires.halts.2
 
 pub wait_ending-requires-clause-capsule : goal.wait_ending-requires-clause-capsule
-wait_ending-requires-clause-capsule g c κs within =
-    ends_within (g.M.Memory.shape c.args.memory.now) c.args.code.now c.args.halted.now.framing c.args.local.now.registers c.args.halted.now.halt c.in-Some.end
-    c.requires.halts.0 c.in-Some.ensures c.requires.halts.1
+wait_ending-requires-clause-capsule g c =
+    subst (λ (n : ℕ). n < length c.args.code.now.capsules) (sym c.number_in-number.ensures)
+    (ends_within (g.M.Memory.shape c.args.memory.now) c.args.code.now c.args.halted.now.framing c.args.local.now.registers c.args.halted.now.halt c.in-Some.end
+    c.requires.halts.0 c.in-Some.ensures c.requires.halts.1)
 
 pub wait_ending-requires-clause-end : goal.wait_ending-requires-clause-end
-wait_ending-requires-clause-end g c κs within =
+wait_ending-requires-clause-end g c =
     (ends_at (g.M.Memory.shape c.args.memory.now) c.args.code.now c.parts.ensures.code c.args.halted.now.framing c.args.local.now.registers
     c.args.halted.now.halt c.in-Some.end c.requires.halts.0 c.in-Some.ensures c.requires.halts.1).0
 
@@ -98,7 +102,8 @@ returns-in-Stored-clause-framed g c = λ standing halts here.
     let local = c.wait_ending.new.local in
     let stands = subst (λ (x : Shape). standing_of x code local ≡ running x seat (ending code framing.home end made)) e c.wait_ending.ensures.stands
     ∙ ap (λ (k : CodeParts). running s seat (ending k framing.home end made)) c.requires.code in
-    (moved led first (sym stands) ended, subst (λ (x : Shape). IsLocal x code local) e c.wait_ending.ensures.holds)
+    let there = ap (λ (n : ℕ). running s seat (ending (g.M.Memory.code m) framing.home end n)) (as_many made) in
+    (moved led first (there ∙ sym stands) ended, subst (λ (x : Shape). IsLocal x code local) e c.wait_ending.ensures.holds)
 
 pub returns-in-Broken-clause-framed : goal.returns-in-Broken-clause-framed
 returns-in-Broken-clause-framed g c = λ standing halts here.
@@ -167,16 +172,16 @@ returns-clause-framed g c = λ standing halts here.
     (moved led first (sym stands) (g.met.M.Memory.rest m seat.own first here), subst (λ (x : Shape). IsLocal x code local) e c.wait_halted.ensures.holds)
 
 pub wait_halted-requires-clause-framed : goal.wait_halted-requires-clause-framed
-wait_halted-requires-clause-framed g c κs within =
+wait_halted-requires-clause-framed g c =
     (subst (λ (x : Shape). IsFramed x c.args.halted.now.framing) (sym c.shape-shape.ensures) c.requires.framed.0, c.requires.framed.1)
 
 pub wait_halted-requires-clause-halts : goal.wait_halted-requires-clause-halts
-wait_halted-requires-clause-halts g c κs within = (
+wait_halted-requires-clause-halts g c = (
   c.requires.halts.0,
   subst (λ (x : Shape). HaltsAt x c.args.code.now c.args.halted.now.framing c.args.local.now.registers c.args.halted.now.halt c.requires.halts.0)
       (sym c.shape-shape.ensures) c.requires.halts.1,
 )
 
 pub wait_ending-requires-clause-seat : goal.wait_ending-requires-clause-seat
-wait_ending-requires-clause-seat g c κs within =
+wait_ending-requires-clause-seat g c =
     subst (λ (x : Shape). IsSeat x c.args.halted.now.framing.seat) (sym c.shape-shape.ensures) c.requires.framed.0.0

@@ -22,7 +22,6 @@ fill_along-filled-requires-clause-stands g c κs within =
     let t = g.W.Watch.told in
     let led = g.M.Memory.led m seat.own in
     let refused = g.M.Memory.refused m seat.own in
-    let went = c.fill_along-filled in
     let at = standing_as (g.M.Memory.at m seat.own) c.args.own.now (t c.args.watch.now)
     (ap (λ (k : CodeParts). running s seat (rest_asking s k it c.args.local.now.registers)) c.requires.code) c.requires.stands in
     at

@@ -1,4 +1,4 @@
-use Rattle.std.proofs.Common.{◌≡◌, ◌∙◌, ◌+◌, ◌-◌, ◌≤◌, ℕ, List, Option, Ok, Err, Some, slice_get, refl, sym, ap, subst, arith}
+use Rattle.std.proofs.Common.{◌≡◌, ◌∙◌, ◌+◌, ◌-◌, ◌≤◌, ℕ, false, List, Option, Ok, Err, Some, slice_get, refl, sym, ap, subst, arith}
 use Rattle.ppm_code.specs.Capsules.{capsule_from}
 use Rattle.ppm_code.specs.Strands.{instrs_in, instrs_of}
 use Rattle.ppm_code.specs.declared.code.Capsule.{Capsule}
@@ -148,10 +148,10 @@ go_along-stretch-requires-clause-stands g c κs within =
     let asked = subst (λ (r : Room). HasAsked led refused first s seat go ask.new.own (t ask.new.watch) (Ok r)) c.in-Block.is (c.in-Ok.ensures go c.requires.stands) in
     let block = c.in-Block.block in
     let with : Framing = with_block framing block in
-    let instrs = c.as_slice.result.now in
+    let instrs = c.as_slice-2.result.now in
     let is : running s seat asked.0 ≡ stands_before s code seat with.home instrs it.next registers =
     ap (λ (r : Rest). running s seat r) asked.1.1
-    ∙ ap (λ (l : List Instr). running s seat (rest_of s code seat.place (at_counter home block) (capsule_from s.arrays 0 it.next l registers))) (ap (λ (o : Option Capsule). instrs_in o) get ∙ sym c.as_slice.ensures) in
+    ∙ ap (λ (l : List Instr). running s seat (rest_of s code seat.place (at_counter home block) (capsule_from s.arrays 0 it.next l registers))) (ap (λ (o : Option Capsule). instrs_in o) get ∙ sym c.as_slice-2.ensures) in
     let mid = spot ask.new.own (stands_before s code seat with.home instrs it.next registers) (t ask.new.watch) in
     let l = moved led first is asked.2 in
     g.met.M.Memory.stays m seat.own first mid (works 1 false) l
@@ -176,7 +176,7 @@ returns-clause-filled g c =
     let asked = subst (λ (r : Room). HasAsked led refused first s seat go ask.new.own (t ask.new.watch) (Ok r)) c.in-Block.is (c.in-Ok.ensures go c.requires.stands) in
     let block = c.in-Block.block in
     let with : Framing = with_block framing block in
-    let instrs = c.as_slice.result.now in
+    let instrs = c.as_slice-2.result.now in
     let is : running s seat asked.0 ≡ stands_before s code seat with.home c.in-Some.found.now.instrs it.next registers =
     ap (λ (r : Rest). running s seat r) asked.1.1
     ∙ ap (λ (l : List Instr). running s seat (rest_of s code seat.place (at_counter home block) (capsule_from s.arrays 0 it.next l registers))) (ap (λ (o : Option Capsule). instrs_in o) get) in
@@ -184,7 +184,7 @@ returns-clause-filled g c =
     let l = moved led first is asked.2 in
     let went = c.go_along-stretch in
     let led_on = subst (λ (list : List Instr). LedTo led refused (spot ask.new.own (stands_before s code seat with.home list it.next registers) (t ask.new.watch)) s code with list
-    went.new.registers went.new.own (t went.new.watch) (c.args.most - 1) went.result.made went.result.way) c.as_slice.ensures went.ensures.led in
+    went.new.registers went.new.own (t went.new.watch) (c.args.most - 1) went.result.made went.result.way) c.as_slice-2.ensures went.ensures.led in
     (
       asked.1.0,
       subst (λ (e : RoundEnd). GoesOn led refused first s code with went.new.registers went.new.own (t went.new.watch) c.args.most (1 + went.result.made) e)

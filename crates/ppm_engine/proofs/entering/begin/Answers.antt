@@ -82,12 +82,7 @@ load_header-number-requires g c =
     let mid = spot c.load_finish-finish.new.own (IsWithin seat (Now (Load (Header is.frame is.copy)))) (t c.load_finish-finish.new.watch) in
     let l = took led (g.M.Memory.refused m seat.own) here there look c.load_finish-finish.result.taken
     (not_true c.load_finish-finish.result.taken c.if-not-finish.false) c.load_finish-finish.ensures.came in
-    record {
-      stands = (
-        is,
-        g.met.M.Memory.stays m seat.own here mid look (moved led here (finish_goes_on s (g.M.Memory.code m) seat c.args.header word is c.if-finish-ne0.false) l),
-      );
-    }
+    (is, g.met.M.Memory.stays m seat.own here mid look (moved led here (finish_goes_on s (g.M.Memory.code m) seat c.args.header word is c.if-finish-ne0.false) l))
 
 pub returns-then-number : goal.returns-then-number
 returns-then-number g c =

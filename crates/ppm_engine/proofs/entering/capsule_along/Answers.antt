@@ -43,7 +43,22 @@ go_along-requires-clause-stands g c κs within =
     standing_as (g.M.Memory.at m seat.own) c.args.own.now (t c.args.watch.now) is c.requires.stands
 
 pub returns-then-number-as_slice-clause-along : goal.returns-then-number-as_slice-clause-along
-returns-then-number-as_slice-clause-along g c = ?
+returns-then-number-as_slice-clause-along g c =
+    let m = c.args.memory.now in
+    let s = g.M.Memory.shape m in
+    let code = g.M.Memory.code m in
+    let coming = c.args.coming.now in
+    let seat = coming.framing.seat in
+    let home = coming.framing.home in
+    let t = g.W.Watch.told in
+    let led = g.M.Memory.led m seat.own in
+    let refused = g.M.Memory.refused m seat.own in
+    let x = enters s code seat (Run home.frame home.copy) (slice_get code.capsules coming.number) in
+    let first = spot c.args.own.now x (t c.args.watch.now) in
+    let same = c.as_slice.ensures ∙ ap (λ (k : CodeParts). k.capsules) (c.parts.ensures.value ∙ c.requires.coding) in
+    let few = subst (λ (l : List Capsule). length l ≤ coming.number) same c.if-number-as_slice.true in
+    moved led first (ap (λ (o : Option Capsule). enters s code seat (Run home.frame home.copy) o) (none_past code.capsules coming.number few))
+    (g.met.M.Memory.rest m seat.own first c.requires.stands)
 
 pub returns-in_default-clause-along : goal.returns-in_default-clause-along
 returns-in_default-clause-along g c =

@@ -65,7 +65,7 @@ round-circuit-requires-clause-headed g c κs within =
     let seat : Seat = record { own = from.own; place = from.place; restart = c.loop-made.at } in
     let home : Home = record { frame = c.in-Run.frame; copy = c.in-Run.copy; block = 0 } in
     let framing : Framing = record { seat = seat; home = home } in
-    let header = subst (λ (x : Shape). IsHeaderOf x seat c.in-Some.header) c.shape-shape.ensures c.in-Some.ensures in
+    let header = subst (λ (x : Shape). IsHeaderOf x seat c.in-Some.header) c.shape-sizes.ensures c.in-Some.ensures in
     record {
       framed = (header.seat_is, home_of c.loop-made.at c.in-Run.frame c.in-Run.copy c.in-Run.is i.2);
       block = refl;
@@ -166,7 +166,7 @@ returns-in_default-header_of-clause-some g c = λ enough lives header.
     let from = c.args.from.now in
     let seat : Seat = record { own = from.own; place = from.place; restart = c.loop-made.at } in
     or_none c.loop-made.invariant.5 (λ a. no_header_there s (g.M.Memory.code c.args.memory.now) seat from
-    (λ i. record { own = from.own; place = from.place; restart = a.1 i }) (subst (λ (x : Shape). HasNoHeader x seat) c.shape-shape.ensures c.in_default-header_of.ensures)
+    (λ i. record { own = from.own; place = from.place; restart = a.1 i }) (subst (λ (x : Shape). HasNoHeader x seat) c.shape-sizes.ensures c.in_default-header_of.ensures)
     header)
 
 pub go_after-after-requires-clause-framed : goal.go_after-after-requires-clause-framed
@@ -186,7 +186,7 @@ go_after-after-requires-clause-framed g c κs within =
     let seat : Seat = record { own = from.own; place = from.place; restart = c.loop-made.at } in
     let home : Home = record { frame = c.in-Run.frame; copy = c.in-Run.copy; block = 0 } in
     let framing : Framing = record { seat = seat; home = home } in
-    let header = subst (λ (x : Shape). IsHeaderOf x seat c.in-Some.header) c.shape-shape.ensures c.in-Some.ensures in
+    let header = subst (λ (x : Shape). IsHeaderOf x seat c.in-Some.header) c.shape-sizes.ensures c.in-Some.ensures in
     ((header.seat_is, home_of c.loop-made.at c.in-Run.frame c.in-Run.copy c.in-Run.is i.2), c.requires.from.same ∙ sym c.loop-made.invariant.3)
 
 pub go_after-after-requires-clause-halts : goal.go_after-after-requires-clause-halts
