@@ -31,10 +31,9 @@ use Rattle.ppm_engine.specs.declared.way.Framed.{Framed}
 use Rattle.ppm_engine.specs.declared.way.Rowed.{Rowed}
 use Rattle.ppm_engine.specs.declared.way.Worked.{Worked}
 use Rattle.ppm_engine.specs.Entering.{MayHalt, look, looks_at}
-use Rattle.ppm_engine.specs.Framing.{HasHeader, HasWorked, LooksNot, RowedSo, WorkedSo, row_end, with_frames, with_row}
+use Rattle.ppm_engine.specs.Framing.{HasHeader, HasWorked, LooksNot, RowedSo, WorkedSo, row_end, row_mark, with_frames, with_row}
 use Rattle.ppm_engine.specs.Memory.{Counts, Spot, spot, both, counts, forks_by, looks_after, settles, takes_by, works}
 use Rattle.ppm_engine.specs.Steps.{Settles}
-use Rattle.ppm_engine.proofs.AfterLemmas.{no_more}
 use Rattle.ppm_engine.proofs.EnteringLemmas.{not_done_if}
 
 -- a round's looks, after work
@@ -141,25 +140,43 @@ or_false false = refl
 none_more : (n : ℕ) → n + 0 ≡ n
 none_more n = omega arith
 
-look_last : (n v f h : ℕ) (e : Bool) → both (counts n v 0 e f h) look ≡ counts (n + 1) v 1 e f h
-look_last n v f h e = λ i. record {
+look_last : (n v x f h : ℕ) (e : Bool) → both (counts n v x e f h) look ≡ counts (n + 1) v (x + 1) e f h
+look_last n v x f h e = λ i. record {
   made = n + 1;
   work = none_more v i;
-  looks = 1;
+  looks = x + 1;
   exchanged = or_false e i;
   forks = none_more f i;
   takes = none_more h i;
 }
 
-frames_last : (n v f h m w looks : ℕ) (e : Bool) → both (counts n v 0 e f h) (counts m w looks false 0 0) ≡ counts (n + m) (v + w) looks e f h
-frames_last n v f h m w looks e = λ i. record {
+frames_last : (n v x f h m w looks : ℕ) (e : Bool)
+    → both (counts n v x e f h) (counts m w looks false 0 0) ≡ counts (n + m) (v + w) (looks_after x w looks) e f h
+frames_last n v x f h m w looks e = λ i. record {
   made = n + m;
   work = v + w;
-  looks = from_none (w == 0) looks i;
+  looks = looks_after x w looks;
   exchanged = or_false e i;
   forks = none_more f i;
   takes = none_more h i;
 }
+
+-- no looks, or the run may be over
+not_by : (over : Type 0) (b : Bool) (x l : ℕ) → LooksNot over x → LooksNot over l → LooksNot over (if b then x + l else l)
+not_by over true x l (inl e) (inl f) = inl (omega (arith, e, f))
+not_by over false x l (inl e) (inl f) = inl f
+not_by over b x l (inr may) k = inr may
+not_by over b x l (inl e) (inr may) = inr may
+
+pub not_after : (over : Type 0) (x w l : ℕ) → LooksNot over x → LooksNot over l → LooksNot over (looks_after x w l)
+not_after over x w l h k = not_by over (w == 0) x l h k
+
+few_by : (b : Bool) (x l n m : ℕ) → x ≤ n → l ≤ m → (if b then x + l else l) ≤ n + m
+few_by true x l n m h k = omega (arith, h, k)
+few_by false x l n m h k = omega (arith, h, k)
+
+pub few_after : (x w l n m : ℕ) → x ≤ n → l ≤ m → looks_after x w l ≤ n + m
+few_after x w l n m h k = few_by (w == 0) x l n m h k
 
 module _ {Own : Type 0} (led : Spot Own → Spot Own → Counts → Type 0) (refused : Spot Own → Spot Own → ℕ → Type 0)
     (on : (x y z : Spot Own) (c d : Counts) → led x y c → led y z d → led x z (both c d))
@@ -173,7 +190,7 @@ module _ {Own : Type 0} (led : Spot Own → Spot Own → Counts → Type 0) (ref
   pub row_so : (over : Type 0) (place : ℕ) (first mid : Spot Own) (seat : Seat) (row : Row) (own : Own) (told : Option (List Event)) (tally : Tally)
       (r : Result Settled Stop) → ((b : Spot Own) (c : Counts) → led mid b c → c.made ≡ 0 → mid.stands ≡ b.stands) → mid.stands ≡ IsWithin seat row
       → tally.made ≤ 12 → led first mid look → Settles led mid refused place own told tally r
-      → RowedSo led refused first over place own told tally.made tally.exchanged (row_end r)
+      → RowedSo led refused first over place own told tally.made tally.exchanged (row_mark r) (row_end r)
   row_so over place first mid seat row own told tally (Ok settled) idle within few l h =
       let last = spot own (IsAt place (Some settled.restart)) told in
       let c = settles tally.made tally.exchanged settled.mark in
@@ -188,28 +205,26 @@ module _ {Own : Type 0} (led : Spot Own → Spot Own → Counts → Type 0) (ref
       (h.0, not_done_if h.0 h.1, stopped first mid (spot own h.0 told) look (tally.made + 1) 16 l h.2 (omega (arith, few)))
 
   -- a row more, the load of a finish word more, and capsules of a frame more
-  pub row_more : (x y z : Spot Own) (n v f h w f' h' : ℕ) (e e' : Bool) → led x y (counts n v 0 e f h) → led y z (counts (w + 1) w 0 e' f' h')
-      → led x z (counts (n + (w + 1)) (v + w) 0 (e || e') (f + f') (h + h'))
-  row_more x y z n v f h w f' h' e e' l k =
-      subst (λ (looks : ℕ). led x z (counts (n + (w + 1)) (v + w) looks (e || e') (f + f') (h + h'))) (no_more w)
-      (on x y z (counts n v 0 e f h) (counts (w + 1) w 0 e' f' h') l k)
+  pub row_more : (x y z : Spot Own) (n v l f h w f' h' : ℕ) (e e' : Bool) → led x y (counts n v l e f h) → led y z (counts (w + 1) w 0 e' f' h')
+      → led x z (counts (n + (w + 1)) (v + w) (looks_after l w 0) (e || e') (f + f') (h + h'))
+  row_more x y z n v l f h w f' h' e e' p q = on x y z (counts n v l e f h) (counts (w + 1) w 0 e' f' h') p q
 
-  pub look_more : (x y z : Spot Own) (n v f h : ℕ) (e : Bool) → led x y (counts n v 0 e f h) → led y z look → led x z (counts (n + 1) v 1 e f h)
-  look_more x y z n v f h e l k = subst (λ (c : Counts). led x z c) (look_last n v f h e) (on x y z (counts n v 0 e f h) look l k)
+  pub look_more : (x y z : Spot Own) (n v l f h : ℕ) (e : Bool) → led x y (counts n v l e f h) → led y z look → led x z (counts (n + 1) v (l + 1) e f h)
+  look_more x y z n v l f h e p q = subst (λ (c : Counts). led x z c) (look_last n v l f h e) (on x y z (counts n v l e f h) look p q)
 
-  pub frames_more : (x y z : Spot Own) (n v f h m w looks : ℕ) (e : Bool) → led x y (counts n v 0 e f h) → led y z (counts m w looks false 0 0)
-      → led x z (counts (n + m) (v + w) looks e f h)
-  frames_more x y z n v f h m w looks e l k =
-      subst (λ (c : Counts). led x z c) (frames_last n v f h m w looks e) (on x y z (counts n v 0 e f h) (counts m w looks false 0 0) l k)
+  pub frames_more : (x y z : Spot Own) (n v l f h m w looks : ℕ) (e : Bool) → led x y (counts n v l e f h) → led y z (counts m w looks false 0 0)
+      → led x z (counts (n + m) (v + w) (looks_after l w looks) e f h)
+  frames_more x y z n v l f h m w looks e p q =
+      subst (λ (c : Counts). led x z c) (frames_last n v l f h m w looks e) (on x y z (counts n v l e f h) (counts m w looks false 0 0) p q)
 
   -- none of them was refused
   pub worked_none : (s : Shape) (code : CodeParts) (first : Spot Own) (own : Own) (told : Option (List Event)) (local : Local) (most : ℕ) (it : Worked)
-      (looks : ℕ) → it.refused ≡ None → it.looks ≡ looks
-      → led first (spot own (standing_of s code local) told) (counts it.made it.work looks it.exchanged it.forks it.takes) × IsLocal s code local
+      → it.refused ≡ None
+      → led first (spot own (standing_of s code local) told) (counts it.made it.work it.looks it.exchanged it.forks it.takes) × IsLocal s code local
       → HasWorked led refused first s code own told local most it
-  worked_none s code first own told local most it looks none so h =
-      subst (λ (r : Option Bool). WorkedSo led refused first s code own told local most (counts it.made it.work it.looks it.exchanged it.forks it.takes) r) (sym none)
-      (subst (λ (k : ℕ). led first (spot own (standing_of s code local) told) (counts it.made it.work k it.exchanged it.forks it.takes)) (sym so) h.0, h.1)
+  worked_none s code first own told local most it none h =
+      subst (λ (r : Option Bool). WorkedSo led refused first s code own told local most (counts it.made it.work it.looks it.exchanged it.forks it.takes) r)
+      (sym none) h
 
 -- the numbers of a sum
 mark_few : (mark : Mark) → (forks_by mark ≤ 1) × (takes_by mark ≤ 1)
@@ -217,17 +232,24 @@ mark_few Plain = (omega arith, omega arith)
 mark_few ForkMark = (omega arith, omega arith)
 mark_few TakeMark = (omega arith, omega arith)
 
-pub with_row_few : (so_far sum : Worked) (rowed : Rowed) (mark : Mark) → sum ≡ with_row so_far rowed mark → so_far.work ≤ so_far.made
-    → so_far.forks ≤ so_far.made → so_far.takes ≤ so_far.made
-    → (sum.made ≡ so_far.made + (rowed.work + 1)) × (sum.work ≤ sum.made) × (sum.forks ≤ sum.made) × (sum.takes ≤ sum.made)
-with_row_few so_far sum rowed mark is a b c =
-    let few = mark_few mark in
-    subst (λ (x : Worked). (x.made ≡ so_far.made + (rowed.work + 1)) × (x.work ≤ x.made) × (x.forks ≤ x.made) × (x.takes ≤ x.made)) (sym is)
-    (refl, omega (arith, a), omega (arith, b, few.0), omega (arith, c, few.1))
+-- steps, and how many of each kind are among them
+pub record AreFew (it : Worked) : Type 0 where
+  pub work : it.work ≤ it.made
+  pub looks : it.looks ≤ it.made
+  pub forks : it.forks ≤ it.made
+  pub takes : it.takes ≤ it.made
 
-pub with_frames_few : (so_far sum : Worked) (framed : Framed) → sum ≡ with_frames so_far framed → framed.work ≤ framed.made → so_far.work ≤ so_far.made
-    → so_far.forks ≤ so_far.made → so_far.takes ≤ so_far.made
-    → (sum.made ≡ so_far.made + framed.made) × (sum.work ≤ sum.made) × (sum.forks ≤ sum.made) × (sum.takes ≤ sum.made)
-with_frames_few so_far sum framed is w a b c =
-    subst (λ (x : Worked). (x.made ≡ so_far.made + framed.made) × (x.work ≤ x.made) × (x.forks ≤ x.made) × (x.takes ≤ x.made)) (sym is)
-    (refl, omega (arith, a, w), omega (arith, b), omega (arith, c))
+pub with_row_few : (so_far sum : Worked) (rowed : Rowed) → sum ≡ with_row so_far rowed → AreFew so_far
+    → (sum.made ≡ so_far.made + (rowed.work + 1)) × AreFew sum
+with_row_few so_far sum rowed is few =
+    let one = mark_few rowed.mark in
+    let looks = few_after so_far.looks rowed.work 0 so_far.made (rowed.work + 1) few.looks (omega arith) in
+    subst (λ (x : Worked). (x.made ≡ so_far.made + (rowed.work + 1)) × AreFew x) (sym is)
+    (refl, record { work = omega (arith, few.work); looks = looks; forks = omega (arith, few.forks, one.0); takes = omega (arith, few.takes, one.1) })
+
+pub with_frames_few : (so_far sum : Worked) (framed : Framed) → sum ≡ with_frames so_far framed → framed.work ≤ framed.made → framed.looks ≤ framed.made
+    → AreFew so_far → (sum.made ≡ so_far.made + framed.made) × AreFew sum
+with_frames_few so_far sum framed is w l few =
+    let looks = few_after so_far.looks framed.work framed.looks so_far.made framed.made few.looks l in
+    subst (λ (x : Worked). (x.made ≡ so_far.made + framed.made) × AreFew x) (sym is)
+    (refl, record { work = omega (arith, few.work, w); looks = looks; forks = omega (arith, few.forks); takes = omega (arith, few.takes) })

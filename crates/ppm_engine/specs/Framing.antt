@@ -20,10 +20,11 @@ use Rattle.ppm_engine.specs.declared.way.RowEnd.{RowEnd}
 use Rattle.ppm_engine.specs.declared.way.RowEnd.TheVariants as ends
 use Rattle.ppm_engine.specs.declared.way.Rowed.{Rowed}
 use Rattle.ppm_engine.specs.declared.way.Worked.{Worked}
-use Rattle.ppm_engine.specs.Memory.{Counts, Spot, spot, counts, forks_by, takes_by}
+use Rattle.ppm_engine.specs.Memory.{Counts, Spot, spot, counts, forks_by, looks_after, takes_by}
 use Rattle.ppm_engine.specs.declared.memory.Stop.{Stop}
 use Rattle.ppm_engine.specs.declared.memory.Stop.TheVariants as stops
 use Rattle.ppm_engine.specs.declared.tally.Mark.{Mark}
+use Rattle.ppm_engine.specs.declared.tally.Mark.TheVariants as marks
 use Rattle.ppm_engine.specs.declared.tally.Settled.{Settled}
 use Rattle.ppm_engine.specs.Entering.{look}
 use Rattle.ppm_engine.specs.Steps.{HasRow, IsWorking}
@@ -62,9 +63,14 @@ pub record IsRowThere (s : Shape) (seat : Seat) : Type 0 where
 
 -- how a row ends, by what came of its steps
 abbrev pub row_end : Result Settled Stop → RowEnd
-row_end (Ok settled) = ends.Installed settled
+row_end (Ok settled) = ends.Installed settled.restart
 row_end (Err stops.Broken) = ends.Broken
 row_end (Err stops.Refused) = ends.Refused true
+
+-- and what its last step is counted as
+abbrev pub row_mark : Result Settled Stop → Mark
+row_mark (Ok settled) = settled.mark
+row_mark (Err stop) = marks.Plain
 
 -- the header of the seat's frame is there
 abbrev pub HasHeader : Shape → Seat → Type 0
@@ -87,16 +93,16 @@ module _ {Own : Type 0} (led : Spot Own → Spot Own → Counts → Type 0) (ref
   HasFramed s code place own told local most framed = FramedSo s code place own told local most framed.made framed.work framed.looks framed.end
 
   -- what came of the row of a restart of work, by so many steps of work after the load of the finish word
-  abbrev pub RowedSo : (over : Type 0) → (place : ℕ) → Own → Option (List Event) → (work : ℕ) → (exchanged : Bool) → RowEnd → Type 0
-  RowedSo over place own told work exchanged (ends.Installed settled) =
-      led first (spot own (IsAt place (Some settled.restart)) told) (counts (work + 1) work 0 exchanged (forks_by settled.mark) (takes_by settled.mark))
-      × IsRestart settled.restart
-  RowedSo over place own told work exchanged ends.Broken = led first (spot own (IsBroken place) told) (counts (work + 1) work 0 exchanged 0 0)
-  RowedSo over place own told work exchanged ends.Over = over × (work ≡ 0) × (exchanged ≡ false) × led first (spot own IsDone told) look
-  RowedSo over place own told work exchanged (ends.Refused lives) = RefusedBy led refused first own told 16 lives
+  abbrev pub RowedSo : (over : Type 0) → (place : ℕ) → Own → Option (List Event) → (work : ℕ) → (exchanged : Bool) → Mark → RowEnd → Type 0
+  RowedSo over place own told work exchanged mark (ends.Installed restart) =
+      led first (spot own (IsAt place (Some restart)) told) (counts (work + 1) work 0 exchanged (forks_by mark) (takes_by mark)) × IsRestart restart
+  RowedSo over place own told work exchanged mark ends.Broken =
+      led first (spot own (IsBroken place) told) (counts (work + 1) work 0 exchanged (forks_by mark) (takes_by mark))
+  RowedSo over place own told work exchanged mark ends.Over = over × led first (spot own IsDone told) look
+  RowedSo over place own told work exchanged mark (ends.Refused lives) = RefusedBy led refused first own told 16 lives
 
   abbrev pub HasRowed : (over : Type 0) → (place : ℕ) → Own → Option (List Event) → Rowed → Type 0
-  HasRowed over place own told rowed = RowedSo over place own told rowed.work rowed.exchanged rowed.end
+  HasRowed over place own told rowed = RowedSo over place own told rowed.work rowed.exchanged rowed.mark rowed.end
 
   -- what came of capsules of frames and rows of work
   abbrev pub WorkedSo : Shape → CodeParts → Own → Option (List Event) → Local → (most : ℕ) → Counts → (refused : Option Bool) → Type 0
@@ -108,14 +114,14 @@ module _ {Own : Type 0} (led : Spot Own → Spot Own → Counts → Type 0) (ref
       WorkedSo s code own told local most (counts it.made it.work it.looks it.exchanged it.forks it.takes) it.refused
 
 -- these steps, and then those of a row, with so many of work after the load of the finish word
-abbrev pub with_row : Worked → Rowed → Mark → Worked
-with_row so_far rowed mark = record {
+abbrev pub with_row : Worked → Rowed → Worked
+with_row so_far rowed = record {
   made = so_far.made + (rowed.work + 1);
   work = so_far.work + rowed.work;
-  looks = so_far.looks;
+  looks = looks_after so_far.looks rowed.work 0;
   exchanged = so_far.exchanged || rowed.exchanged;
-  forks = so_far.forks + forks_by mark;
-  takes = so_far.takes + takes_by mark;
+  forks = so_far.forks + forks_by rowed.mark;
+  takes = so_far.takes + takes_by rowed.mark;
   refused = so_far.refused;
 }
 
@@ -124,7 +130,7 @@ abbrev pub with_frames : Worked → Framed → Worked
 with_frames so_far framed = record {
   made = so_far.made + framed.made;
   work = so_far.work + framed.work;
-  looks = framed.looks;
+  looks = looks_after so_far.looks framed.work framed.looks;
   exchanged = so_far.exchanged;
   forks = so_far.forks;
   takes = so_far.takes;

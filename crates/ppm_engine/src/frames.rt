@@ -51,7 +51,7 @@ pub fn rounds<M: Memory + Copy, W: Watch>(
     requires coding { coding.now.code.now ≡ M.code memory.now }
     requires from { IsFrom (M.shape memory.now) local.old.own from.now }
     requires stands { M.at memory.now from.now.own (spot own.old (IsAt from.now.place (Some from.now.restart)) (W.told watch.old)) }
-    ensures few { (result.made ≤ most) × (result.work ≤ result.made) × LooksNot (M.ends memory.now) result.looks × (result.looks ≤ 1) }
+    ensures few { (result.made ≤ most) × (result.work ≤ result.made) × LooksNot (M.ends memory.now) result.looks × (result.looks ≤ result.made) }
     ensures framed { HasFramed (M.led memory.now from.now.own) (M.refused memory.now from.now.own)
         (spot own.old (IsAt from.now.place (Some from.now.restart)) (W.told watch.old))
         (M.shape memory.now) (M.code memory.now) from.now.place own.new (W.told watch.new) local.new most result }

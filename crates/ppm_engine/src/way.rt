@@ -2,7 +2,7 @@
 ghost use Rattle.ppm_widths.specs.Widths.{AreWidths};
 
 use crate::memory::Stop;
-use crate::tally::Settled;
+use crate::tally::Mark;
 use ppm_cells::Restart;
 use ppm_code::{Code, End, Reached};
 use ppm_step::{Home, Seat};
@@ -201,8 +201,8 @@ pub struct Framed {
 /// How the row of a restart of work ended, with the load of the finish word before it.
 #[derive(Clone, Copy, Debug, PartialEq, Eq)]
 pub enum RowEnd {
-    /// The place goes on with this restart, and the store of it was counted so.
-    Installed(Settled),
+    /// The place goes on with this restart.
+    Installed(Restart),
     /// It has met broken words.
     Broken,
     /// The finish word was set: the processor is done.
@@ -212,11 +212,12 @@ pub enum RowEnd {
 }
 
 /// A row of work: so many steps of work after the load of the finish word, whether one was a
-/// compare-and-modify, and how it ended.
+/// compare-and-modify, what the last one is counted as, and how it ended.
 #[derive(Clone, Copy, Debug, PartialEq, Eq)]
 pub struct Rowed {
     pub work: u64,
     pub exchanged: bool,
+    pub mark: Mark,
     pub end: RowEnd,
 }
 

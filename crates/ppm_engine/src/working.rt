@@ -1,12 +1,12 @@
 //! Rows of work, each made whole, and capsules of frames between them.
 ghost use Rattle.std.specs.Prelude.{ℕ, ◌≡◌, ◌≤◌, ◌<◌, ◌+◌, ◌^◌, ◌||◌, ◌⊎◌, Bool, true, Some};
-ghost use Rattle.ppm_engine.specs.Framing.{HasHeader, HasRowed, HasWorked, IsFrom, IsRowThere, LooksNot, row_end, with_frames, with_row};
+ghost use Rattle.ppm_engine.specs.Framing.{HasHeader, HasRowed, HasWorked, IsFrom, IsRowThere, LooksNot, row_end, row_mark, with_frames, with_row};
 ghost use Rattle.ppm_engine.specs.Memory.{Spot, forks_by, spot, takes_by};
 ghost use Rattle.ppm_engine.specs.Steps.{HasRow};
 ghost use Rattle.ppm_step.specs.Standings.{IsAt};
 
 use crate::entering::load_finish;
-use crate::frames::rounds;
+use crate::frames::{looks_after, rounds};
 use crate::memory::{Memory, Stop};
 use crate::rows::{has_row, make_row};
 use crate::tally::{Mark, Settled, Tally};
@@ -30,9 +30,9 @@ fn row_there(shape: &Shape, seat: &Seat) -> bool
         return false;
     }
     match seat.restart.kind {
-        RestartKind::Push1 { block }
-        | RestartKind::Arrive { block, .. }
-        | RestartKind::Join { block, .. } => cell_is_there(shape, Cell::order_word(block)),
+        RestartKind::Push1 { block } => cell_is_there(shape, Cell::order_word(block)),
+        RestartKind::Arrive { block, .. } => cell_is_there(shape, Cell::order_word(block)),
+        RestartKind::Join { block, .. } => cell_is_there(shape, Cell::order_word(block)),
         _ => true,
     }
 }
@@ -60,11 +60,22 @@ fn row_end(made: Result<Settled, Stop>) -> RowEnd
     ensures { result ≡ row_end made }
 {
     match made {
-        Ok(settled) => RowEnd::Installed(settled),
+        Ok(settled) => RowEnd::Installed(settled.restart),
         Err(stop) => match stop {
             Stop::Broken => RowEnd::Broken,
             Stop::Refused => RowEnd::Refused(true),
         },
+    }
+}
+
+/// What the last step of a row is counted as.
+#[inline(always)]
+fn row_mark(made: Result<Settled, Stop>) -> Mark
+    ensures { result ≡ row_mark made }
+{
+    match made {
+        Ok(settled) => settled.mark,
+        Err(_) => Mark::Plain,
     }
 }
 
@@ -93,12 +104,14 @@ fn row_at<M: Memory + Copy, W: Watch>(
             return Rowed {
                 work: 0,
                 exchanged: false,
+                mark: Mark::Plain,
                 end: RowEnd::Over,
             };
         }
         return Rowed {
             work: 0,
             exchanged: false,
+            mark: Mark::Plain,
             end: RowEnd::Refused(false),
         };
     }
@@ -106,6 +119,7 @@ fn row_at<M: Memory + Copy, W: Watch>(
         return Rowed {
             work: 0,
             exchanged: false,
+            mark: Mark::Plain,
             end: RowEnd::Refused(true),
         };
     }
@@ -117,6 +131,7 @@ fn row_at<M: Memory + Copy, W: Watch>(
     Rowed {
         work: tally.made,
         exchanged: tally.exchanged,
+        mark: row_mark(made),
         end: row_end(made),
     }
 }
@@ -156,20 +171,20 @@ const NOTHING: Worked = Worked {
     refused: None,
 };
 
-/// These steps, and then those of a row, with so many of work after the load of the finish word. The
-/// last one has this mark.
+/// These steps, and then those of a row.
 #[inline(always)]
-fn with_row(so_far: Worked, rowed: Rowed, mark: Mark) -> Worked
-    requires few { (so_far.made + 13 < 2 ^ 64) × (so_far.work ≤ so_far.made) × (so_far.forks ≤ so_far.made) × (so_far.takes ≤ so_far.made)
-        × (rowed.work ≤ 12) }
-    ensures { result ≡ with_row so_far rowed mark }
+fn with_row(so_far: Worked, rowed: Rowed) -> Worked
+    requires few { (so_far.made + 13 < 2 ^ 64) × (so_far.work ≤ so_far.made) × (so_far.looks ≤ so_far.made) × (so_far.forks ≤ so_far.made)
+        × (so_far.takes ≤ so_far.made) × (rowed.work ≤ 12) }
+    ensures { result ≡ with_row so_far rowed }
 {
-    let forks = forks_by(mark);
-    let takes = takes_by(mark);
+    let forks = forks_by(rowed.mark);
+    let takes = takes_by(rowed.mark);
+    let looks = looks_after(so_far.looks, rowed.work, 0);
     Worked {
         made: so_far.made + (rowed.work + 1),
         work: so_far.work + rowed.work,
-        looks: so_far.looks,
+        looks,
         exchanged: so_far.exchanged || rowed.exchanged,
         forks: so_far.forks + forks,
         takes: so_far.takes + takes,
@@ -181,13 +196,15 @@ fn with_row(so_far: Worked, rowed: Rowed, mark: Mark) -> Worked
 /// take.
 #[inline(always)]
 fn with_frames(so_far: Worked, framed: Framed) -> Worked
-    requires few { (so_far.made + framed.made < 2 ^ 64) × (so_far.work ≤ so_far.made) × (framed.work ≤ framed.made) }
+    requires few { (so_far.made + framed.made < 2 ^ 64) × (so_far.work ≤ so_far.made) × (so_far.looks ≤ so_far.made) × (framed.work ≤ framed.made)
+        × (framed.looks ≤ framed.made) }
     ensures { result ≡ with_frames so_far framed }
 {
+    let looks = looks_after(so_far.looks, framed.work, framed.looks);
     Worked {
         made: so_far.made + framed.made,
         work: so_far.work + framed.work,
-        looks: framed.looks,
+        looks,
         exchanged: so_far.exchanged,
         forks: so_far.forks,
         takes: so_far.takes,
@@ -240,21 +257,21 @@ pub fn work_along<M: Memory + Copy, W: Watch>(
             }
             let rowed = row_at(memory, own, watch, &seat);
             match rowed.end {
-                RowEnd::Installed(settled) => {
-                    so_far = with_row(so_far, rowed, settled.mark);
-                    at = settled.restart;
+                RowEnd::Installed(next) => {
+                    so_far = with_row(so_far, rowed);
+                    at = next;
                 }
                 RowEnd::Broken => {
                     let shape = memory.shape();
                     wait_broken(local, &shape, coding.code, place);
-                    return with_row(so_far, rowed, Mark::Plain);
+                    return with_row(so_far, rowed);
                 }
                 RowEnd::Over => {
                     local.stand = Stand::Done;
                     return Worked {
                         made: so_far.made + 1,
                         work: so_far.work,
-                        looks: 1,
+                        looks: so_far.looks + 1,
                         exchanged: so_far.exchanged,
                         forks: so_far.forks,
                         takes: so_far.takes,

@@ -67,8 +67,8 @@ returns-then-not-finish g c =
     (finish_goes_on s (g.M.Memory.code m) seat c.args.header word c.requires.header c.if-finish-ne0.false) refl
     (g.met.M.Memory.stopped m seat.own here here there none 1 2 (g.met.M.Memory.rest m seat.own here c.requires.stands) r (omega arith))
 
-pub load_header-number-requires : goal.load_header-number-requires
-load_header-number-requires g c =
+pub load_header-number-requires-clause-stands : goal.load_header-number-requires-clause-stands
+load_header-number-requires-clause-stands g c κs within =
     let m = c.args.memory.now in
     let s = g.M.Memory.shape m in
     let seat = c.args.seat.now in

@@ -257,7 +257,7 @@ returns-in-Halts-clause-few g c =
       omega (arith, i.0, c.round-circuit.ensures.few.0, after.few.0, c.loop-made-test.true),
       omega (arith, i.1, c.round-circuit.ensures.few.1, after.few.1),
       subst (λ (k : ℕ). LooksNot (g.M.Memory.ends m) k) (at ∙ is) (looks_not (g.M.Memory.ends m) c.in-Halts.halt c.go_after-after.result.work ended.1),
-      subst (λ (k : ℕ). k ≤ 1) (at ∙ is) (looks_few_after looks c.go_after-after.result.work (looks_few c.in-Halts.halt)),
+      (let one = subst (λ (k : ℕ). k ≤ 1) (at ∙ is) (looks_few_after looks c.go_after-after.result.work (looks_few c.in-Halts.halt)) in omega (arith, one, ended.0)),
     )
 
 pub returns-in-Halts-clause-framed : goal.returns-in-Halts-clause-framed

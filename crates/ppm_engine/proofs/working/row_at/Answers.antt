@@ -2,8 +2,9 @@ use Rattle.std.proofs.Common.{◌≡◌, ◌∙◌, ◌+◌, ◌≤◌, ℕ, Boo
 use Rattle.ppm_step.specs.Rows.{row_of}
 use Rattle.ppm_step.specs.Standings.{IsAt, at_finish, begins_if, stands}
 use Rattle.ppm_engine.specs.declared.way.RowEnd.{RowEnd}
+use Rattle.ppm_engine.specs.declared.tally.Mark.{Mark}
 use Rattle.ppm_engine.specs.Entering.{look}
-use Rattle.ppm_engine.specs.Framing.{RowedSo}
+use Rattle.ppm_engine.specs.Framing.{RowedSo, row_end}
 use Rattle.ppm_engine.specs.Memory.{Counts, Spot, spot, none}
 use Rattle.ppm_engine.proofs.EnteringLemmas.{finish_is_over, not_false, not_true, refused_at, took, took_none}
 use Rattle.ppm_engine.proofs.FramesLemmas.{row_so}
@@ -32,8 +33,6 @@ returns-then-finish-clause-rowed g c =
     let there = spot finish.new.own (at_finish s code seat.own seat.place (Some seat.restart) word) (t finish.new.watch) in
     (
       finish.ensures.over c.if-finish-ne0.true,
-      refl,
-      refl,
       moved led here (finish_is_over s code seat.own seat.place (Some seat.restart) word c.if-finish-ne0.true)
           (took led refused here there look finish.result.taken c.if-finish.true finish.ensures.came),
     )
@@ -123,9 +122,11 @@ returns-clause-rowed g c =
     let l = moved led here goes (took led refused here there look finish.result.taken (not_true finish.result.taken c.if-not-finish.false) finish.ensures.came) in
     let rest = g.met.M.Memory.rest m seat.own mid (g.met.M.Memory.stays m seat.own here mid look l) in
     let made = c.make_row-made in
-    subst (λ (e : RowEnd). RowedSo led refused here (g.M.Memory.ends m) seat.place made.new.own (t made.new.watch) made.new.tally.made made.new.tally.exchanged e)
-    (sym c.row_end.ensures)
+    subst (λ (e : RowEnd). RowedSo led refused here (g.M.Memory.ends m) seat.place made.new.own (t made.new.watch) made.new.tally.made made.new.tally.exchanged
+    c.row_mark.result e) (sym c.row_end.ensures)
+    (subst (λ (k : Mark). RowedSo led refused here (g.M.Memory.ends m) seat.place made.new.own (t made.new.watch) made.new.tally.made made.new.tally.exchanged k
+    (row_end made.result)) (sym c.row_mark.ensures)
     (row_so led refused (g.met.M.Memory.on m seat.own) (g.met.M.Memory.stopped m seat.own) (g.M.Memory.ends m) seat.place here mid seat c.requires.there.first
     made.new.own (t made.new.watch) made.new.tally made.result
     (λ b k h none. g.met.M.Memory.idle m seat.own mid b k (g.met.M.Memory.stays m seat.own here mid look l) h none)
-    (sym begins_so ∙ c.requires.there.begins_with code) made.ensures.few l (made.ensures.came mid rest))
+    (sym begins_so ∙ c.requires.there.begins_with code) made.ensures.few l (made.ensures.came mid rest)))
