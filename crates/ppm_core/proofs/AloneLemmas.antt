@@ -91,7 +91,10 @@ module _ (s : Shape) (code : CodeParts) (own : ℕ) where
   one_more : (n : ℕ) → suc n ≡ n + 1
   one_more n = omega arith
 
-  works_if : (next : Next) → (if is_work_next next then 0 else 1) ≡ 0 → next ≡ Work
+  abbrev look_by : Bool → ℕ
+  look_by work = if work then 0 else 1
+
+  works_if : (next : Next) → look_by (is_work_next next) ≡ 0 → next ≡ Work
   works_if Work e = refl
   works_if Look e = cc
   works_if Seek e = cc

@@ -1,6 +1,6 @@
 -- The laws of steps within a row on a machine's words.
-use Rattle.std.specs.Prelude.{◌≡◌, ◌≢◌, ◌⊎◌, inl, inr, ℕ, ◌+◌, ◌==◌, if◌then◌else◌, Bool, true, false, List, refl}
-use Rattle.std.proofs.Common.{ap, sym, ◌∙◌}
+use Rattle.std.specs.Prelude.{◌≡◌, ◌≢◌, ◌⊎◌, ℕ, ◌+◌, ◌==◌, if◌then◌else◌, Bool, true, false, List, refl}
+use Rattle.std.proofs.Common.{inl, inr, ap, sym, ◌∙◌}
 use Rattle.std.proofs.lemmas.Bool.{eqb-true, eqb-false}
 use Rattle.ppm_cells.specs.declared.shape.Shape.{Shape}
 use Rattle.ppm_code.specs.declared.code.CodeParts.{CodeParts}
@@ -19,7 +19,7 @@ module _ (s : Shape) (code : CodeParts) (own : ℕ) where
     ends = λ n work forks takes first so looks last. by n first last;
   }
     where
-      by : (n : ℕ) (first : Moment) → LastWorks s code own n first ⊎ (0 ≢ 0) → LastWorks s code own (n + 0) first
+      by : (n : ℕ) (first : Moment) → LastWorks s code own n first ⊎ (none.work ≢ 0) → LastWorks s code own (n + 0) first
       by n first (inl last) = no_more (λ (a b c d : ℕ). LastWorks s code own a first) n 0 0 0 last
       by n first (inr some) = absurd (some refl)
 
