@@ -55,6 +55,10 @@ frames_then n v m w looks = λ i. record {
   takes = 0;
 }
 
+pub positive : (n : ℕ) → n ≢ 0 → 0 < n
+positive zero h = absurd (h refl)
+positive (suc n) h = omega arith
+
 -- where there was a step, or else nothing has changed
 pub or_none : {A X : Type 0} {made : ℕ} → (0 < made) ⊎ A → (A → ⊥) → (0 < made) ⊎ X
 or_none (inl some) h = inl some

@@ -1,6 +1,6 @@
 -- The first step of a row of work is there.
 use Rattle.std.proofs.Common.{◌≡◌, ◌≢◌, ◌∙◌, ◌+◌, ◌-◌, ◌<◌, ◌≤◌, ◌&&◌, ◌==◌, nat_lt, ℕ, Bool, true, false, Some, refl, sym, ap, subst, arith}
-use Rattle.std.proofs.lemmas.Bool.{lt-ltb, eqb-false}
+use Rattle.std.proofs.lemmas.Bool.{lt-ltb, ltb-true, ltb-false, eqb-false}
 use Rattle.ppm_cells.specs.declared.restart.RestartKind.{RestartKind}
 use Rattle.ppm_cells.specs.declared.restart.RestartKind.TheVariants.{Run, Bump, Push1, Push2, Unwind, Arrive, Join, Pop1, Pop2, Seek, Steal, Check, Take, Take2}
 use Rattle.ppm_cells.specs.declared.shape.Shape.{Shape}
@@ -40,7 +40,11 @@ and_so true b e f = f
 and_so false b e f = cc
 
 below_next : (b n : ℕ) → b < n → b + 1 ≢ n → b + 1 < n
-below_next b n few other = omega (arith, few, other)
+below_next b n few other = by (nat_lt (b + 1) n) refl
+  where
+    by : (x : Bool) → nat_lt (b + 1) n ≡ x → b + 1 < n
+    by true e = ltb-true (b + 1) n e
+    by false e = let most = ltb-false (b + 1) n e in absurd (other (omega (arith, few, most)))
 
 module _ (s : Shape) (seat : Seat) (is : IsSeat s seat) where
   slot_there : (slot : ℕ) → slot < s.slots → (nat_lt seat.place s.processors && nat_lt slot s.slots) ≡ true

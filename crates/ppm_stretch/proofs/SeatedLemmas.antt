@@ -1,5 +1,5 @@
 -- A step of a seat.
-use Rattle.std.proofs.Common.{◌≡◌, ◌∙◌, ◌<◌, ℕ, Bool, true, false, not, List, Option, Unit, sym, refl, ap, subst, arith}
+use Rattle.std.proofs.Common.{◌≡◌, ◌∙◌, ◌<◌, ℕ, Bool, true, false, not, List, Option, sym, refl, ap, subst, arith}
 use Rattle.atomic_table.specs.Seated.{TableId}
 use Rattle.ppm_cells.specs.declared.shape.Shape.{Shape}
 use Rattle.ppm_words.specs.declared.event.Event.{Event}

@@ -1,5 +1,5 @@
 //! The words that threads share, as one of their processors has them.
-ghost use Rattle.std.specs.Prelude.{◌≡◌, ◌≤◌, ◌+◌, Unit};
+ghost use Rattle.std.specs.Prelude.{◌≡◌, ◌≤◌, ◌+◌};
 ghost use Rattle.ppm_cells.specs.Cells.{word_count};
 ghost use Rattle.ppm_stretch.specs.Seated.{SitsAt, Led, Refused};
 ghost use Rattle.ppm_stretch.specs.SeatedLaws.{led_none, led_idle, led_both, refused_behind};

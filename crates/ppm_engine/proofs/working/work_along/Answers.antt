@@ -11,7 +11,7 @@ use Rattle.ppm_engine.specs.declared.way.RowEnd.{RowEnd}
 use Rattle.ppm_engine.specs.declared.way.Worked.{Worked}
 use Rattle.ppm_engine.specs.Framing.{FramedSo, LooksNot, RowedSo}
 use Rattle.ppm_engine.specs.Memory.{spot, counts, forks_by, takes_by}
-use Rattle.ppm_engine.proofs.FramesLemmas.{frames_more, look_more, not_after, or_none, row_more, with_frames_few, with_row_few, worked_none}
+use Rattle.ppm_engine.proofs.FramesLemmas.{frames_more, look_more, not_after, or_none, positive, row_more, with_frames_few, with_row_few, worked_none}
 use Rattle.ppm_engine.proofs.MakingLemmas.{moved}
 use Rattle.ppm_engine.proofs.working.work_along.Goals as goal
 
@@ -294,7 +294,7 @@ loop-so_far-preserved g c =
       framed.ensures.own_stays ∙ i.5,
       subst (λ (k : Worked). led first last (counts k.made k.work k.looks k.exchanged k.forks k.takes)) (sym is)
     (frames_more led refused on stopped first here last it.made it.work it.looks it.forks it.takes n w x it.exchanged i.6 came.0),
-      ?,
+      inl (let one = positive n c.if-framed-eq0.false in omega (arith, few.0, one)),
     )
 
 pub returns-then-framed-eq0-clause-worked : goal.returns-then-framed-eq0-clause-worked
@@ -365,6 +365,64 @@ returns-in-Stands-clause-worked g c =
     worked_none led refused on stopped s code first framed.new.own (t framed.new.watch) framed.new.local c.args.most sum (ap (λ (k : Worked). k.refused) is ∙ i.3)
     (subst (λ (k : Worked). led first last (counts k.made k.work k.looks k.exchanged k.forks k.takes)) (sym is)
     (frames_more led refused on stopped first here last it.made it.work it.looks it.forks it.takes n w x it.exchanged i.6 came.0), came.1)
+
+pub returns-then-framed-eq0-clause-few : goal.returns-then-framed-eq0-clause-few
+returns-then-framed-eq0-clause-few g c =
+    let m = c.args.memory.now in
+    let s = g.M.Memory.shape m in
+    let code = g.M.Memory.code m in
+    let from = c.args.from.now in
+    let t = g.W.Watch.told in
+    let led = g.M.Memory.led m from.own in
+    let refused = g.M.Memory.refused m from.own in
+    let on = g.met.M.Memory.on m from.own in
+    let stopped = g.met.M.Memory.stopped m from.own in
+    let first = spot c.args.own.now (IsAt from.place (Some from.restart)) (t c.args.watch.now) in
+    let i = c.loop-so_far.invariant in
+    let it = c.loop-so_far.so_far in
+    let now = counts it.made it.work it.looks it.exchanged it.forks it.takes in
+    let here = spot c.loop-so_far.own (IsAt from.place (Some c.loop-so_far.at)) (t c.loop-so_far.watch) in
+    let seat : Seat = record { own = from.own; place = from.place; restart = c.loop-so_far.at } in
+    let framed = c.rounds-framed in
+    let n = framed.result.made in
+    let w = framed.result.work in
+    let x = framed.result.looks in
+    let came = subst (λ (e : FrameEnd). FramedSo led refused here s code from.place framed.new.own (t framed.new.watch) framed.new.local (c.args.most - it.made) n w x e)
+    c.in-Installed-end.is framed.ensures.framed in
+    let sum = c.with_frames-so_far.result in
+    let is = c.with_frames-so_far.ensures in
+    let few = with_frames_few it sum framed.result is framed.ensures.few.1 framed.ensures.few.3 i.1 in
+    let not = subst (λ (k : Worked). LooksNot (g.M.Memory.ends m) k.looks) (sym is) (not_after (g.M.Memory.ends m) it.looks w x i.2 framed.ensures.few.2) in
+    (omega (arith, few.0, i.0, framed.ensures.few.0), few.1.work, few.1.looks, few.1.forks, few.1.takes, not)
+
+pub returns-in-Stands-clause-few : goal.returns-in-Stands-clause-few
+returns-in-Stands-clause-few g c =
+    let m = c.args.memory.now in
+    let s = g.M.Memory.shape m in
+    let code = g.M.Memory.code m in
+    let from = c.args.from.now in
+    let t = g.W.Watch.told in
+    let led = g.M.Memory.led m from.own in
+    let refused = g.M.Memory.refused m from.own in
+    let on = g.met.M.Memory.on m from.own in
+    let stopped = g.met.M.Memory.stopped m from.own in
+    let first = spot c.args.own.now (IsAt from.place (Some from.restart)) (t c.args.watch.now) in
+    let i = c.loop-so_far.invariant in
+    let it = c.loop-so_far.so_far in
+    let now = counts it.made it.work it.looks it.exchanged it.forks it.takes in
+    let here = spot c.loop-so_far.own (IsAt from.place (Some c.loop-so_far.at)) (t c.loop-so_far.watch) in
+    let seat : Seat = record { own = from.own; place = from.place; restart = c.loop-so_far.at } in
+    let framed = c.rounds-framed in
+    let n = framed.result.made in
+    let w = framed.result.work in
+    let x = framed.result.looks in
+    let came = subst (λ (e : FrameEnd). FramedSo led refused here s code from.place framed.new.own (t framed.new.watch) framed.new.local (c.args.most - it.made) n w x e)
+    c.in-Stands.is framed.ensures.framed in
+    let sum = c.with_frames-so_far.result in
+    let is = c.with_frames-so_far.ensures in
+    let few = with_frames_few it sum framed.result is framed.ensures.few.1 framed.ensures.few.3 i.1 in
+    let not = subst (λ (k : Worked). LooksNot (g.M.Memory.ends m) k.looks) (sym is) (not_after (g.M.Memory.ends m) it.looks w x i.2 framed.ensures.few.2) in
+    (omega (arith, few.0, i.0, framed.ensures.few.0), few.1.work, few.1.looks, few.1.forks, few.1.takes, not)
 
 pub unreachable-requires-in-Refused-end-3 : goal.unreachable-requires-in-Refused-end-3
 unreachable-requires-in-Refused-end-3 g c = c.in_default-end.not-Refused c.in-Refused-end-3.field-0 c.in-Refused-end-3.is
