@@ -64,6 +64,15 @@ pub or_none : {A X : Type 0} {made : ℕ} → (0 < made) ⊎ A → (A → ⊥) �
 or_none (inl some) h = inl some
 or_none (inr a) h = absurd (h a)
 
+-- steps, and then others: where there were none before, there are now, or they ended otherwise
+pub some_more : {A B X : Type 0} (n m total : ℕ) → total ≡ n + m → (0 < n) ⊎ A → (A → (0 < m) ⊎ B) → (B → ⊥) → (0 < total) ⊎ X
+some_more n m total e (inl some) h other = inl (omega (arith, e, some))
+some_more {B = B} {X = X} n m total e (inr a) h other = by (h a)
+  where
+    by : (0 < m) ⊎ B → (0 < total) ⊎ X
+    by (inl some) = inl (omega (arith, e, some))
+    by (inr b) = absurd (other b)
+
 -- no looks are left after work, where a processor halts that isn't done
 left_of : (b : Bool) (looks : ℕ) → looks ≡ 0 → (if b then looks + 0 else 0) ≡ 0
 left_of true looks e = omega (arith, e)
