@@ -21,3 +21,4 @@ mod AfterLemmas
 mod AloneLemmas
 mod EndLemmas
 mod RowLemmas
+mod WorkedLemmas

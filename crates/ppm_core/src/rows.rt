@@ -16,9 +16,9 @@ use crate::alone::Alone;
 use crate::frames::{FrameEnd, Framed, rounds};
 use ppm_cells::{Restart, Shape};
 use ppm_code::Code;
-use ppm_engine::{Mark, Settled, Stop, Tally, has_row, make_row, wait_at, wait_broken};
+use ppm_engine::{Coding, Mark, Settled, Stop, Tally, make_row, work_along as engine_along};
 use ppm_ports::Silent;
-use ppm_step::{Local, Seat, restart_there};
+use ppm_step::{Local, Seat, header_of, restart_there};
 
 /// So many steps suffice for each row of work, which has 13 at most with the load of the finish
 /// word.
@@ -180,55 +180,23 @@ pub(crate) fn work_along(
     ensures holds { IsLocal shape.now code.now local.new × (local.new.own ≡ local.old.own) }
     ensures count { AreWordsOf shape.now words.new.items }
 {
-    let own = local.own;
-    let mut at = restart;
-    let mut count = NOTHING;
-    while most - count.made >= 2 {
-        if has_row(at.kind) {
-            let seat = Seat {
-                own,
-                place,
-                restart: at,
-            };
-            let Some(rowed) = row_at(words, shape, code, &seat, most - count.made) else {
-                wait_at(local, shape, code, place, at);
-                return count;
-            };
-            match rowed.end {
-                Ok(settled) => {
-                    count = with_row(count, rowed.work, settled.mark);
-                    at = settled.restart;
-                }
-                // It has met broken words: a machine's words know no other stop.
-                Err(_) => {
-                    wait_broken(local, shape, code, place);
-                    return with_row(count, rowed.work, Mark::Plain);
-                }
-            }
-        } else {
-            let framed = rounds(
-                local,
-                words,
-                shape,
-                code,
-                widths,
-                place,
-                at,
-                most - count.made,
-            );
-            count = with_frames(count, framed);
-            match framed.end {
-                FrameEnd::Installed(next) => {
-                    if framed.made == 0 {
-                        wait_at(local, shape, code, place, next);
-                        return count;
-                    }
-                    at = next;
-                }
-                FrameEnd::Stands => return count,
-            }
-        }
+    let memory = Alone {
+        shape: *shape,
+        code,
+    };
+    let coding = Coding { code, widths };
+    let from = Seat {
+        own: local.own,
+        place,
+        restart,
+    };
+    // Whether the frame's capsule is there: what `no_further` asks.
+    let _ = header_of(shape, from);
+    let worked = engine_along(local, &memory, words, &mut Silent, &coding, &from, most);
+    Count {
+        made: worked.made,
+        work: worked.work,
+        forks: worked.forks,
+        takes: worked.takes,
     }
-    wait_at(local, shape, code, place, at);
-    count
 }

@@ -1,16 +1,20 @@
 -- Written before any check. What the engine says of capsules of frames and rows of work on a machine's words: for the answers of `work_along` of
 -- ppm_core, once its body is the call of the engine's.
-use Rattle.std.proofs.Common.{◌≡◌, ◌+◌, ◌⊎◌, inl, inr, ℕ, Bool, List, Option, None, Some, refl, subst, arith}
-use Rattle.ppm_cells.specs.Memory.{AreWordsOf}
+use Rattle.std.proofs.Common.{◌≡◌, ◌+◌, ◌⊎◌, inl, inr, ◌∙◌, ◌≤◌, ◌<◌, ℕ, Bool, List, Option, None, Some, MatchOption, refl, sym, ap, subst, arith}
+use Rattle.ppm_cells.specs.Memory.{AreWordsOf, read}
+use Rattle.ppm_cells.specs.declared.cell.Cell.TheVariants.{FinishWord}
 use Rattle.ppm_cells.specs.declared.shape.Shape.{Shape}
 use Rattle.ppm_code.specs.declared.code.CodeParts.{CodeParts}
 use Rattle.ppm_words.specs.declared.event.Event.{Event}
-use Rattle.ppm_step.specs.Locals.{IsLocal, standing_of}
+use Rattle.ppm_step.specs.Locals.{HasNoHeader, IsHeaderOf, IsLocal, standing_of}
+use Rattle.ppm_step.specs.Standings.{IsAt}
+use Rattle.ppm_step.specs.declared.row.Seat.{Seat}
 use Rattle.ppm_step.specs.declared.local.Local.{Local}
 use Rattle.ppm_engine.specs.declared.way.Worked.{Worked}
-use Rattle.ppm_engine.specs.Framing.{HasWorked, LooksNot, WorkedSo}
+use Rattle.ppm_engine.specs.Framing.{HasHeader, HasWorked, LooksNot, WorkedSo}
 use Rattle.ppm_engine.specs.Memory.{Counts, Spot, spot, counts}
-use Rattle.ppm_core.specs.Moments.{Moment, moment, Goes, LastWorks, Leads}
+use Rattle.ppm_core.specs.Moments.{Moment, moment, moved_by, Goes, LastWorks, Leads, NoFurther}
+use Rattle.ppm_core.proofs.MomentLemmas.{no_header}
 use Rattle.ppm_core.proofs.RowLemmas.{led_by}
 
 module _ {Own : Type 0} (s : Shape) (code : CodeParts) (own : ℕ) (items : Own → List ℕ) where
@@ -57,3 +61,28 @@ module _ {Own : Type 0} (s : Shape) (code : CodeParts) (own : ℕ) (items : Own 
             k.1,
             k.0.to.count,
           )
+
+  -- and where the run goes on and two steps are left, some are made
+  pub some_made : (first : Spot Own) (o' : Own) (told' : Option (List Event)) (local : Local) (most : ℕ) (it : Worked) → it.made ≡ 0
+      → HasWorked (led_by s code own items) none_refused first s code o' told' local most it
+      → (0 < it.made) ⊎ ((lives : Bool) × (it.refused ≡ Some lives)) → ⊥
+  some_made first o' told' local most it none h (inl some) = omega (arith, none, some)
+  some_made first o' told' local most it none h (inr (lives, is)) = k.2
+    where
+      k : WorkedSo (led_by s code own items) none_refused first s code o' told' local most
+          (counts it.made it.work it.looks it.exchanged it.forks it.takes) (Some lives)
+      k = subst (λ (r : Option Bool). WorkedSo (led_by s code own items) none_refused first s code o' told' local most
+          (counts it.made it.work it.looks it.exchanged it.forks it.takes) r) is h
+
+module _ (s : Shape) (code : CodeParts) (own : ℕ) where
+  -- where the header isn't there, or fewer than two steps are left, or the run is over, no capsule is entered
+  pub no_more : (words : List ℕ) (seat : Seat) (most : ℕ) (r : Option ℕ) → own ≡ seat.own → MatchOption r (HasNoHeader s seat) (IsHeaderOf s seat)
+      → (2 ≤ most → read s words FinishWord ≡ 0 → HasHeader s seat → ⊥) → NoFurther s code own most (moment words (IsAt seat.place (Some seat.restart)))
+  no_more words seat most None same none some = no_header s code own seat words most same none
+  no_more words seat most (Some address) same header some =
+      record { inside = λ few finish. refl; before = λ two finish of_frame. absurd (some two finish (address, header)) }
+
+  -- and no steps leave the moment as it is
+  pub stays_there : (n w f h most : ℕ) (t u : Moment) → n ≡ 0 → Leads s code own n w f h t u → NoFurther s code own most t → NoFurther s code own most u
+  stays_there n w f h most t u none l further =
+      subst (λ (v : Moment). NoFurther s code own most v) (sym (l.goes.comes_to ∙ ap (λ (k : ℕ). moved_by s code own k t) none)) further
