@@ -1,6 +1,6 @@
--- Written before any check. What the engine says of capsules of frames and rows of work on a machine's words: for the answers of `work_along` of
+-- What the engine says of capsules of frames and rows of work on a machine's words: for the answers of `work_along` of
 -- ppm_core, once its body is the call of the engine's.
-use Rattle.std.proofs.Common.{◌≡◌, ◌+◌, ◌⊎◌, inl, inr, ◌∙◌, ◌≤◌, ◌<◌, ℕ, Bool, List, Option, None, Some, MatchOption, refl, sym, ap, subst, arith}
+use Rattle.std.proofs.Common.{◌≡◌, ◌+◌, ◌⊎◌, inl, inr, ◌∙◌, ◌≤◌, ◌<◌, ℕ, Bool, true, false, List, Option, None, Some, MatchOption, refl, sym, ap, subst, arith}
 use Rattle.ppm_cells.specs.Memory.{AreWordsOf, read}
 use Rattle.ppm_cells.specs.declared.cell.Cell.TheVariants.{FinishWord}
 use Rattle.ppm_cells.specs.declared.shape.Shape.{Shape}
@@ -13,6 +13,8 @@ use Rattle.ppm_step.specs.declared.local.Local.{Local}
 use Rattle.ppm_engine.specs.declared.way.Worked.{Worked}
 use Rattle.ppm_engine.specs.Framing.{HasHeader, HasWorked, LooksNot, WorkedSo}
 use Rattle.ppm_engine.specs.Memory.{Counts, Spot, spot, counts}
+use Rattle.ppm_cells.specs.declared.restart.Restart.{Restart}
+use Rattle.ppm_core.specs.Alone.{StandsOn}
 use Rattle.ppm_core.specs.Moments.{Moment, moment, moved_by, Goes, LastWorks, Leads, NoFurther}
 use Rattle.ppm_core.proofs.MomentLemmas.{no_header}
 use Rattle.ppm_core.proofs.RowLemmas.{led_by}
@@ -75,6 +77,13 @@ module _ {Own : Type 0} (s : Shape) (code : CodeParts) (own : ℕ) (items : Own 
           (counts it.made it.work it.looks it.exchanged it.forks it.takes) r) is h
 
 module _ (s : Shape) (code : CodeParts) (own : ℕ) where
+  -- at a restart a processor isn't within a row
+  pub starts_on : (words : List ℕ) (place : ℕ) (restart : Option Restart) → AreWordsOf s words → StandsOn s words (IsAt place restart)
+  starts_on words place restart count = record { count = count; finish = outside }
+    where
+      outside : false ≡ true → read s words FinishWord ≡ 0
+      outside e = cc
+
   -- where the header isn't there, or fewer than two steps are left, or the run is over, no capsule is entered
   pub no_more : (words : List ℕ) (seat : Seat) (most : ℕ) (r : Option ℕ) → own ≡ seat.own → MatchOption r (HasNoHeader s seat) (IsHeaderOf s seat)
       → (2 ≤ most → read s words FinishWord ≡ 0 → HasHeader s seat → ⊥) → NoFurther s code own most (moment words (IsAt seat.place (Some seat.restart)))

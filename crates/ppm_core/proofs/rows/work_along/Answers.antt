@@ -3,7 +3,7 @@ use Rattle.ppm_step.specs.Standings.{IsAt}
 use Rattle.ppm_engine.specs.Memory.{spot}
 use Rattle.ppm_core.specs.Moments.{moment}
 use Rattle.ppm_step.specs.Locals.{standing_of}
-use Rattle.ppm_core.proofs.WorkedLemmas.{no_more, some_made, stays_there, worked_leads}
+use Rattle.ppm_core.proofs.WorkedLemmas.{no_more, some_made, starts_on, stays_there, worked_leads}
 use Rattle.ppm_core.proofs.rows.work_along.Goals as goal
 
 pub work_along-worked-requires-clause-coding : goal.work_along-worked-requires-clause-coding
@@ -14,7 +14,8 @@ work_along-worked-requires-clause-from c κs =
     record { same = refl; carrier = c.requires.own; place = c.requires.place; restart = c.requires.restart }
 
 pub work_along-worked-requires-clause-stands : goal.work_along-worked-requires-clause-stands
-work_along-worked-requires-clause-stands c κs = record { count = c.requires.words; finish = cc }
+work_along-worked-requires-clause-stands c κs =
+    starts_on c.args.shape.now c.args.code.now c.args.local.now.own c.args.words.now.items c.args.place (Some c.args.restart) c.requires.words
 
 pub returns-clause-few : goal.returns-clause-few
 returns-clause-few c = let few = c.work_along-worked.ensures.few in (few.0, few.1, few.3, few.4)
