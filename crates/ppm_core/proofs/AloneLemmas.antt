@@ -1,5 +1,5 @@
 -- A step on a machine's words.
-use Rattle.std.proofs.Common.{◌≡◌, ◌≢◌, ◌∙◌, ◌+◌, ◌<◌, ◌⊎◌, inl, inr, ℕ, zero, suc, Bool, true, false, if◌then◌else◌, List, refl, sym, ap, subst, arith}
+use Rattle.std.proofs.Common.{◌≡◌, ◌≢◌, ◌∙◌, ◌+◌, ◌<◌, ◌⊎◌, inl, inr, ℕ, zero, suc, Bool, true, false, if◌then◌else◌, List, [], ◌∷◌, refl, sym, ap, subst, arith}
 use Rattle.std.specs.Prelude.{◌==◌, slice_index, slice_set}
 use Rattle.ppm_cells.specs.Memory.{AreWordsOf, read}
 use Rattle.ppm_cells.specs.declared.cell.Cell.TheVariants.{FinishWord}
@@ -19,8 +19,13 @@ use Rattle.ppm_step.specs.State.{found_in, is_done_at, is_work_next, next_of, wo
 use Rattle.ppm_engine.specs.Memory.{IsToMake, IsSparing, IsLast, is_within, one}
 use Rattle.ppm_core.specs.Alone.{Led, StandsOn}
 use Rattle.ppm_core.specs.Moments.{Moment, moment, moved, moved_by, Goes, LastWorks}
-use Rattle.ppm_core.proofs.CapsuleLemmas.{first_stays}
 use Rattle.ppm_core.proofs.MomentLemmas.{goes_both}
+
+-- a store behind the first word leaves that as it is
+first_stays : (words : List ℕ) (at word : ℕ) → 0 < at → slice_index (slice_set words at word) 0 ≡ slice_index words 0
+first_stays words zero word some = absurd (omega (arith, some))
+first_stays [] (suc at) word some = refl
+first_stays (x ∷ xs) (suc at) word some = refl
 
 -- the first word stays, if the step spares it
 if_stays : (words : List ℕ) (at word : ℕ) (b : Bool) → 0 < at → slice_index (if b then slice_set words at word else words) 0 ≡ slice_index words 0

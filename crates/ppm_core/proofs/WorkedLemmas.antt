@@ -14,10 +14,13 @@ use Rattle.ppm_engine.specs.declared.way.Worked.{Worked}
 use Rattle.ppm_engine.specs.Framing.{HasHeader, HasWorked, LooksNot, WorkedSo}
 use Rattle.ppm_engine.specs.Memory.{Counts, Spot, spot, counts}
 use Rattle.ppm_cells.specs.declared.restart.Restart.{Restart}
-use Rattle.ppm_core.specs.Alone.{StandsOn}
 use Rattle.ppm_core.specs.Moments.{Moment, moment, moved_by, Goes, LastWorks, Leads, NoFurther}
 use Rattle.ppm_core.proofs.MomentLemmas.{no_header}
-use Rattle.ppm_core.proofs.RowLemmas.{led_by}
+use Rattle.ppm_core.specs.Alone.{Led, StandsOn}
+
+-- what the engine says of steps on a machine's words
+abbrev pub led_by : {Own : Type 0} → Shape → CodeParts → ℕ → (Own → List ℕ) → Spot Own → Spot Own → Counts → Type 0
+led_by s code own items a b c = Led s code own (items a.own) a.stands (items b.own) b.stands c
 
 module _ {Own : Type 0} (s : Shape) (code : CodeParts) (own : ℕ) (items : Own → List ℕ) where
   abbrev none_refused : Spot Own → Spot Own → ℕ → Type 0
