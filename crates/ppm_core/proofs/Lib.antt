@@ -16,8 +16,5 @@ pub mod RunLemmas
 pub mod TurnLemmas
 pub mod MomentLemmas
 pub mod StepsLemmas
-pub mod CapsuleLemmas
-mod AfterLemmas
 mod AloneLemmas
-mod EndLemmas
-mod RowLemmas
+mod WorkedLemmas

@@ -4,9 +4,5 @@ pub mod Machine
 pub mod Laws
 pub mod Steps
 pub mod Moments
-pub mod Rounds
 pub mod Alone
 pub mod AloneLaws
-pub mod Worked
-pub mod Ends
-pub mod After

@@ -1,13 +1,15 @@
-//! The words of a machine, as a processor that makes a row has them: while it does, no other one
-//! makes a step.
+//! The words of a machine, as a processor that makes steps in a row has them: while it does, no
+//! other one makes a step.
 ghost use Rattle.std.specs.Prelude.{◌≡◌, ◌≤◌, ◌+◌};
+ghost use Rattle.ppm_cells.specs.Memory.{read};
+ghost use Rattle.ppm_cells.specs.declared.cell.Cell.TheVariants.{FinishWord};
 ghost use Rattle.ppm_core.specs.Alone.{Led, StandsOn};
-ghost use Rattle.ppm_core.specs.AloneLaws.{led_none, led_both};
+ghost use Rattle.ppm_core.specs.AloneLaws.{led_none, led_idle, led_both};
 
-use crate::acts::make;
+use crate::acts::{finish_word, make};
 use ppm_cells::Shape;
 use ppm_code::Code;
-use ppm_engine::{Memory, Stop};
+use ppm_engine::{Memory, Stepped};
 use ppm_ports::Watch;
 use ppm_step::Want;
 
@@ -31,11 +33,18 @@ impl Memory for Alone<'_> {
 
     ghost refused = { λ m own a b most. ⊥ };
 
-    ghost over = { λ m. ⊥ };
+    ghost lives = { λ m own. read m.shape own.items FinishWord ≡ 0 };
+
+    ghost ends = { λ m. ⊥ };
 
     #[inline(always)]
     fn shape(&self) -> Shape {
         self.shape
+    }
+
+    #[inline(always)]
+    fn is_over(&self, own: &Vec<u64>) -> bool {
+        finish_word(own, &self.shape) != 0
     }
 
     #[inline(always)]
@@ -46,14 +55,17 @@ impl Memory for Alone<'_> {
         number: u32,
         place: u32,
         want: Want,
-    ) -> Result<u64, Stop> {
+    ) -> Stepped {
         let _ = (number, place);
-        Ok(make(own, &self.shape, want))
+        let word = make(own, &self.shape, want);
+        Stepped { word, taken: true }
     }
 
     ghost stays = { λ m own a b c l. l.to };
 
     ghost rest = { λ m own a at. led_none m.shape m.code.now own a.own.items a.stands at };
+
+    ghost idle = { λ m own a b c at l none. led_idle m.shape m.code.now own a.own.items b.own.items a.stands b.stands c l none };
 
     ghost on = { λ m own x y z c d f g. led_both m.shape m.code.now own x.own.items y.own.items z.own.items x.stands y.stands z.stands c d f g };
 

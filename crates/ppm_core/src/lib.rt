@@ -8,12 +8,8 @@
 #![tactic(auto)]
 
 mod acts;
-mod after;
 mod alone;
-mod capsule;
 mod copies;
-mod ends;
-mod frames;
 mod laws;
 mod machine;
 mod rows;

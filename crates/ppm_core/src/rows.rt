@@ -4,25 +4,16 @@ ghost use Rattle.std.specs.Prelude.{◌≡◌, ◌≤◌, ◌<◌, ◌+◌, ◌^
 ghost use Rattle.ppm_cells.specs.Memory.{AreWordsOf};
 ghost use Rattle.ppm_cells.specs.Restart.{IsRestart};
 ghost use Rattle.ppm_core.specs.Moments.{moment, Leads, NoFurther};
-ghost use Rattle.ppm_core.specs.Worked.{HasRowed};
-ghost use Rattle.ppm_engine.specs.Memory.{forks_by, takes_by};
-ghost use Rattle.ppm_engine.specs.Steps.{HasRow};
 ghost use Rattle.ppm_step.specs.Locals.{IsLocal, standing_of};
 ghost use Rattle.ppm_step.specs.Standings.{IsAt};
 ghost use Rattle.ppm_widths.specs.Widths.{AreWidths};
 
-use crate::acts::finish_word;
 use crate::alone::Alone;
-use crate::frames::{FrameEnd, Framed, rounds};
 use ppm_cells::{Restart, Shape};
 use ppm_code::Code;
-use ppm_engine::{Mark, Settled, Stop, Tally, has_row, make_row, wait_at, wait_broken};
+use ppm_engine::{Coding, work_along as engine_along};
 use ppm_ports::Silent;
-use ppm_step::{Local, Seat, restart_there};
-
-/// So many steps suffice for each row of work, which has 13 at most with the load of the finish
-/// word.
-const MOST_OF_A_ROW: u64 = 16;
+use ppm_step::{Local, Seat, header_of};
 
 /// Steps in a row: how many of them were work, forks and takes.
 #[derive(Clone, Copy, Debug, PartialEq, Eq)]
@@ -40,118 +31,6 @@ pub(crate) const NOTHING: Count = Count {
     forks: 0,
     takes: 0,
 };
-
-/// A row of work: so many steps of work after the load of the finish word, and how it ended.
-#[derive(Clone, Copy, Debug, PartialEq, Eq)]
-pub(crate) struct Rowed {
-    pub work: u64,
-    pub end: Result<Settled, Stop>,
-}
-
-/// The forks of a step with a mark.
-#[inline(always)]
-fn forks_by(mark: Mark) -> u64
-    ensures value { result ≡ forks_by mark }
-    ensures bound { result < 2 }
-{
-    match mark {
-        Mark::Fork => 1,
-        Mark::Plain | Mark::Take => 0,
-    }
-}
-
-/// The takes of a step with a mark.
-#[inline(always)]
-fn takes_by(mark: Mark) -> u64
-    ensures value { result ≡ takes_by mark }
-    ensures bound { result < 2 }
-{
-    match mark {
-        Mark::Take => 1,
-        Mark::Plain | Mark::Fork => 0,
-    }
-}
-
-/// Makes the row of a restart of work, for which so many steps are left; `None` where they may not
-/// suffice, the finish word isn't 0, or the row's first step of work isn't there, and then it makes
-/// none.
-#[inline(always)]
-fn row_at(words: &mut Vec<u64>, shape: &Shape, code: &Code, seat: &Seat, left: u64) -> Option<Rowed>
-    requires words { AreWordsOf shape.now words.old.items }
-    requires own { seat.now.own < shape.now.processors }
-    requires place { seat.now.place < shape.now.processors }
-    requires restart { IsRestart seat.now.restart × HasRow seat.now.restart.kind }
-    ensures rowed { HasRowed shape.now code.now seat.now words.old.items words.new.items left result }
-    ensures count { AreWordsOf shape.now words.new.items }
-{
-    let _ = code.parts().root;
-    if left < MOST_OF_A_ROW {
-        return None;
-    }
-    if finish_word(words, shape) != 0 {
-        return None;
-    }
-    if !restart_there(shape, seat.restart) {
-        return None;
-    }
-    let memory = Alone {
-        shape: *shape,
-        code,
-    };
-    let mut tally = Tally {
-        made: 0,
-        exchanged: false,
-    };
-    let end = make_row(&memory, words, &mut Silent, &mut tally, seat);
-    if tally.made == 0 {
-        return None;
-    }
-    Some(Rowed {
-        work: tally.made,
-        end,
-    })
-}
-
-/// These steps, and then those of a row that came to its end.
-#[inline(always)]
-fn with_row(count: Count, work: u64, mark: Mark) -> Count
-    requires few { (count.made + 13 < 2 ^ 64) × (count.work ≤ count.made) × (count.forks ≤ count.made) × (count.takes ≤ count.made) × (work ≤ 12) }
-    ensures { result ≡ record {
-      made = count.made + (work + 1);
-      work = count.work + work;
-      forks = count.forks + forks_by mark;
-      takes = count.takes + takes_by mark;
-    } }
-{
-    let forks = forks_by(mark);
-    let takes = takes_by(mark);
-    Count {
-        made: count.made + (work + 1),
-        work: count.work + work,
-        forks: count.forks + forks,
-        takes: count.takes + takes,
-    }
-}
-
-/// These steps, and then those of capsules of a frame, among which there is neither a fork nor a
-/// take.
-#[inline(always)]
-fn with_frames(count: Count, framed: Framed) -> Count
-    requires few { (count.made + framed.made < 2 ^ 64) × (count.work ≤ count.made) × (framed.work ≤ framed.made) }
-    ensures { result ≡ record {
-      made = count.made + framed.made;
-      work = count.work + framed.work;
-      forks = count.forks;
-      takes = count.takes;
-    } }
-{
-    Count {
-        made: count.made + framed.made,
-        work: count.work + framed.work,
-        forks: count.forks,
-        takes: count.takes,
-    }
-}
 
 /// Makes capsules of frames and rows of work, by which the place goes on, one after the other, at
 /// most so many steps, while the finish word is 0.
@@ -180,55 +59,23 @@ pub(crate) fn work_along(
     ensures holds { IsLocal shape.now code.now local.new × (local.new.own ≡ local.old.own) }
     ensures count { AreWordsOf shape.now words.new.items }
 {
-    let own = local.own;
-    let mut at = restart;
-    let mut count = NOTHING;
-    while most - count.made >= 2 {
-        if has_row(at.kind) {
-            let seat = Seat {
-                own,
-                place,
-                restart: at,
-            };
-            let Some(rowed) = row_at(words, shape, code, &seat, most - count.made) else {
-                wait_at(local, shape, code, place, at);
-                return count;
-            };
-            match rowed.end {
-                Ok(settled) => {
-                    count = with_row(count, rowed.work, settled.mark);
-                    at = settled.restart;
-                }
-                // It has met broken words: a machine's words know no other stop.
-                Err(_) => {
-                    wait_broken(local, shape, code, place);
-                    return with_row(count, rowed.work, Mark::Plain);
-                }
-            }
-        } else {
-            let framed = rounds(
-                local,
-                words,
-                shape,
-                code,
-                widths,
-                place,
-                at,
-                most - count.made,
-            );
-            count = with_frames(count, framed);
-            match framed.end {
-                FrameEnd::Installed(next) => {
-                    if framed.made == 0 {
-                        wait_at(local, shape, code, place, next);
-                        return count;
-                    }
-                    at = next;
-                }
-                FrameEnd::Stands => return count,
-            }
-        }
+    let memory = Alone {
+        shape: *shape,
+        code,
+    };
+    let coding = Coding { code, widths };
+    let from = Seat {
+        own: local.own,
+        place,
+        restart,
+    };
+    // Whether the frame's capsule is there: what `no_further` asks.
+    let _ = header_of(shape, from);
+    let worked = engine_along(local, &memory, words, &mut Silent, &coding, &from, most);
+    Count {
+        made: worked.made,
+        work: worked.work,
+        forks: worked.forks,
+        takes: worked.takes,
     }
-    wait_at(local, shape, code, place, at);
-    count
 }

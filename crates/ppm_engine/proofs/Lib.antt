@@ -6,3 +6,11 @@ pub mod SumLemmas
 pub mod KindLemmas
 pub mod WaitingLemmas
 pub mod WidthLemmas
+pub mod CapsuleLemmas
+pub mod EnteringLemmas
+pub mod EndingLemmas
+pub mod RoundLemmas
+pub mod AfterLemmas
+pub mod AskingLemmas
+pub mod FramesLemmas
+pub mod ThereLemmas

@@ -1,5 +1,5 @@
 -- The next step within a row.
-use Rattle.std.proofs.Common.{◌≡◌, ◌≢◌, ◌∙◌, ◌+◌, ◌≤◌, ◌||◌, ℕ, Bool, if◌then◌else◌, true, false, length, Option, Some, None, List, Result, Err, slice_get, sym, refl, ap, subst, arith}
+use Rattle.std.proofs.Common.{◌≡◌, ◌≢◌, ◌∙◌, ◌+◌, ◌≤◌, ◌||◌, inl, ℕ, Bool, if◌then◌else◌, not, true, false, length, Option, Some, None, List, Result, Err, slice_get, sym, refl, ap, subst, arith}
 use Rattle.std.specs.Result.{IsErrAnd}
 use Rattle.std.proofs.lemmas.Result.{err_from_is_err_and}
 use Rattle.ppm_cells.specs.declared.restart.RestartKind.{RestartKind}
@@ -21,21 +21,21 @@ use Rattle.ppm_step.specs.Points.{reading_at}
 use Rattle.ppm_step.specs.Rows.{found_at}
 use Rattle.ppm_step.specs.Standings.{Standing, IsWithin, IsDone, within_if, running_if, enters, stands_then, stands, went_then, went_row}
 use Rattle.ppm_step.specs.State.{is_work, is_work_next, fork_row, take_row}
-use Rattle.ppm_engine.specs.declared.memory.Stop.{Stop}
+use Rattle.ppm_engine.specs.declared.memory.Stepped.{Stepped}
 use Rattle.ppm_engine.specs.declared.memory.Stop.TheVariants as stops
 use Rattle.ppm_engine.specs.declared.tally.Mark.{Mark}
 use Rattle.ppm_engine.specs.declared.tally.Mark.TheVariants as marks
 use Rattle.ppm_engine.specs.declared.tally.Tally.{Tally}
-use Rattle.ppm_engine.specs.Memory.{Counts, Spot, spot, IsToMake, CameOf, is_exchange, both, one, one_if, settles, forks_by, takes_by, works}
+use Rattle.ppm_engine.specs.Memory.{Counts, Spot, spot, IsToMake, CameIf, CameOf, is_exchange, both, one, one_if, settles, forks_by, takes_by, works}
 use Rattle.ppm_engine.specs.Steps.{IsWorking, IsNext, IsStep, Led, StopsAt}
 
 no_seek : (b : Bool) → (if b then Work else Look) ≢ Seek
 no_seek true = λ e. cc
 no_seek false = λ e. cc
 
-pub to_make : (s : Shape) (seat : Seat) (row : Row) (want : Want) (mark : Mark) → IsWorking s seat → IsStep s want → IsNext s seat row want mark
-    → IsToMake s seat.own seat.place (IsWithin seat row) want
-to_make s seat row want mark is step next = record {
+pub to_make : (s : Shape) (seat : Seat) (on : Type 0) (row : Row) (want : Want) (mark : Mark) → IsWorking s seat → IsStep s want
+    → IsNext s seat row want mark → IsToMake s seat.own seat.place on (IsWithin seat row) want
+to_make s seat on row want mark is step next = record {
   carrier = is.0.own;
   lives = λ e. cc;
   due = next.1;
@@ -44,9 +44,20 @@ to_make s seat row want mark is step next = record {
   asked = step.0;
   within = step.1;
   carried = refl;
-  row = refl;
+  made = inl refl;
   keeps = next.2;
 }
+
+-- what came of a step that the watcher took, and of one that it refused
+pub was_taken : {Own : Type 0} (led : Spot Own → Spot Own → Counts → Type 0) (refused : Spot Own → Spot Own → ℕ → Type 0) (a b : Spot Own) (c : Counts)
+    (taken : Bool) → not taken ≡ false → CameIf led refused taken a b c → led a b c
+was_taken led refused a b c true e h = h
+was_taken led refused a b c false e h = absurd cc
+
+pub was_refused : {Own : Type 0} (led : Spot Own → Spot Own → Counts → Type 0) (refused : Spot Own → Spot Own → ℕ → Type 0) (a b : Spot Own)
+    (c : Counts) (taken : Bool) → not taken ≡ true → CameIf led refused taken a b c → refused a b 1
+was_refused led refused a b c true e h = absurd cc
+was_refused led refused a b c false e h = h
 
 -- a step of work
 pub one_works : (s : Shape) (seat : Seat) (row : Row) (want : Want) (mark : Mark) → is_work seat.restart.kind ≡ true → IsNext s seat row want mark
@@ -71,7 +82,7 @@ running_lives : (seat : Seat) (rest : Rest) (b : Bool) → running_if seat rest 
 running_lives seat rest true = λ e. cc
 running_lives seat rest false = λ e. cc
 
-enters_lives : (s : Shape) (code : CodeParts) (seat : Seat) (kind : RestartKind) (capsule : Option Capsule) → enters s code seat kind capsule ≢ IsDone
+pub enters_lives : (s : Shape) (code : CodeParts) (seat : Seat) (kind : RestartKind) (capsule : Option Capsule) → enters s code seat kind capsule ≢ IsDone
 enters_lives s code seat (Run frame copy) None = λ e. cc
 enters_lives s code seat (Run frame copy) (Some capsule) = running_lives seat _ _
 enters_lives s code seat (Bump block) capsule = λ e. cc
@@ -118,28 +129,22 @@ row_lives s code seat (Now next) found = went_lives s code seat found next
 row_lives s code seat (Store cell content next) found = then_lives s code seat next
 row_lives s code seat (Exchange cell old new next) found = then_lives s code seat next
 
-module _ {Own : Type 0} (led : Spot Own → Spot Own → Counts → Type 0) (refused : Spot Own → Spot Own → ℕ → Type 0) (over : Type 0) (first : Spot Own) where
-  -- a step that was not made, or was refused, after others
+module _ {Own : Type 0} (led : Spot Own → Spot Own → Counts → Type 0) (refused : Spot Own → Spot Own → ℕ → Type 0) (first : Spot Own) where
+  -- a step that was refused, after others
   pub stops_after : (s : Shape) (code : CodeParts) (seat : Seat) (row : Row) (own own' : Own) (told told' : Option (List Event)) (tally : Tally)
-      (d : Counts) (stop : Stop)
+      (d : Counts) (it : Stepped)
       → ((y z : Spot Own) (c : Counts) (n most : ℕ) → led first y c → refused y z n → c.made + n ≤ most → refused first z most)
+      → not it.taken ≡ true
       → Led led first own told tally (IsWithin seat row)
-      → CameOf led refused over (spot own (IsWithin seat row) told) own' told' (λ word. went_row s code seat 0 word row) d (Err stop)
-      → StopsAt led first refused over seat.place own' told' tally stop
-  stops_after s code seat row own own' told told' tally d stops.Refused stopped l came =
-      let z = spot own' (went_row s code seat 0 came.0 row) told' in (
+      → CameOf led refused (spot own (IsWithin seat row) told) own' told' (λ word. went_row s code seat 0 word row) d it
+      → StopsAt led first refused seat.place own' told' tally stops.Refused
+  stops_after s code seat row own own' told told' tally d it stopped gone l came =
+      let here = spot own (IsWithin seat row) told in
+      let z = spot own' (went_row s code seat 0 it.word row) told' in (
         z.stands,
-        row_lives s code seat row came.0,
-        stopped (spot own (IsWithin seat row) told) z (works tally.made tally.exchanged) 1 (tally.made + 1) l came.1 (omega arith),
+        row_lives s code seat row it.word,
+        stopped here z (works tally.made tally.exchanged) 1 (tally.made + 1) l (was_refused led refused here z d it.taken gone came) (omega arith),
       )
-  stops_after s code seat row own own' told told' tally d stops.Over stopped l came =
-      let so = works tally.made tally.exchanged in (
-        IsWithin seat row,
-        came.0,
-        subst (λ (o : Own). led first (spot o (IsWithin seat row) told') so) (sym came.1)
-            (subst (λ (t : Option (List Event)). led first (spot own (IsWithin seat row) t) so) (sym came.2) l),
-      )
-  stops_after s code seat row own own' told told' tally d stops.Broken stopped l came = absurd came
 
 -- the exit of a `?`
 pub exit_by : {T E : Type 0} (Q : Result T E → Type 0) (e : E) (r : Result T E) → IsErrAnd r (λ y. y ≡ e) → Q (Err e) → Q r

@@ -1,5 +1,5 @@
 -- Four numbers that grow together.
-use Rattle.std.proofs.Common.{◌≡◌, ◌+◌, ℕ, subst, arith}
+use Rattle.std.proofs.Common.{◌≡◌, ◌+◌, ℕ, List, [], ◌∷◌, length, refl, subst, arith}
 
 nothing : (n : ℕ) → n ≡ n + 0
 nothing n = omega arith
@@ -21,3 +21,18 @@ pub more_and_more : (P : (a b c d : ℕ) → Type 0) (a b c d e f g h i j k l : 
 more_and_more P a b c d e f g h i j k l =
     each P (a + e + i) (b + f + j) (c + g + k) (d + h + l) (a + (e + i)) (b + (f + j)) (c + (g + k)) (d + (h + l)) (grouped a e i) (grouped b f j)
     (grouped c g k) (grouped d h l)
+
+-- a sum that is 0
+pub first_is_none : (n m : ℕ) → n + m ≡ 0 → n ≡ 0
+first_is_none n m e = omega (arith, e)
+
+pub second_is_none : (n m : ℕ) → n + m ≡ 0 → m ≡ 0
+second_is_none n m e = omega (arith, e)
+
+pub both_are_none : (n m : ℕ) → n ≡ 0 → m ≡ 0 → n + m ≡ 0
+both_are_none n m e f = omega (arith, e, f)
+
+-- a list of none
+pub empty_of : {A : Type 0} (l : List A) → length l ≡ 0 → l ≡ []
+empty_of [] e = refl
+empty_of (x ∷ l) e = absurd (omega (arith, e))

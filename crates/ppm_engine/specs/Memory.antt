@@ -1,5 +1,5 @@
 -- Steps that a processor makes in a row, on words of any kind.
-use Rattle.std.specs.Prelude.{◌≡◌, ◌≢◌, ℕ, ◌+◌, ◌<◌, ◌==◌, ◌||◌, ◌⊎◌, if◌then◌else◌, Bool, true, false, List, length, Option, Result, Ok, Err}
+use Rattle.std.specs.Prelude.{◌≡◌, ◌≢◌, ℕ, ◌+◌, ◌<◌, ◌==◌, ◌||◌, ◌⊎◌, if◌then◌else◌, Bool, true, false, List, length, Option}
 use Rattle.ppm_cells.specs.declared.shape.Shape.{Shape}
 use Rattle.ppm_words.specs.declared.event.Event.{Event}
 use Rattle.ppm_step.specs.declared.ask.Want.{Want}
@@ -7,11 +7,10 @@ use Rattle.ppm_step.specs.declared.ask.Want.TheVariants.{Loads, Stores, Exchange
 use Rattle.ppm_step.specs.declared.row.Row.TheVariants.{Exchange}
 use Rattle.ppm_step.specs.declared.row.Then.TheVariants.{Again}
 use Rattle.ppm_step.specs.declared.turn.Next.TheVariants.{Seek}
-use Rattle.ppm_step.specs.Standings.{Standing, IsDone, IsWithin, wanted, WantIsWithin}
+use Rattle.ppm_step.specs.Standings.{Standing, IsDone, IsWithin, IsRunning, wanted, WantIsWithin}
 use Rattle.ppm_step.specs.State.{seeks_holder, next_of, is_work_next, row_by, fork_row, take_row}
 use Rattle.ppm_step.specs.Told.{place_of}
-use Rattle.ppm_engine.specs.declared.memory.Stop.{Stop}
-use Rattle.ppm_engine.specs.declared.memory.Stop.TheVariants.{Over, Refused, Broken}
+use Rattle.ppm_engine.specs.declared.memory.Stepped.{Stepped}
 use Rattle.ppm_engine.specs.declared.tally.Mark.{Mark}
 use Rattle.ppm_engine.specs.declared.tally.Mark.TheVariants.{Plain, Fork, Take}
 
@@ -102,14 +101,16 @@ abbrev pub is_within : Standing → Bool
 is_within (IsWithin seat row) = true
 is_within standing = false
 
--- before a compare-and-modify after which its restart begins again
+-- before a step after which a processor doesn't stand within a row: one of a capsule of a frame, or a compare-and-modify after which its restart
+-- begins again
 abbrev pub IsLast : Standing → Type 0
 IsLast (IsWithin seat (Exchange cell old new Again)) = Unit {0}
+IsLast (IsRunning seat rest) = Unit {0}
 IsLast standing = ⊥
 
--- a processor at a place that stands there, within a row, is to make this step, for which no victim is due; it would not seek work. The
--- finish word stays as it is within a row
-pub record IsToMake (s : Shape) (own place : ℕ) (standing : Standing) (want : Want) : Type 0 where
+-- a processor at a place that stands there is to make this step, for which no victim is due; it would not seek work. It stands within a row, or the
+-- run goes on; and the finish word stays as it is within a row
+pub record IsToMake (s : Shape) (own place : ℕ) (on : Type 0) (standing : Standing) (want : Want) : Type 0 where
   pub carrier : own < s.processors
   pub lives : standing ≢ IsDone
   pub due : seeks_holder standing ≡ false
@@ -118,13 +119,15 @@ pub record IsToMake (s : Shape) (own place : ℕ) (standing : Standing) (want : 
   pub asked : IsAsked want
   pub within : WantIsWithin s want
   pub carried : place_of standing ≡ place
-  pub row : is_within standing ≡ true
+  pub made : (is_within standing ≡ true) ⊎ on
   pub keeps : IsSparing want ⊎ IsLast standing
 
-module _ {Own : Type 0} (led : Spot Own → Spot Own → Counts → Type 0) (refused : Spot Own → Spot Own → ℕ → Type 0) (over : Type 0) where
-  -- what came of one step: it was made and told, and leads by the word that it found; or the watcher refused it; or the run is over, and nothing was done
-  abbrev pub CameOf : Spot Own → Own → Option (List Event) → (goes : ℕ → Standing) → Counts → Result ℕ Stop → Type 0
-  CameOf before own told goes c (Ok word) = led before (spot own (goes word) told) c
-  CameOf before own told goes c (Err Refused) = (word : ℕ) × refused before (spot own (goes word) told) 1
-  CameOf before own told goes c (Err Over) = over × (own ≡ before.own) × (told ≡ before.told)
-  CameOf before own told goes c (Err Broken) = ⊥
+module _ {Own : Type 0} (led : Spot Own → Spot Own → Counts → Type 0) (refused : Spot Own → Spot Own → ℕ → Type 0) where
+  -- what came of one step, by whether the watcher took what it was told: it led there, or was refused
+  abbrev pub CameIf : (taken : Bool) → (before after : Spot Own) → Counts → Type 0
+  CameIf true before after c = led before after c
+  CameIf false before after c = refused before after 1
+
+  -- by the word that it found
+  abbrev pub CameOf : Spot Own → Own → Option (List Event) → (goes : ℕ → Standing) → Counts → Stepped → Type 0
+  CameOf before own told goes c it = CameIf it.taken before (spot own (goes it.word) told) c

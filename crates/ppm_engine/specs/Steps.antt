@@ -25,7 +25,7 @@ use Rattle.ppm_step.specs.Points.{reading_at}
 use Rattle.ppm_step.specs.Standings.{Standing, IsAt, IsWithin, IsBroken, IsDone, WantIsWithin, wanted_row, begun, forked}
 use Rattle.ppm_step.specs.State.{seeks_holder, is_work, fork_row, take_row}
 use Rattle.ppm_engine.specs.declared.memory.Stop.{Stop}
-use Rattle.ppm_engine.specs.declared.memory.Stop.TheVariants.{Over, Refused, Broken}
+use Rattle.ppm_engine.specs.declared.memory.Stop.TheVariants.{Refused, Broken}
 use Rattle.ppm_engine.specs.declared.tally.Mark.{Mark}
 use Rattle.ppm_engine.specs.declared.tally.Mark.TheVariants as marks
 use Rattle.ppm_engine.specs.declared.tally.Settled.{Settled}
@@ -110,31 +110,30 @@ module _ {Own : Type 0} (led : Spot Own → Spot Own → Counts → Type 0) (fir
   abbrev pub Led : Own → Option (List Event) → Tally → Standing → Type 0
   Led own told tally standing = led first (spot own standing told) (works tally.made tally.exchanged)
 
-  -- why they stopped: words are broken; or the watcher refused the one after them, and the processor is still to take a step; or the run is over
-  abbrev pub StopsAt : (refused : Spot Own → Spot Own → ℕ → Type 0) → (over : Type 0) → (place : ℕ) → Own → Option (List Event) → Tally → Stop → Type 0
-  StopsAt refused over place own told tally Broken = Led own told tally (IsBroken place)
-  StopsAt refused over place own told tally Refused = (standing : Standing) × (standing ≢ IsDone) × refused first (spot own standing told) (tally.made + 1)
-  StopsAt refused over place own told tally Over = (standing : Standing) × over × Led own told tally standing
+  -- why they stopped: words are broken; or the watcher refused the one after them, and the processor is still to take a step
+  abbrev pub StopsAt : (refused : Spot Own → Spot Own → ℕ → Type 0) → (place : ℕ) → Own → Option (List Event) → Tally → Stop → Type 0
+  StopsAt refused place own told tally Broken = Led own told tally (IsBroken place)
+  StopsAt refused place own told tally Refused = (standing : Standing) × (standing ≢ IsDone) × refused first (spot own standing told) (tally.made + 1)
 
   -- what came of steps: they led to where the answer says, the last one with the mark that it says, or stopped
-  abbrev pub CameBy : {T : Type 0} → (refused : Spot Own → Spot Own → ℕ → Type 0) → (over : Type 0) → (place : ℕ) → Own → Option (List Event) → Tally
+  abbrev pub CameBy : {T : Type 0} → (refused : Spot Own → Spot Own → ℕ → Type 0) → (place : ℕ) → Own → Option (List Event) → Tally
       → (Fits : T → Type 0) → (goes : T → Standing) → (mark : T → Mark)
       → Result T Stop → Type 0
-  CameBy refused over place own told tally Fits goes mark (Ok value) =
+  CameBy refused place own told tally Fits goes mark (Ok value) =
       Fits value × led first (spot own (goes value) told) (settles tally.made tally.exchanged (mark value))
-  CameBy refused over place own told tally Fits goes mark (Err stop) = StopsAt refused over place own told tally stop
+  CameBy refused place own told tally Fits goes mark (Err stop) = StopsAt refused place own told tally stop
 
   -- they led on within the row
-  abbrev pub Came : {T : Type 0} → (refused : Spot Own → Spot Own → ℕ → Type 0) → (over : Type 0) → (place : ℕ) → Own → Option (List Event) → Tally
+  abbrev pub Came : {T : Type 0} → (refused : Spot Own → Spot Own → ℕ → Type 0) → (place : ℕ) → Own → Option (List Event) → Tally
       → (Fits : T → Type 0) → (goes : T → Standing)
       → Result T Stop → Type 0
-  Came refused over place own told tally Fits goes = CameBy refused over place own told tally Fits goes (λ value. marks.Plain)
+  Came refused place own told tally Fits goes = CameBy refused place own told tally Fits goes (λ value. marks.Plain)
 
   -- they led to the end of the row
-  abbrev pub Settles : (refused : Spot Own → Spot Own → ℕ → Type 0) → (over : Type 0) → (place : ℕ) → Own → Option (List Event) → Tally
+  abbrev pub Settles : (refused : Spot Own → Spot Own → ℕ → Type 0) → (place : ℕ) → Own → Option (List Event) → Tally
       → Result Settled Stop → Type 0
-  Settles refused over place own told tally =
-      CameBy refused over place own told tally (λ (it : Settled). IsRestart it.restart) (λ (it : Settled). IsAt place (Some it.restart)) (λ (it : Settled). it.mark)
+  Settles refused place own told tally =
+      CameBy refused place own told tally (λ (it : Settled). IsRestart it.restart) (λ (it : Settled). IsAt place (Some it.restart)) (λ (it : Settled). it.mark)
 
 -- the outcome of a strand, with numbers that fit
 abbrev pub IsOutcomeWord : Finish → Type 0

@@ -85,7 +85,7 @@ pub(crate) fn install<M: Memory, W: Watch>(
     ensures few { tally.new.made ≤ tally.old.made + 1 }
     ensures came { (first : Spot M.Own) → Led (M.led memory.now seat.now.own) first own.old (W.told watch.old) tally.old
         (stands_then (M.shape memory.now) (M.code memory.now) seat.now next)
-        → Settles (M.led memory.now seat.now.own) first (M.refused memory.now seat.now.own) (M.over memory.now)
+        → Settles (M.led memory.now seat.now.own) first (M.refused memory.now seat.now.own)
         seat.now.place own.new (W.told watch.new) tally.new result }
 {
     let shape = memory.shape();
@@ -129,7 +129,7 @@ pub(crate) fn store<M: Memory, W: Watch>(
     ensures came { (first : Spot M.Own) (next : Then)
         → Led (M.led memory.now seat.now.own) first own.old (W.told watch.old) tally.old
         (stands (M.shape memory.now) (M.code memory.now) seat.now (Store put.cell put.content next))
-        → Came (M.led memory.now seat.now.own) first (M.refused memory.now seat.now.own) (M.over memory.now)
+        → Came (M.led memory.now seat.now.own) first (M.refused memory.now seat.now.own)
         seat.now.place own.new (W.told watch.new) tally.new
         Any (λ done. stands_then (M.shape memory.now) (M.code memory.now) seat.now next) result }
 {
@@ -171,7 +171,7 @@ pub(crate) fn store_then<M: Memory, W: Watch>(
     ensures few { tally.new.made ≤ tally.old.made + 2 }
     ensures came { (first : Spot M.Own) → Led (M.led memory.now seat.now.own) first own.old (W.told watch.old) tally.old
         (stands (M.shape memory.now) (M.code memory.now) seat.now (Store put.cell put.content next))
-        → Settles (M.led memory.now seat.now.own) first (M.refused memory.now seat.now.own) (M.over memory.now)
+        → Settles (M.led memory.now seat.now.own) first (M.refused memory.now seat.now.own)
         seat.now.place own.new (W.told watch.new) tally.new result }
 {
     if let Err(stop) = store(memory, own, watch, tally, seat, put) {
@@ -199,7 +199,7 @@ pub(crate) fn exchange<M: Memory, W: Watch>(
     ensures came { (first : Spot M.Own) (next : Then) → Spares change.cell next
         → Led (M.led memory.now seat.now.own) first own.old (W.told watch.old) tally.old
         (stands (M.shape memory.now) (M.code memory.now) seat.now (Exchange change.cell change.old change.new next))
-        → Came (M.led memory.now seat.now.own) first (M.refused memory.now seat.now.own) (M.over memory.now)
+        → Came (M.led memory.now seat.now.own) first (M.refused memory.now seat.now.own)
         seat.now.place own.new (W.told watch.new) tally.new
         Any (λ done. stands_then (M.shape memory.now) (M.code memory.now) seat.now next) result }
 {
@@ -234,7 +234,7 @@ pub(crate) fn exchange_then<M: Memory, W: Watch>(
     ensures few { tally.new.made ≤ tally.old.made + 2 }
     ensures came { (first : Spot M.Own) → Led (M.led memory.now seat.now.own) first own.old (W.told watch.old) tally.old
         (stands (M.shape memory.now) (M.code memory.now) seat.now (Exchange change.cell change.old change.new next))
-        → Settles (M.led memory.now seat.now.own) first (M.refused memory.now seat.now.own) (M.over memory.now)
+        → Settles (M.led memory.now seat.now.own) first (M.refused memory.now seat.now.own)
         seat.now.place own.new (W.told watch.new) tally.new result }
 {
     if let Err(stop) = exchange(memory, own, watch, tally, seat, change) {
@@ -264,7 +264,7 @@ pub(crate) fn raise_entry<M: Memory, W: Watch>(
         → Led (M.led memory.now seat.now.own) first own.old (W.told watch.old) tally.old
         (stands (M.shape memory.now) (M.code memory.now) seat.now
         (raised (EntryWord seat.now.place change.slot) change.old change.new next (nat_lt (tag_of change.old + 1) (2 ^ 34))))
-        → Came (M.led memory.now seat.now.own) first (M.refused memory.now seat.now.own) (M.over memory.now)
+        → Came (M.led memory.now seat.now.own) first (M.refused memory.now seat.now.own)
         seat.now.place own.new (W.told watch.new) tally.new
         Any (λ done. stands_then (M.shape memory.now) (M.code memory.now) seat.now next) result }
 {
@@ -303,7 +303,7 @@ pub(crate) fn raise_then<M: Memory, W: Watch>(
     ensures came { (first : Spot M.Own) → Led (M.led memory.now seat.now.own) first own.old (W.told watch.old) tally.old
         (stands (M.shape memory.now) (M.code memory.now) seat.now
         (raised (EntryWord seat.now.place change.slot) change.old change.new next (nat_lt (tag_of change.old + 1) (2 ^ 34))))
-        → Settles (M.led memory.now seat.now.own) first (M.refused memory.now seat.now.own) (M.over memory.now)
+        → Settles (M.led memory.now seat.now.own) first (M.refused memory.now seat.now.own)
         seat.now.place own.new (W.told watch.new) tally.new result }
 {
     if let Err(stop) = raise_entry(memory, own, watch, tally, seat, change) {

@@ -40,7 +40,7 @@ pub(crate) fn arrive<M: Memory, W: Watch>(
     ensures few { tally.new.made ≤ tally.old.made + 2 }
     ensures came { (first : Spot M.Own) → Led (M.led memory.now seat.now.own) first own.old (W.told watch.old) tally.old
         (stands (M.shape memory.now) (M.code memory.now) seat.now (row_of (M.shape memory.now) seat.now (Arrive block side)))
-        → Settles (M.led memory.now seat.now.own) first (M.refused memory.now seat.now.own) (M.over memory.now)
+        → Settles (M.led memory.now seat.now.own) first (M.refused memory.now seat.now.own)
         seat.now.place own.new (W.told watch.new) tally.new result }
 {
     let change = Change {
@@ -110,7 +110,7 @@ fn right_frame<M: Memory, W: Watch>(
     ensures few { (tally.new.made ≤ tally.old.made + 1) × IfOk result IsFrame }
     ensures came { (first : Spot M.Own) → Led (M.led memory.now seat.now.own) first own.old (W.told watch.old) tally.old
         (stands_then (M.shape memory.now) (M.code memory.now) seat.now (Load (RightFrame block back.to back.copy)))
-        → Came (M.led memory.now seat.now.own) first (M.refused memory.now seat.now.own) (M.over memory.now)
+        → Came (M.led memory.now seat.now.own) first (M.refused memory.now seat.now.own)
         seat.now.place own.new (W.told watch.new) tally.new
         Any (λ frame. stands_then (M.shape memory.now) (M.code memory.now) seat.now (Load (Target frame back.to back.copy None))) result }
 {
@@ -143,7 +143,7 @@ fn join_last<M: Memory, W: Watch>(
     ensures few { tally.new.made ≤ tally.old.made + 11 }
     ensures came { (first : Spot M.Own) → Led (M.led memory.now seat.now.own) first own.old (W.told watch.old) tally.old
         (stands_then (M.shape memory.now) (M.code memory.now) seat.now (Load (JoinLink block)))
-        → Settles (M.led memory.now seat.now.own) first (M.refused memory.now seat.now.own) (M.over memory.now)
+        → Settles (M.led memory.now seat.now.own) first (M.refused memory.now seat.now.own)
         seat.now.place own.new (W.told watch.new) tally.new result }
 {
     let link = load_link(memory, own, watch, tally, seat, Point::JoinLink { block })?;
@@ -213,7 +213,7 @@ pub(crate) fn join<M: Memory, W: Watch>(
     ensures few { tally.new.made ≤ tally.old.made + 12 }
     ensures came { (first : Spot M.Own) → Led (M.led memory.now seat.now.own) first own.old (W.told watch.old) tally.old
         (stands (M.shape memory.now) (M.code memory.now) seat.now (row_of (M.shape memory.now) seat.now (Join block side)))
-        → Settles (M.led memory.now seat.now.own) first (M.refused memory.now seat.now.own) (M.over memory.now)
+        → Settles (M.led memory.now seat.now.own) first (M.refused memory.now seat.now.own)
         seat.now.place own.new (W.told watch.new) tally.new result }
 {
     let bottom = seat.restart.bottom;

@@ -9,7 +9,13 @@
 //! After the parallel persistent memory of Blelloch et al., SPAA 2018.
 #![tactic(auto)]
 
+mod after;
+mod asking;
+mod capsule;
+mod ending;
 mod ends;
+mod entering;
+mod frames;
 mod join;
 mod loads;
 mod locations;
@@ -21,9 +27,21 @@ mod rows;
 mod tally;
 mod unwind;
 mod waiting;
+mod way;
+mod working;
 
+pub use asking::fill_along;
+pub use capsule::go_along;
+pub use ending::end_along;
+pub use frames::rounds;
 pub use locations::address_of;
-pub use memory::{Memory, Stop};
+pub use memory::{Memory, Stepped, Stop};
 pub use rows::{has_row, make_row};
 pub use tally::{Mark, Settled, Tally};
 pub use waiting::{wait_at, wait_broken, wait_ending, wait_full, wait_midway, wait_stopped};
+pub use way::{
+    Asking, Begun, Circuit, Coding, Coming, EndStep, Ended, Ending, Filled, FrameEnd, Framed,
+    Framing, Halt, Halted, Headed, Room, RoundEnd, RowEnd, Rowed, Span, Stretch, Turned, Way,
+    Worked,
+};
+pub use working::work_along;

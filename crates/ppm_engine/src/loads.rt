@@ -95,7 +95,7 @@ fn load<M: Memory, W: Watch>(
     ensures few { tally.new.made ≤ tally.old.made + 1 }
     ensures came { (first : Spot M.Own) → Led (M.led memory.now seat.now.own) first own.old (W.told watch.old) tally.old
         (stands_then (M.shape memory.now) (M.code memory.now) seat.now (Load point))
-        → Came (M.led memory.now seat.now.own) first (M.refused memory.now seat.now.own) (M.over memory.now)
+        → Came (M.led memory.now seat.now.own) first (M.refused memory.now seat.now.own)
         seat.now.place own.new (W.told watch.new) tally.new
         Any (λ word. stands (M.shape memory.now) (M.code memory.now) seat.now
         (found_at (M.shape memory.now) seat.now 0 point (content_of (reading_at point) word))) result }
@@ -135,7 +135,7 @@ pub(crate) fn load_number<M: Memory, W: Watch>(
     ensures few { tally.new.made ≤ tally.old.made + 1 }
     ensures came { (first : Spot M.Own) → Led (M.led memory.now seat.now.own) first own.old (W.told watch.old) tally.old
         (stands_then (M.shape memory.now) (M.code memory.now) seat.now (Load point))
-        → Came (M.led memory.now seat.now.own) first (M.refused memory.now seat.now.own) (M.over memory.now)
+        → Came (M.led memory.now seat.now.own) first (M.refused memory.now seat.now.own)
         seat.now.place own.new (W.told watch.new) tally.new
         Any (λ number. stands (M.shape memory.now) (M.code memory.now) seat.now
         (found_at (M.shape memory.now) seat.now 0 point (ANumber number))) result }
@@ -161,7 +161,7 @@ pub(crate) fn load_entry<M: Memory, W: Watch>(
     ensures few { tally.new.made ≤ tally.old.made + 1 }
     ensures came { (first : Spot M.Own) → Led (M.led memory.now seat.now.own) first own.old (W.told watch.old) tally.old
         (stands_then (M.shape memory.now) (M.code memory.now) seat.now (Load point))
-        → Came (M.led memory.now seat.now.own) first (M.refused memory.now seat.now.own) (M.over memory.now)
+        → Came (M.led memory.now seat.now.own) first (M.refused memory.now seat.now.own)
         seat.now.place own.new (W.told watch.new) tally.new
         IsEntry (λ entry. stands (M.shape memory.now) (M.code memory.now) seat.now
         (found_at (M.shape memory.now) seat.now 0 point (AnEntry entry))) result }
@@ -191,7 +191,7 @@ pub(crate) fn load_link<M: Memory, W: Watch>(
     ensures few { tally.new.made ≤ tally.old.made + 1 }
     ensures came { (first : Spot M.Own) → Led (M.led memory.now seat.now.own) first own.old (W.told watch.old) tally.old
         (stands_then (M.shape memory.now) (M.code memory.now) seat.now (Load point))
-        → Came (M.led memory.now seat.now.own) first (M.refused memory.now seat.now.own) (M.over memory.now)
+        → Came (M.led memory.now seat.now.own) first (M.refused memory.now seat.now.own)
         seat.now.place own.new (W.told watch.new) tally.new
         IsLink (λ link. stands (M.shape memory.now) (M.code memory.now) seat.now
         (found_at (M.shape memory.now) seat.now 0 point (ALink link))) result }
@@ -221,7 +221,7 @@ pub(crate) fn load_outcome<M: Memory, W: Watch>(
     ensures few { tally.new.made ≤ tally.old.made + 1 }
     ensures came { (first : Spot M.Own) → Led (M.led memory.now seat.now.own) first own.old (W.told watch.old) tally.old
         (stands_then (M.shape memory.now) (M.code memory.now) seat.now (Load point))
-        → Came (M.led memory.now seat.now.own) first (M.refused memory.now seat.now.own) (M.over memory.now)
+        → Came (M.led memory.now seat.now.own) first (M.refused memory.now seat.now.own)
         seat.now.place own.new (W.told watch.new) tally.new
         IsOutcomeWord (λ outcome. stands (M.shape memory.now) (M.code memory.now) seat.now
         (found_at (M.shape memory.now) seat.now 0 point (AFinish outcome))) result }

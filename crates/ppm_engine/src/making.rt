@@ -29,12 +29,15 @@ pub(crate) fn make<M: Memory, W: Watch>(
     ensures few { tally.new.made ≤ tally.old.made + 1 }
     ensures came { (first : Spot M.Own) (row : Row) → IsNext (M.shape memory.now) seat.now row want mark
         → Led (M.led memory.now seat.now.own) first own.old (W.told watch.old) tally.old (IsWithin seat.now row)
-        → CameBy (M.led memory.now seat.now.own) first (M.refused memory.now seat.now.own) (M.over memory.now)
+        → CameBy (M.led memory.now seat.now.own) first (M.refused memory.now seat.now.own)
         seat.now.place own.new (W.told watch.new) tally.new
         Any (λ word. went_row (M.shape memory.now) (M.code memory.now) seat.now 0 word row) (λ word. mark) result }
 {
     let _ = mark;
-    let word = memory.step(own, watch, seat.own, seat.place, want)?;
+    let made = memory.step(own, watch, seat.own, seat.place, want);
+    if !made.taken {
+        return Err(Stop::Refused);
+    }
     *tally = counted(*tally, want);
-    Ok(word)
+    Ok(made.word)
 }

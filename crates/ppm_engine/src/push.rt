@@ -37,7 +37,7 @@ pub(crate) fn bump<M: Memory, W: Watch>(
     ensures few { tally.new.made ≤ tally.old.made + 3 }
     ensures came { (first : Spot M.Own) → Led (M.led memory.now seat.now.own) first own.old (W.told watch.old) tally.old
         (stands (M.shape memory.now) (M.code memory.now) seat.now (row_of (M.shape memory.now) seat.now (Bump block)))
-        → Settles (M.led memory.now seat.now.own) first (M.refused memory.now seat.now.own) (M.over memory.now)
+        → Settles (M.led memory.now seat.now.own) first (M.refused memory.now seat.now.own)
         seat.now.place own.new (W.told watch.new) tally.new result }
 {
     let bottom = seat.restart.bottom;
@@ -80,7 +80,7 @@ fn push_inline<M: Memory, W: Watch>(
     ensures few { tally.new.made ≤ tally.old.made + 2 }
     ensures came { (first : Spot M.Own) → Led (M.led memory.now seat.now.own) first own.old (W.told watch.old) tally.old
         (stands (M.shape memory.now) (M.code memory.now) seat.now (push_at seat.now (M.shape memory.now).takeover block true))
-        → Settles (M.led memory.now seat.now.own) first (M.refused memory.now seat.now.own) (M.over memory.now)
+        → Settles (M.led memory.now seat.now.own) first (M.refused memory.now seat.now.own)
         seat.now.place own.new (W.told watch.new) tally.new result }
 {
     let put = Put {
@@ -121,7 +121,7 @@ fn raise_above<M: Memory, W: Watch>(
     ensures few { tally.new.made ≤ tally.old.made + 2 }
     ensures came { (first : Spot M.Own) → Led (M.led memory.now seat.now.own) first own.old (W.told watch.old) tally.old
         (stands_then (M.shape memory.now) (M.code memory.now) seat.now (Load (PushAbove block)))
-        → Came (M.led memory.now seat.now.own) first (M.refused memory.now seat.now.own) (M.over memory.now)
+        → Came (M.led memory.now seat.now.own) first (M.refused memory.now seat.now.own)
         seat.now.place own.new (W.told watch.new) tally.new
         Any (λ done. stands_then (M.shape memory.now) (M.code memory.now) seat.now (with_kind seat.now (Push2 block))) result }
 {
@@ -158,7 +158,7 @@ fn push_above<M: Memory, W: Watch>(
     ensures few { tally.new.made ≤ tally.old.made + 3 }
     ensures came { (first : Spot M.Own) → Led (M.led memory.now seat.now.own) first own.old (W.told watch.old) tally.old
         (stands_then (M.shape memory.now) (M.code memory.now) seat.now (Load (PushAbove block)))
-        → Settles (M.led memory.now seat.now.own) first (M.refused memory.now seat.now.own) (M.over memory.now)
+        → Settles (M.led memory.now seat.now.own) first (M.refused memory.now seat.now.own)
         seat.now.place own.new (W.told watch.new) tally.new result }
 {
     if let Err(stop) = raise_above(memory, own, watch, tally, seat, block) {
@@ -188,7 +188,7 @@ fn push_by_order<M: Memory, W: Watch>(
     ensures few { tally.new.made ≤ tally.old.made + 4 }
     ensures came { (first : Spot M.Own) → Led (M.led memory.now seat.now.own) first own.old (W.told watch.old) tally.old
         (stands_then (M.shape memory.now) (M.code memory.now) seat.now (Load (PushOrder block)))
-        → Settles (M.led memory.now seat.now.own) first (M.refused memory.now seat.now.own) (M.over memory.now)
+        → Settles (M.led memory.now seat.now.own) first (M.refused memory.now seat.now.own)
         seat.now.place own.new (W.told watch.new) tally.new result }
 {
     let order = load_number(memory, own, watch, tally, seat, Point::PushOrder { block })?;
@@ -237,7 +237,7 @@ pub(crate) fn push1<M: Memory, W: Watch>(
     ensures few { tally.new.made ≤ tally.old.made + 4 }
     ensures came { (first : Spot M.Own) → Led (M.led memory.now seat.now.own) first own.old (W.told watch.old) tally.old
         (stands (M.shape memory.now) (M.code memory.now) seat.now (row_of (M.shape memory.now) seat.now (Push1 block)))
-        → Settles (M.led memory.now seat.now.own) first (M.refused memory.now seat.now.own) (M.over memory.now)
+        → Settles (M.led memory.now seat.now.own) first (M.refused memory.now seat.now.own)
         seat.now.place own.new (W.told watch.new) tally.new result }
 {
     let shape = memory.shape();
@@ -268,7 +268,7 @@ pub(crate) fn push2<M: Memory, W: Watch>(
     ensures few { tally.new.made ≤ tally.old.made + 3 }
     ensures came { (first : Spot M.Own) → Led (M.led memory.now seat.now.own) first own.old (W.told watch.old) tally.old
         (stands (M.shape memory.now) (M.code memory.now) seat.now (row_of (M.shape memory.now) seat.now (Push2 block)))
-        → Settles (M.led memory.now seat.now.own) first (M.refused memory.now seat.now.own) (M.over memory.now)
+        → Settles (M.led memory.now seat.now.own) first (M.refused memory.now seat.now.own)
         seat.now.place own.new (W.told watch.new) tally.new result }
 {
     let entry = load_entry(memory, own, watch, tally, seat, Point::PushBottom { block })?;

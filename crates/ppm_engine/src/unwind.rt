@@ -61,7 +61,7 @@ pub(crate) fn give<M: Memory, W: Watch>(
     ensures few { tally.new.made ≤ tally.old.made + 3 }
     ensures came { (first : Spot M.Own) → Led (M.led memory.now seat.now.own) first own.old (W.told watch.old) tally.old
         (stands_then (M.shape memory.now) (M.code memory.now) seat.now (Load (Target gift.frame gift.to gift.copy gift.right_of)))
-        → Came (M.led memory.now seat.now.own) first (M.refused memory.now seat.now.own) (M.over memory.now)
+        → Came (M.led memory.now seat.now.own) first (M.refused memory.now seat.now.own)
         seat.now.place own.new (W.told watch.new) tally.new
         Any (λ done. stands_then (M.shape memory.now) (M.code memory.now) seat.now (after_value seat.now gift.to gift.copy gift.right_of)) result }
 {
@@ -119,7 +119,7 @@ pub(crate) fn take_over<M: Memory, W: Watch>(
     ensures few { tally.new.made ≤ tally.old.made + 2 }
     ensures came { (first : Spot M.Own) → Led (M.led memory.now seat.now.own) first own.old (W.told watch.old) tally.old
         (stands (M.shape memory.now) (M.code memory.now) seat.now (trapped seat.now to outcome))
-        → Settles (M.led memory.now seat.now.own) first (M.refused memory.now seat.now.own) (M.over memory.now)
+        → Settles (M.led memory.now seat.now.own) first (M.refused memory.now seat.now.own)
         seat.now.place own.new (W.told watch.new) tally.new result }
 {
     let put = Put {
@@ -157,7 +157,7 @@ fn end_root<M: Memory, W: Watch>(
     ensures few { tally.new.made ≤ tally.old.made + 2 }
     ensures came { (first : Spot M.Own) → Led (M.led memory.now seat.now.own) first own.old (W.told watch.old) tally.old
         (stands_then (M.shape memory.now) (M.code memory.now) seat.now (Load (UnwindOutcome frame Root)))
-        → Settles (M.led memory.now seat.now.own) first (M.refused memory.now seat.now.own) (M.over memory.now)
+        → Settles (M.led memory.now seat.now.own) first (M.refused memory.now seat.now.own)
         seat.now.place own.new (W.told watch.new) tally.new result }
 {
     let looked = Point::UnwindOutcome {
@@ -199,7 +199,7 @@ fn return_to<M: Memory, W: Watch>(
     ensures few { tally.new.made ≤ tally.old.made + 5 }
     ensures came { (first : Spot M.Own) → Led (M.led memory.now seat.now.own) first own.old (W.told watch.old) tally.old
         (stands_then (M.shape memory.now) (M.code memory.now) seat.now (Load (UnwindOutcome frame (Call back.to back.copy))))
-        → Settles (M.led memory.now seat.now.own) first (M.refused memory.now seat.now.own) (M.over memory.now)
+        → Settles (M.led memory.now seat.now.own) first (M.refused memory.now seat.now.own)
         seat.now.place own.new (W.told watch.new) tally.new result }
 {
     let Back { to, copy } = back;
@@ -251,7 +251,7 @@ fn come_to<M: Memory, W: Watch>(
     ensures few { tally.new.made ≤ tally.old.made + 3 }
     ensures came { (first : Spot M.Own) → Led (M.led memory.now seat.now.own) first own.old (W.told watch.old) tally.old
         (stands_then (M.shape memory.now) (M.code memory.now) seat.now (Load (UnwindOutcome frame (Branch arm.side arm.block))))
-        → Settles (M.led memory.now seat.now.own) first (M.refused memory.now seat.now.own) (M.over memory.now)
+        → Settles (M.led memory.now seat.now.own) first (M.refused memory.now seat.now.own)
         seat.now.place own.new (W.told watch.new) tally.new result }
 {
     let Arm { side, block } = arm;
@@ -307,7 +307,7 @@ pub(crate) fn unwind<M: Memory, W: Watch>(
     ensures few { tally.new.made ≤ tally.old.made + 6 }
     ensures came { (first : Spot M.Own) → Led (M.led memory.now seat.now.own) first own.old (W.told watch.old) tally.old
         (stands (M.shape memory.now) (M.code memory.now) seat.now (row_of (M.shape memory.now) seat.now (Unwind frame)))
-        → Settles (M.led memory.now seat.now.own) first (M.refused memory.now seat.now.own) (M.over memory.now)
+        → Settles (M.led memory.now seat.now.own) first (M.refused memory.now seat.now.own)
         seat.now.place own.new (W.told watch.new) tally.new result }
 {
     let link = load_link(memory, own, watch, tally, seat, Point::UnwindLink { frame })?;

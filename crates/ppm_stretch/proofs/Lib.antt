@@ -19,3 +19,4 @@ mod SchedulingLemmas
 mod SeekingLemmas
 mod FramingLemmas
 mod LookingLemmas
+mod WorkedLemmas

@@ -144,7 +144,7 @@ refused_by table k place id me a b most = Refused table k place.own (id a.own) (
 pub made_so : {W Own : Type 0} (told : W → Option (List Event)) (table : TableId) (k : Opening) (place : Seat) (x : Standing) (o o' : Own)
     (id : Own → TableId) (me : Own → Mine) (w w' : W)
     (tally : Tally) (r : Result Settled Stop) → tally.made ≤ 12
-    → Settles (led_by table k place id me) (spot o x (told w)) (refused_by table k place id me) ⊥ place.place o' (told w') tally r
+    → Settles (led_by table k place id me) (spot o x (told w)) (refused_by table k place id me) place.place o' (told w') tally r
     → HasWorked told k place (me o) (me o') w w' tally.made tally.exchanged (end_by r)
 made_so told table k place x o o' id me w w' tally (Ok settled) few h =
     (of_told told k place.own (me o) (me o') w w' tally.made tally.made 0 tally.exchanged h.1.moves, h.1.to.stands, h.0)
@@ -152,17 +152,15 @@ made_so told table k place x o o' id me w w' tally (Err stops.Broken) few h =
     (of_told told k place.own (me o) (me o') w w' tally.made tally.made 0 tally.exchanged h.moves, h.to.stands)
 made_so told table k place x o o' id me w w' tally (Err stops.Refused) few h =
     refuses_alive told table k place.own (id o) (id o') (me o) (me o') x h.0 w w' (tally.made + 1) 13 h.1 (omega (arith, few)) h.2
-made_so told table k place x o o' id me w w' tally (Err stops.Over) few h = absurd h.1
 
 -- the seat is still one of the table
 pub made_at : {W Own : Type 0} (told : W → Option (List Event)) (table : TableId) (k : Opening) (place : Seat) (x : Standing) (o o' : Own)
     (id : Own → TableId) (me : Own → Mine) (w w' : W)
     (tally : Tally) (r : Result Settled Stop)
-    → Settles (led_by table k place id me) (spot o x (told w)) (refused_by table k place id me) ⊥ place.place o' (told w') tally r → id o' ≡ table
+    → Settles (led_by table k place id me) (spot o x (told w)) (refused_by table k place id me) place.place o' (told w') tally r → id o' ≡ table
 made_at told table k place x o o' id me w w' tally (Ok settled) h = h.1.to.of_table
 made_at told table k place x o o' id me w w' tally (Err stops.Broken) h = h.to.of_table
 made_at told table k place x o o' id me w w' tally (Err stops.Refused) h = h.2.to.of_table
-made_at told table k place x o o' id me w w' tally (Err stops.Over) h = absurd h.1
 
 or_none : (b : Bool) → (b || false) ≡ b
 or_none true = refl

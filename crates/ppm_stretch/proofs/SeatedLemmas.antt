@@ -49,7 +49,7 @@ lives_by k own me x sits at = lives_if k own me x (not (is_done_at x)) sits at r
 
 module _ (table : TableId) (k : Opening) (s : Shape) (shape : k.shape ≡ s) (own place : ℕ) where
   -- the table is asked for this step
-  pub to_step : (id : TableId) (me : Mine) (x : Standing) (want : Want) → SitsAt table k own id me x → IsToMake s own place x want → IsToStep k me want
+  pub to_step : (id : TableId) (me : Mine) (x : Standing) (want : Want) → SitsAt table k own id me x → IsToMake s own place (Unit {0}) x want → IsToStep k me want
   to_step id me x want at is = record {
     own = own;
     victim = 0;
@@ -63,7 +63,7 @@ module _ (table : TableId) (k : Opening) (s : Shape) (shape : k.shape ≡ s) (ow
   }
 
   -- where it stands behind it
-  pub stands_behind : (id id' : TableId) (me me' : Mine) (x : Standing) (want : Want) (found : ℕ) → SitsAt table k own id me x → IsToMake s own place x want
+  pub stands_behind : (id id' : TableId) (me me' : Mine) (x : Standing) (want : Want) (found : ℕ) → SitsAt table k own id me x → IsToMake s own place (Unit {0}) x want
       → IsFound want found
       → id' ≡ id → me' ≡ (seen me.0 (deed_by want found), me.1) → SitsAt table k own id' me' (went s k.code own 0 found x)
   stands_behind id id' me me' x want found at is is_found same made = record {
@@ -74,7 +74,7 @@ module _ (table : TableId) (k : Opening) (s : Shape) (shape : k.shape ≡ s) (ow
         is.wants (asked_of want is.asked) is_found made);
   }
 
-  goes_so : (id : TableId) (me me' : Mine) (x : Standing) (want : Want) (found : ℕ) → SitsAt table k own id me x → IsToMake s own place x want
+  goes_so : (id : TableId) (me me' : Mine) (x : Standing) (want : Want) (found : ℕ) → SitsAt table k own id me x → IsToMake s own place (Unit {0}) x want
       → me' ≡ (seen me.0 (deed_by want found), me.1) → Goes k own me me' 1 (one x want).work (one x want).looks (one x want).exchanged
   goes_so id me me' x want found at is made =
       subst (λ (b : Bool). Goes k own me me' 1 (one x want).work (one x want).looks b) (same_exchange want found)
@@ -84,7 +84,7 @@ module _ (table : TableId) (k : Opening) (s : Shape) (shape : k.shape ≡ s) (ow
 
   -- a step that was told
   pub led_one : (id id' : TableId) (me me' : Mine) (x : Standing) (want : Want) (found : ℕ) (told told' : Option (List Event)) → SitsAt table k own id me x
-      → IsToMake s own place x want
+      → IsToMake s own place (Unit {0}) x want
       → IsFound want found → id' ≡ id → me' ≡ (seen me.0 (deed_by want found), me.1)
       → (place_of (stands_by k own (deeds_in me.0)) ≡ place → Shows k own told told' me me')
       → Led table k own id me x told id' me' (went s k.code own 0 found x) told' (one x want)
@@ -95,7 +95,7 @@ module _ (table : TableId) (k : Opening) (s : Shape) (shape : k.shape ≡ s) (ow
 
   -- one that was refused
   pub refused_one : (id id' : TableId) (me me' : Mine) (x : Standing) (want : Want) (found : ℕ) (told told' : Option (List Event))
-      → SitsAt table k own id me x → IsToMake s own place x want
+      → SitsAt table k own id me x → IsToMake s own place (Unit {0}) x want
       → IsFound want found → id' ≡ id → me' ≡ (seen me.0 (deed_by want found), me.1) → KeepsList told told'
       → Refused table k own id me x told id' me' (went s k.code own 0 found x) told' 1
   refused_one id id' me me' x want found told told' at is is_found same made keeps =

@@ -21,7 +21,6 @@ most_of_a_row = 16
 abbrev pub end_by : Result Settled Stop → RowEnd
 end_by (Ok settled) = Installed settled.restart
 end_by (Err stops.Broken) = Broken
-end_by (Err stops.Over) = Over
 end_by (Err stops.Refused) = Refused true
 
 module _ {W : Type 0} (told : W → Option (List Event)) where

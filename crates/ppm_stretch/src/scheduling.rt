@@ -17,11 +17,13 @@ use crate::entering::load_finish;
 use crate::frames::rounds;
 use crate::refusing::withdraw;
 use crate::seated::Seated;
-use crate::way::{FrameEnd, Framed, NONE, REFUSED, RowEnd, Rowed, Steps, looks_behind, one_of};
+use crate::way::{
+    FrameEnd, Framed, NONE, REFUSED, RowEnd, Rowed, Steps, looks_behind, one_of, row,
+};
 use atomic_table::Seat;
 use ppm_cells::{Restart, RestartKind};
 use ppm_code::Code;
-use ppm_engine::{Settled, Stop, Tally, has_row, make_row, wait_at, wait_broken};
+use ppm_engine::{Coding, Settled, Stop, Tally, make_row, work_along as engine_along};
 use ppm_ports::Watch;
 use ppm_step::{Local, Seat as Place, Stand, restart_there};
 use ppm_table::View;
@@ -39,7 +41,6 @@ fn end_by(made: Result<Settled, Stop>) -> RowEnd
         Ok(settled) => RowEnd::Installed(settled.restart),
         Err(stop) => match stop {
             Stop::Broken => RowEnd::Broken,
-            Stop::Over => RowEnd::Over,
             Stop::Refused => RowEnd::Refused(true),
         },
     }
@@ -197,72 +198,13 @@ pub(crate) fn work_along<W: Watch>(
     ensures stands_on { standing_of memory.now.shape code.now local.new ≡ stands_by memory.now.words.now.shared.key local.old.own (deeds_in mine.new.me.0) }
     ensures holds { IsLocal memory.now.shape code.now local.new × (local.new.own ≡ local.old.own) }
 {
-    // As in `rounds`. No reference to it goes to a function that isn't inlined.
-    let sizes = memory.shape;
-    let own = local.own;
-    let place = from.place;
-    let mut at = from.restart;
-    let mut so_far = NONE;
-    while most - so_far.made >= MOST_OF_A_ROW {
-        if has_row(at.kind) {
-            let seat = Place {
-                own,
-                place,
-                restart: at,
-            };
-            let rowed = row_at(memory, mine, watch, code, &seat);
-            if let RowEnd::Refused(lives) = rowed.end {
-                withdraw(local, memory.words, mine, &memory.shape, code, lives);
-                return REFUSED;
-            }
-            so_far = with_row(so_far, rowed);
-            match rowed.end {
-                RowEnd::Installed(next) => at = next,
-                RowEnd::Broken => {
-                    wait_broken(local, &memory.shape, code, place);
-                    return so_far;
-                }
-                RowEnd::Over => {
-                    local.stand = Stand::Done;
-                    return so_far;
-                }
-                RowEnd::Refused(_) => unreachable!(),
-            }
-        } else {
-            let framed = rounds(
-                local,
-                memory.words,
-                mine,
-                watch,
-                &memory.shape,
-                &sizes,
-                code,
-                widths,
-                place,
-                at,
-                most - so_far.made,
-            );
-            if let FrameEnd::Refused(lives) = framed.end {
-                withdraw(local, memory.words, mine, &memory.shape, code, lives);
-                return REFUSED;
-            }
-            so_far = with_frames(so_far, framed);
-            match framed.end {
-                FrameEnd::Installed(next) => {
-                    if framed.made == 0 {
-                        // Copies, here and below, as in `rounds`.
-                        let last = next;
-                        wait_at(local, &memory.shape, code, place, last);
-                        return so_far;
-                    }
-                    at = next;
-                }
-                FrameEnd::Stands => return so_far,
-                FrameEnd::Refused(_) => unreachable!(),
-            }
+    let coding = Coding { code, widths };
+    let worked = engine_along(local, memory, mine, watch, &coding, from, most);
+    match worked.refused {
+        Some(lives) => {
+            withdraw(local, memory.words, mine, &memory.shape, code, lives);
+            REFUSED
         }
+        None => row(worked.made, worked.work, worked.looks, worked.exchanged),
     }
-    let last = at;
-    wait_at(local, &memory.shape, code, place, last);
-    so_far
 }

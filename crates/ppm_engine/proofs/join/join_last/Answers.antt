@@ -23,7 +23,7 @@ returns-in_err-link-clause-came g c = λ first l.
     let code = g.M.Memory.code m in
     let place = c.args.seat.now in
     let led = g.M.Memory.led m place.own in
-    exit_by (λ (r : Result Settled Stop). Settles led first (g.M.Memory.refused m place.own) (g.M.Memory.over m) place.place c.load_link.new.own
+    exit_by (λ (r : Result Settled Stop). Settles led first (g.M.Memory.refused m place.own) place.place c.load_link.new.own
     (g.W.Watch.told c.load_link.new.watch) c.load_link.new.tally r) _ _ c.from_residual.ensures.1
     (c.in_err-link.ensures.came first l)
 
@@ -57,7 +57,7 @@ returns-in_err-left-clause-came g c = λ first l.
     let code = g.M.Memory.code m in
     let place = c.args.seat.now in
     let led = g.M.Memory.led m place.own in
-    exit_by (λ (r : Result Settled Stop). Settles led first (g.M.Memory.refused m place.own) (g.M.Memory.over m) place.place c.load_outcome.new.own
+    exit_by (λ (r : Result Settled Stop). Settles led first (g.M.Memory.refused m place.own) place.place c.load_outcome.new.own
     (g.W.Watch.told c.load_outcome.new.watch) c.load_outcome.new.tally r) _ _
     c.from_residual-in_err-left.ensures.1
     (c.in_err-left.ensures.came first
@@ -90,7 +90,7 @@ returns-in_err-right-clause-came g c = λ first l.
     let code = g.M.Memory.code m in
     let place = c.args.seat.now in
     let led = g.M.Memory.led m place.own in
-    exit_by (λ (r : Result Settled Stop). Settles led first (g.M.Memory.refused m place.own) (g.M.Memory.over m) place.place c.load_outcome-2.new.own
+    exit_by (λ (r : Result Settled Stop). Settles led first (g.M.Memory.refused m place.own) place.place c.load_outcome-2.new.own
     (g.W.Watch.told c.load_outcome-2.new.watch) c.load_outcome-2.new.tally r) _ _
     c.from_residual-in_err-right.ensures.1
     (c.in_err-right.ensures.came first
@@ -283,7 +283,7 @@ returns-in_err-frame-clause-came g c = λ first l.
     ((c.in_ok-left.ensures.came first
     (moved led first (ap (λ (r : Row). stands s code place r) (ap (λ (k : LinkKind). join_by c.args.block k) c.in-Fork.is))
     ((c.in_ok-link.ensures.came first l).1))).1))).1)) in
-    exit_by (λ (r : Result Settled Stop). Settles led first (g.M.Memory.refused m place.own) (g.M.Memory.over m) place.place c.right_frame.new.own
+    exit_by (λ (r : Result Settled Stop). Settles led first (g.M.Memory.refused m place.own) place.place c.right_frame.new.own
     (g.W.Watch.told c.right_frame.new.watch) c.right_frame.new.tally r) _ _
     c.from_residual-in_err-frame.ensures.1
     (c.in_err-frame.ensures.came first ((c.in_default-give.ensures.came first ended).1))

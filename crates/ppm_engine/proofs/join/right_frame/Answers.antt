@@ -19,7 +19,7 @@ returns-in_err-offset-clause-came g c = λ first l.
     let place = c.args.seat.now in
     let led = g.M.Memory.led m place.own in
     let back = c.args.back in
-    exit_by (λ (r : Result ℕ Stop). Came led first (g.M.Memory.refused m place.own) (g.M.Memory.over m) place.place c.load_number.new.own
+    exit_by (λ (r : Result ℕ Stop). Came led first (g.M.Memory.refused m place.own) place.place c.load_number.new.own
     (g.W.Watch.told c.load_number.new.watch) c.load_number.new.tally Any
     (λ frame. stands_then s code place (Load (Target frame back.to back.copy None))) r) _ _
     c.from_residual.ensures.1

@@ -18,7 +18,7 @@ returns-in_err-word-clause-came g c = λ first l.
     let code = g.M.Memory.code m in
     let place = c.args.seat.now in
     let led = g.M.Memory.led m place.own in
-    exit_by (λ (r : Result Link Stop). Came led first (g.M.Memory.refused m place.own) (g.M.Memory.over m) place.place c.load.new.own
+    exit_by (λ (r : Result Link Stop). Came led first (g.M.Memory.refused m place.own) place.place c.load.new.own
     (g.W.Watch.told c.load.new.watch) c.load.new.tally IsLink (λ it. stands s code place (found_at s place 0 c.args.point (ALink it))) r) _ _
     c.from_residual.ensures.1
     (c.in_err-word.ensures.came first l)

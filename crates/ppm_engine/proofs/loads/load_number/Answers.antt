@@ -13,6 +13,6 @@ returns-clause-came g c = λ first l.
     let code = g.M.Memory.code m in
     let place = c.args.seat.now in
     let led = g.M.Memory.led m place.own in
-    subst (λ (r : Reading). Came led first (g.M.Memory.refused m place.own) (g.M.Memory.over m) place.place c.load.new.own (g.W.Watch.told c.load.new.watch)
+    subst (λ (r : Reading). Came led first (g.M.Memory.refused m place.own) place.place c.load.new.own (g.W.Watch.told c.load.new.watch)
     c.load.new.tally
     Any (λ word. stands s code place (found_at s place 0 c.args.point (content_of r word))) c.load.result) c.requires.point.2 (c.load.ensures.came first l)

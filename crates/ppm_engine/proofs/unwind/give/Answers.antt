@@ -22,7 +22,7 @@ returns-in_err-target-clause-came g c = λ first l.
     let place = c.args.seat.now in
     let led = g.M.Memory.led m place.own in
     let gift = c.args.gift in
-    exit_by (λ (r : Result (Unit {0}) Stop). Came led first (g.M.Memory.refused m place.own) (g.M.Memory.over m) place.place c.load_number.new.own
+    exit_by (λ (r : Result (Unit {0}) Stop). Came led first (g.M.Memory.refused m place.own) place.place c.load_number.new.own
     (g.W.Watch.told c.load_number.new.watch) c.load_number.new.tally Any
     (λ done. stands_then s code place (after_value place gift.to gift.copy gift.right_of)) r) _ _ c.from_residual.ensures.1
     (c.in_err-target.ensures.came first l)
@@ -61,7 +61,7 @@ returns-in_err-value-clause-came g c = λ first l.
     let place = c.args.seat.now in
     let led = g.M.Memory.led m place.own in
     let gift = c.args.gift in
-    exit_by (λ (r : Result (Unit {0}) Stop). Came led first (g.M.Memory.refused m place.own) (g.M.Memory.over m) place.place c.load_number-2.new.own
+    exit_by (λ (r : Result (Unit {0}) Stop). Came led first (g.M.Memory.refused m place.own) place.place c.load_number-2.new.own
     (g.W.Watch.told c.load_number-2.new.watch) c.load_number-2.new.tally Any
     (λ done. stands_then s code place (after_value place gift.to gift.copy gift.right_of)) r) _ _ c.from_residual-in_err-value.ensures.1
     (c.in_err-value.ensures.came first

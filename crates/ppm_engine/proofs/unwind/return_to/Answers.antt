@@ -21,7 +21,7 @@ returns-in_err-outcome-clause-came g c = λ first l.
     let place = c.args.seat.now in
     let led = g.M.Memory.led m place.own in
     let back = c.args.back in
-    exit_by (λ (r : Result Settled Stop). Settles led first (g.M.Memory.refused m place.own) (g.M.Memory.over m) place.place c.load_outcome.new.own
+    exit_by (λ (r : Result Settled Stop). Settles led first (g.M.Memory.refused m place.own) place.place c.load_outcome.new.own
     (g.W.Watch.told c.load_outcome.new.watch) c.load_outcome.new.tally r) _ _
     c.from_residual.ensures.1
     (c.in_err-outcome.ensures.came first l)

@@ -17,7 +17,7 @@ returns-in_err-link-clause-came g c = λ first l.
     let code = g.M.Memory.code m in
     let place = c.args.seat.now in
     let led = g.M.Memory.led m place.own in
-    exit_by (λ (r : Result Settled Stop). Settles led first (g.M.Memory.refused m place.own) (g.M.Memory.over m) place.place c.load_link.new.own
+    exit_by (λ (r : Result Settled Stop). Settles led first (g.M.Memory.refused m place.own) place.place c.load_link.new.own
     (g.W.Watch.told c.load_link.new.watch) c.load_link.new.tally r) _ _ c.from_residual.ensures.1
     (c.in_err-link.ensures.came first l)
 
