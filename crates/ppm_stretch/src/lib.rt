@@ -10,7 +10,6 @@
 #![tactic(auto)]
 
 mod asking;
-mod behind;
 mod capsule;
 mod ending;
 mod entering;
